@@ -1,0 +1,11 @@
+/// Bytes of a sector.
+pub const SECTOR: usize = 4096;
+
+/// A new content for one sector.
+#[derive(Drop)]
+pub struct Update {
+    /// The number of the sector.
+    pub target: u32,
+    /// All its bytes.
+    pub content: [u8; SECTOR],
+}
