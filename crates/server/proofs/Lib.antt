@@ -1,0 +1,6 @@
+pub mod Zeros
+pub mod Moments
+pub mod FormatPhases
+pub mod Counted
+pub mod MountPhases
+pub mod SuperblockLemmas

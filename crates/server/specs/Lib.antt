@@ -1,0 +1,3 @@
+pub mod Superblock
+pub mod Volume
+pub mod Mount
