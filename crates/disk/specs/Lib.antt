@@ -2,3 +2,4 @@ pub mod Moments
 pub mod Cause
 pub mod Calls
 pub mod Memory
+pub mod File
