@@ -3,3 +3,5 @@ pub mod Cause
 pub mod Calls
 pub mod Memory
 pub mod File
+pub mod Landing
+pub mod Crash

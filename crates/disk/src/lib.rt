@@ -7,15 +7,19 @@
 
 mod borrowed;
 mod call;
+mod crash;
 mod device;
 mod fault;
 mod file;
+mod landing;
 mod memory;
 mod update;
 
 pub use call::Call;
+pub use crash::{CrashDevice, Stop};
 pub use device::Device;
 pub use fault::DiskFault;
 pub use file::FileDevice;
+pub use landing::{Landed, Unsynced};
 pub use memory::MemDevice;
 pub use update::{SECTOR, Update};
