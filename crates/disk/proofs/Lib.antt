@@ -1,1 +1,3 @@
 pub mod RecordLemmas
+pub mod CallLemmas
+pub mod LandingLemmas

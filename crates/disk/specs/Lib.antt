@@ -2,3 +2,6 @@ pub mod Moments
 pub mod Cause
 pub mod Calls
 pub mod Memory
+pub mod File
+pub mod Landing
+pub mod Crash

@@ -1,10 +1,11 @@
 //! A device in memory, which keeps its word and a record of all its calls.
 
-ghost use Rattle.std.specs.Prelude.{◌≡◌, ◌+◌, ◌-◌, ◌^◌, ◌<◌, ◌≤◌, ◌++◌, ℕ, List, [], ◌∷◌, length, vec_len, replicate, min, IfOk, OnErr};
+ghost use Rattle.std.specs.Prelude.{◌≡◌, ◌+◌, ◌-◌, ◌^◌, ◌<◌, ◌≤◌, ◌++◌, ℕ, List, [], ◌∷◌, length, vec_len, replicate, reverse, min, IfOk, OnErr};
 ghost use Rattle.disk.specs.Moments.{seen, at_rest, written_to};
 ghost use Rattle.disk.specs.Cause.{IsCounted};
-ghost use Rattle.disk.specs.Calls.{image_of, zero_sector, history_of_calls};
+ghost use Rattle.disk.specs.Calls.{image_of, zero_sector, written_by, history_of_calls};
 
+use crate::call::{replay, synced_count};
 use crate::{Call, Device, DiskFault, SECTOR, Update};
 use std::alloc::Global;
 
@@ -19,6 +20,7 @@ pub struct MemDevice {
     calls: Vec<Call>,
     failures: u64,
     ghost few: { vec_len sectors < 2 ^ 32 },
+    ghost same_size: { vec_len first ≡ vec_len sectors },
     ghost told: { (n : ℕ) → image_of sectors.items n ≡ seen (history_of_calls first.items calls.items).now n },
     ghost within: { (n : ℕ) → vec_len sectors ≤ n → written_to n (history_of_calls first.items calls.items).now.unsynced ≡ [] },
 }
@@ -61,6 +63,26 @@ impl MemDevice {
         ensures { result.now ≡ calls_of self.now }
     {
         &self.calls
+    }
+
+    /// What is fixed, sector 0 first.
+    pub(crate) fn fixed_sectors(&self, alloc: Global) -> Result<Vec<[u8; SECTOR]>, DiskFault>
+        ensures size { IfOk result (λ rows. vec_len rows ≡ size_of self.now) }
+        ensures few { size_of self.now < 2 ^ 32 }
+        ensures fixed { IfOk result (λ rows. (n : ℕ) → image_of rows.items n ≡ (history_of self.now).now.fixed n) }
+        ensures memory { OnErr result (result ≡ Err DiskFault.Memory) }
+    {
+        let mut rows = copied(alloc, &self.first)?;
+        replay(&mut rows, &self.calls[..synced_count(&self.calls)]);
+        Ok(rows)
+    }
+
+    /// The calls since the last sync.
+    pub(crate) fn since_sync(&self) -> &[Call]
+        ensures unsynced { (n : ℕ) → reverse (written_to n (history_of self.now).now.unsynced) ≡ written_by n result.now }
+        ensures within { (n : ℕ) → size_of self.now ≤ n → written_to n (history_of self.now).now.unsynced ≡ [] }
+    {
+        &self.calls[synced_count(&self.calls)..]
     }
 
     /// Counts a failure; the count stays at `u64::MAX`.

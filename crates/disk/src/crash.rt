@@ -1,0 +1,201 @@
+//! A device whose power goes at a stated step, and what may then be found on it.
+
+ghost use Rattle.std.specs.Prelude.{◌≡◌, ◌≢◌, ◌+◌, ◌-◌, ◌^◌, ◌<◌, ◌≤◌, ◌⊎◌, ◌↔◌, ℕ, [], ◌∷◌, Bool, true, false, min, length, slice_index_or, if◌then◌else◌, IsTrue, IfOk, OnOk, OnErr, IsErrOf};
+ghost use Rattle.disk.specs.Moments.{seen, wrote, synced, at_rest, Left};
+ghost use Rattle.disk.specs.Calls.{image_of, written_by};
+ghost use Rattle.disk.specs.Landing.{landed_image, number_for, unsynced_below};
+
+use crate::call::{count_written, numbered_content};
+use crate::landing::number_for_sector;
+use crate::{Call, Device, DiskFault, Landed, MemDevice, SECTOR, Unsynced, Update};
+use std::alloc::Global;
+
+/// Where a device stops for good. Its steps are its writes and syncs, numbered from 0; a write to a
+/// sector that it does not have is none.
+#[derive(Clone, Copy, Debug, PartialEq, Eq)]
+pub enum Stop {
+    /// It goes on.
+    Never,
+    /// Before the step of this number: nothing of it is done.
+    Before(u64),
+    /// Within the step of this number: a write is among the unsynced contents, and may land or not;
+    /// a sync is not done.
+    Within(u64),
+}
+
+// What becomes of a write or a sync.
+#[derive(Clone, Copy, Debug, PartialEq, Eq)]
+enum Fate {
+    Whole,
+    Part,
+    Nothing,
+}
+
+/// A [`MemDevice`] that stops at a stated step: from that call on each write and each sync, and each
+/// read after it, answers `Fault`, and counts it.
+#[derive(Drop)]
+pub struct CrashDevice {
+    device: MemDevice,
+    stop: Stop,
+    steps: u64,
+    is_stopped: bool,
+}
+
+impl CrashDevice {
+    ghost use Rattle.disk.specs.Memory.{size_of, failures_of, calls_of, history_of};
+    ghost use Rattle.disk.specs.Crash.{device_of, stop_of, steps_of, is_stopped, next_fate};
+
+    /// A device that goes on from this one, and stops there.
+    pub fn new(device: MemDevice, stop: Stop) -> CrashDevice
+        ensures device { device_of result ≡ device }
+        ensures stop { stop_of result ≡ stop }
+        ensures steps { steps_of result ≡ 0 }
+        ensures runs { is_stopped result ≡ false }
+    {
+        CrashDevice {
+            device,
+            stop,
+            steps: 0,
+            is_stopped: false,
+        }
+    }
+
+    /// How many steps have begun, that at which it stopped among them; full at `u64::MAX`.
+    pub fn steps(&self) -> u64
+        ensures { result ≡ steps_of self.now }
+    {
+        self.steps
+    }
+
+    /// Whether the device has stopped.
+    pub fn is_stopped(&self) -> bool
+        ensures { result ≡ is_stopped self.now }
+    {
+        self.is_stopped
+    }
+
+    /// The writes and syncs that were done, the first of them first.
+    pub fn calls(&self) -> &[Call]
+        ensures { result.now ≡ calls_of (device_of self.now) }
+    {
+        self.device.calls()
+    }
+
+    /// The sectors with unsynced contents, by rising number.
+    pub fn unsynced(&self, alloc: Global) -> Result<Vec<Unsynced>, DiskFault>
+        ensures sectors { IfOk result (λ sectors. sectors.items ≡ unsynced_below (size_of (device_of self.now)) (history_of (device_of self.now)).now) }
+        ensures memory { OnErr result (result ≡ Err DiskFault.Memory) }
+    {
+        let since = self.device.since_sync();
+        let mut sectors = Vec::new(alloc);
+        for sector in 0..self.device.sectors() {
+            let contents = count_written(since, sector);
+            if contents > 0 && sectors.push(Unsynced { sector, contents }).is_err() {
+                return Err(DiskFault::Memory);
+            }
+        }
+        Ok(sectors)
+    }
+
+    /// The device as it is found if the power goes now and this lands, all of it fixed. Refuses only
+    /// for want of memory.
+    ///
+    /// The list chooses the content of each unsynced sector by its number; its first entry for a
+    /// sector counts. A sector that it does not name, or of which there is no such content, has the
+    /// fixed one.
+    pub fn landed(&self, alloc: Global, landing: &[Landed]) -> Result<MemDevice, DiskFault>
+        ensures size { IfOk result (λ device. size_of device ≡ size_of (device_of self.now)) }
+        ensures landed { IfOk result (λ device. history_of device ≡ at_rest (landed_image landing.now (history_of (device_of self.now)).now)) }
+        ensures left { IfOk result (λ device. Left (history_of (device_of self.now)).now (seen (history_of device).now)) }
+        ensures calls { IfOk result (λ device. calls_of device ≡ []) }
+        ensures failures { IfOk result (λ device. failures_of device ≡ 0) }
+        ensures memory { OnErr result (result ≡ Err DiskFault.Memory) }
+    {
+        let mut sectors = self.device.fixed_sectors(alloc)?;
+        land(&mut sectors, self.device.since_sync(), landing);
+        MemDevice::with_sectors(alloc, sectors)
+    }
+
+    // Begins a step.
+    fn begin(&mut self) -> Fate
+        ensures fate { result ≡ next_fate self.old }
+        ensures device { device_of self.new ≡ device_of self.old }
+        ensures stop { stop_of self.new ≡ stop_of self.old }
+        ensures steps { steps_of self.new ≡ (if is_stopped self.old then steps_of self.old else min (steps_of self.old + 1) (2 ^ 64 - 1)) }
+        ensures stopped { IsTrue (is_stopped self.new) ↔ (result ≢ Fate.Whole) }
+    {
+        if self.is_stopped {
+            return Fate::Nothing;
+        }
+        let number = self.steps;
+        let fate = match self.stop {
+            Stop::Before(at) if at == number => Fate::Nothing,
+            Stop::Within(at) if at == number => Fate::Part,
+            _ => Fate::Whole,
+        };
+        self.steps = number.saturating_add(1);
+        self.is_stopped = fate != Fate::Whole;
+        fate
+    }
+}
+
+impl Device for CrashDevice {
+    ghost use Rattle.disk.specs.Memory.{size_of, failures_of, history_of};
+    ghost use Rattle.disk.specs.Crash.{device_of};
+
+    ghost keeps_word = { Unit {0} };
+
+    ghost size = { λ device. size_of (device_of device) };
+
+    ghost failed = { λ device. failures_of (device_of device) };
+
+    ghost history = { λ device. history_of (device_of device) };
+
+    fn sectors(&self) -> u32 {
+        self.device.sectors()
+    }
+
+    fn failures(&self) -> u64 {
+        self.device.failures()
+    }
+
+    fn read(&mut self, n: u32, content: &mut [u8; SECTOR]) -> Result<(), DiskFault> {
+        if self.is_stopped && n < self.device.sectors() {
+            return Err(self.device.fail());
+        }
+        self.device.read(n, content)
+    }
+
+    fn write(&mut self, n: u32, content: &[u8; SECTOR]) -> Result<(), DiskFault> {
+        if n >= self.device.sectors() {
+            return Err(DiskFault::Range);
+        }
+        match self.begin() {
+            Fate::Whole => self.device.write(n, content),
+            Fate::Part => {
+                self.device.write(n, content)?;
+                Err(self.device.fail())
+            }
+            Fate::Nothing => Err(self.device.fail()),
+        }
+    }
+
+    fn sync(&mut self) -> Result<(), DiskFault> {
+        match self.begin() {
+            Fate::Whole => self.device.sync(),
+            Fate::Part | Fate::Nothing => Err(self.device.fail()),
+        }
+    }
+}
+
+// Puts on each sector what landed there, over what is fixed.
+fn land(sectors: &mut [[u8; SECTOR]], since: &[Call], landing: &[Landed])
+    requires { length sectors.old < 2 ^ 32 }
+    ensures { (n : ℕ) → n < length sectors.old → image_of sectors.new n ≡ slice_index_or (image_of sectors.old n ∷ written_by n since.now) (number_for landing.now n) (image_of sectors.old n) }
+{
+    for (n, content) in sectors.iter_mut().enumerate() {
+        let sector = n as u32;
+        let number = number_for_sector(landing, sector);
+        *content = numbered_content(content, since, sector, number);
+    }
+}
