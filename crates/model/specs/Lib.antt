@@ -1,1 +1,3 @@
+pub mod Answer
+pub mod Operation
 pub mod Status
