@@ -4,3 +4,5 @@ pub mod FormatPhases
 pub mod Counted
 pub mod MountPhases
 pub mod SuperblockLemmas
+pub mod Lengths
+pub mod Receiving

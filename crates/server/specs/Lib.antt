@@ -1,3 +1,11 @@
 pub mod Superblock
 pub mod Volume
 pub mod Mount
+pub mod Call
+pub mod Compound
+pub mod Views
+pub mod Connection
+pub mod Answers
+pub mod ConnectionViews
+pub mod World
+pub mod Faults

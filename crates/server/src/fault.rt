@@ -33,3 +33,23 @@ pub enum MountFault {
     #[error("Memory")]
     Memory,
 }
+
+/// Why a server does not do what it is asked.
+#[derive(Clone, Copy, Debug, PartialEq, Eq, Error)]
+pub enum ServerFault {
+    /// No connection has this number.
+    #[error("NoConnection")]
+    NoConnection,
+    /// There are 16 connections.
+    #[error("Full")]
+    Full,
+    /// The connection was closed by a refused header or record.
+    #[error("Closed")]
+    Closed,
+    /// The device failed.
+    #[error("Device")]
+    Device,
+    /// No memory. Nothing changed.
+    #[error("Memory")]
+    Memory,
+}

@@ -15,6 +15,16 @@ use disk::{Device, SECTOR};
 /// The sector in which the records of the nodes begin.
 const FIRST_RECORD: u32 = 100;
 
+impl From<DeviceFailed> for FormatFault {
+    ghost use Rattle.server.specs.declared.fault.FormatFault.TheVariants as faults;
+
+    ghost from_gives = { λ _ fault. fault ≡ faults.Device };
+
+    fn from(_: DeviceFailed) -> Self {
+        FormatFault::Device
+    }
+}
+
 /// Makes the device a new volume of this many nodes.
 pub fn format<D: Device>(device: &mut D, nodes: u32) -> Result<(), FormatFault>
     ensures any_moment { D.keeps_word → AddsOnly (IsErasedOrFormatted (D.size device.old) nodes) (D.history device.old) (D.history device.new) }
@@ -30,10 +40,8 @@ pub fn format<D: Device>(device: &mut D, nodes: u32) -> Result<(), FormatFault>
     if !is_volume_size(sectors, nodes) {
         return Err(FormatFault::Size);
     }
-    match write_volume(device, sectors, nodes) {
-        Ok(()) => Ok(()),
-        Err(_) => Err(FormatFault::Device),
-    }
+    write_volume(device, sectors, nodes)?;
+    Ok(())
 }
 
 fn write_volume<D: Device>(device: &mut D, sectors: u32, nodes: u32) -> Result<(), DeviceFailed>

@@ -1,0 +1,10 @@
+/// What a turn of a connection did.
+#[derive(Clone, Copy, Debug, PartialEq, Eq)]
+pub enum Turn {
+    /// No whole request waits, or the last reply was not taken.
+    Idle,
+    /// One operation ran, and more remain.
+    Ran,
+    /// The reply is in the output.
+    Answered,
+}
