@@ -1,7 +1,8 @@
 //! A device whose power goes at a stated step, and what may then be found on it.
 
-ghost use Rattle.std.specs.Prelude.{◌≡◌, ◌≢◌, ◌+◌, ◌-◌, ◌^◌, ◌<◌, ◌≤◌, ◌⊎◌, ◌↔◌, ℕ, [], ◌∷◌, Bool, true, false, min, length, slice_index_or, if◌then◌else◌, IsTrue, IfOk, OnOk, OnErr, IsErrOf};
+ghost use Rattle.std.specs.Prelude.{◌≡◌, ◌≢◌, ◌+◌, ◌-◌, ◌^◌, ◌<◌, ◌≤◌, ◌⊎◌, ◌↔◌, ℕ, [], ◌∷◌, Bool, true, false, min, length, slice_index_or, if◌then◌else◌, IsTrue, IfOk, OnOk, OnErr, IsErrOf, IsOk};
 ghost use Rattle.disk.specs.Moments.{seen, wrote, synced, at_rest, Left};
+ghost use Rattle.disk.specs.Cause.{HasCause};
 ghost use Rattle.disk.specs.Calls.{image_of, written_by};
 ghost use Rattle.disk.specs.Landing.{landed_image, number_for, unsynced_below};
 
@@ -43,7 +44,7 @@ pub struct CrashDevice {
 
 impl CrashDevice {
     ghost use Rattle.disk.specs.Memory.{size_of, failures_of, calls_of, history_of};
-    ghost use Rattle.disk.specs.Crash.{device_of, stop_of, steps_of, is_stopped, next_fate};
+    ghost use Rattle.disk.specs.Crash.{device_of, stop_of, steps_of, is_stopped, next_fate, IsNextCourse};
 
     /// A device that goes on from this one, and stops there.
     pub fn new(device: MemDevice, stop: Stop) -> CrashDevice
@@ -120,9 +121,7 @@ impl CrashDevice {
     fn begin(&mut self) -> Fate
         ensures fate { result ≡ next_fate self.old }
         ensures device { device_of self.new ≡ device_of self.old }
-        ensures stop { stop_of self.new ≡ stop_of self.old }
-        ensures steps { steps_of self.new ≡ (if is_stopped self.old then steps_of self.old else min (steps_of self.old + 1) (2 ^ 64 - 1)) }
-        ensures stopped { IsTrue (is_stopped self.new) ↔ (result ≢ Fate.Whole) }
+        ensures course { IsNextCourse self.old self.new }
     {
         if self.is_stopped {
             return Fate::Nothing;
@@ -141,7 +140,7 @@ impl CrashDevice {
 
 impl Device for CrashDevice {
     ghost use Rattle.disk.specs.Memory.{size_of, failures_of, history_of};
-    ghost use Rattle.disk.specs.Crash.{device_of};
+    ghost use Rattle.disk.specs.Crash.{device_of, is_stopped, next_fate, AnswersFate, IsSameCourse, IsNextCourse};
 
     ghost keeps_word = { Unit {0} };
 
@@ -159,14 +158,36 @@ impl Device for CrashDevice {
         self.device.failures()
     }
 
-    fn read(&mut self, n: u32, content: &mut [u8; SECTOR]) -> Result<(), DiskFault> {
+    /// Reads every sector that is there, until the device has stopped.
+    fn read(&mut self, n: u32, content: &mut [u8; SECTOR]) -> Result<(), DiskFault>
+        ensures ok { OnOk result (content.new ≡ seen (history_of (device_of self.old)).now n) }
+        ensures range { IsErrOf result DiskFault.Range ↔ (size_of (device_of self.old) ≤ n) }
+        ensures untouched { IsErrOf result DiskFault.Range → content.new ≡ content.old }
+        ensures history { history_of (device_of self.new) ≡ history_of (device_of self.old) }
+        ensures size { size_of (device_of self.new) ≡ size_of (device_of self.old) }
+        ensures cause { HasCause (failures_of (device_of self.old)) (failures_of (device_of self.new)) result }
+        ensures running { is_stopped self.old ≡ false → n < size_of (device_of self.old) → IsOk result }
+        ensures stopped { is_stopped self.old ≡ true → n < size_of (device_of self.old) → result ≡ Err DiskFault.Fault }
+        ensures course { IsSameCourse self.old self.new }
+    {
         if self.is_stopped && n < self.device.sectors() {
             return Err(self.device.fail());
         }
         self.device.read(n, content)
     }
 
-    fn write(&mut self, n: u32, content: &[u8; SECTOR]) -> Result<(), DiskFault> {
+    /// The step at which the device stops answers `Fault`, and so does each one after it.
+    fn write(&mut self, n: u32, content: &[u8; SECTOR]) -> Result<(), DiskFault>
+        ensures ok { OnOk result (history_of (device_of self.new) ≡ wrote (record { target = n; content = content.now }) (history_of (device_of self.old))) }
+        ensures err { OnErr result ((history_of (device_of self.new) ≡ history_of (device_of self.old))
+            ⊎ (history_of (device_of self.new) ≡ wrote (record { target = n; content = content.now }) (history_of (device_of self.old)))) }
+        ensures untouched { IsErrOf result DiskFault.Range → (history_of (device_of self.new) ≡ history_of (device_of self.old)) × IsSameCourse self.old self.new }
+        ensures range { IsErrOf result DiskFault.Range ↔ (size_of (device_of self.old) ≤ n) }
+        ensures size { size_of (device_of self.new) ≡ size_of (device_of self.old) }
+        ensures cause { HasCause (failures_of (device_of self.old)) (failures_of (device_of self.new)) result }
+        ensures fate { n < size_of (device_of self.old) → AnswersFate (next_fate self.old) (history_of (device_of self.old)) (history_of (device_of self.new)) result }
+        ensures course { n < size_of (device_of self.old) → IsNextCourse self.old self.new }
+    {
         if n >= self.device.sectors() {
             return Err(DiskFault::Range);
         }
@@ -180,7 +201,16 @@ impl Device for CrashDevice {
         }
     }
 
-    fn sync(&mut self) -> Result<(), DiskFault> {
+    /// The step at which the device stops answers `Fault`, and so does each one after it.
+    fn sync(&mut self) -> Result<(), DiskFault>
+        ensures ok { OnOk result (history_of (device_of self.new) ≡ synced (history_of (device_of self.old))) }
+        ensures err { OnErr result (history_of (device_of self.new) ≡ history_of (device_of self.old)) }
+        ensures not_range { IsErrOf result DiskFault.Range → ⊥ }
+        ensures size { size_of (device_of self.new) ≡ size_of (device_of self.old) }
+        ensures cause { HasCause (failures_of (device_of self.old)) (failures_of (device_of self.new)) result }
+        ensures fate { AnswersFate (next_fate self.old) (history_of (device_of self.old)) (history_of (device_of self.new)) result }
+        ensures course { IsNextCourse self.old self.new }
+    {
         match self.begin() {
             Fate::Whole => self.device.sync(),
             Fate::Part | Fate::Nothing => Err(self.device.fail()),

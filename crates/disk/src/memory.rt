@@ -1,8 +1,8 @@
 //! A device in memory, which keeps its word and a record of all its calls.
 
-ghost use Rattle.std.specs.Prelude.{◌≡◌, ◌+◌, ◌-◌, ◌^◌, ◌<◌, ◌≤◌, ◌++◌, ℕ, List, [], ◌∷◌, length, vec_len, replicate, reverse, min, IfOk, OnErr};
-ghost use Rattle.disk.specs.Moments.{seen, at_rest, written_to};
-ghost use Rattle.disk.specs.Cause.{IsCounted};
+ghost use Rattle.std.specs.Prelude.{◌≡◌, ◌+◌, ◌-◌, ◌^◌, ◌<◌, ◌≤◌, ◌++◌, ◌↔◌, ℕ, List, [], ◌∷◌, length, vec_len, replicate, reverse, min, IfOk, OnOk, OnErr, IsErrOf, IsOk};
+ghost use Rattle.disk.specs.Moments.{seen, wrote, at_rest, written_to};
+ghost use Rattle.disk.specs.Cause.{IsCounted, HasCause};
 ghost use Rattle.disk.specs.Calls.{image_of, zero_sector, written_by, history_of_calls};
 
 use crate::call::{replay, synced_count};
@@ -116,7 +116,16 @@ impl Device for MemDevice {
         self.failures
     }
 
-    fn read(&mut self, n: u32, content: &mut [u8; SECTOR]) -> Result<(), DiskFault> {
+    /// Every sector that is there is read.
+    fn read(&mut self, n: u32, content: &mut [u8; SECTOR]) -> Result<(), DiskFault>
+        ensures ok { OnOk result (content.new ≡ seen (history_of self.old).now n) }
+        ensures range { IsErrOf result DiskFault.Range ↔ (size_of self.old ≤ n) }
+        ensures untouched { IsErrOf result DiskFault.Range → content.new ≡ content.old }
+        ensures history { history_of self.new ≡ history_of self.old }
+        ensures size { size_of self.new ≡ size_of self.old }
+        ensures cause { HasCause (failures_of self.old) (failures_of self.new) result }
+        ensures answered { n < size_of self.old → IsOk result }
+    {
         let place = n as usize;
         if place >= self.sectors.len() {
             return Err(DiskFault::Range);
@@ -125,7 +134,14 @@ impl Device for MemDevice {
         Ok(())
     }
 
-    fn write(&mut self, n: u32, content: &[u8; SECTOR]) -> Result<(), DiskFault> {
+    /// A write that failed, for want of memory for its record, did not land.
+    fn write(&mut self, n: u32, content: &[u8; SECTOR]) -> Result<(), DiskFault>
+        ensures ok { OnOk result (history_of self.new ≡ wrote (record { target = n; content = content.now }) (history_of self.old)) }
+        ensures err { OnErr result (history_of self.new ≡ history_of self.old) }
+        ensures range { IsErrOf result DiskFault.Range ↔ (size_of self.old ≤ n) }
+        ensures size { size_of self.new ≡ size_of self.old }
+        ensures cause { HasCause (failures_of self.old) (failures_of self.new) result }
+    {
         let place = n as usize;
         if place >= self.sectors.len() {
             return Err(DiskFault::Range);
