@@ -1,5 +1,5 @@
 -- A device whose power goes at a stated step.
-use Rattle.std.specs.Prelude.{◌==◌, ◌≡◌, ◌+◌, ◌-◌, ◌^◌, ℕ, Bool, true, false, min, Result, Ok, Err, OnErr, if◌then◌else◌}
+use Rattle.std.specs.Prelude.{◌==◌, ◌≡◌, ◌+◌, ◌-◌, ◌^◌, ℕ, Bool, true, false, min, Result, Err, OnErr, if◌then◌else◌}
 use Rattle.disk.specs.declared.crash.Stop.{Stop}
 use Rattle.disk.specs.declared.crash.Stop.TheVariants.{Never, Before, Within}
 use Rattle.disk.specs.declared.crash.Fate.{Fate}

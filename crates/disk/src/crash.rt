@@ -9,7 +9,7 @@ ghost use Rattle.disk.specs.Landing.{landed_image, number_for, unsynced_below};
 use crate::call::{count_written, numbered_content};
 use crate::landing::number_for_sector;
 use crate::{Call, Device, DiskFault, Landed, MemDevice, SECTOR, Unsynced, Update};
-use std::alloc::Global;
+use std::alloc::{AllocError, Global};
 
 /// Where a device stops for good. Its steps are its writes and syncs, numbered from 0; a write to a
 /// sector that it does not have is none.
@@ -83,16 +83,15 @@ impl CrashDevice {
     }
 
     /// The sectors with unsynced contents, by rising number.
-    pub fn unsynced(&self, alloc: Global) -> Result<Vec<Unsynced>, DiskFault>
-        ensures sectors { IfOk result (λ sectors. sectors.items ≡ unsynced_below (size_of (device_of self.now)) (history_of (device_of self.now)).now) }
-        ensures memory { OnErr result (result ≡ Err DiskFault.Memory) }
+    pub fn unsynced(&self, alloc: Global) -> Result<Vec<Unsynced>, AllocError>
+        ensures { IfOk result (λ sectors. sectors.items ≡ unsynced_below (size_of (device_of self.now)) (history_of (device_of self.now)).now) }
     {
         let since = self.device.since_sync();
         let mut sectors = Vec::new(alloc);
         for sector in 0..self.device.sectors() {
             let contents = count_written(since, sector);
-            if contents > 0 && sectors.push(Unsynced { sector, contents }).is_err() {
-                return Err(DiskFault::Memory);
+            if contents > 0 {
+                sectors.push(Unsynced { sector, contents })?;
             }
         }
         Ok(sectors)
