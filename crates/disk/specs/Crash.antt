@@ -8,10 +8,20 @@ use Rattle.disk.specs.declared.crash.CrashDevice.{CrashDevice}
 use Rattle.disk.specs.declared.fault.DiskFault.{DiskFault}
 use Rattle.disk.specs.declared.fault.DiskFault.TheVariants.{Fault}
 use Rattle.disk.specs.Moments.{History}
+use Rattle.disk.specs.Memory.{size_of, failures_of, history_of}
 use Rattle.disk.specs.declared.memory.MemDevice.{MemDevice}
 
 abbrev pub device_of : CrashDevice → MemDevice
 device_of device = device.device
+
+abbrev pub crash_size : CrashDevice → ℕ
+crash_size device = size_of device.device
+
+abbrev pub crash_failures : CrashDevice → ℕ
+crash_failures device = failures_of device.device
+
+abbrev pub crash_history : CrashDevice → History
+crash_history device = history_of device.device
 
 abbrev pub stop_of : CrashDevice → Stop
 stop_of device = device.stop

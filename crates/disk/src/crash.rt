@@ -44,7 +44,7 @@ pub struct CrashDevice {
 
 impl CrashDevice {
     ghost use Rattle.disk.specs.Memory.{size_of, failures_of, calls_of, history_of};
-    ghost use Rattle.disk.specs.Crash.{device_of, stop_of, steps_of, is_stopped, next_fate, IsNextCourse};
+    ghost use Rattle.disk.specs.Crash.{crash_size, crash_history, device_of, stop_of, steps_of, is_stopped, next_fate, IsNextCourse};
 
     /// A device that goes on from this one, and stops there.
     pub fn new(device: MemDevice, stop: Stop) -> CrashDevice
@@ -84,7 +84,8 @@ impl CrashDevice {
 
     /// The sectors with unsynced contents, by rising number.
     pub fn unsynced(&self, alloc: Global) -> Result<Vec<Unsynced>, AllocError>
-        ensures { IfOk result (λ sectors. sectors.items ≡ unsynced_below (size_of (device_of self.now)) (history_of (device_of self.now)).now) }
+        ensures { IfOk result (λ sectors. sectors.items
+            ≡ unsynced_below (crash_size self.now) (crash_history self.now).now) }
     {
         let since = self.device.since_sync();
         let mut sectors = Vec::new(alloc);
@@ -104,9 +105,10 @@ impl CrashDevice {
     /// sector counts. A sector that it does not name, or of which there is no such content, has the
     /// fixed one.
     pub fn landed(&self, alloc: Global, landing: &[Landed]) -> Result<MemDevice, DiskFault>
-        ensures size { IfOk result (λ device. size_of device ≡ size_of (device_of self.now)) }
-        ensures landed { IfOk result (λ device. history_of device ≡ at_rest (landed_image landing.now (history_of (device_of self.now)).now)) }
-        ensures left { IfOk result (λ device. Left (history_of (device_of self.now)).now (seen (history_of device).now)) }
+        ensures size { IfOk result (λ device. size_of device ≡ crash_size self.now) }
+        ensures landed { IfOk result (λ device. history_of device
+            ≡ at_rest (landed_image landing.now (crash_history self.now).now)) }
+        ensures left { IfOk result (λ device. Left (crash_history self.now).now (seen (history_of device).now)) }
         ensures calls { IfOk result (λ device. calls_of device ≡ []) }
         ensures failures { IfOk result (λ device. failures_of device ≡ 0) }
         ensures memory { OnErr result (result ≡ Err DiskFault.Memory) }
@@ -138,16 +140,15 @@ impl CrashDevice {
 }
 
 impl Device for CrashDevice {
-    ghost use Rattle.disk.specs.Memory.{size_of, failures_of, history_of};
-    ghost use Rattle.disk.specs.Crash.{device_of, is_stopped, next_fate, AnswersFate, IsSameCourse, IsNextCourse};
+    ghost use Rattle.disk.specs.Crash.{crash_size, crash_failures, crash_history, is_stopped, next_fate, AnswersFate, IsSameCourse, IsNextCourse};
 
     ghost keeps_word = { Unit {0} };
 
-    ghost size = { λ device. size_of (device_of device) };
+    ghost size = { λ device. crash_size device };
 
-    ghost failed = { λ device. failures_of (device_of device) };
+    ghost failed = { λ device. crash_failures device };
 
-    ghost history = { λ device. history_of (device_of device) };
+    ghost history = { λ device. crash_history device };
 
     fn sectors(&self) -> u32 {
         self.device.sectors()
@@ -159,14 +160,15 @@ impl Device for CrashDevice {
 
     /// Reads every sector that is there, until the device has stopped.
     fn read(&mut self, n: u32, content: &mut [u8; SECTOR]) -> Result<(), DiskFault>
-        ensures ok { OnOk result (content.new ≡ seen (history_of (device_of self.old)).now n) }
-        ensures range { IsErrOf result DiskFault.Range ↔ (size_of (device_of self.old) ≤ n) }
+        ensures ok { OnOk result (content.new ≡ seen (crash_history self.old).now n) }
+        ensures range { IsErrOf result DiskFault.Range ↔ (crash_size self.old ≤ n) }
         ensures untouched { IsErrOf result DiskFault.Range → content.new ≡ content.old }
-        ensures history { history_of (device_of self.new) ≡ history_of (device_of self.old) }
-        ensures size { size_of (device_of self.new) ≡ size_of (device_of self.old) }
-        ensures cause { HasCause (failures_of (device_of self.old)) (failures_of (device_of self.new)) result }
-        ensures running { is_stopped self.old ≡ false → n < size_of (device_of self.old) → IsOk result }
-        ensures stopped { is_stopped self.old ≡ true → n < size_of (device_of self.old) → result ≡ Err DiskFault.Fault }
+        ensures history { crash_history self.new ≡ crash_history self.old }
+        ensures size { crash_size self.new ≡ crash_size self.old }
+        ensures cause { HasCause (crash_failures self.old) (crash_failures self.new) result }
+        ensures running { is_stopped self.old ≡ false → n < crash_size self.old → IsOk result }
+        ensures stopped { is_stopped self.old ≡ true → n < crash_size self.old
+            → result ≡ Err DiskFault.Fault }
         ensures course { IsSameCourse self.old self.new }
     {
         if self.is_stopped && n < self.device.sectors() {
@@ -177,15 +179,18 @@ impl Device for CrashDevice {
 
     /// The step at which the device stops answers `Fault`, and so does each one after it.
     fn write(&mut self, n: u32, content: &[u8; SECTOR]) -> Result<(), DiskFault>
-        ensures ok { OnOk result (history_of (device_of self.new) ≡ wrote (record { target = n; content = content.now }) (history_of (device_of self.old))) }
-        ensures err { OnErr result ((history_of (device_of self.new) ≡ history_of (device_of self.old))
-            ⊎ (history_of (device_of self.new) ≡ wrote (record { target = n; content = content.now }) (history_of (device_of self.old)))) }
-        ensures untouched { IsErrOf result DiskFault.Range → (history_of (device_of self.new) ≡ history_of (device_of self.old)) × IsSameCourse self.old self.new }
-        ensures range { IsErrOf result DiskFault.Range ↔ (size_of (device_of self.old) ≤ n) }
-        ensures size { size_of (device_of self.new) ≡ size_of (device_of self.old) }
-        ensures cause { HasCause (failures_of (device_of self.old)) (failures_of (device_of self.new)) result }
-        ensures fate { n < size_of (device_of self.old) → AnswersFate (next_fate self.old) (history_of (device_of self.old)) (history_of (device_of self.new)) result }
-        ensures course { n < size_of (device_of self.old) → IsNextCourse self.old self.new }
+        ensures ok { OnOk result (crash_history self.new
+            ≡ wrote (record { target = n; content = content.now }) (crash_history self.old)) }
+        ensures err { OnErr result ((crash_history self.new ≡ crash_history self.old)
+            ⊎ (crash_history self.new ≡ wrote (record { target = n; content = content.now }) (crash_history self.old))) }
+        ensures untouched { IsErrOf result DiskFault.Range
+            → (crash_history self.new ≡ crash_history self.old) × IsSameCourse self.old self.new }
+        ensures range { IsErrOf result DiskFault.Range ↔ (crash_size self.old ≤ n) }
+        ensures size { crash_size self.new ≡ crash_size self.old }
+        ensures cause { HasCause (crash_failures self.old) (crash_failures self.new) result }
+        ensures fate { n < crash_size self.old
+            → AnswersFate (next_fate self.old) (crash_history self.old) (crash_history self.new) result }
+        ensures course { n < crash_size self.old → IsNextCourse self.old self.new }
     {
         if n >= self.device.sectors() {
             return Err(DiskFault::Range);
@@ -202,12 +207,12 @@ impl Device for CrashDevice {
 
     /// The step at which the device stops answers `Fault`, and so does each one after it.
     fn sync(&mut self) -> Result<(), DiskFault>
-        ensures ok { OnOk result (history_of (device_of self.new) ≡ synced (history_of (device_of self.old))) }
-        ensures err { OnErr result (history_of (device_of self.new) ≡ history_of (device_of self.old)) }
+        ensures ok { OnOk result (crash_history self.new ≡ synced (crash_history self.old)) }
+        ensures err { OnErr result (crash_history self.new ≡ crash_history self.old) }
         ensures not_range { IsErrOf result DiskFault.Range → ⊥ }
-        ensures size { size_of (device_of self.new) ≡ size_of (device_of self.old) }
-        ensures cause { HasCause (failures_of (device_of self.old)) (failures_of (device_of self.new)) result }
-        ensures fate { AnswersFate (next_fate self.old) (history_of (device_of self.old)) (history_of (device_of self.new)) result }
+        ensures size { crash_size self.new ≡ crash_size self.old }
+        ensures cause { HasCause (crash_failures self.old) (crash_failures self.new) result }
+        ensures fate { AnswersFate (next_fate self.old) (crash_history self.old) (crash_history self.new) result }
         ensures course { IsNextCourse self.old self.new }
     {
         match self.begin() {
@@ -220,7 +225,8 @@ impl Device for CrashDevice {
 // Puts on each sector what landed there, over what is fixed.
 fn land(sectors: &mut [[u8; SECTOR]], since: &[Call], landing: &[Landed])
     requires { length sectors.old < 2 ^ 32 }
-    ensures { (n : ℕ) → n < length sectors.old → image_of sectors.new n ≡ slice_index_or (image_of sectors.old n ∷ written_by n since.now) (number_for landing.now n) (image_of sectors.old n) }
+    ensures { (n : ℕ) → n < length sectors.old → image_of sectors.new n
+        ≡ slice_index_or (image_of sectors.old n ∷ written_by n since.now) (number_for landing.now n) (image_of sectors.old n) }
 {
     for (n, content) in sectors.iter_mut().enumerate() {
         let sector = n as u32;

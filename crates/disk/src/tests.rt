@@ -1,7 +1,6 @@
 use super::*;
 use std::alloc::{AllocGlobal, Global};
 use std::fs;
-use std::process::Abort;
 use std::test::Fail;
 
 fn filled(byte: u8) -> [u8; SECTOR] {

@@ -38,8 +38,10 @@ impl Edge {
 /// them. Of more sectors: none landed, all, each alone, and each alone missing, those that landed
 /// with their newest content.
 pub fn landings(alloc: Global, unsynced: &[Unsynced]) -> Result<Vec<Vec<Landed>>, AllocError>
-    ensures few { length unsynced.now ≤ ALL_COMBINATIONS → IfOk result (λ landings. lists_of landings.items ≡ every_landing unsynced.now) }
-    ensures many { ALL_COMBINATIONS < length unsynced.now → IfOk result (λ landings. lists_of landings.items ≡ edge_landings_of unsynced.now) }
+    ensures few { length unsynced.now ≤ ALL_COMBINATIONS
+        → IfOk result (λ landings. lists_of landings.items ≡ every_landing unsynced.now) }
+    ensures many { ALL_COMBINATIONS < length unsynced.now
+        → IfOk result (λ landings. lists_of landings.items ≡ edge_landings_of unsynced.now) }
 {
     if unsynced.len() <= ALL_COMBINATIONS {
         combinations(alloc, unsynced)
@@ -64,7 +66,8 @@ fn with_choices(
     landings: &[Vec<Landed>],
     sector: Unsynced,
 ) -> Result<Vec<Vec<Landed>>, AllocError>
-    ensures { IfOk result (λ longer. lists_of longer.items ≡ extended (lists_of landings.now) sector) }
+    ensures { IfOk result (λ longer. lists_of longer.items
+        ≡ extended (lists_of landings.now) sector) }
 {
     let mut longer = Vec::new(alloc);
     for landing in landings {
@@ -79,7 +82,8 @@ fn push_choices(
     landing: &[Landed],
     unsynced: Unsynced,
 ) -> Result<(), AllocError>
-    ensures { OnOk result (lists_of longer.new.items ≡ lists_of longer.old.items ++ map (λ choice. landing.now ++ choice ∷ []) (choices_to unsynced.sector unsynced.contents)) }
+    ensures { OnOk result (lists_of longer.new.items
+        ≡ lists_of longer.old.items ++ map (λ choice. landing.now ++ choice ∷ []) (choices_to unsynced.sector unsynced.contents)) }
 {
     let sector = unsynced.sector;
     longer.push(with_choice(alloc, landing, Landed { sector, content: 0 })?)?;
