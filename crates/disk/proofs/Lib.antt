@@ -1,3 +1,4 @@
 pub mod RecordLemmas
 pub mod CallLemmas
 pub mod LandingLemmas
+pub mod TrialLemmas

@@ -1,5 +1,5 @@
 -- What lands in a crash, sector by sector, by a list that chooses it.
-use Rattle.std.specs.Prelude.{◌==◌, ℕ, zero, suc, List, [], ◌∷◌, ◌++◌, length, find, reverse, slice_index_or, if◌then◌else◌}
+use Rattle.std.specs.Prelude.{◌==◌, ℕ, zero, suc, List, [], ◌∷◌, ◌++◌, length, find, fold, map, flat_map, reverse, slice_index_or, if◌then◌else◌}
 use Rattle.std.specs.Option.{option_map_or}
 use Rattle.disk.specs.declared.landing.Landed.{Landed}
 use Rattle.disk.specs.declared.landing.Unsynced.{Unsynced}
@@ -24,3 +24,17 @@ unsynced_below zero m = []
 unsynced_below (suc n) m =
     let count = length (written_to n m.unsynced) in
     unsynced_below n m ++ (if count == 0 then [] else record { sector = n; contents = count } ∷ [])
+
+-- the choices for one sector: its fixed content, and the first k of those written since
+abbrev pub choices_to : ℕ → ℕ → List Landed
+choices_to sector zero = record { sector = sector; content = 0 } ∷ []
+choices_to sector (suc k) = choices_to sector k ++ record { sector = sector; content = suc k } ∷ []
+
+-- each of these landings with each choice for one more sector
+abbrev pub extended : List (List Landed) → Unsynced → List (List Landed)
+extended landings unsynced =
+    flat_map (λ landing. map (λ choice. landing ++ choice ∷ []) (choices_to unsynced.sector unsynced.contents)) landings
+
+-- all combinations of one choice for each sector
+abbrev pub every_landing : List Unsynced → List (List Landed)
+every_landing sectors = fold extended ([] ∷ []) sectors

@@ -5,3 +5,4 @@ pub mod Memory
 pub mod File
 pub mod Landing
 pub mod Crash
+pub mod Trial

@@ -82,7 +82,8 @@ pub(crate) fn numbered_content(
 
 /// Writes to the rows what the calls wrote, in their order.
 pub(crate) fn replay(rows: &mut [[u8; SECTOR]], calls: &[Call])
-    ensures { (n : ℕ) → n < length rows.old → image_of rows.new n ≡ seen (history_of_calls rows.old calls.now).now n }
+    ensures { (n : ℕ) → n < length rows.old → image_of rows.new n
+        ≡ seen (history_of_calls rows.old calls.now).now n }
 {
     for call in calls {
         match call {
@@ -94,7 +95,8 @@ pub(crate) fn replay(rows: &mut [[u8; SECTOR]], calls: &[Call])
 
 /// Puts the update's content in its row, if there is one.
 fn put_row(rows: &mut [[u8; SECTOR]], update: &Update)
-    ensures { (n : ℕ) → n < length rows.old → image_of rows.new n ≡ put (image_of rows.old) update.now n }
+    ensures { (n : ℕ) → n < length rows.old → image_of rows.new n
+        ≡ put (image_of rows.old) update.now n }
 {
     let place = update.target as usize;
     if place < rows.len() {

@@ -13,6 +13,7 @@ mod fault;
 mod file;
 mod landing;
 mod memory;
+mod trial;
 mod update;
 
 pub use call::Call;
@@ -22,4 +23,8 @@ pub use fault::DiskFault;
 pub use file::FileDevice;
 pub use landing::{Landed, Unsynced};
 pub use memory::MemDevice;
+pub use trial::{ALL_COMBINATIONS, landings};
 pub use update::{SECTOR, Update};
+
+#[cfg(test)]
+mod tests;

@@ -16,6 +16,6 @@ invariant_of-self-2 c =
     record { few = self.few; same_size = self.same_size; told = told.told; within = told.within }
 
 pub returns-clause-ok : goal.returns-clause-ok
-returns-clause-ok c _ =
+returns-clause-ok c =
     recorded _ _ _ (Write (record { target = c.args.n; content = c.args.content.now }))
     (pushed _ _ _ _ _ c.push.ensures.items c.is_err.ensures.negation c.if-is_err.false)
