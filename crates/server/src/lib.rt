@@ -22,5 +22,6 @@ mod superblock;
 mod turn;
 
 pub use fault::{FormatFault, MountFault, ServerFault};
+pub use superblock::is_volume_size;
 pub use server::{Server, Unmounted};
 pub use turn::Turn;

@@ -1,0 +1,134 @@
+//! One run of the program, apart from the process around it.
+
+use crate::refused::Refused;
+use crate::script::script;
+use crate::words::{Request, read_words};
+use disk::{FileDevice, MemDevice};
+use server::{Server, is_volume_size};
+use std::convert::AsStr;
+use std::fs;
+use std::fs::File;
+use std::io::{BufRead, ErrorKind, Write};
+use std::rt::Files;
+
+/// The exit statuses.
+const DONE: u8 = 0;
+
+const REFUSED: u8 = 1;
+
+const USAGE: u8 = 2;
+/// The volume in memory.
+const MEMORY_SECTORS: u32 = 256;
+
+const MEMORY_NODES: u32 = 16;
+
+/// Does what the words ask for, and answers the exit status: 0 done, 1 refused, which is told on
+/// `err` by name, 2 where the words have no form.
+pub fn command<R, S, I, O, E>(rt: &R, words: &[S], input: &mut I, out: &mut O, err: &mut E) -> u8
+where
+    R: Files<File = File> + AllocGlobal,
+    S: AsStr,
+    I: BufRead,
+    O: Write,
+    E: Write,
+{
+    let outcome = match read_words(rt.alloc(), words) {
+        Ok(Request::Usage) => {
+            let _ = writeln!(
+                err,
+                "usage: nfs41 [format FILE SECTORS NODES | run FILE SCRIPT]"
+            );
+            return USAGE;
+        }
+        Ok(request) => serve_request(rt, request, input, out),
+        Err(error) => Err(error.into()),
+    };
+    match outcome {
+        Ok(()) => DONE,
+        Err(refused) => {
+            let _ = writeln!(err, "refused: {refused}");
+            REFUSED
+        }
+    }
+}
+
+fn serve_request<R, I, O>(
+    rt: &R,
+    request: Request<'_>,
+    input: &mut I,
+    out: &mut O,
+) -> Result<(), Refused>
+where
+    R: Files<File = File> + AllocGlobal,
+    I: BufRead,
+    O: Write,
+{
+    match request {
+        Request::Usage => Ok(()),
+        Request::Script => script_in_memory(rt, input, out),
+        Request::Format {
+            file,
+            sectors,
+            nodes,
+        } => format_file(rt, file, sectors, nodes, out),
+        Request::Run { file, script } => run_file(rt, file, script, out),
+    }
+}
+
+fn script_in_memory<R, I, O>(rt: &R, input: &mut I, out: &mut O) -> Result<(), Refused>
+where
+    R: AllocGlobal,
+    I: BufRead,
+    O: Write,
+{
+    let mut device = MemDevice::new(rt.alloc(), MEMORY_SECTORS)?;
+    Server::format(&mut device, MEMORY_NODES)?;
+    script(rt.alloc(), &mut device, input, out)
+}
+
+fn format_file<R, O>(
+    rt: &R,
+    file: &str,
+    sectors: u32,
+    nodes: u32,
+    out: &mut O,
+) -> Result<(), Refused>
+where
+    R: Files<File = File>,
+    O: Write,
+{
+    // The size is tested before the file is touched.
+    if !is_volume_size(sectors, nodes) {
+        return Err(Refused::Size);
+    }
+    let mut device = FileDevice::create(rt, file, sectors)?;
+    Server::format(&mut device, nodes)?;
+    writeln!(out, "formatted")?;
+    Ok(())
+}
+
+fn run_file<R, O>(rt: &R, file: &str, script_file: &str, out: &mut O) -> Result<(), Refused>
+where
+    R: Files<File = File> + AllocGlobal,
+    O: Write,
+{
+    let text = match fs::read_to_string(rt, script_file) {
+        Ok(text) => text,
+        Err(error) => return Err(read_refusal(error.kind())),
+    };
+    let mut device = FileDevice::open(rt, file)?;
+    if !device.is_whole() {
+        return Err(Refused::NotVolume);
+    }
+    let mut lines = text.as_bytes();
+    script(rt.alloc(), &mut device, &mut lines, out)
+}
+
+/// Why a script is not read.
+fn read_refusal(kind: ErrorKind) -> Refused {
+    match kind {
+        ErrorKind::InvalidData => Refused::Script,
+        ErrorKind::OutOfMemory => Refused::Memory,
+        _ => Refused::Open,
+    }
+}

@@ -1,0 +1,129 @@
+//! Why the program stops.
+
+use disk::DiskFault;
+use server::{FormatFault, MountFault, ServerFault};
+use std::alloc::{AllocError, AllocFailed};
+use std::io;
+use std::io::ErrorKind;
+use thiserror::Error;
+
+/// Why a command or a script stops. Each is told by its name.
+#[derive(Clone, Copy, Debug, PartialEq, Eq, Error)]
+pub enum Refused {
+    /// A file could not be opened or read.
+    #[error("Open")]
+    Open,
+    /// Input or output failed.
+    #[error("Io")]
+    Io,
+    /// No memory.
+    #[error("Memory")]
+    Memory,
+    /// A line of the script has no form, or lacks what it speaks of.
+    #[error("Script")]
+    Script,
+    /// The server answered another status than OK.
+    #[error("Status")]
+    Status,
+    /// The server's bytes are no reply to what was sent.
+    #[error("Garbled")]
+    Garbled,
+    /// No volume has this many sectors and nodes.
+    #[error("Size")]
+    Size,
+    /// The device failed.
+    #[error("Device")]
+    Device,
+    /// No volume.
+    #[error("NotVolume")]
+    NotVolume,
+    /// A volume that is not as formats and mounts leave it.
+    #[error("Damaged")]
+    Damaged,
+    /// A volume that was mounted as often as can be counted.
+    #[error("Worn")]
+    Worn,
+    /// 16 connections stand already.
+    #[error("Full")]
+    Full,
+    /// The server has no such connection.
+    #[error("NoConnection")]
+    NoConnection,
+    /// The server closed the connection.
+    #[error("Closed")]
+    Closed,
+}
+
+impl From<AllocError> for Refused {
+    fn from(_: AllocError) -> Refused {
+        Refused::Memory
+    }
+}
+
+impl<T: Drop> From<AllocFailed<T>> for Refused {
+    fn from(_: AllocFailed<T>) -> Refused {
+        Refused::Memory
+    }
+}
+
+impl From<io::Error> for Refused {
+    fn from(error: io::Error) -> Refused {
+        match error.kind() {
+            ErrorKind::OutOfMemory => Refused::Memory,
+            _ => Refused::Io,
+        }
+    }
+}
+
+impl From<DiskFault> for Refused {
+    fn from(fault: DiskFault) -> Refused {
+        match fault {
+            DiskFault::Open => Refused::Open,
+            DiskFault::Memory => Refused::Memory,
+            DiskFault::Range | DiskFault::Fault => Refused::Device,
+        }
+    }
+}
+
+impl From<FormatFault> for Refused {
+    fn from(fault: FormatFault) -> Refused {
+        match fault {
+            FormatFault::Device => Refused::Device,
+            FormatFault::Memory => Refused::Memory,
+            FormatFault::Size => Refused::Size,
+        }
+    }
+}
+
+impl From<MountFault> for Refused {
+    fn from(fault: MountFault) -> Refused {
+        match fault {
+            MountFault::Device => Refused::Device,
+            MountFault::Damaged => Refused::Damaged,
+            MountFault::NotVolume => Refused::NotVolume,
+            MountFault::Worn => Refused::Worn,
+            MountFault::Memory => Refused::Memory,
+        }
+    }
+}
+
+impl From<ServerFault> for Refused {
+    fn from(fault: ServerFault) -> Refused {
+        match fault {
+            ServerFault::NoConnection => Refused::NoConnection,
+            ServerFault::Full => Refused::Full,
+            ServerFault::Closed => Refused::Closed,
+            ServerFault::Device => Refused::Device,
+            ServerFault::Memory => Refused::Memory,
+        }
+    }
+}
+
+impl From<xdr::Refusal> for Refused {
+    fn from(refusal: xdr::Refusal) -> Refused {
+        match refusal {
+            xdr::Refusal::Memory => Refused::Memory,
+            xdr::Refusal::Short | xdr::Refusal::Value | xdr::Refusal::Long => Refused::Garbled,
+        }
+    }
+}
