@@ -3,4 +3,5 @@
 //! `specs/` has one file a subject, each with the section of the public standard that it comes from.
 #![tactic(auto)]
 
+pub mod session;
 pub mod status;

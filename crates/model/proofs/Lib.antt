@@ -1,0 +1,2 @@
+pub mod SessionRows
+pub mod SlotLaw
