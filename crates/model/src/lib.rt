@@ -3,4 +3,6 @@
 //! `specs/` has one file a subject, each with the section of the public standard that it comes from.
 #![tactic(auto)]
 
+pub mod acl;
+pub mod node;
 pub mod status;
