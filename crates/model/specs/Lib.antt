@@ -1,3 +1,10 @@
 pub mod Answer
+pub mod Charge
+pub mod Keyed
+pub mod Limits
+pub mod Name
 pub mod Operation
+pub mod Refusal
+pub mod Stamp
 pub mod Status
+pub mod Tree
