@@ -1,1 +1,5 @@
+pub mod Acl
+pub mod AclExamples
+pub mod Inherit
+pub mod Mode
 pub mod Status
