@@ -1,7 +1,11 @@
+pub mod Acl
+pub mod AclExamples
 pub mod Answer
 pub mod Charge
+pub mod Inherit
 pub mod Keyed
 pub mod Limits
+pub mod Mode
 pub mod Name
 pub mod Operation
 pub mod Refusal
