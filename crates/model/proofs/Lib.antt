@@ -1,2 +1,3 @@
 pub mod SessionRows
 pub mod SlotLaw
+pub mod KeyedLaws

@@ -1,6 +1,16 @@
+pub mod Acl
+pub mod AclExamples
 pub mod Answer
+pub mod Charge
+pub mod Inherit
+pub mod Keyed
+pub mod Limits
+pub mod Mode
+pub mod Name
 pub mod Operation
-pub mod Status
 pub mod Refusal
+pub mod Stamp
+pub mod Status
 pub mod Session
 pub mod SessionRuns
+pub mod Tree

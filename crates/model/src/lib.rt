@@ -4,4 +4,7 @@
 #![tactic(auto)]
 
 pub mod session;
+pub mod acl;
+pub mod node;
 pub mod status;
+pub mod tree;
