@@ -1,3 +1,4 @@
+pub mod RecordLaws
 pub mod SessionRows
 pub mod SlotLaw
 pub mod KeyedLaws

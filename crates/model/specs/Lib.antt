@@ -8,6 +8,7 @@ pub mod Limits
 pub mod Mode
 pub mod Name
 pub mod Operation
+pub mod Record
 pub mod Refusal
 pub mod Stamp
 pub mod Status

@@ -3,8 +3,9 @@
 //! `specs/` has one file a subject, each with the section of the public standard that it comes from.
 #![tactic(auto)]
 
-pub mod session;
 pub mod acl;
 pub mod node;
+pub mod rpc;
+pub mod session;
 pub mod status;
 pub mod tree;
