@@ -1,1 +1,2 @@
+pub mod FreshTree
 pub mod KeyedLaws

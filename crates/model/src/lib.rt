@@ -6,4 +6,5 @@
 pub mod acl;
 pub mod node;
 pub mod status;
+pub mod step;
 pub mod tree;
