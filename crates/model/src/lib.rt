@@ -4,5 +4,6 @@
 #![tactic(auto)]
 
 pub mod acl;
+pub mod acl_laws;
 pub mod node;
 pub mod status;
