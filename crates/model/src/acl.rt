@@ -115,6 +115,30 @@ pub enum Who {
     NamedGroup(u32),
 }
 
+impl Who {
+    ghost use Rattle.model.specs.Acl.{is_special, matches};
+
+    /// Whether this is `OWNER@`, `GROUP@` or `EVERYONE@`.
+    pub fn is_special(self) -> bool
+        ensures { result ≡ is_special self }
+    {
+        matches!(self, Who::Owner | Who::Group | Who::Everyone)
+    }
+
+    /// Whether a caller is meant, on a node of this owner and group.
+    pub fn matches(self, owner: u32, group: u32, cred: &Cred) -> bool
+        ensures { result ≡ matches self owner group cred.now }
+    {
+        match self {
+            Who::Owner => cred.uid == owner,
+            Who::Group => cred.is_member(group),
+            Who::Everyone => true,
+            Who::User(number) => cred.uid == number,
+            Who::NamedGroup(number) => cred.is_member(number),
+        }
+    }
+}
+
 /// An access control entry (RFC 8881, section 6.2.1, `nfsace4`).
 #[derive(Clone, Copy, PartialEq, Eq, Debug)]
 pub struct Ace {
@@ -122,6 +146,17 @@ pub struct Ace {
     pub flags: AceFlags,
     pub mask: Mask,
     pub who: Who,
+}
+
+impl Ace {
+    ghost use Rattle.model.specs.Acl.{counts};
+
+    /// Whether the entry says something about its own node: one with `INHERIT_ONLY` does not.
+    pub fn counts(&self) -> bool
+        ensures { result ≡ counts self.now }
+    {
+        !self.flags.intersects(AceFlags::INHERIT_ONLY)
+    }
 }
 
 /// An access control list: its entries, in the order in which they are evaluated.
@@ -238,4 +273,15 @@ pub struct Cred {
     pub uid: u32,
     pub gid: u32,
     pub gids: Gids,
+}
+
+impl Cred {
+    ghost use Rattle.model.specs.Acl.{is_member};
+
+    /// Whether the group is the caller's first one or among its others.
+    pub fn is_member(&self, gid: u32) -> bool
+        ensures { result ≡ is_member self.now gid }
+    {
+        self.gid == gid || self.gids.as_slice().contains(&gid)
+    }
 }
