@@ -1,2 +1,4 @@
 pub mod FreshTree
 pub mod KeyedLaws
+pub mod ModeLaws
+pub mod NumberLaws

@@ -1,5 +1,6 @@
 pub mod Acl
 pub mod AclExamples
+pub mod AclLaws
 pub mod Answer
 pub mod Attribute
 pub mod Charge

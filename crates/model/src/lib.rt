@@ -4,6 +4,7 @@
 #![tactic(auto)]
 
 pub mod acl;
+pub mod acl_laws;
 pub mod node;
 pub mod status;
 pub mod step;
