@@ -1,12 +1,19 @@
 pub mod Acl
 pub mod AclExamples
+pub mod AclLaws
 pub mod Answer
+pub mod Attribute
 pub mod Charge
+pub mod Context
+pub mod Directory
+pub mod Fresh
 pub mod Inherit
 pub mod Keyed
 pub mod Limits
 pub mod Mode
 pub mod Name
+pub mod Need
+pub mod Opens
 pub mod Operation
 pub mod Record
 pub mod Refusal
@@ -14,4 +21,7 @@ pub mod Stamp
 pub mod Status
 pub mod Session
 pub mod SessionRuns
+pub mod Step
+pub mod StepExamples
 pub mod Tree
+pub mod WellFormed

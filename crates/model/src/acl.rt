@@ -1,6 +1,6 @@
 //! Access control entries, and the credentials that they are matched against (RFC 8881, section 6.2).
 
-ghost use Rattle.std.specs.Prelude.{⊤, ◌≡◌, ◌<◌, ◌≤◌, ◌++◌, [], ◌∷◌, OnOk, OnErr, codes, length};
+ghost use Rattle.std.specs.Prelude.{⊤, ◌≡◌, ◌<◌, ◌≤◌, ◌++◌, [], ◌∷◌, IfOk, OnOk, OnErr, codes, length};
 
 use bitflags::{Flag, Flags, bitflag_items};
 use std::alloc::{AllocError, Global};
@@ -115,6 +115,30 @@ pub enum Who {
     NamedGroup(u32),
 }
 
+impl Who {
+    ghost use Rattle.model.specs.Acl.{is_special, matches};
+
+    /// Whether this is `OWNER@`, `GROUP@` or `EVERYONE@`.
+    pub fn is_special(self) -> bool
+        ensures { result ≡ is_special self }
+    {
+        matches!(self, Who::Owner | Who::Group | Who::Everyone)
+    }
+
+    /// Whether a caller is meant, on a node of this owner and group.
+    pub fn matches(self, owner: u32, group: u32, cred: &Cred) -> bool
+        ensures { result ≡ matches self owner group cred.now }
+    {
+        match self {
+            Who::Owner => cred.uid == owner,
+            Who::Group => cred.is_member(group),
+            Who::Everyone => true,
+            Who::User(number) => cred.uid == number,
+            Who::NamedGroup(number) => cred.is_member(number),
+        }
+    }
+}
+
 /// An access control entry (RFC 8881, section 6.2.1, `nfsace4`).
 #[derive(Clone, Copy, PartialEq, Eq, Debug)]
 pub struct Ace {
@@ -122,6 +146,76 @@ pub struct Ace {
     pub flags: AceFlags,
     pub mask: Mask,
     pub who: Who,
+}
+
+impl Ace {
+    ghost use Rattle.model.specs.Acl.{counts};
+
+    /// Whether the entry says something about its own node: one with `INHERIT_ONLY` does not.
+    pub fn counts(&self) -> bool
+        ensures { result ≡ counts self.now }
+    {
+        !self.flags.intersects(AceFlags::INHERIT_ONLY)
+    }
+}
+
+/// An access control list: its entries, in the order in which they are evaluated.
+///
+/// Contracts see the list of the entries.
+#[derive(Drop, Debug)]
+pub struct Acl {
+    entries: Vec<Ace>,
+}
+
+impl Model for Acl {
+    ghost use Rattle.std.specs.Prelude.{List};
+    ghost use Rattle.model.specs.declared.acl.Ace.{Ace};
+
+    ghost Value = { List Ace };
+
+    ghost view = { λ acl. acl.entries.items };
+}
+
+impl Acl {
+    /// How many entries a client may set.
+    pub const MOST_SET: usize = 32;
+
+    /// How many entries a node's list may have.
+    pub const MOST_STORED: usize = 40;
+
+    /// A list without entries.
+    pub fn new(alloc: Global) -> Acl
+        ensures { result ≡ [] }
+    {
+        Acl {
+            entries: Vec::new(alloc),
+        }
+    }
+
+    /// A list of these entries.
+    pub fn from_slice(alloc: Global, entries: &[Ace]) -> Result<Acl, AllocError>
+        ensures { IfOk result (λ acl. acl ≡ entries.now) }
+    {
+        Ok(Acl {
+            entries: Vec::from_slice(alloc, entries)?,
+        })
+    }
+
+    /// Puts an entry at the end. Where no memory is had, the list stays as it is.
+    pub fn push(&mut self, ace: Ace) -> Result<(), AllocError>
+        ensures added { OnOk result (self.new ≡ self.old ++ ace ∷ []) }
+        ensures kept { OnErr result (self.new ≡ self.old) }
+    {
+        self.entries.push(ace)?;
+        Ok(())
+    }
+
+    /// The entries.
+    pub fn as_slice(&self) -> &[Ace]
+        ensures { result.now ≡ self.now }
+    {
+        self.entries.as_slice()
+    }
 }
 
 /// The groups that a caller is a member of beside the first one: at most [`Gids::MOST`] (RFC 5531, section 8.2).
@@ -179,4 +273,15 @@ pub struct Cred {
     pub uid: u32,
     pub gid: u32,
     pub gids: Gids,
+}
+
+impl Cred {
+    ghost use Rattle.model.specs.Acl.{is_member};
+
+    /// Whether the group is the caller's first one or among its others.
+    pub fn is_member(&self, gid: u32) -> bool
+        ensures { result ≡ is_member self.now gid }
+    {
+        self.gid == gid || self.gids.as_slice().contains(&gid)
+    }
 }

@@ -4,8 +4,10 @@
 #![tactic(auto)]
 
 pub mod acl;
+pub mod acl_laws;
 pub mod node;
 pub mod rpc;
 pub mod session;
 pub mod status;
+pub mod step;
 pub mod tree;

@@ -1,6 +1,8 @@
 //! The laws of the tree: each is the contract of a function that does nothing.
 
+ghost use Rattle.model.specs.Fresh.{FreshIsWellFormed};
 ghost use Rattle.model.specs.Keyed.{OnlyMap, ReadsBack, KeepsOrder};
+ghost use Rattle.model.specs.Limits.{Limits};
 ghost use Rattle.model.specs.Stamp.{OnlyStamp, StampsRise, ReadsHandle};
 ghost use Rattle.model.specs.Tree.{Node, DirEntry};
 
@@ -23,4 +25,9 @@ pub fn stamps()
     ensures only { OnlyStamp }
     ensures rise { StampsRise }
     ensures handle { ReadsHandle }
+{}
+
+/// The tree of a fresh volume is well formed.
+pub fn fresh()
+    ensures { (limits : Limits) → FreshIsWellFormed limits }
 {}
