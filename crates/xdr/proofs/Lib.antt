@@ -6,3 +6,4 @@ pub mod Opaques
 pub mod Arrays
 pub mod Unions
 pub mod Reading
+pub mod Writing

@@ -1,5 +1,5 @@
 -- What readers and writers promise, by a grammar.
-use Rattle.std.specs.Prelude.{◌≡◌, ℕ, ◌+◌, ◌<◌, ◌≤◌, ◌⊎◌, List, ◌++◌, length, Result, Ok, Err, OnOk, OnErr}
+use Rattle.std.specs.Prelude.{◌≡◌, ℕ, ◌+◌, ◌<◌, ◌≤◌, ◌⊎◌, List, ◌++◌, length, Result, Ok, Err, OnOk, OnErr, IfErr}
 use Rattle.xdr.specs.declared.refusal.Refusal.{Refusal}
 use Rattle.xdr.specs.declared.refusal.Refusal.TheVariants.{Memory}
 use Rattle.xdr.specs.Grammar.{Grammar}
@@ -23,15 +23,21 @@ abbrev pub Accepts : {X V : Type 0} → (X → V) → Grammar V → List ℕ →
 Accepts view g old new (Ok x) = g.Fits (view x) × (old ≡ g.spelling (view x) ++ new)
 Accepts view g old new (Err e) = ((e ≡ Memory) ⊎ NoFront g old) × (new ≡ old)
 
+-- the list has this front
+pub record BeginsWith (list front : List ℕ) : Type 0 where
+  pub more : List ℕ
+  pub parts : list ≡ front ++ more
+
 -- what a writer holds, and for how many bytes it has memory
 pub record Written : Type 0 where
   pub bytes : List ℕ
   pub capacity : ℕ
 
--- The text stands behind what was written before. Only for want of memory it does not, and then the writer is as it was.
+-- The text stands behind what was written before, unless there was no memory for it; then what was written before stands,
+-- and perhaps a front of the text.
 pub record Wrote (old new : Written) (result : Result (Unit {0}) Refusal) (text : List ℕ) : Type 0 where
   pub ok : OnOk result (new.bytes ≡ old.bytes ++ text)
-  pub err : OnErr result (new.bytes ≡ old.bytes)
-  pub memory : OnErr result (result ≡ Err Memory)
   pub full : OnErr result (old.capacity < length old.bytes + length text)
+  pub memory : IfErr result (λ e. e ≡ Memory)
   pub keeps : old.capacity ≤ new.capacity
+  pub stands : BeginsWith new.bytes old.bytes

@@ -8,7 +8,12 @@
 mod laws;
 mod reader;
 mod refusal;
+mod writer;
 
-pub use laws::numbers_are_exact;
+pub use laws::{bitmaps_are_exact, booleans_are_exact, numbers_are_exact, opaques_are_exact};
 pub use reader::Reader;
 pub use refusal::Refusal;
+pub use writer::Writer;
+
+#[cfg(test)]
+mod tests;

@@ -182,7 +182,7 @@ impl<'a> Reader<'a> {
 }
 
 /// How many zero bytes follow `n` bytes.
-fn pad_len(n: usize) -> usize
+pub(crate) fn pad_len(n: usize) -> usize
     ensures value { result ≡ padding n }
     ensures small { result < 4 }
 {

@@ -1,6 +1,7 @@
 use Rattle.xdr.specs.Grammar.{unsigned_int, unsigned_hyper}
 use Rattle.xdr.proofs.Numbers.{int_exact, hyper_exact}
 use Rattle.xdr.proofs.Sequences.{one_spelling}
+use Rattle.xdr.proofs.Tests.{below_exact}
 use Rattle.xdr.proofs.laws.numbers_are_exact.Goals as goal
 
 pub returns-clause-int : goal.returns-clause-int
@@ -14,3 +15,6 @@ returns-clause-hyper c = hyper_exact
 
 pub returns-clause-one_hyper : goal.returns-clause-one_hyper
 returns-clause-one_hyper c = one_spelling unsigned_hyper hyper_exact
+
+pub returns-clause-enumeration : goal.returns-clause-enumeration
+returns-clause-enumeration c = below_exact
