@@ -1,3 +1,4 @@
+pub mod RpcRows
 pub mod RecordLaws
 pub mod SessionRows
 pub mod SlotLaw

@@ -19,6 +19,7 @@ pub mod Record
 pub mod Refusal
 pub mod Stamp
 pub mod Status
+pub mod Rpc
 pub mod Session
 pub mod SessionRuns
 pub mod Step
