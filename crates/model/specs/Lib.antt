@@ -20,9 +20,11 @@ pub mod Refusal
 pub mod Stamp
 pub mod Status
 pub mod Rpc
+pub mod ServedForms
 pub mod Session
 pub mod SessionRuns
 pub mod Step
 pub mod StepExamples
 pub mod Tree
 pub mod WellFormed
+pub mod World
