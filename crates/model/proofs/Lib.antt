@@ -1,3 +1,4 @@
+pub mod WorldRows
 pub mod RpcRows
 pub mod RecordLaws
 pub mod SessionRows

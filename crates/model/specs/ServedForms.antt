@@ -1,15 +1,13 @@
 -- The wire of the operations that are served so far: RFC 8881, sections 3.3 and 18, and RFC 5662 in the forms of RFC 4506.
-use Rattle.std.specs.Prelude.{ℕ, ◌+◌, ◌-◌, ◌^◌, ◌==◌, Bool, true, false, List, [], ◌∷◌, ◌++◌, Option, None, Some, Result, Ok, Err, if◌then◌else◌}
+use Rattle.std.specs.Prelude.{ℕ, ◌-◌, ◌^◌, ◌==◌, Bool, true, false, List, [], ◌∷◌, ◌++◌, Option, Result, if◌then◌else◌}
 use Rattle.std.specs.List.{list_any}
 use Rattle.std.specs.Int.{w32, w64}
 use Rattle.xdr.specs.declared.refusal.Refusal.{Refusal}
-use Rattle.xdr.specs.declared.refusal.Refusal.TheVariants.{Value}
 use Rattle.xdr.specs.Grammar.{Grammar, ◌&◌, of, void, number, unsigned_int, unsigned_hyper}
-use Rattle.xdr.specs.Forms.{always, boolean, code_of as code_of_bool, fixed_opaque, padded, opaque, counted, array, elements, optional, optional_text, bitmap}
+use Rattle.xdr.specs.Forms.{always, boolean, code_of as code_of_bool, fixed_opaque, opaque, counted, array, elements, optional, bitmap}
 use Rattle.xdr.specs.Union.{Told, tells, Choice, on, no_other, any_other, union}
-use Rattle.model.specs.declared.status.Status.{Status}
 use Rattle.model.specs.Status.{code_of}
-use Rattle.model.specs.Operation.{Attributes, ChangeInfo, Channel, Implementation, SystemCredential, CallbackSecurity, NoSecurity, SystemSecurity, CreateArguments, NewDirectory, OtherType, ExchangeIdArguments, CreateSessionArguments, SequenceArguments, Argument}
+use Rattle.model.specs.Operation.{Attributes, ChangeInfo, Channel, Implementation, CallbackSecurity, NoSecurity, SystemSecurity, CreateArguments, NewDirectory, OtherType, ExchangeIdArguments, CreateSessionArguments, SequenceArguments, Argument}
 use Rattle.model.specs.Answer.{Answer, Outcome, operation_of}
 use Rattle.model.specs.Rpc.{system_credential}
 
@@ -31,8 +29,13 @@ attributes = of (λ (p : List ℕ × List ℕ). record { bitmap = p.0; values = 
 abbrev pub channel : Grammar Channel
 channel = of
     (λ (p : ℕ × (ℕ × (ℕ × (ℕ × (ℕ × (ℕ × Option ℕ)))))). record {
-      header_pad_size = p.0; max_request_size = p.1.0; max_response_size = p.1.1.0; max_response_size_cached = p.1.1.1.0;
-      max_operations = p.1.1.1.1.0; max_requests = p.1.1.1.1.1.0; rdma_ird = p.1.1.1.1.1.1;
+      header_pad_size = p.0;
+      max_request_size = p.1.0;
+      max_response_size = p.1.1.0;
+      max_response_size_cached = p.1.1.1.0;
+      max_operations = p.1.1.1.1.0;
+      max_requests = p.1.1.1.1.1.0;
+      rdma_ird = p.1.1.1.1.1.1;
     })
     (λ c. (c.header_pad_size, (c.max_request_size, (c.max_response_size, (c.max_response_size_cached, (c.max_operations, (c.max_requests, c.rdma_ird)))))))
     (unsigned_int & unsigned_int & unsigned_int & unsigned_int & unsigned_int & unsigned_int & optional unsigned_int)
@@ -71,7 +74,13 @@ exchange_arguments = of
 abbrev pub create_session_arguments : Grammar CreateSessionArguments
 create_session_arguments = of
     (λ (p : ℕ × (ℕ × (ℕ × (Channel × (Channel × (ℕ × List CallbackSecurity)))))). record {
-      client = p.0; sequence = p.1.0; flags = p.1.1.0; fore = p.1.1.1.0; back = p.1.1.1.1.0; callback_program = p.1.1.1.1.1.0; security = p.1.1.1.1.1.1;
+      client = p.0;
+      sequence = p.1.0;
+      flags = p.1.1.0;
+      fore = p.1.1.1.0;
+      back = p.1.1.1.1.0;
+      callback_program = p.1.1.1.1.1.0;
+      security = p.1.1.1.1.1.1;
     })
     (λ a. (a.client, (a.sequence, (a.flags, (a.fore, (a.back, (a.callback_program, a.security)))))))
     (unsigned_hyper & unsigned_int & unsigned_int & channel & channel & unsigned_int & array 4 callback_security)

@@ -1,6 +1,6 @@
 -- All that the server is between two calls, and what each event makes of it, on bytes: RFC 8881, sections 2.10.6 and 16.2; RFC 5531, section 9.
 -- A turn reads and runs one operation of one COMPOUND. The order of tests around the operations is this server's profile.
-use Rattle.std.specs.Prelude.{ℕ, zero, suc, ◌+◌, ◌-◌, ◌^◌, Bool, true, false, not, ◌&&◌, ◌||◌, ◌==◌, nat_lt, nat_le, List, [], ◌∷◌, ◌++◌, length, find, Option, None, Some, is_some, Result, Ok, Err, if◌then◌else◌}
+use Rattle.std.specs.Prelude.{ℕ, zero, suc, ◌+◌, ◌-◌, Bool, true, false, not, ◌&&◌, ◌||◌, ◌==◌, nat_lt, nat_le, List, [], ◌∷◌, ◌++◌, length, find, Option, None, Some, Result, Ok, Err, if◌then◌else◌}
 use Rattle.std.specs.List.{list_any}
 use Rattle.std.specs.Int.{w32}
 use Rattle.xdr.specs.declared.refusal.Refusal.{Refusal}
@@ -16,7 +16,7 @@ use Rattle.model.specs.Opens.{Opens, Open}
 use Rattle.model.specs.Operation.{Argument, SequenceArguments}
 use Rattle.model.specs.Record.{RecordLimits, Front, Partial, Refused, Whole, front, framed}
 use Rattle.model.specs.Refusal.{first_refusal}
-use Rattle.model.specs.Rpc.{CallRead, NoCall, OtherVersion, Calls, read_call, is_call_read, Call, Request, Answers, Runs, request_of, Reply, VersionRefused, Success, Compound, reply_text, compound_text, is_empty}
+use Rattle.model.specs.Rpc.{CallRead, NoCall, OtherVersion, Calls, read_call, is_call_read, Request, Answers, Runs, request_of, Reply, VersionRefused, Success, Compound, reply_text, compound_text, is_empty}
 use Rattle.model.specs.ServedForms.{is_served, read_argument, looks_no_further, outcome_text}
 use Rattle.model.specs.Session as sessions
 use Rattle.model.specs.Session.{SessionLimits, Table, Session}
@@ -65,7 +65,13 @@ pub record World : Type 0 where
 -- a run begins with a tree, and with nothing else
 abbrev pub mounted_world : ServerLimits → (run : ℕ) → Tree → World
 mounted_world limits run tree = record {
-  limits = limits; run = run; tree = tree; changes = 0; opens = []; table = sessions.empty_table run; connections = [];
+  limits = limits;
+  run = run;
+  tree = tree;
+  changes = 0;
+  opens = [];
+  table = sessions.empty_table run;
+  connections = [];
 }
 
 abbrev pub with_connection : World → ℕ → Connection → World
@@ -198,7 +204,7 @@ abbrev pub started_in : World → InProgress → SequenceArguments → Option Se
 started_in world request arguments None = refuses world request 53 status.BadSession
 started_in world request arguments (Some session) =
     gives (with_table world (sessions.started request.context.cred.uid arguments world.table)) (of_session request arguments session)
-      (Answer.Sequence (sessions.sequence_answer arguments session))
+    (Answer.Sequence (sessions.sequence_answer arguments session))
 
 abbrev pub begun : World → InProgress → SequenceArguments → sessions.Begun → HasRun
 begun world request arguments (sessions.Refuses reason) = refuses world request 53 reason
@@ -268,7 +274,9 @@ abbrev pub replies : World → (number : ℕ) → (xid : ℕ) → Reply → Turn
 replies world number xid reply = record {
   turn = Answered;
   world = with_connection world number (Replied (framed (reply_text xid reply)));
-  executed = None; keeps = None; replays = None;
+  executed = None;
+  keeps = None;
+  replays = None;
 }
 
 -- the request goes on behind a result
@@ -290,15 +298,19 @@ abbrev pub ends : World → (number : ℕ) → InProgress → Status → Option 
 ends world number request last executed = record {
   turn = Answered;
   world = with_connection (with_table world (kept_by request.slot (result_of request last) world.table)) number
-    (Replied (framed (reply_text request.xid (Success (result_of request last)))));
-  executed = executed; keeps = request.slot; replays = None;
+      (Replied (framed (reply_text request.xid (Success (result_of request last)))));
+  executed = executed;
+  keeps = request.slot;
+  replays = None;
 }
 
 abbrev pub goes_on : World → (number : ℕ) → InProgress → Option Entry → Turned
 goes_on world number request executed = record {
   turn = Ran;
   world = with_connection world number (Busy request);
-  executed = executed; keeps = None; replays = None;
+  executed = executed;
+  keeps = None;
+  replays = None;
 }
 
 -- the first result that is not OK is the last one
@@ -311,7 +323,10 @@ behind world number request (Outcome.Done answer) executed =
 
 abbrev pub entry_of : World → InProgress → Argument → Outcome → World → Entry
 entry_of before request operation outcome after = record {
-  state = state_of before request; operation = operation; outcome = outcome; after = after.tree;
+  state = state_of before request;
+  operation = operation;
+  outcome = outcome;
+  after = after.tree;
 }
 
 abbrev pub has_run : World → (number : ℕ) → InProgress → Argument → HasRun → Turned
@@ -320,7 +335,9 @@ has_run world number request operation (Gives outcome after left) =
 has_run world number request operation (Replays result session slot) = record {
   turn = Answered;
   world = with_connection world number (Replied (framed (reply_text request.xid (Success result))));
-  executed = None; keeps = None; replays = Some (session, slot);
+  executed = None;
+  keeps = None;
+  replays = Some (session, slot);
 }
 
 abbrev pub operates : World → (number : ℕ) → (now : ℕ) → InProgress → Next → Turned
@@ -331,8 +348,13 @@ operates world number now request (Reads operation rest) =
 -- a COMPOUND before its first operation
 abbrev pub in_progress : World → (xid : ℕ) → Cred → Compound → InProgress
 in_progress world xid cred compound = record {
-  xid = xid; tag = compound.tag; count = compound.count; rest = compound.operations;
-  answered = 0; results = []; slot = None;
+  xid = xid;
+  tag = compound.tag;
+  count = compound.count;
+  rest = compound.operations;
+  answered = 0;
+  results = [];
+  slot = None;
   context = record { cred = cred; client = 0; run = world.run; current = None; saved = None };
 }
 
