@@ -26,3 +26,5 @@ pub mod Step
 pub mod StepExamples
 pub mod Tree
 pub mod WellFormed
+pub mod WireArguments
+pub mod WireTypes
