@@ -28,3 +28,5 @@ pub mod StepExamples
 pub mod Tree
 pub mod WellFormed
 pub mod World
+pub mod WireArguments
+pub mod WireTypes

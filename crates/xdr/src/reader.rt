@@ -120,8 +120,8 @@ impl<'a> Reader<'a> {
         ensures { Scans (λ u. u) ((always k unsigned_hyper).read) self.old self.new result }
     {
         let mut at = self.fork();
-        let number = at.read_u64()?;
-        if number != k {
+        let hyper = at.read_u64()?;
+        if hyper != k {
             return Err(Refusal::Value);
         }
         *self = at;
