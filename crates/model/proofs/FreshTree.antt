@@ -37,7 +37,7 @@ one_entry : (limits : Limits) → 1 ≤ limits.aces → IsTrue (is_list_for limi
 unfolding is_list_for
 one_entry limits room = rw (le-leb 1 limits.aces room, le-leb 0 limits.aces_set (omega arith)) refl
 
-no_names : (limits : Limits) → AreNames limits []
+pub no_names : (limits : Limits) → AreNames limits []
 no_names limits = record {
   rising = tt;
   named = λ stamp entry is. let no : None ≡ Some entry = is in absurd (cc);

@@ -20,5 +20,6 @@ pub mod Stamp
 pub mod Status
 pub mod Step
 pub mod StepExamples
+pub mod StepLaws
 pub mod Tree
 pub mod WellFormed

@@ -1,8 +1,16 @@
 //! The laws of one operation: each is the contract of a function that does nothing.
 
+ghost use Rattle.model.specs.AclLaws.{ModesKeepLimits, InheritanceKeepsLimits};
 ghost use Rattle.model.specs.StepExamples.{StepExamples};
+ghost use Rattle.model.specs.StepLaws.{EveryStepIsLawful};
 
 /// Operations worked out by hand.
 pub fn examples()
     ensures { StepExamples }
+{}
+
+/// Every change is permitted, a refusal changes nothing, and a well-formed tree stays one, given that modes and inheritance keep
+/// the limits of lists.
+pub fn every_step()
+    ensures { ModesKeepLimits → InheritanceKeepsLimits → EveryStepIsLawful }
 {}
