@@ -35,7 +35,7 @@ abbrev pub trimmed : List ℕ → List ℕ
 trimmed [] = []
 trimmed (word ∷ rest) = word_before word (trimmed rest)
 
--- The numbers of attributes (section 5.8)
+-- The numbers of attributes (sections 5.6 and 5.7)
 
 abbrev pub mode_number : ℕ
 mode_number = 33

@@ -147,7 +147,7 @@ does limits state now operation =
     unless_refused state operation
     (first_refusal (refusals limits state operation ++ change_refusals limits state operation stepped.state.tree)) stepped
 
--- One operation where the reply has to have room for its result (section 15.1.11.3, NFS4ERR_REP_TOO_BIG): the last test of all
+-- One operation where the reply has to have room for its result (section 15.1.3, NFS4ERR_REP_TOO_BIG): the last test of all
 
 abbrev pub lacks_room : (has_room : Outcome → Bool) → Outcome → Bool
 lacks_room has_room (Outcome.Done answer) = not (has_room (Outcome.Done answer))

@@ -1,6 +1,5 @@
 //! The laws of one operation: each is the contract of a function that does nothing.
 
-ghost use Rattle.model.specs.AclLaws.{ModesKeepLimits, InheritanceKeepsLimits};
 ghost use Rattle.model.specs.StepExamples.{StepExamples};
 ghost use Rattle.model.specs.StepLaws.{EveryStepIsLawful};
 
@@ -9,8 +8,7 @@ pub fn examples()
     ensures { StepExamples }
 {}
 
-/// Every change is permitted, a refusal changes nothing, and a well-formed tree stays one, given that modes and inheritance keep
-/// the limits of lists.
+/// Every change is permitted, a refusal changes nothing, and a well-formed tree stays one.
 pub fn every_step()
-    ensures { ModesKeepLimits → InheritanceKeepsLimits → EveryStepIsLawful }
+    ensures { EveryStepIsLawful }
 {}
