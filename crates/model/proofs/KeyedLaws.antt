@@ -1,7 +1,7 @@
 -- The laws of maps by rising key.
 use Rattle.std.proofs.Common.{ℕ, [], ◌∷◌, ◌≡◌, ◌≢◌, ◌+◌, ◌<◌, ◌≤◌, inl, inr, refl, sym, ap, ap₂, ◌∙◌, arith, eqb, eq-eqb, ne_eqb, lt-ltb, le-ltb}
 use Rattle.std.specs.Prelude.{Some, None}
-use Rattle.std.proofs.lemmas.Bool.{cases_order, cases_eq}
+use Rattle.std.proofs.lemmas.Bool.{cases_order, cases_eq, cases_lt}
 use Rattle.model.specs.Keyed.{Keyed, at, here_or, with, without, IsAbove, total, worth_at, ReadsBack, KeepsOrder}
 
 module _ {A : Type 0} where
@@ -35,7 +35,7 @@ module _ {A : Type 0} where
     | inr apart ↦ sym (at-rest key other x a apart) ∙ (same other ∙ at-rest key other y b apart)
   ]
 
-  some≢none : (x : A) → Some x ≡ None → ⊥
+  pub some≢none : (x : A) → Some x ≡ None → ⊥
   some≢none x same = cc
 
   -- a first key that is lower than the other map's is missed there
@@ -198,6 +198,25 @@ module _ {A : Type 0} where
     | inr apart ↦ rw (without-elsewhere entry rest key apart, at-rest entry.0 key entry.1 rest apart)
         (omega (arith, total-without worth rest key entry.0 above.1))
   ]
+
+-- What stands in a map stands above its least key
+module _ {A : Type 0} where
+  pub at-above : (entries : Keyed A) (least key : ℕ) (value : A) → IsAbove least entries → at key entries ≡ Some value → least < key
+  at-above entries least key value above is = elim (cases_lt least key) [
+    | inl low ↦ low
+    | inr high ↦ absurd (some≢none value (sym is ∙ at-below entries least key above high))
+  ]
+
+  -- a sum to which nothing that stands in the map adds
+  pub total-none : (worth : A → ℕ) (entries : Keyed A) (least : ℕ) → IsAbove least entries
+      → ((key : ℕ) (value : A) → at key entries ≡ Some value → worth value ≡ 0) → total worth entries ≡ 0
+  total-none worth [] least above none = refl
+  total-none worth (entry ∷ rest) least above none =
+      let here : worth entry.1 ≡ 0 = none entry.0 entry.1 (at-first entry.0 entry.0 entry.1 rest refl) in
+      let others : total worth rest ≡ 0 = total-none worth rest entry.0 above.1 (λ key value is.
+      none key value (at-rest entry.0 key entry.1 rest
+      (let high : entry.0 < key = at-above rest entry.0 key value above.1 is in omega arith) ∙ is)) in
+      omega arith
 
 pub reads_back : (A : Type 0) → ReadsBack A
 reads_back A = record {

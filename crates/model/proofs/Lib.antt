@@ -3,7 +3,11 @@ pub mod RpcRows
 pub mod RecordLaws
 pub mod SessionRows
 pub mod SlotLaw
+pub mod ChildLaws
 pub mod FreshTree
 pub mod KeyedLaws
+pub mod LimitLaws
 pub mod ModeLaws
 pub mod NumberLaws
+pub mod StepCases
+pub mod StepProofs

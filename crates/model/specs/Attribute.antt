@@ -5,7 +5,7 @@ use Rattle.std.specs.List.{list_any, range_with_len}
 use Rattle.std.specs.Int.{w32, from_be_bytes, bit_at}
 use Rattle.model.specs.declared.node.NodeKind.{NodeKind}
 use Rattle.model.specs.declared.status.Status.TheVariants as status
-use Rattle.model.specs.Limits.{Limits}
+use Rattle.model.specs.declared.limits.Limits.{Limits}
 use Rattle.model.specs.Operation.{Attributes}
 use Rattle.model.specs.Refusal.{Refusals}
 
@@ -35,7 +35,7 @@ abbrev pub trimmed : List ℕ → List ℕ
 trimmed [] = []
 trimmed (word ∷ rest) = word_before word (trimmed rest)
 
--- The numbers of attributes (section 5.8)
+-- The numbers of attributes (sections 5.6 and 5.7)
 
 abbrev pub mode_number : ℕ
 mode_number = 33

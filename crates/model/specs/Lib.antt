@@ -20,11 +20,13 @@ pub mod Refusal
 pub mod Stamp
 pub mod Status
 pub mod Rpc
+pub mod Runs
 pub mod ServedForms
 pub mod Session
 pub mod SessionRuns
 pub mod Step
 pub mod StepExamples
+pub mod StepLaws
 pub mod Tree
 pub mod WellFormed
 pub mod World

@@ -1,4 +1,4 @@
--- The rights that an operation needs: RFC 8881, section 6.2.1.3.2 (which mask bit an operation asks for).
+-- The rights that an operation needs: RFC 8881, section 6.2.1.3.1 (which operations a mask bit permits).
 -- Each requirement is a list of alternatives, of which one has to be granted.
 use Rattle.std.specs.Prelude.{ℕ, Bool, false, List, [], ◌∷◌, Option, Some, None}
 use Rattle.std.specs.List.{list_any, list_all}

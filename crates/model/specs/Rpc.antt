@@ -9,6 +9,7 @@ use Rattle.model.specs.declared.status.Status.{Status}
 use Rattle.model.specs.declared.status.Status.TheVariants as status
 use Rattle.model.specs.Status.{code_of}
 use Rattle.model.specs.Operation.{SystemCredential}
+use Rattle.model.specs.WireTypes.{system_credential}
 
 -- Calls (section 9)
 
@@ -100,12 +101,6 @@ unfoldable pub reply_text : (xid : ℕ) → Reply → List ℕ
 reply_text xid reply = words (xid ∷ 1 ∷ []) ++ reply_body reply
 
 -- AUTH_SYS (appendix A)
-
-abbrev pub system_credential : Grammar SystemCredential
-system_credential = of
-    (λ (p : ℕ × (List ℕ × (ℕ × (ℕ × List ℕ)))). record { stamp = p.0; machine_name = p.1.0; uid = p.1.1.0; gid = p.1.1.1.0; gids = p.1.1.1.1 })
-    (λ c. (c.stamp, (c.machine_name, (c.uid, (c.gid, c.gids)))))
-    (unsigned_int & opaque 255 & unsigned_int & unsigned_int & array 16 unsigned_int)
 
 abbrev pub cred_by : Result (SystemCredential × List ℕ) Refusal → Option Cred
 cred_by (Err fault) = None

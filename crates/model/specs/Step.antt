@@ -11,7 +11,7 @@ use Rattle.model.specs.Charge.{fits}
 use Rattle.model.specs.Context.{Context, has_current, current_number, at_node}
 use Rattle.model.specs.Directory.{number_named, change_of, acl_of, new_directory, with_child}
 use Rattle.model.specs.Keyed.{at, is_key}
-use Rattle.model.specs.Limits.{Limits}
+use Rattle.model.specs.declared.limits.Limits.{Limits}
 use Rattle.model.specs.Name.{name_refusals}
 use Rattle.model.specs.Need.{permitted}
 use Rattle.model.specs.Opens.{Opens}
@@ -147,7 +147,7 @@ does limits state now operation =
     unless_refused state operation
     (first_refusal (refusals limits state operation ++ change_refusals limits state operation stepped.state.tree)) stepped
 
--- One operation where the reply has to have room for its result (section 15.1.11.3, NFS4ERR_REP_TOO_BIG): the last test of all
+-- One operation where the reply has to have room for its result (section 15.1.3, NFS4ERR_REP_TOO_BIG): the last test of all
 
 abbrev pub lacks_room : (has_room : Outcome → Bool) → Outcome → Bool
 lacks_room has_room (Outcome.Done answer) = not (has_room (Outcome.Done answer))

@@ -11,17 +11,18 @@ use Rattle.model.specs.declared.status.Status.TheVariants as status
 use Rattle.model.specs.Answer.{Answer, Outcome, ExchangeIdAnswer, CreateSessionAnswer}
 use Rattle.model.specs.Context.{Context}
 use Rattle.model.specs.Keyed.{Keyed, at, is_key, with, without}
-use Rattle.model.specs.Limits.{Limits}
+use Rattle.model.specs.declared.limits.Limits.{Limits}
 use Rattle.model.specs.Opens.{Opens, Open}
 use Rattle.model.specs.Operation.{Argument, SequenceArguments}
 use Rattle.model.specs.Record.{RecordLimits, Front, Partial, Refused, Whole, front, framed}
 use Rattle.model.specs.Refusal.{first_refusal}
 use Rattle.model.specs.Rpc.{CallRead, NoCall, OtherVersion, Calls, read_call, is_call_read, Request, Answers, Runs, request_of, Reply, VersionRefused, Success, Compound, reply_text, compound_text, is_empty}
-use Rattle.model.specs.ServedForms.{is_served, read_argument, looks_no_further, outcome_text}
+use Rattle.model.specs.ServedForms.{is_served, looks_no_further, outcome_text}
 use Rattle.model.specs.Session as sessions
 use Rattle.model.specs.Session.{SessionLimits, Table, Session}
 use Rattle.model.specs.Step.{State, Stepped, does_within, current_refusals}
 use Rattle.model.specs.Tree.{Tree}
+use Rattle.model.specs.WireArguments.{arguments_at}
 
 -- The state
 
@@ -136,7 +137,7 @@ tests_of request operation =
 -- an operation's number that is not there whole: BADXDR, under OP_ILLEGAL's number
 abbrev pub by_number : InProgress → Result (ℕ × List ℕ) Refusal → Next
 by_number request (Err fault) = Refuses op_illegal status.BadXdr
-by_number request (Ok read) = first_or (tests_of request read.0) (by_arguments request read.0 (read_argument read.0 read.1))
+by_number request (Ok read) = first_or (tests_of request read.0) (by_arguments request read.0 (arguments_at read.0 read.1))
 
 unfoldable pub next_operation : InProgress → Next
 next_operation request = by_number request (number_at w32 request.rest)
