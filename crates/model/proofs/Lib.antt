@@ -1,3 +1,5 @@
+pub mod Headline
+pub mod RunLaws
 pub mod WorldRows
 pub mod RpcRows
 pub mod RecordLaws

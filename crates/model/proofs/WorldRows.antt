@@ -229,7 +229,7 @@ abbrev hang_call : List ℕ
 hang_call = compound 9 7 3 (begin_on 0 1 ++ (24 ∷ make_directory 0x68000000))
 
 hung : World
-unfolding opened comes turned hung_up turns hangs_up
+unfolding opened comes turned hung_up hangs_up
 hung = hung_up (turned 1 (comes opened 0 hang_call) 0) 0 0
 
 hung_made : length (names_at hung.tree root) ≡ 1

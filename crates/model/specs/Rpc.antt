@@ -2,8 +2,8 @@
 use Rattle.std.specs.Prelude.{ℕ, Bool, true, false, not, ◌==◌, List, [], ◌∷◌, ◌++◌, Option, None, Some, Result, Ok, Err, if◌then◌else◌}
 use Rattle.std.specs.Int.{w32}
 use Rattle.xdr.specs.declared.refusal.Refusal.{Refusal}
-use Rattle.xdr.specs.Grammar.{Grammar, ◌&◌, of, number, unsigned_int}
-use Rattle.xdr.specs.Forms.{opaque, counted, array}
+use Rattle.xdr.specs.Grammar.{Grammar, ◌&◌, number, unsigned_int}
+use Rattle.xdr.specs.Forms.{opaque, counted}
 use Rattle.model.specs.declared.acl.Cred.{Cred}
 use Rattle.model.specs.declared.status.Status.{Status}
 use Rattle.model.specs.declared.status.Status.TheVariants as status

@@ -1,6 +1,6 @@
 -- What users of the server can rely on when it stops: NFS asks it of a server in RFC 8881, sections 18.3 (COMMIT), 18.32 (WRITE) and 2.10.6.2 (replies).
 -- A machine goes from event to event and may be stopped at any moment; a stop leaves the tree that a good prefix of what was executed gives.
-use Rattle.std.specs.Prelude.{◌≡◌, ◌≢◌, ℕ, ◌+◌, ◌<◌, ◌≤◌, ◌⊎◌, Bool, true, false, not, ◌&&◌, ◌||◌, ◌==◌, List, [], ◌∷◌, ◌++◌, length, take, slice_get, option_to_list, Option, None, Some, if◌then◌else◌, bytes_eq}
+use Rattle.std.specs.Prelude.{◌≡◌, ◌≢◌, ℕ, ◌<◌, ◌≤◌, ◌⊎◌, Bool, true, false, not, ◌&&◌, ◌||◌, ◌==◌, List, [], ◌∷◌, ◌++◌, length, take, slice_get, option_to_list, Option, None, Some, if◌then◌else◌, bytes_eq}
 use Rattle.std.specs.List.{IsAmong}
 use Rattle.model.specs.Answer.{Outcome}
 use Rattle.model.specs.Keyed.{at}
@@ -106,11 +106,16 @@ names_by history world connection turned None = named_so_far history world conne
 abbrev pub names_after : History → World → (connection : ℕ) → Turned → List ℕ
 names_after history world connection turned = names_by history world connection turned turned.replays
 
-abbrev pub turned_by : History → World → (connection : ℕ) → Turned → Turn → History
-turned_by history world connection turned Idle = history
-turned_by history world connection turned _ = record {
+-- a turn that does nothing changes no names
+abbrev pub naming_by : Turn → (ℕ → List ℕ) → (connection : ℕ) → List ℕ → ℕ → List ℕ
+naming_by Idle named connection names = named
+naming_by Ran named connection names = naming named connection names
+naming_by Answered named connection names = naming named connection names
+
+abbrev pub turned_by : History → World → (connection : ℕ) → Turned → History
+turned_by history world connection turned = record {
   done = history.done ++ option_to_list turned.executed;
-  named = naming history.named connection (names_after history world connection turned);
+  named = naming_by turned.turn history.named connection (names_after history world connection turned);
   kept = keeping history.kept turned.keeps (names_after history world connection turned);
   handed_out = history.handed_out;
 }
@@ -121,8 +126,7 @@ taken_by history connection (Some reply) = record history { handed_out = history
 
 abbrev pub history_after : History → World → Event → History
 history_after history world (Arrives connection piece) = history
-history_after history world (Turns connection now) =
-    turned_by history world connection (one world connection now) (one world connection now).turn
+history_after history world (Turns connection now) = turned_by history world connection (one world connection now)
 history_after history world (HangsUp connection) = history
 history_after history world (Connects connection) = history
 history_after history world (Takes connection) = taken_by history connection (reply_at world connection)

@@ -1,13 +1,11 @@
 -- The operations that are served so far, and their results on the wire: RFC 8881, section 18.
-use Rattle.std.specs.Prelude.{ℕ, ◌-◌, ◌^◌, ◌==◌, Bool, true, false, List, [], ◌∷◌, ◌++◌, Option, Result, if◌then◌else◌}
+use Rattle.std.specs.Prelude.{ℕ, ◌==◌, Bool, true, false, List, [], ◌∷◌, ◌++◌, if◌then◌else◌}
 use Rattle.std.specs.List.{list_any}
 use Rattle.std.specs.Int.{w32, w64}
-use Rattle.xdr.specs.declared.refusal.Refusal.{Refusal}
-use Rattle.xdr.specs.Grammar.{Grammar, ◌&◌, of, void, number, unsigned_int, unsigned_hyper}
-use Rattle.xdr.specs.Forms.{always, boolean, code_of as code_of_bool, fixed_opaque, opaque, counted, array, elements, optional, bitmap}
-use Rattle.xdr.specs.Union.{Told, tells, Choice, on, no_other, any_other, union}
+use Rattle.xdr.specs.Grammar.{number}
+use Rattle.xdr.specs.Forms.{code_of as code_of_bool, counted, elements}
 use Rattle.model.specs.Status.{code_of}
-use Rattle.model.specs.Operation.{Attributes, ChangeInfo, Channel, Implementation, CallbackSecurity, NoSecurity, SystemSecurity, CreateArguments, NewDirectory, OtherType, ExchangeIdArguments, CreateSessionArguments, SequenceArguments, Argument}
+use Rattle.model.specs.Operation.{ChangeInfo, Channel, OtherType, Argument}
 use Rattle.model.specs.Answer.{Answer, Outcome, operation_of}
 use Rattle.model.specs.WireTypes.{channel}
 

@@ -8,6 +8,7 @@ pub mod acl_laws;
 pub mod limits;
 pub mod node;
 pub mod rpc;
+pub mod runs;
 pub mod session;
 pub mod status;
 pub mod step;
