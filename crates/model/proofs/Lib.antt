@@ -1,3 +1,4 @@
+pub mod StateIdRows
 pub mod Headline
 pub mod RunLaws
 pub mod WorldRows

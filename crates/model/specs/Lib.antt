@@ -18,6 +18,7 @@ pub mod Operation
 pub mod Record
 pub mod Refusal
 pub mod Stamp
+pub mod StateIds
 pub mod Status
 pub mod Rpc
 pub mod Runs
