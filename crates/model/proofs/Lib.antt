@@ -1,3 +1,4 @@
+pub mod RuledOutLaws
 pub mod StateIdRows
 pub mod Headline
 pub mod RunLaws

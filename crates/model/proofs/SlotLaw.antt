@@ -304,18 +304,18 @@ finish_stands id slot last name place reply table stands = record {
 
 -- What SEQUENCE looked at where the slot runs
 
-cond_runs : (b : Bool) (x y : Begun) → (y ≡ Runs → ⊥) → cond b x y ≡ Runs → (b ≡ true) × (x ≡ Runs)
+pub cond_runs : (b : Bool) (x y : Begun) → (y ≡ Runs → ⊥) → cond b x y ≡ Runs → (b ≡ true) × (x ≡ Runs)
 cond_runs true x y never e = (refl, e)
 cond_runs false x y never e = absurd (never e)
 
-cond_never : (b : Bool) (x y : Begun) → (x ≡ Runs → ⊥) → (y ≡ Runs → ⊥) → cond b x y ≡ Runs → ⊥
+pub cond_never : (b : Bool) (x y : Begun) → (x ≡ Runs → ⊥) → (y ≡ Runs → ⊥) → cond b x y ≡ Runs → ⊥
 cond_never true x y no_x no_y e = no_x e
 cond_never false x y no_x no_y e = no_y e
 
-refuses_not : (reason : Status) → Refuses reason ≡ Runs → ⊥
+pub refuses_not : (reason : Status) → Refuses reason ≡ Runs → ⊥
 refuses_not reason e = cc
 
-replays_not : (reply : List ℕ) → Replays reply ≡ Runs → ⊥
+pub replays_not : (reply : List ℕ) → Replays reply ≡ Runs → ⊥
 replays_not reply e = cc
 
 new_runs : (count : ℕ) (arguments : SequenceArguments) (session : Session) (slot : Slot) → begin_new count arguments session slot ≡ Runs
@@ -336,11 +336,11 @@ slot_runs uid count arguments session slot (Kept reply) e = kept_runs (arguments
     kept_runs true e = absurd (cond_never (uid == slot.uid) (Replays reply) (Refuses status.SeqFalseRetry) (replays_not reply) (refuses_not status.SeqFalseRetry) e)
     kept_runs false e = new_runs count arguments session slot e
 
-record RunsOn (arguments : SequenceArguments) (known : Option Session) : Type 0 where
-  session : Session
-  is : known ≡ Some session
-  within : arguments.slot < length session.slots
-  next : arguments.sequence ≡ next_number (slot_at session arguments.slot).last
+pub record RunsOn (arguments : SequenceArguments) (known : Option Session) : Type 0 where
+  pub session : Session
+  pub is : known ≡ Some session
+  pub within : arguments.slot < length session.slots
+  pub next : arguments.sequence ≡ next_number (slot_at session arguments.slot).last
 
 by_runs : (uid count : ℕ) (arguments : SequenceArguments) (known : Option Session) → begin_by uid count arguments known ≡ Runs → RunsOn arguments known
 by_runs uid count arguments None e = absurd (refuses_not status.BadSession e)
@@ -353,7 +353,7 @@ by_runs uid count arguments (Some session) e =
       next = slot_runs uid count arguments session (slot_at session arguments.slot) (slot_at session arguments.slot).state tested.1;
     }
 
-begin_runs : (uid count : ℕ) (arguments : SequenceArguments) (table : Table) → begin uid count arguments table ≡ Runs
+pub begin_runs : (uid count : ℕ) (arguments : SequenceArguments) (table : Table) → begin uid count arguments table ≡ Runs
     → RunsOn arguments (find (is_session arguments.session) table.sessions)
 unfolding begin
 begin_runs uid count arguments table e = by_runs uid count arguments _ e

@@ -21,6 +21,7 @@ pub mod Stamp
 pub mod StateIds
 pub mod Status
 pub mod Rpc
+pub mod RuledOut
 pub mod Runs
 pub mod ServedForms
 pub mod Session

@@ -1,5 +1,6 @@
 //! The headline: what users of the server can rely on when it is stopped.
 
+ghost use Rattle.model.specs.RuledOut.{NoSkip, NoEarlyReply, NoTakingBack, NoSecondRun, NoGap, OneATurn, HangsUpLast};
 ghost use Rattle.model.specs.Runs.{EveryRun};
 
 /// Whatever bytes arrive on whatever connections, and wherever the server is stopped: the tree that a stop may leave is the
@@ -7,4 +8,17 @@ ghost use Rattle.model.specs.Runs.{EveryRun};
 /// every change and COMMIT whose reply was handed out (an unstable write apart), and every change in it was permitted.
 pub fn every_run()
     ensures { EveryRun }
+{}
+
+/// What the definitions rule out: a prefix that skips an unstable write, a reply before its change is kept, a change that
+/// is taken away and put back, a retry that runs again, a slot that takes another number than the next, a turn that runs
+/// more than one operation, and a hang-up that drops the rest of a request.
+pub fn ruled_out()
+    ensures skip { NoSkip }
+    ensures early { NoEarlyReply }
+    ensures back { NoTakingBack }
+    ensures twice { NoSecondRun }
+    ensures gap { NoGap }
+    ensures one { OneATurn }
+    ensures hang_up { HangsUpLast }
 {}
