@@ -26,5 +26,6 @@ pub mod Step
 pub mod StepExamples
 pub mod Tree
 pub mod WellFormed
+pub mod WireAnswers
 pub mod WireArguments
 pub mod WireTypes

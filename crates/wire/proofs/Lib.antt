@@ -1,0 +1,2 @@
+pub mod ExactTypes
+pub mod ExactArguments
