@@ -2,7 +2,7 @@
 use Rattle.std.proofs.Common.{◌≡◌, ℕ, ◌^◌, ◌<◌, List, ◌++◌, Ok, refl, arith, cond}
 use Rattle.xdr.specs.Grammar.{Grammar, void, unsigned_int, unsigned_hyper}
 use Rattle.xdr.specs.Forms.{bitmap}
-use Rattle.xdr.specs.Union.{Told, tells, Choice, on, no_other}
+use Rattle.xdr.specs.Union.{on, no_other}
 use Rattle.xdr.specs.Laws.{Exact}
 use Rattle.xdr.proofs.Numbers.{int_exact, hyper_exact}
 use Rattle.xdr.proofs.Sequences.{void_exact, then_exact, of_exact}
@@ -53,8 +53,8 @@ system_credential_exact = of_exact _ _ _ (λ _. refl) (λ _. refl)
 
 security_takes : TakesBy security_told (λ n. n < 2 ^ 32) (on 0 void (λ _. NoSecurity) (on 1 system_credential SystemSecurity no_other))
 security_takes =
-    on_takes security_told _ 0 void (λ _. NoSecurity) _ void_exact (λ _. refl)
-    (on_takes security_told _ 1 system_credential SystemSecurity _ system_credential_exact (λ _. refl)
+    on_takes security_told _ 0 void (λ _. NoSecurity) _ void_exact (λ _ _. refl)
+    (on_takes security_told _ 1 system_credential SystemSecurity _ system_credential_exact (λ _ _. refl)
     (no_other_takes security_told _))
 
 security_again : AgainBy security_told (on 0 void (λ _. NoSecurity) (on 1 system_credential SystemSecurity no_other))

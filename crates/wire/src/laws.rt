@@ -1,12 +1,21 @@
-//! The laws of the grammars.
+//! The laws of the grammars: each is exact, and so one value has one spelling and no spelling begins another.
 
-ghost use Rattle.xdr.specs.Laws.{Exact};
-ghost use Rattle.model.specs.WireTypes.{channel, callback_security};
+ghost use Rattle.xdr.specs.Laws.{Exact, OneSpelling};
+ghost use Rattle.model.specs.WireArguments.{argument};
+ghost use Rattle.model.specs.WireAnswers.{outcome};
 
-/// The small types.
-#[tactic(auto, using(crate::proofs::ExactTypes::channel_exact, crate::proofs::ExactTypes::callback_security_exact))]
-pub fn types_are_exact()
-    ensures channel { Exact channel }
-    ensures security { Exact callback_security }
+/// An operation with its arguments.
+#[tactic(auto, using(crate::proofs::ExactArguments::argument_exact, crate::proofs::ExactArguments::one_argument))]
+pub fn arguments_are_exact()
+    ensures exact { Exact argument }
+    ensures one { OneSpelling argument }
+{
+}
+
+/// A result of an operation, whether it ended well or was refused.
+#[tactic(auto, using(crate::proofs::ExactAnswers::outcome_exact, crate::proofs::ExactAnswers::one_outcome))]
+pub fn outcomes_are_exact()
+    ensures exact { Exact outcome }
+    ensures one { OneSpelling outcome }
 {
 }

@@ -3,4 +3,4 @@
 
 mod laws;
 
-pub use laws::types_are_exact;
+pub use laws::{arguments_are_exact, outcomes_are_exact};
