@@ -1,9 +1,10 @@
 //! Short arrays of numbers.
 
-ghost use Rattle.std.specs.Prelude.{◌≡◌, ◌<◌, ◌^◌, ◌++◌, ◌∷◌, [], length, OnErr};
+ghost use Rattle.std.specs.Prelude.{◌≡◌, ◌<◌, ◌≤◌, ◌^◌, ◌++◌, ◌∷◌, [], length, OnErr};
 ghost use Rattle.xdr.specs.Grammar.{number, unsigned_int};
 ghost use Rattle.xdr.specs.Forms.{array, elements};
 ghost use Rattle.std.specs.Int.{w32};
+ghost use Rattle.std.specs.List.{flat_map};
 ghost use Rattle.xdr.specs.Clauses.{Scans, Wrote};
 ghost use Rattle.xdr.specs.Filling.{Fills};
 
@@ -42,7 +43,8 @@ impl<const N: usize> Words<N> {
 
     /// The numbers.
     pub fn as_slice(&self) -> &[u32]
-        ensures { result.now ≡ self.now }
+        ensures numbers { result.now ≡ self.now }
+        ensures limit { length result.now ≤ N }
     {
         &self.words[..self.count]
     }
@@ -62,6 +64,45 @@ impl<const N: usize> Words<N> {
         *r = at;
         Ok(Words { words, count })
     }
+
+    /// One number more.
+    pub fn push(&mut self, word: u32)
+        requires { length self.old < N }
+        ensures { self.new ≡ self.old ++ word ∷ [] }
+    {
+        self.words[self.count] = word;
+        self.count += 1;
+    }
+
+    /// Writes their number and the numbers (RFC 4506, section 4.13).
+    #[tactic(auto, using(crate::proofs::Writing::wrote_undone, crate::proofs::Writing::unchanged))]
+    pub fn write(&self, w: &mut Writer) -> Result<(), Refusal>
+        requires { N < 2 ^ 32 }
+        ensures wrote { Wrote w.old w.new result (elements (λ n. number w32 n) self.now) }
+        ensures err { OnErr result (w.new.bytes ≡ w.old.bytes) }
+    {
+        let mark = w.len();
+        let result = write_counted(w, self.as_slice());
+        w.undo(mark, result)
+    }
+}
+
+#[tactic(auto, unfolding(crate::specs::Forms::elements), using(crate::proofs::Writing::wrote_on, crate::proofs::Writing::wrote_exit, crate::proofs::Writing::wrote_end))]
+fn write_counted(w: &mut Writer, words: &[u32]) -> Result<(), Refusal>
+    requires { length words.now < 2 ^ 32 }
+    ensures { Wrote w.old w.new result (elements (λ n. number w32 n) words.now) }
+{
+    w.write_u32(words.len() as u32)?;
+    write_each(w, words)
+}
+
+fn write_each(w: &mut Writer, words: &[u32]) -> Result<(), Refusal>
+    ensures { Wrote w.old w.new result (flat_map (λ n. number w32 n) words.now) }
+{
+    for word in words {
+        w.write_u32(*word)?;
+    }
+    Ok(())
 }
 
 /// A number for each place of `words`, and the reader behind them.
