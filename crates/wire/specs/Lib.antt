@@ -1,0 +1,2 @@
+pub mod SmallViews
+pub mod ArgumentViews

@@ -1,6 +1,12 @@
 //! The operations of NFS version 4.1 on the wire (RFC 8881, section 18; RFC 5662).
+//!
+//! One type for each argument; names and data are borrowed from the record that was read.
 #![tactic(auto)]
 
 mod laws;
+mod small;
 
 pub use laws::{arguments_are_exact, outcomes_are_exact};
+pub use small::{
+    Attributes, Bitmap, CallbackSecurity, ChangeInfo, Channel, Implementation, StateId, SystemCredential,
+};
