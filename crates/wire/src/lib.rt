@@ -3,10 +3,18 @@
 //! One type for each argument; names and data are borrowed from the record that was read.
 #![tactic(auto)]
 
+mod directory;
+mod file;
 mod laws;
+mod open;
+mod session;
 mod small;
 
+pub use directory::{CreateArguments, ReadDirArguments, RenameArguments};
+pub use file::{CloseArguments, CommitArguments, ReadArguments, SetAttrArguments, WriteArguments};
 pub use laws::{arguments_are_exact, outcomes_are_exact};
+pub use open::{Claim, OpenArguments, OpenType, Opening};
+pub use session::{CreateSessionArguments, ExchangeIdArguments, SequenceArguments};
 pub use small::{
     Attributes, Bitmap, CallbackSecurity, ChangeInfo, Channel, Implementation, StateId, SystemCredential,
 };
