@@ -1,2 +1,4 @@
-pub mod SmallViews
+pub mod ArgumentView
 pub mod ArgumentViews
+pub mod Numbers
+pub mod SmallViews

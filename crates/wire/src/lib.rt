@@ -3,6 +3,7 @@
 //! One type for each argument; names and data are borrowed from the record that was read.
 #![tactic(auto)]
 
+mod argument;
 mod directory;
 mod file;
 mod laws;
@@ -10,6 +11,7 @@ mod open;
 mod session;
 mod small;
 
+pub use argument::{Argument, Operation};
 pub use directory::{CreateArguments, ReadDirArguments, RenameArguments};
 pub use file::{CloseArguments, CommitArguments, ReadArguments, SetAttrArguments, WriteArguments};
 pub use laws::{arguments_are_exact, outcomes_are_exact};
