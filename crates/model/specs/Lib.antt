@@ -32,5 +32,6 @@ pub mod StepLaws
 pub mod Tree
 pub mod WellFormed
 pub mod World
+pub mod WireAnswers
 pub mod WireArguments
 pub mod WireTypes

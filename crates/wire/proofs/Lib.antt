@@ -1,0 +1,3 @@
+pub mod ExactTypes
+pub mod ExactArguments
+pub mod ExactAnswers

@@ -1,0 +1,4 @@
+pub mod ArgumentView
+pub mod ArgumentViews
+pub mod Numbers
+pub mod SmallViews
