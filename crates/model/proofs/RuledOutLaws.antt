@@ -5,13 +5,13 @@ use Rattle.model.specs.declared.status.Status.{Status}
 use Rattle.model.specs.declared.status.Status.TheVariants as status
 use Rattle.model.specs.Answer.{Answer, Outcome, ExchangeIdAnswer, CreateSessionAnswer}
 use Rattle.model.specs.Keyed.{at}
-use Rattle.model.specs.Operation.{Argument, SequenceArguments}
+use Rattle.model.specs.Operation.{Argument, SequenceArguments, operation_of}
 use Rattle.model.specs.Record.{framed}
 use Rattle.model.specs.Rpc.{reply_text, Success}
 use Rattle.model.specs.Session as sessions
 use Rattle.model.specs.Session.{Table, Session, Slot, SlotState, Kept, Begun, Runs, begin, begin_by, begin_slot, begin_new, is_session, slot_at, next_number}
 use Rattle.model.specs.Tree.{Tree}
-use Rattle.model.specs.World.{World, InProgress, Connection, Quiet, Waiting, Busy, Replied, Closed, HasRun, Gives, Replays, exchanged, created_by, created, tabled, started_in, begun, reclaimed, run, Turned, Entry, entry_of, behind, ends, with_table, kept_by, result_of, with_result, is_last, has_run, operates, Next, Refuses, Reads, next_operation, turned, one, with_connection, without_connection, hangs_up, hung_up, turns, operations_left, is_busy}
+use Rattle.model.specs.World.{World, InProgress, Connection, Quiet, Waiting, Busy, Replied, Closed, HasRun, Gives, Replays, exchanged, created_by, created, tabled, started_in, begun, reclaimed, refuses, in_room, has_room, run, Turned, Entry, entry_of, behind, ends, with_table, kept_by, result_of, with_result, is_last, has_run, operates, Next, Refuses, Reads, next_operation, turned, one, with_connection, without_connection, hangs_up, hung_up, turns, operations_left, is_busy}
 use Rattle.model.specs.Runs.{tree_after, IsGoodPrefix, done_with, executed}
 use Rattle.model.specs.RuledOut.{IsChange, NoSkip, NoEarlyReply, NoTakingBack, NoSecondRun, NoGap, IsOneFurther, OneATurn, HangsUpLast}
 use Rattle.model.proofs.Headline.{every_run}
@@ -120,6 +120,16 @@ run_keeps world request now (Argument.ReclaimComplete true) = reclaimed_keeps wo
 run_keeps world request now (Argument.ReclaimComplete false) = tabled_keeps world request 58 _ _
 run_keeps world request now operation = (refl, refl)
 
+either_keeps : (request : InProgress) (b : Bool) (x y : HasRun) → Keeps request x → Keeps request y → Keeps request (cond b x y)
+either_keeps request true x y first second = first
+either_keeps request false x y first second = second
+
+in_room_keeps : (world : World) (request : InProgress) (operation : ℕ) (ran : HasRun) → Keeps request ran → Keeps request (in_room world request operation ran)
+in_room_keeps world request operation (Gives (Outcome.Refused number reason) after left) keeps = keeps
+in_room_keeps world request operation (Gives (Outcome.Done answer) after left) keeps =
+    either_keeps request (has_room world request (Outcome.Done answer)) _ (refuses world request operation status.RepTooBig) keeps (refl, refl)
+in_room_keeps world request operation (Replays result session slot) keeps = tt
+
 -- what stands at the connection then
 
 abbrev Further : InProgress → ℕ → Turned → Type 0
@@ -160,7 +170,8 @@ has_run_further request world number operation (Replays result session slot) kee
 operates_further : (world : World) (number now : ℕ) (request : InProgress) (next : Next) → Further request number (operates world number now request next)
 operates_further world number now request (Refuses operation reason) = behind_further request request world number (Outcome.Refused operation reason) None refl refl
 operates_further world number now request (Reads operation rest) =
-    has_run_further (record request { rest = rest }) world number operation _ (run_keeps world (record request { rest = rest }) now operation)
+    has_run_further (record request { rest = rest }) world number operation _
+    (in_room_keeps world (record request { rest = rest }) (operation_of operation) _ (run_keeps world (record request { rest = rest }) now operation))
 
 pub one_a_turn : OneATurn
 unfolding one

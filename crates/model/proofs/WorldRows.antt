@@ -17,12 +17,11 @@ use Rattle.model.specs.Name.{name_refusals}
 use Rattle.model.specs.Need.{permitted}
 use Rattle.model.specs.Record.{front_from, fragment, behind_header, framed}
 use Rattle.model.specs.Rpc.{words, read_call, request_of, reply_text, compound_text}
-use Rattle.model.specs.ServedForms.{outcome_text}
 use Rattle.model.specs.WireArguments.{arguments_at}
 use Rattle.model.specs.Session.{exchange_id, create_session, destroy_session, destroy_client_id, reclaim_complete, begin, started, finish, session_id}
 use Rattle.model.specs.Step.{does, does_within, effect, refusals}
 use Rattle.model.specs.Tree.{root, names_at}
-use Rattle.model.specs.World.{World, ServerLimits, mounted_world, one, arrives, takes, connects, hung_up, hangs_up, turns, reply_at, Turn, Idle, Ran, Answered, next_operation, run}
+use Rattle.model.specs.World.{World, ServerLimits, mounted_world, one, arrives, takes, connects, hung_up, hangs_up, turns, reply_at, Turn, Idle, Ran, Answered, next_operation, run, outcome_text}
 
 abbrev limits : ServerLimits
 limits = record {
@@ -305,3 +304,21 @@ null_in_bytes : reply_at (turned 1 (fold byte_arrives fresh
     ≡ Some (record_of (1 ∷ 1 ∷ 0 ∷ 0 ∷ 0 ∷ 0 ∷ []))
 unfolding fresh comes turned
 null_in_bytes = refl
+
+-- a reply without room for CREATE's result: it is refused with REP_TOO_BIG, and nothing is made
+small : World
+unfolding opened
+small = record opened { limits = record limits { reply_bytes = 100 } }
+
+no_room : answer 4 small 0 (make_call 7) ≡ Some (compound_reply 9 10066 3 (53 ∷ 0 ∷ 1 ∷ 1 ∷ 0 ∷ 1 ∷ 1 ∷ 0 ∷ 7 ∷ 7 ∷ 0 ∷ 24 ∷ 0 ∷ 6 ∷ 10066 ∷ []))
+unfolding small answer
+no_room = refl
+
+no_room_made : length (names_at (behind 4 small 0 (make_call 7)).tree root) ≡ 0
+unfolding small behind
+no_room_made = refl
+
+-- one turn runs SEQUENCE alone, and two run nothing that makes "a"
+one_operation : length (names_at half_made.tree root) ≡ 0
+unfolding half_made
+one_operation = refl

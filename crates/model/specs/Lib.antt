@@ -23,7 +23,7 @@ pub mod Status
 pub mod Rpc
 pub mod RuledOut
 pub mod Runs
-pub mod ServedForms
+pub mod Served
 pub mod Session
 pub mod SessionRuns
 pub mod Step
