@@ -6,7 +6,7 @@ use Rattle.model.specs.Acl.{is_list_for}
 use Rattle.model.specs.Charge.{fits}
 use Rattle.model.specs.Fresh.{fresh_root, fresh_tree, FreshIsWellFormed}
 use Rattle.model.specs.Keyed.{at, is_key}
-use Rattle.model.specs.declared.limits.Limits.{Limits}
+use Rattle.model.specs.Limits.{Limits}
 use Rattle.model.specs.Tree.{Node, names_of, kind_of}
 use Rattle.model.specs.WellFormed.{IsReached, TheRoot, IsNode, AreNames, IsWellFormed, IsBefore, links_to, links_owed}
 use Rattle.model.proofs.KeyedLaws.{at-first, at-rest}

@@ -14,7 +14,7 @@ use Rattle.model.specs.Charge.{fits}
 use Rattle.model.specs.Directory.{new_directory, with_child_of, acl_of}
 use Rattle.model.specs.Inherit.{created_without_list, inherited}
 use Rattle.model.specs.Keyed.{at}
-use Rattle.model.specs.declared.limits.Limits.{Limits}
+use Rattle.model.specs.Limits.{Limits}
 use Rattle.model.specs.Name.{name_refusals}
 use Rattle.model.specs.Operation.{Argument, Attributes, NewDirectory, OtherType, operation_of}
 use Rattle.model.specs.Refusal.{first_refusal}

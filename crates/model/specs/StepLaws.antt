@@ -2,7 +2,7 @@
 use Rattle.std.specs.Prelude.{ℕ, Bool, ◌≡◌, ◌≢◌, ◌+◌, ◌≤◌, IsTrue, IsFalse}
 use Rattle.model.specs.declared.status.Status.{Status}
 use Rattle.model.specs.Answer.{Answer, Outcome}
-use Rattle.model.specs.declared.limits.Limits.{Limits}
+use Rattle.model.specs.Limits.{Limits}
 use Rattle.model.specs.Need.{permitted}
 use Rattle.model.specs.Operation.{Argument}
 use Rattle.model.specs.Step.{State, Stepped, alters, stamp_of, does, does_within}
