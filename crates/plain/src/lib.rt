@@ -3,5 +3,6 @@
 #![tactic(auto)]
 
 pub mod charge;
+pub mod lookup;
 pub mod names;
 pub mod tree;
