@@ -4,6 +4,6 @@ use Rattle.model.specs.Inherit.{first_refused}
 use Rattle.model.specs.declared.acl.Ace.{Ace}
 use Rattle.model.specs.declared.node.NodeKind.{NodeKind}
 
-abbrev pub refused_of : NodeKind → Option (List Ace) → Option ℕ
-refused_of of None = None
-refused_of of (Some acl) = first_refused 32 of acl
+abbrev pub refused_of : ℕ → NodeKind → Option (List Ace) → Option ℕ
+refused_of most of None = None
+refused_of most of (Some acl) = first_refused most of acl

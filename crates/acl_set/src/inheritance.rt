@@ -13,6 +13,7 @@ use bitflags::Flags;
 use std::alloc::Global;
 
 /// What a creation gave of the new node's attributes.
+#[derive(Clone, Copy)]
 pub struct Given<'a> {
     /// No attribute was given. Looked at where neither a mode nor a list was.
     pub empty: bool,
@@ -84,7 +85,9 @@ fn are_flags_for(kind: NodeKind, flags: AceFlags) -> bool
     match kind {
         NodeKind::File => flags.is_empty(),
         NodeKind::Directory => {
-            flags.difference(AceFlags::from_bits_retain(INHERITANCE)).is_empty()
+            flags
+                .difference(AceFlags::from_bits_retain(INHERITANCE))
+                .is_empty()
                 && (!flags.intersects(further) || flags.intersects(handed_down))
         }
     }
@@ -96,7 +99,10 @@ fn is_entry_for(kind: NodeKind, ace: &Ace) -> bool
     ensures { result ≡ is_entry_for kind ace.now }
 {
     are_flags_for(kind, ace.flags)
-        && ace.mask.difference(Mask::from_bits_retain(EVERY_RIGHT)).is_empty()
+        && ace
+            .mask
+            .difference(Mask::from_bits_retain(EVERY_RIGHT))
+            .is_empty()
 }
 
 // The index of the first entry that a node of this kind may not have.
@@ -112,7 +118,7 @@ fn first_unfit(kind: NodeKind, acl: &[Ace]) -> Option<usize>
 /// A file's entries have no flags. A directory's have NO_PROPAGATE or INHERIT_ONLY only beside FILE_INHERIT or
 /// DIRECTORY_INHERIT, and no other flag than these four: that a number is a group's stands in the name.
 pub fn first_refused(kind: NodeKind, acl: &[Ace]) -> Option<usize>
-    ensures { result ≡ first_refused 32 kind acl.now }
+    ensures { result ≡ first_refused Acl.MOST_SET kind acl.now }
 {
     let place = first_unfit(kind, acl)
         .unwrap_or(acl.len())
@@ -124,11 +130,16 @@ pub fn first_refused(kind: NodeKind, acl: &[Ace]) -> Option<usize>
 /// where no attribute was given.
 ///
 /// A given list is refused at its first entry that may not be set; nothing else is refused but for want of memory.
-pub fn at_creation(alloc: Global, parent: &[Ace], kind: NodeKind, given: &Given) -> Result<Acl, AclFault>
+pub fn at_creation(
+    alloc: Global,
+    parent: &[Ace],
+    kind: NodeKind,
+    given: &Given,
+) -> Result<Acl, AclFault>
     requires { ForSome given.now.mode (λ mode. mode ≤ 511) }
     ensures list { IfOk result (λ list. list
         ≡ created parent.now kind given.now.empty given.now.mode (option_copied given.now.acl)) }
-    ensures refused { MatchOption (refused_of kind (option_copied given.now.acl))
+    ensures refused { MatchOption (refused_of Acl.MOST_SET kind (option_copied given.now.acl))
         (IsOkUnless result AclFault.Memory)
         (λ place. result ≡ Err (AclFault.Ace place)) }
 {

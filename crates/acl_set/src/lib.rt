@@ -5,7 +5,6 @@
 #![tactic(auto)]
 
 pub use acl_eval::{Ace, AceFlags, AceKind, Acl, Cred, Gids, Mask, NodeKind, Who, granted};
-
 pub use fault::AclFault;
 pub use inheritance::{Given, at_creation, first_refused, inherit};
 pub use modes::{mode_of, with_mode};
@@ -13,3 +12,5 @@ pub use modes::{mode_of, with_mode};
 mod fault;
 mod inheritance;
 mod modes;
+#[cfg(test)]
+mod tests;

@@ -96,7 +96,9 @@ fn rights_of(kind: NodeKind, bits: u32) -> Mask
         NodeKind::Directory => 0x46,
     };
     Mask::from_bits_retain(
-        value_if(bits & 4 != 0, 0x1) + value_if(bits & 2 != 0, write) + value_if(bits & 1 != 0, 0x20),
+        value_if(bits & 4 != 0, 0x1)
+            + value_if(bits & 2 != 0, write)
+            + value_if(bits & 1 != 0, 0x20),
     )
 }
 
@@ -176,7 +178,9 @@ fn is_handed_down(ace: &Ace) -> bool
 {
     !ace.counts()
         || (ace.who.is_special()
-            && ace.flags.intersects(AceFlags::FILE_INHERIT.union(AceFlags::DIRECTORY_INHERIT)))
+            && ace
+                .flags
+                .intersects(AceFlags::FILE_INHERIT.union(AceFlags::DIRECTORY_INHERIT)))
 }
 
 fn push_handed_down(list: &mut Acl, acl: &[Ace]) -> Result<(), AllocError>
@@ -212,7 +216,10 @@ pub fn with_mode(alloc: Global, kind: NodeKind, acl: &[Ace], mode: u32) -> Resul
     push_special(&mut list, kind, Who::Owner, mode / 64 % 8)?;
     push_numbers(&mut list, kind, acl, mode)?;
     push_special(&mut list, kind, Who::Group, mode / 8 % 8)?;
-    push_if_any(&mut list, entry(AceKind::Allow, Who::Everyone, rights_of(kind, mode % 8)))?;
+    push_if_any(
+        &mut list,
+        entry(AceKind::Allow, Who::Everyone, rights_of(kind, mode % 8)),
+    )?;
     push_handed_down(&mut list, acl)?;
     Ok(list)
 }
