@@ -1,3 +1,11 @@
+pub mod StateIdRows
+pub mod Headline
+pub mod RunLaws
+pub mod WorldRows
+pub mod RpcRows
+pub mod RecordLaws
+pub mod SessionRows
+pub mod SlotLaw
 pub mod ChildLaws
 pub mod FreshTree
 pub mod KeyedLaws

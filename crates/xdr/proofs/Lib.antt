@@ -1,0 +1,9 @@
+pub mod Steps
+pub mod Numbers
+pub mod Sequences
+pub mod Tests
+pub mod Opaques
+pub mod Arrays
+pub mod Unions
+pub mod Reading
+pub mod Writing

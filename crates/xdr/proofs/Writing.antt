@@ -1,0 +1,78 @@
+-- What stands behind what: one write after the other.
+use Rattle.std.proofs.Common.{◌≡◌, ℕ, ◌+◌, ◌<◌, ◌≤◌, List, [], ◌++◌, length, Result, Ok, Err, refl, sym, ap, subst, ◌∙◌, take, replicate, append_assoc, arith}
+use Rattle.std.specs.Prelude.{OnOk, OnErr, IfErr}
+use Rattle.std.specs.Result.{IsErrAnd}
+use Rattle.std.proofs.lemmas.List.{append-nil, length-append, take_at, take-replicate}
+use Rattle.std.proofs.lemmas.Result.{err_from_is_err_and}
+use Rattle.xdr.specs.declared.refusal.Refusal.{Refusal}
+use Rattle.xdr.specs.declared.refusal.Refusal.TheVariants.{Memory}
+use Rattle.xdr.specs.Forms.{padding, padded}
+use Rattle.xdr.specs.Clauses.{BeginsWith, Written, Wrote}
+
+pub begins_same : (list front : List ℕ) → list ≡ front → BeginsWith list front
+begins_same list front e = record { more = []; parts = e ∙ sym (append-nil front) }
+
+pub begins_on : (list front middle text : List ℕ) → middle ≡ front ++ text → BeginsWith list middle → BeginsWith list front
+begins_on list front middle text e b =
+    record { more = text ++ b.more; parts = b.parts ∙ ap (λ (x : List ℕ). x ++ b.more) e ∙ append_assoc front text b.more }
+
+-- one write, and then another
+pub wrote_on : {a b c : Written} {r : Result (Unit {0}) Refusal} {t u : List ℕ} → Wrote a b (Ok tt) t → Wrote b c r u → Wrote a c r (t ++ u)
+wrote_on {a = a} {b = b} {c = c} {r = Ok x} {t = t} {u = u} v w = record {
+  ok = w.ok ∙ ap (λ (z : List ℕ). z ++ u) v.ok ∙ append_assoc a.bytes t u;
+  full = tt;
+  memory = tt;
+  keeps = omega (arith, v.keeps, w.keeps);
+  stands = begins_on c.bytes a.bytes b.bytes t v.ok w.stands;
+}
+wrote_on {a = a} {b = b} {c = c} {r = Err e} {t = t} {u = u} v w = record {
+  ok = tt;
+  full = omega (arith, w.full, v.keeps, ap length v.ok, length-append a.bytes t, length-append t u);
+  memory = w.memory;
+  keeps = omega (arith, v.keeps, w.keeps);
+  stands = begins_on c.bytes a.bytes b.bytes t v.ok w.stands;
+}
+
+-- a write that failed, before others
+pub wrote_exit : {a b : Written} {r : Result (Unit {0}) Refusal} {e : Refusal} {t : List ℕ} (u : List ℕ) → IsErrAnd r (λ y. y ≡ e) → Wrote a b (Err e) t → Wrote a b r (t ++ u)
+wrote_exit {r = Ok x} u is w = absurd is
+wrote_exit {a = a} {r = Err y} {t = t} u is w = record {
+  ok = tt;
+  full = omega (arith, w.full, length-append t u);
+  memory = is ∙ w.memory;
+  keeps = w.keeps;
+  stands = w.stands;
+}
+
+-- a write that failed, the last
+pub wrote_end : {a b : Written} {r : Result (Unit {0}) Refusal} {e : Refusal} {t : List ℕ} → IsErrAnd r (λ y. y ≡ e) → Wrote a b (Err e) t → Wrote a b r t
+wrote_end {r = Ok x} is w = absurd is
+wrote_end {r = Err y} is w = record { ok = tt; full = w.full; memory = is ∙ w.memory; keeps = w.keeps; stands = w.stands }
+
+-- a write whose front was dropped where it failed
+take_front : (front more : List ℕ) → take (length front) (front ++ more) ≡ front
+take_front front more = take_at front more (length front) refl
+
+pub wrote_undone : {a b c : Written} {r s : Result (Unit {0}) Refusal} {t : List ℕ} (mark : ℕ) → Wrote a b r t → mark ≡ length a.bytes → s ≡ r → OnOk s (c.bytes ≡ b.bytes)
+    → OnErr s (c.bytes ≡ take mark b.bytes) → c.capacity ≡ b.capacity → Wrote a c s t
+wrote_undone {a = a} {b = b} {c = c} {r = Ok x} {s = Ok y} {t = t} mark w is_mark same ok err cap =
+    record { ok = ok ∙ w.ok; full = tt; memory = tt; keeps = omega (arith, w.keeps); stands = record { more = w.stands.more; parts = ok ∙ w.stands.parts } }
+wrote_undone {a = a} {b = b} {c = c} {r = Err d} {s = Err e} {t = t} mark w is_mark same ok err cap =
+    let back : c.bytes ≡ a.bytes = err ∙ ap (take mark) w.stands.parts ∙ ap (λ (k : ℕ). take k (a.bytes ++ w.stands.more)) is_mark ∙ take_front a.bytes w.stands.more in
+    let is_d : e ≡ d = cc in
+    record { ok = tt; full = w.full; memory = is_d ∙ w.memory; keeps = omega (arith, w.keeps); stands = begins_same c.bytes a.bytes back }
+wrote_undone {r = Ok x} {s = Err e} mark w is_mark same ok err cap = absurd cc
+wrote_undone {r = Err d} {s = Ok y} mark w is_mark same ok err cap = absurd cc
+
+pub unchanged : {a b : Written} (c : Written) {r : Result (Unit {0}) Refusal} (s : Result (Unit {0}) Refusal) {t : List ℕ} (mark : ℕ) → Wrote a b r t → mark ≡ length a.bytes
+    → OnErr s (c.bytes ≡ take mark b.bytes) → OnErr s (c.bytes ≡ a.bytes)
+unchanged c (Ok y) mark w is_mark err = tt
+unchanged {a = a} c (Err e) mark w is_mark err = err ∙ ap (take mark) w.stands.parts ∙ ap (λ (k : ℕ). take k (a.bytes ++ w.stands.more)) is_mark ∙ take_front a.bytes w.stands.more
+
+-- bytes, and then the zeros behind them
+pub wrote_padded : {a b c : Written} {r : Result (Unit {0}) Refusal} {s z : List ℕ} (pad : ℕ) → Wrote a b (Ok tt) s → Wrote b c r z → z ≡ take pad (replicate 3 0) → pad ≡ padding (length s) → pad < 4
+    → Wrote a c r (padded s)
+unfolding padded
+wrote_padded {a = a} {b = b} {c = c} {r = r} {s = s} {z = z} pad v w is_z is_pad small =
+    let zeros : z ≡ replicate (padding (length s)) 0 = is_z ∙ take-replicate pad 3 0 (omega arith) ∙ ap (λ (k : ℕ). replicate k 0) is_pad in
+    subst (λ (x : List ℕ). Wrote a c r (s ++ x)) zeros (wrote_on v w)

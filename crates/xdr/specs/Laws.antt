@@ -1,0 +1,26 @@
+-- What makes a grammar exact, and what follows from it.
+use Rattle.std.specs.Prelude.{◌≡◌, ℕ, ◌<◌, List, ◌++◌, slice_index, Ok}
+use Rattle.xdr.specs.Grammar.{Grammar}
+
+-- a list of bytes
+abbrev pub IsBytes : List ℕ → Type 0
+IsBytes bytes = (i : ℕ) → slice_index bytes i < 256
+
+-- what is read from bytes fits, and is spelled so
+abbrev pub Takes : {V : Type 0} → Grammar V → Type 0
+Takes {V = V} g =
+    (bytes : List ℕ) (v : V) (rest : List ℕ) → IsBytes bytes → g.read bytes ≡ Ok (v, rest)
+    → g.Fits v × (bytes ≡ g.spelling v ++ rest)
+
+-- what fits is read again, whatever follows
+abbrev pub ReadsAgain : {V : Type 0} → Grammar V → Type 0
+ReadsAgain {V = V} g = (v : V) (rest : List ℕ) → g.Fits v → g.read (g.spelling v ++ rest) ≡ Ok (v, rest)
+
+pub record Exact {V : Type 0} (g : Grammar V) : Type 0 where
+  pub takes : Takes g
+  pub again : ReadsAgain g
+
+-- One value has one spelling, one spelling is of one value, and no spelling begins another.
+abbrev pub OneSpelling : {V : Type 0} → Grammar V → Type 0
+OneSpelling {V = V} g =
+    (v w : V) (x y : List ℕ) → g.Fits v → g.Fits w → g.spelling v ++ x ≡ g.spelling w ++ y → (v ≡ w) × (x ≡ y)

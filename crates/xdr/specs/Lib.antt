@@ -1,0 +1,5 @@
+pub mod Grammar
+pub mod Forms
+pub mod Union
+pub mod Laws
+pub mod Clauses

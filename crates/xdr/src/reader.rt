@@ -1,0 +1,196 @@
+//! Reading from the left.
+
+ghost use Rattle.std.specs.Prelude.{◌≡◌, ◌<◌, ◌↔◌, IsTrue, length};
+ghost use Rattle.xdr.specs.Grammar.{unsigned_int, unsigned_hyper};
+ghost use Rattle.xdr.specs.Forms.{below, always, boolean, fixed_opaque, opaque, padding, are_zeros};
+ghost use Rattle.xdr.specs.Clauses.{Scans};
+
+use crate::refusal::Refusal;
+use byteorder::{BigEndian, ByteOrder};
+use std::marker::Model;
+
+/// A place in bytes: what is read next, up to the end. In a contract it is the bytes that are left.
+///
+/// A read that is refused leaves the reader where it was.
+#[derive(Drop)]
+pub struct Reader<'a> {
+    rest: &'a [u8],
+}
+
+impl<'a> Model for Reader<'a> {
+    ghost use Rattle.std.specs.Prelude.{ℕ, List};
+
+    ghost Value = { List ℕ };
+
+    ghost view = { λ r. r.rest.now };
+}
+
+impl<'a> Reader<'a> {
+    /// At the start of the bytes.
+    pub fn new(bytes: &'a [u8]) -> Reader<'a>
+        ensures { result ≡ bytes.now }
+    {
+        Reader { rest: bytes }
+    }
+
+    /// A second reader at the same place.
+    pub fn fork(&self) -> Reader<'a>
+        ensures { result ≡ self.now }
+    {
+        Reader { rest: self.rest }
+    }
+
+    /// A number of 4 bytes (RFC 4506, section 4.2).
+    #[tactic(auto, using(crate::proofs::Reading::short_int, crate::proofs::Reading::found_int))]
+    pub fn read_u32(&mut self) -> Result<u32, Refusal>
+        ensures { Scans (λ n. n) (unsigned_int.read) self.old self.new result }
+    {
+        let rest = self.rest;
+        if rest.len() < 4 {
+            return Err(Refusal::Short);
+        }
+        let (front, rest) = rest.split_at(4);
+        self.rest = rest;
+        Ok(BigEndian::read_u32(front))
+    }
+
+    /// A number of 8 bytes (RFC 4506, section 4.5).
+    #[tactic(auto, using(crate::proofs::Reading::short_hyper, crate::proofs::Reading::found_hyper))]
+    pub fn read_u64(&mut self) -> Result<u64, Refusal>
+        ensures { Scans (λ n. n) (unsigned_hyper.read) self.old self.new result }
+    {
+        let rest = self.rest;
+        if rest.len() < 8 {
+            return Err(Refusal::Short);
+        }
+        let (front, rest) = rest.split_at(8);
+        self.rest = rest;
+        Ok(BigEndian::read_u64(front))
+    }
+
+    /// How many bytes are left.
+    pub fn len(&self) -> usize
+        ensures { result ≡ length self.now }
+    {
+        self.rest.len()
+    }
+
+    /// Whether no byte is left.
+    pub fn is_empty(&self) -> bool
+        ensures { IsTrue result ↔ (length self.now ≡ 0) }
+    {
+        self.rest.is_empty()
+    }
+
+    /// The bytes that are left.
+    pub fn rest(&self) -> &'a [u8]
+        ensures { result.now ≡ self.now }
+    {
+        self.rest
+    }
+
+    /// One of the numbers below `n` (RFC 4506, section 4.3).
+    pub fn read_below(&mut self, n: u32) -> Result<u32, Refusal>
+        ensures { Scans (λ k. k) ((below n).read) self.old self.new result }
+    {
+        let mut at = self.fork();
+        let number = at.read_u32()?;
+        if number >= n {
+            return Err(Refusal::Value);
+        }
+        *self = at;
+        Ok(number)
+    }
+
+    /// The number `k` and no other.
+    pub fn read_always(&mut self, k: u32) -> Result<(), Refusal>
+        ensures { Scans (λ u. u) ((always k unsigned_int).read) self.old self.new result }
+    {
+        let mut at = self.fork();
+        let number = at.read_u32()?;
+        if number != k {
+            return Err(Refusal::Value);
+        }
+        *self = at;
+        Ok(())
+    }
+
+    /// The number `k` of 8 bytes and no other.
+    pub fn read_always_u64(&mut self, k: u64) -> Result<(), Refusal>
+        ensures { Scans (λ u. u) ((always k unsigned_hyper).read) self.old self.new result }
+    {
+        let mut at = self.fork();
+        let hyper = at.read_u64()?;
+        if hyper != k {
+            return Err(Refusal::Value);
+        }
+        *self = at;
+        Ok(())
+    }
+
+    /// A truth value: 0 or 1 (RFC 4506, section 4.4).
+    pub fn read_bool(&mut self) -> Result<bool, Refusal>
+        ensures { Scans (λ b. b) (boolean.read) self.old self.new result }
+    {
+        let mut at = self.fork();
+        let truth = match at.read_u32()? {
+            0 => false,
+            1 => true,
+            _ => return Err(Refusal::Value),
+        };
+        *self = at;
+        Ok(truth)
+    }
+
+    /// `n` bytes, behind which the pad bytes are zero (RFC 4506, section 4.9).
+    #[tactic(auto, using(crate::proofs::Reading::short_bytes, crate::proofs::Reading::short_pad, crate::proofs::Reading::other_pad, crate::proofs::Reading::found_padded))]
+    pub fn read_fixed(&mut self, n: usize) -> Result<&'a [u8], Refusal>
+        ensures { Scans (λ bytes. bytes.now) ((fixed_opaque n).read) self.old self.new result }
+    {
+        let rest = self.rest;
+        if rest.len() < n {
+            return Err(Refusal::Short);
+        }
+        let (bytes, behind) = rest.split_at(n);
+        let pad = pad_len(n);
+        if behind.len() < pad {
+            return Err(Refusal::Short);
+        }
+        let (zeros, behind) = behind.split_at(pad);
+        if !are_zero(zeros) {
+            return Err(Refusal::Value);
+        }
+        self.rest = behind;
+        Ok(bytes)
+    }
+
+    /// A length of at most `limit`, so many bytes, and zero bytes up to a multiple of 4 (RFC 4506, sections 4.10 and
+    /// 4.11). A greater length is `Long`, whatever follows.
+    #[tactic(auto, unfolding(crate::specs::Forms::counted_at))]
+    pub fn read_opaque(&mut self, limit: u32) -> Result<&'a [u8], Refusal>
+        ensures { Scans (λ bytes. bytes.now) ((opaque limit).read) self.old self.new result }
+    {
+        let mut at = self.fork();
+        let len = at.read_u32()?;
+        if len > limit {
+            return Err(Refusal::Long);
+        }
+        let bytes = at.read_fixed(len as usize)?;
+        *self = at;
+        Ok(bytes)
+    }
+}
+
+/// How many zero bytes follow `n` bytes.
+pub(crate) fn pad_len(n: usize) -> usize
+    ensures value { result ≡ padding n }
+    ensures small { result < 4 }
+{
+    (4 - n % 4) % 4
+}
+
+fn are_zero(bytes: &[u8]) -> bool
+    ensures { result ≡ are_zeros bytes.now }
+{
+    bytes.iter().all(|byte| *byte == 0)
+}
