@@ -7,7 +7,7 @@ use Rattle.model.specs.declared.node.NodeKind.TheVariants as kind
 use Rattle.model.specs.Charge.{fits}
 use Rattle.model.specs.Directory.{with_names}
 use Rattle.model.specs.Keyed.{Keyed, at, is_key, with, total, IsAbove}
-use Rattle.model.specs.declared.limits.Limits.{Limits}
+use Rattle.model.specs.Limits.{Limits}
 use Rattle.model.specs.Name.{name_refusals}
 use Rattle.model.specs.Refusal.{first_refusal}
 use Rattle.model.specs.Tree.{Tree, Node, Content, File, Directory, DirEntry, root, kind_of, names_of, names_at, names_of_node, is_directory, is_directory_node, is_directory_at, entry_of, found_or}

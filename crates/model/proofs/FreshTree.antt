@@ -6,7 +6,7 @@ use Rattle.model.specs.Acl.{is_list_for}
 use Rattle.model.specs.Charge.{fits}
 use Rattle.model.specs.Fresh.{fresh_root, fresh_tree, FreshIsWellFormed}
 use Rattle.model.specs.Keyed.{at, is_key}
-use Rattle.model.specs.declared.limits.Limits.{Limits}
+use Rattle.model.specs.Limits.{Limits}
 use Rattle.model.specs.Tree.{Node, names_of, kind_of}
 use Rattle.model.specs.WellFormed.{IsReached, TheRoot, IsNode, AreNames, IsWellFormed, IsBefore, links_to, links_owed}
 use Rattle.model.proofs.KeyedLaws.{at-first, at-rest}
@@ -48,7 +48,7 @@ fresh_fits : (limits : Limits) → 1 ≤ limits.nodes → IsTrue (fits limits fr
 unfolding fits
 fresh_fits limits room = rw (le-leb 0 limits.data_sectors (omega arith), le-leb 1 limits.nodes room, le-leb 0 limits.names (omega arith)) refl
 
-fresh_well_formed : (limits : Limits) → 1 ≤ limits.nodes → 1 ≤ limits.aces → IsWellFormed limits fresh_tree
+pub fresh_well_formed : (limits : Limits) → 1 ≤ limits.nodes → 1 ≤ limits.aces → IsWellFormed limits fresh_tree
 fresh_well_formed limits nodes aces = record {
   numbered = (omega arith, tt);
   rooted = refl;
@@ -60,7 +60,7 @@ fresh_well_formed limits nodes aces = record {
   fitting = fresh_fits limits nodes;
 }
 
-fresh_before : (stamp : ℕ) → 1 < stamp → IsBefore stamp fresh_tree
+pub fresh_before : (stamp : ℕ) → 1 < stamp → IsBefore stamp fresh_tree
 fresh_before stamp above = record {
   number = λ number node is. let one : number ≡ 1 = (only_root number node is).0 in omega arith;
   change = λ number node is. let change : node.change ≡ 1 = ap (λ n. n.change) (only_root number node is).1 in omega arith;

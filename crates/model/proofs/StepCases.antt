@@ -5,7 +5,7 @@ use Rattle.model.specs.declared.status.Status.{Status}
 use Rattle.model.specs.declared.status.Status.TheVariants as status
 use Rattle.model.specs.Answer.{Outcome}
 use Rattle.model.specs.Charge.{fits}
-use Rattle.model.specs.declared.limits.Limits.{Limits}
+use Rattle.model.specs.Limits.{Limits}
 use Rattle.model.specs.Need.{permitted}
 use Rattle.model.specs.Operation.{Argument}
 use Rattle.model.specs.Refusal.{Refusals, first_refusal, refused_or}

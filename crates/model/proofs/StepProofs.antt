@@ -1,5 +1,5 @@
 -- The laws of one operation.
-use Rattle.std.proofs.Common.{ℕ, Bool, true, false, List, [], ◌++◌, ◌≡◌, ◌≢◌, ◌+◌, ◌≤◌, not, inl, inr, refl, sym, ap, ◌∙◌, subst, arith, le-leb, is_some}
+use Rattle.std.proofs.Common.{ℕ, Bool, true, false, List, [], ◌++◌, ◌≡◌, ◌≢◌, ◌+◌, ◌<◌, ◌≤◌, not, inl, inr, refl, sym, ap, ◌∙◌, subst, arith, ltb-true, ◌^◌, le-leb, is_some}
 use Rattle.std.specs.Prelude.{Option, Some, None}
 use Rattle.std.proofs.lemmas.Bool.{true≢false}
 use Rattle.model.specs.declared.acl.Ace.{Ace}
@@ -14,16 +14,17 @@ use Rattle.model.specs.Charge.{fits}
 use Rattle.model.specs.Directory.{new_directory, with_child_of, acl_of}
 use Rattle.model.specs.Inherit.{created_without_list, inherited}
 use Rattle.model.specs.Keyed.{at}
-use Rattle.model.specs.declared.limits.Limits.{Limits}
+use Rattle.model.specs.Limits.{Limits}
 use Rattle.model.specs.Name.{name_refusals}
 use Rattle.model.specs.Operation.{Argument, Attributes, NewDirectory, OtherType, operation_of}
 use Rattle.model.specs.Refusal.{first_refusal}
+use Rattle.model.specs.Stamp.{is_stamp_left}
 use Rattle.model.specs.Step.{State, current, stamp_of, current_refusals, named_refusals, is_name_there, alters, effect, made, refused, does, does_within}
-use Rattle.model.specs.StepLaws.{IsSound, IsLawful, EveryStepIsLawful}
-use Rattle.model.specs.Tree.{Node, kind_of, names_of, names_at, names_of_node, is_directory, is_directory_node, is_directory_at, entry_of}
+use Rattle.model.specs.StepLaws.{IsSound, IsLawful, EveryStepIsLawful, RunsBeginSound}
+use Rattle.model.specs.Tree.{Tree, Node, kind_of, names_of, names_at, names_of_node, is_directory, is_directory_node, is_directory_at, entry_of}
 use Rattle.model.specs.WellFormed.{IsNode, IsWellFormed, IsBefore}
 use Rattle.model.proofs.ChildLaws.{kind_of_directory, tree_after, well_formed_after, before_after, changes_tree}
-use Rattle.model.proofs.FreshTree.{no_names}
+use Rattle.model.proofs.FreshTree.{no_names, fresh_well_formed, fresh_before}
 use Rattle.model.proofs.StepCases.{Passes, none_in_front, none_in_both, does_cases, does_within_cases}
 
 -- What an operation is answered with
@@ -123,14 +124,15 @@ module _ (modes : ModesKeepLimits) (inheritance : InheritanceKeepsLimits) where
             → is_list_for limits.aces_set limits.aces kind.Directory parent.acl ≡ true
         directory_list list = rw (kind_of_directory parent.content is) at list
 
-    made_sound : fits limits (made state now name given).tree ≡ true → IsSound limits (made state now name given)
-    made_sound fitting = record {
+    made_sound : fits limits (made state now name given).tree ≡ true → is_stamp_left state.changes ≡ true → IsSound limits (made state now name given)
+    made_sound fitting left = record {
       well_formed = subst (IsWellFormed limits) (sym tree_is)
           (well_formed_after limits state.tree sound.well_formed (stamp_of state) sound.before (current state) parent there is
           name now child passed.allowed new child_is_node refl (sym (ap (fits limits) tree_is) ∙ fitting));
       before = subst (IsBefore (stamp_of (made state now name given))) (sym tree_is)
           (before_after limits state.tree sound.well_formed (stamp_of state) sound.before (current state) parent there is
           name now child (stamp_of (made state now name given)) (omega arith) (omega arith) refl);
+      counted = ltb-true (state.changes + 1) (2 ^ 32) left;
       room_for_mode = sound.room_for_mode;
     }
 
@@ -146,10 +148,10 @@ module _ (modes : ModesKeepLimits) (inheritance : InheritanceKeepsLimits) where
   effect_sound limits state now (Argument.Create (NewDirectory name given)) passes sound =
       let passed = creates limits state now name given passes in
       let parent = directory_node (at (current state) state.tree) passed.directory in
-      made_sound limits state now name given sound passed parent.0 parent.1 parent.2 (passes.fitting refl)
+      made_sound limits state now name given sound passed parent.0 parent.1 parent.2 (passes.fitting refl) (passes.stamp_left refl)
   effect_sound limits state now (Argument.Create (OtherType number)) passes sound = sound
   effect_sound limits state now _ passes sound =
-      record { well_formed = sound.well_formed; before = sound.before; room_for_mode = sound.room_for_mode }
+      record { well_formed = sound.well_formed; before = sound.before; counted = sound.counted; room_for_mode = sound.room_for_mode }
 
   effect_alters : (limits : Limits) (state : State) (now : ℕ) (operation : Argument) → Passes limits state now operation
       → IsSound limits state → alters state operation ≡ true → (answer : Answer)
@@ -217,3 +219,35 @@ module _ (modes : ModesKeepLimits) (inheritance : InheritanceKeepsLimits) where
 
   pub every_step : EveryStepIsLawful
   every_step = record { does = does_is_lawful; does_within = does_within_is_lawful }
+
+-- Runs
+
+-- what was before a stamp was before each later one
+before_later : (stamp later : ℕ) (tree : Tree) → IsBefore stamp tree → stamp ≤ later → IsBefore later tree
+before_later stamp later tree before order = record {
+  number = λ number node is. let low : number < stamp = before.number number node is in omega arith;
+  change = λ number node is. let low : node.change < stamp = before.change number node is in omega arith;
+  entry = λ number node of entry is has. let low : of < stamp = before.entry number node of entry is has in omega arith;
+}
+
+pub runs_begin : RunsBeginSound
+runs_begin = record {
+  first = λ limits state nodes room tree none run.
+      let stamp : 1 < stamp_of state = rw none (omega arith) in
+      let aces : 1 ≤ limits.aces = omega arith in
+      record {
+        well_formed = subst (IsWellFormed limits) (sym tree) (fresh_well_formed limits nodes aces);
+        before = subst (IsBefore (stamp_of state)) (sym tree) (fresh_before (stamp_of state) stamp);
+        counted = rw none (omega arith);
+        room_for_mode = room;
+      };
+  later = λ limits old new sound tree none run.
+      let counted : old.changes < 2 ^ 32 = sound.counted in
+      let order : stamp_of old ≤ stamp_of new = rw none (omega arith) in
+      record {
+        well_formed = subst (IsWellFormed limits) (sym tree) sound.well_formed;
+        before = subst (IsBefore (stamp_of new)) (sym tree) (before_later (stamp_of old) (stamp_of new) old.tree sound.before order);
+        counted = rw none (omega arith);
+        room_for_mode = sound.room_for_mode;
+      };
+}

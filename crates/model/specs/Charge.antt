@@ -1,7 +1,7 @@
 -- What a node takes of the volume's data region, and when a tree fits: this server's profile; NFS4ERR_NOSPC of RFC 8881, section 15.1.4.
 use Rattle.std.specs.Prelude.{ℕ, Bool, true, [], ◌∷◌, ◌+◌, ◌/◌, ◌&&◌, nat_le, length, ◌-◌}
 use Rattle.model.specs.Keyed.{total}
-use Rattle.model.specs.declared.limits.Limits.{Limits}
+use Rattle.model.specs.Limits.{Limits}
 use Rattle.model.specs.Tree.{Tree, Node, Content, File, Directory, names_of}
 
 -- a number divided, rounded up

@@ -3,7 +3,7 @@ use Rattle.std.specs.Prelude.{ℕ, [], ◌∷◌, ◌≤◌, ◌<◌}
 use Rattle.model.specs.declared.acl.AceKind.TheVariants as kind
 use Rattle.model.specs.declared.acl.Who.TheVariants as who
 use Rattle.model.specs.Acl.{every_right}
-use Rattle.model.specs.declared.limits.Limits.{Limits}
+use Rattle.model.specs.Limits.{Limits}
 use Rattle.model.specs.Mode.{entry}
 use Rattle.model.specs.Tree.{Tree, Node, Directory, root}
 use Rattle.model.specs.WellFormed.{IsWellFormed, IsBefore}

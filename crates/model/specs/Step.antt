@@ -11,7 +11,7 @@ use Rattle.model.specs.Charge.{fits}
 use Rattle.model.specs.Context.{Context, has_current, current_number, at_node}
 use Rattle.model.specs.Directory.{number_named, change_of, acl_of, new_directory, with_child}
 use Rattle.model.specs.Keyed.{at, is_key}
-use Rattle.model.specs.declared.limits.Limits.{Limits}
+use Rattle.model.specs.Limits.{Limits}
 use Rattle.model.specs.Name.{name_refusals}
 use Rattle.model.specs.Need.{permitted}
 use Rattle.model.specs.Opens.{Opens}

@@ -9,8 +9,7 @@ use Rattle.model.specs.Answer.{Answer, Outcome}
 use Rattle.model.specs.Attribute.{attributes_of, supported}
 use Rattle.model.specs.Charge.{charge_of_blocks, divided_up}
 use Rattle.model.specs.Fresh.{fresh_root, fresh_tree}
-use Rattle.model.specs.declared.limits.Limits.{Limits}
-use Rattle.model.specs.Limits.{limits_of}
+use Rattle.model.specs.Limits.{Limits, limits_of}
 use Rattle.model.specs.Mode.{entry}
 use Rattle.model.specs.Name.{name_refusals}
 use Rattle.model.specs.Operation.{Argument, Attributes, NewDirectory, OtherType}

@@ -4,7 +4,7 @@ use Rattle.std.specs.Prelude.{ℕ, Bool, true, false, List, Some, None, ◌≡�
 use Rattle.model.specs.Acl.{is_list_for}
 use Rattle.model.specs.Charge.{fits}
 use Rattle.model.specs.Keyed.{Keyed, at, is_key, IsAbove, total}
-use Rattle.model.specs.declared.limits.Limits.{Limits}
+use Rattle.model.specs.Limits.{Limits}
 use Rattle.model.specs.Name.{name_refusals}
 use Rattle.model.specs.Refusal.{first_refusal}
 use Rattle.model.specs.Tree.{Tree, Node, Content, File, Directory, DirEntry, root, kind_of, names_of, names_at, is_directory_at}

@@ -3,7 +3,7 @@
 ghost use Rattle.model.specs.AclLaws.{ModesKeepLimits, InheritanceKeepsLimits};
 ghost use Rattle.model.specs.Fresh.{FreshIsWellFormed};
 ghost use Rattle.model.specs.Keyed.{OnlyMap, ReadsBack, KeepsOrder};
-ghost use Rattle.model.specs.declared.limits.Limits.{Limits};
+ghost use Rattle.model.specs.Limits.{Limits};
 ghost use Rattle.model.specs.Stamp.{OnlyStamp, StampsRise, ReadsHandle};
 ghost use Rattle.model.specs.Tree.{Node, DirEntry};
 
