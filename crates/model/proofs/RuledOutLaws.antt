@@ -1,5 +1,5 @@
 -- The laws of what the definitions rule out.
-use Rattle.std.proofs.Common.{◌≡◌, ◌≢◌, ℕ, zero, suc, ◌+◌, ◌-◌, ◌<◌, ◌≤◌, inl, Bool, true, false, cond, ◌==◌, nat_lt, List, [], ◌∷◌, ◌++◌, length, take, find, Option, None, Some, Result, Ok, Err, refl, sym, ap, ◌∙◌, subst, arith, eq-eqb}
+use Rattle.std.proofs.Common.{inr, get_or, ◌⊎◌, ◌≡◌, ◌≢◌, ℕ, zero, suc, ◌+◌, ◌-◌, ◌<◌, ◌≤◌, inl, Bool, true, false, cond, ◌==◌, nat_lt, List, [], ◌∷◌, ◌++◌, length, take, find, Option, None, Some, Result, Ok, Err, refl, sym, ap, ◌∙◌, subst, arith, eq-eqb}
 use borrow.Author.Tests.{eqb-false}
 use Rattle.model.specs.declared.status.Status.{Status}
 use Rattle.model.specs.declared.status.Status.TheVariants as status
@@ -12,9 +12,11 @@ use Rattle.model.specs.Session as sessions
 use Rattle.model.specs.Session.{Table, Session, Slot, SlotState, Kept, Begun, Runs, begin, begin_by, begin_slot, begin_new, is_session, slot_at, next_number}
 use Rattle.model.specs.Tree.{Tree}
 use Rattle.model.specs.World.{World, InProgress, Connection, Quiet, Waiting, Busy, Replied, Closed, HasRun, Gives, Replays, exchanged, created_by, created, tabled, started_in, begun, reclaimed, refuses, in_room, has_room, run, Turned, Entry, entry_of, behind, ends, with_table, kept_by, result_of, with_result, is_last, has_run, operates, Next, Refuses, Reads, next_operation, turned, one, with_connection, without_connection, hangs_up, hung_up, turns, operations_left, is_busy}
-use Rattle.model.specs.Runs.{tree_after, IsGoodPrefix, done_with, executed}
-use Rattle.model.specs.RuledOut.{IsChange, NoSkip, NoEarlyReply, NoTakingBack, NoSecondRun, NoGap, IsOneFurther, OneATurn, HangsUpLast}
+use Rattle.model.specs.Runs.{tree_after, IsGoodPrefix, done_with, executed, executed_by, executed_of, effect_of, Event, Serving, IsAfter}
+use Rattle.model.specs.RuledOut.{IsChange, NoSkip, NoEarlyReply, NoTakingBack, NoSecondRun, NoGap, IsOneFurther, OneATurn, HangsUpLast, EachEventHappens}
+use Rattle.std.specs.List.{IsAmong}
 use Rattle.model.proofs.Headline.{every_run}
+use Rattle.model.proofs.RunLaws.{EntryFits, event_fits}
 use Rattle.model.proofs.KeyedLaws.{at-with_same, at-without_same}
 use Rattle.model.proofs.SlotLaw.{cond_runs, cond_never, refuses_not, replays_not, begin_runs}
 
@@ -232,3 +234,47 @@ hangs_up_last = record {
       let same : hung_up world number now ≡ hangs_up after number = ap (λ (n : ℕ). hangs_up (turns n world number now) number) most in
       ap (λ (left : World). at number left.connections) (same ∙ dropped after number ended) ∙ at-without_same after.connections number;
 }
+
+-- A server that flushes each change at once
+
+flushed : Serving → Event → Serving
+flushed old event = record {
+  world = effect_of old.world event;
+  recent = (effect_of old.world event).tree ∷ [];
+  is_down = false;
+}
+
+one_left : (only tree : Tree) → IsAmong (only ∷ []) tree → tree ≡ only
+one_left only tree among = by_place among.0 among.1.0 among.1.1
+  where
+    by_place : (place : ℕ) → place < length (only ∷ []) → tree ≡ get_or (only ∷ []) place tree → tree ≡ only
+    by_place zero less e = e
+    by_place (suc place) less e = absurd (omega arith)
+
+left_flushed : (old : Serving) (new tree : Tree) (made : Option Entry) → EntryFits old.world.tree new made → IsAmong old.recent old.world.tree → tree ≡ new
+    → (IsAmong old.recent tree) ⊎ (IsAfter made tree)
+left_flushed old new tree None fits among same = inl (subst (IsAmong old.recent) (sym (same ∙ fits)) among)
+left_flushed old new tree (Some entry) fits among same = inr (same ∙ fits.1)
+
+lasts_flushed : (old new tree : Tree) (made : Option Entry) (entry : Entry) → EntryFits old new made → made ≡ Some entry → tree ≡ new → tree ≡ entry.after
+lasts_flushed old new tree made entry fits is same =
+    let there : EntryFits old new (Some entry) = subst (EntryFits old new) is fits in
+    same ∙ there.1
+
+pub each_event_happens : EachEventHappens
+unfolding flushed
+each_event_happens old event up among =
+    let fits = event_fits old.world event in
+    let is : executed old event ≡ executed_of old.world event = ap (executed_by old.world event) up in (
+      flushed old event,
+      record {
+        up = up;
+        world = refl;
+        still_up = refl;
+        no_others = λ tree left. subst (λ (made : Option Entry). (IsAmong old.recent tree) ⊎ (IsAfter made tree)) (sym is)
+            (left_flushed old (effect_of old.world event).tree tree (executed_of old.world event) fits among (one_left _ tree left));
+        durable = λ entry e lasts tree left.
+            lasts_flushed old.world.tree (effect_of old.world event).tree tree (executed_of old.world event) entry fits (sym is ∙ e) (one_left _ tree left);
+      },
+      (0, (omega arith, refl)),
+    )

@@ -55,3 +55,8 @@ pub record HangsUpLast : Type 0 where
   pub keeps : (world : World) (number : ℕ) → is_busy (at number world.connections) ≡ true → hangs_up world number ≡ world
   pub goes : (world : World) (number now : ℕ) (request : InProgress) → at number world.connections ≡ Some (Busy request)
       → request.answered < request.count → at number (hung_up world number now).connections ≡ None
+
+-- What they do not rule out: a server that flushes each change at once. So every list of events is one of a run.
+abbrev pub EachEventHappens : Type 0
+EachEventHappens = (old : Serving) (event : Event) → old.is_down ≡ false → IsAmong old.recent old.world.tree
+    → (new : Serving) × Happens old event new × IsAmong new.recent new.world.tree

@@ -1,6 +1,6 @@
 //! The headline: what users of the server can rely on when it is stopped.
 
-ghost use Rattle.model.specs.RuledOut.{NoSkip, NoEarlyReply, NoTakingBack, NoSecondRun, NoGap, OneATurn, HangsUpLast};
+ghost use Rattle.model.specs.RuledOut.{NoSkip, NoEarlyReply, NoTakingBack, NoSecondRun, NoGap, OneATurn, HangsUpLast, EachEventHappens};
 ghost use Rattle.model.specs.Runs.{EveryRun};
 
 /// Whatever bytes arrive on whatever connections, and wherever the server is stopped: the tree that a stop may leave is the
@@ -21,4 +21,10 @@ pub fn ruled_out()
     ensures gap { NoGap }
     ensures one { OneATurn }
     ensures hang_up { HangsUpLast }
+{}
+
+/// What they allow: from each state of a server that is up, each event happens, as in a server that flushes every change at
+/// once. So the headline speaks of every list of events.
+pub fn each_event_happens()
+    ensures { EachEventHappens }
 {}
