@@ -1,3 +1,4 @@
+pub mod ServedOnceLaws
 pub mod RuledOutLaws
 pub mod StateIdRows
 pub mod Headline

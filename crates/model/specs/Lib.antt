@@ -21,6 +21,7 @@ pub mod Rpc
 pub mod RuledOut
 pub mod Runs
 pub mod Served
+pub mod ServedOnce
 pub mod Session
 pub mod SessionRuns
 pub mod Stamp

@@ -2,6 +2,7 @@
 
 ghost use Rattle.model.specs.RuledOut.{NoSkip, NoEarlyReply, NoTakingBack, NoSecondRun, NoGap, OneATurn, HangsUpLast, EachEventHappens};
 ghost use Rattle.model.specs.Runs.{EveryRun};
+ghost use Rattle.model.specs.ServedOnce.{EveryServedSlot};
 
 /// Whatever bytes arrive on whatever connections, and wherever the server is stopped: the tree that a stop may leave is the
 /// one that a prefix of the executed operations gives. None of them is skipped and none is there in part; the prefix holds
@@ -27,4 +28,10 @@ pub fn ruled_out()
 /// once. So the headline speaks of every list of events.
 pub fn each_event_happens()
     ensures { EachEventHappens }
+{}
+
+/// In every run of the server, the numbers of the SEQUENCE operations that a slot ran are 1, 2, 3 and so on: one of them runs
+/// again only after the 2^32 - 1 others, whatever came, on whatever connections (RFC 8881, section 2.10.6.1).
+pub fn every_served_slot()
+    ensures { EveryServedSlot }
 {}
