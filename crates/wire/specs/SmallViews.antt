@@ -21,8 +21,13 @@ change_view c = record { is_atomic = c.is_atomic; before = c.before; after = c.a
 
 abbrev pub channel_view : Channel → spec.Channel
 channel_view c = record {
-  header_pad_size = c.header_pad_size; max_request_size = c.max_request_size; max_response_size = c.max_response_size;
-  max_response_size_cached = c.max_response_size_cached; max_operations = c.max_operations; max_requests = c.max_requests; rdma_ird = c.rdma_ird;
+  header_pad_size = c.header_pad_size;
+  max_request_size = c.max_request_size;
+  max_response_size = c.max_response_size;
+  max_response_size_cached = c.max_response_size_cached;
+  max_operations = c.max_operations;
+  max_requests = c.max_requests;
+  rdma_ird = c.rdma_ird;
 }
 
 abbrev pub implementation_view : Implementation → spec.Implementation

@@ -18,5 +18,6 @@ pub use laws::{arguments_are_exact, outcomes_are_exact};
 pub use open::{Claim, OpenArguments, OpenType, Opening};
 pub use session::{CreateSessionArguments, ExchangeIdArguments, SequenceArguments};
 pub use small::{
-    Attributes, Bitmap, CallbackSecurity, ChangeInfo, Channel, Implementation, StateId, SystemCredential,
+    Attributes, Bitmap, CallbackSecurity, ChangeInfo, Channel, Implementation, StateId,
+    SystemCredential,
 };
