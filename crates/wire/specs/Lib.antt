@@ -1,3 +1,4 @@
+pub mod AnswerViews
 pub mod ArgumentView
 pub mod ArgumentViews
 pub mod Numbers

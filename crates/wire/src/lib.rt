@@ -3,6 +3,7 @@
 //! One type for each argument; names and data are borrowed from the record that was read.
 #![tactic(auto)]
 
+mod answers;
 mod argument;
 mod directory;
 mod file;
@@ -11,6 +12,10 @@ mod open;
 mod session;
 mod small;
 
+pub use answers::{
+    AccessAnswer, CreateAnswer, CreateSessionAnswer, Entry, ExchangeIdAnswer, OpenAnswer, ReadAnswer, ReadDirAnswer, RenameAnswer,
+    SequenceAnswer, WriteAnswer,
+};
 pub use argument::{Argument, Operation};
 pub use directory::{CreateArguments, ReadDirArguments, RenameArguments};
 pub use file::{CloseArguments, CommitArguments, ReadArguments, SetAttrArguments, WriteArguments};
