@@ -135,7 +135,7 @@ impl ReadDirAnswer<'_> {
     }
 }
 
-#[tactic(auto, using(xdr::proofs::Writing::wrote_on, xdr::proofs::Writing::wrote_exit, xdr::proofs::Writing::wrote_end))]
+#[tactic(auto, unfolding(crate::specs::AnswerViews::chain_of), using(xdr::proofs::Writing::wrote_on, xdr::proofs::Writing::wrote_exit, xdr::proofs::Writing::wrote_end))]
 fn write_entries(w: &mut Writer, entries: &[Entry<'_>]) -> Result<(), Refusal>
     requires { All EntryFits entries.now }
     ensures { Wrote w.old w.new result (chain_of entries.now) }

@@ -9,6 +9,7 @@ mod directory;
 mod file;
 mod laws;
 mod open;
+mod outcome;
 mod session;
 mod small;
 
@@ -21,6 +22,7 @@ pub use directory::{CreateArguments, ReadDirArguments, RenameArguments};
 pub use file::{CloseArguments, CommitArguments, ReadArguments, SetAttrArguments, WriteArguments};
 pub use laws::{arguments_are_exact, outcomes_are_exact};
 pub use open::{Claim, OpenArguments, OpenType, Opening};
+pub use outcome::{Answer, Outcome};
 pub use session::{CreateSessionArguments, ExchangeIdArguments, SequenceArguments};
 pub use small::{
     Attributes, Bitmap, CallbackSecurity, ChangeInfo, Channel, Implementation, StateId,
