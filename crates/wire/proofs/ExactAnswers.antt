@@ -199,13 +199,13 @@ refused_takes n code (Some reason) bytes w rest other is fits e =
           let got : Outcome × List ℕ = (Refused n reason, p.0.1) in
           let behind : behind_refusal n ≡ number w32 0 = ap (λ (b : Bool). cond b (number w32 0) []) h.0 in
           let parts : number w32 code ++ bytes ≡ (number w32 (code_of reason) ++ behind_refusal n) ++ p.0.1 =
-              ap (λ (x : List ℕ). number w32 code ++ x) t.1 ∙ ap (λ (k : ℕ). number w32 k ++ (number w32 0 ++ p.0.1)) (sym same)
-              ∙ sym (append_assoc (number w32 (code_of reason)) (number w32 0) p.0.1) ∙ ap (λ (x : List ℕ). (number w32 (code_of reason) ++ x) ++ p.0.1) (sym behind) in
+          ap (λ (x : List ℕ). number w32 code ++ x) t.1 ∙ ap (λ (k : ℕ). number w32 k ++ (number w32 0 ++ p.0.1)) (sym same)
+          ∙ sym (append_assoc (number w32 (code_of reason)) (number w32 0) p.0.1) ∙ ap (λ (x : List ℕ). (number w32 (code_of reason) ++ x) ++ p.0.1) (sym behind) in
           subst R (ok_is got (w, rest) p.2) (record { is_number = refl; fits = not_ok; parts = parts })
       | inr h ↦
           let behind : behind_refusal n ≡ [] = ap (λ (b : Bool). cond b (number w32 0) []) h.0 in
           let parts : number w32 code ++ bytes ≡ (number w32 (code_of reason) ++ behind_refusal n) ++ bytes =
-              ap (λ (k : ℕ). number w32 k ++ bytes) (sym same) ∙ sym (append_assoc (number w32 (code_of reason)) [] bytes) ∙ ap (λ (x : List ℕ). (number w32 (code_of reason) ++ x) ++ bytes) (sym behind) in
+          ap (λ (k : ℕ). number w32 k ++ bytes) (sym same) ∙ sym (append_assoc (number w32 (code_of reason)) [] bytes) ∙ ap (λ (x : List ℕ). (number w32 (code_of reason) ++ x) ++ bytes) (sym behind) in
           subst R (ok_is plain (w, rest) h.1) (record { is_number = refl; fits = not_ok; parts = parts })
     ]
 
@@ -220,7 +220,7 @@ outcome_takes n bytes w rest small fits e =
           let u = answer_takes n p.0.1 q.0.0 q.0.1 small tail_fits q.1 in
           let got : Outcome × List ℕ = (Done q.0.0, q.0.1) in
           let parts : bytes ≡ (number w32 0 ++ (answer_told q.0.0).text) ++ q.0.1 =
-              t.1 ∙ ap (λ (k : ℕ). number w32 k ++ p.0.1) (eqb-true p.0.0 0 h.0) ∙ ap (λ (x : List ℕ). number w32 0 ++ x) u.parts ∙ sym (append_assoc (number w32 0) (answer_told q.0.0).text q.0.1) in
+          t.1 ∙ ap (λ (k : ℕ). number w32 k ++ p.0.1) (eqb-true p.0.0 0 h.0) ∙ ap (λ (x : List ℕ). number w32 0 ++ x) u.parts ∙ sym (append_assoc (number w32 0) (answer_told q.0.0).text q.0.1) in
           let R : Outcome × List ℕ → Type 0 = λ x. TakesOne outcome_told n bytes x.0 x.1 in
           subst R (ok_is got (w, rest) q.2) (record { is_number = u.is_number; fits = u.fits; parts = parts })
       | inr h ↦
@@ -287,7 +287,7 @@ outcome_again (Done answer) rest small fits =
     rw (append_assoc (number w32 0) (answer_told answer).text rest, int_again 0 ((answer_told answer).text ++ rest) (omega arith), answer_again answer rest small fits) refl
 outcome_again (Refused n reason) rest small fits =
     rw (append_assoc (number w32 (code_of reason)) (behind_refusal n) rest, int_again (code_of reason) (behind_refusal n ++ rest) (code_small reason), ne_eqb (code_of reason) 0 fits, refusal_again reason fits)
-        (behind_again n reason rest)
+    (behind_again n reason rest)
 
 pub outcome_exact : Exact outcome
 outcome_exact = union_exact _ _ outcome_takes outcome_again

@@ -76,8 +76,13 @@ exchange_id_view a = record { verifier = a.verifier; owner = a.owner.now; flags 
 
 abbrev pub create_session_view : CreateSessionArguments → spec.CreateSessionArguments
 create_session_view a = record {
-  client = a.client; sequence = a.sequence; flags = a.flags; fore = channel_view a.fore; back = channel_view a.back;
-  callback_program = a.callback_program; security = map security_view a.security.items;
+  client = a.client;
+  sequence = a.sequence;
+  flags = a.flags;
+  fore = channel_view a.fore;
+  back = channel_view a.back;
+  callback_program = a.callback_program;
+  security = map security_view a.security.items;
 }
 
 abbrev pub sequence_view : SequenceArguments → spec.SequenceArguments

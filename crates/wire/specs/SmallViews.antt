@@ -1,5 +1,7 @@
 -- The small types of the code as the values of the definitions.
-use Rattle.std.specs.Prelude.{ℕ, Option, map}
+use Rattle.std.specs.Prelude.{ℕ, List}
+use Rattle.xdr.specs.Grammar.{◌&◌, unsigned_int}
+use Rattle.xdr.specs.Forms.{optional}
 use Rattle.model.specs.Operation as spec
 use Rattle.wire.specs.declared.small.StateId.{StateId}
 use Rattle.wire.specs.declared.small.Attributes.{Attributes}
@@ -21,8 +23,13 @@ change_view c = record { is_atomic = c.is_atomic; before = c.before; after = c.a
 
 abbrev pub channel_view : Channel → spec.Channel
 channel_view c = record {
-  header_pad_size = c.header_pad_size; max_request_size = c.max_request_size; max_response_size = c.max_response_size;
-  max_response_size_cached = c.max_response_size_cached; max_operations = c.max_operations; max_requests = c.max_requests; rdma_ird = c.rdma_ird;
+  header_pad_size = c.header_pad_size;
+  max_request_size = c.max_request_size;
+  max_response_size = c.max_response_size;
+  max_response_size_cached = c.max_response_size_cached;
+  max_operations = c.max_operations;
+  max_requests = c.max_requests;
+  rdma_ird = c.rdma_ird;
 }
 
 abbrev pub implementation_view : Implementation → spec.Implementation
@@ -34,3 +41,9 @@ credential_view c = record { stamp = c.stamp; machine_name = c.machine_name.now;
 abbrev pub security_view : CallbackSecurity → spec.CallbackSecurity
 security_view security.NoSecurity = spec.NoSecurity
 security_view (security.System credential) = spec.SystemSecurity (credential_view credential)
+
+-- the last four fields of a channel
+abbrev pub channel_rest : Channel → List ℕ
+channel_rest c =
+    (unsigned_int & unsigned_int & unsigned_int & optional unsigned_int).spelling
+        (c.max_response_size_cached, (c.max_operations, (c.max_requests, c.rdma_ird)))

@@ -8,7 +8,9 @@ ghost use Rattle.wire.specs.Numbers.{number_of};
 ghost use Rattle.wire.specs.ArgumentView.{argument_view};
 
 use crate::directory::{CreateArguments, ReadDirArguments, RenameArguments};
-use crate::file::{CloseArguments, CommitArguments, ReadArguments, SetAttrArguments, WriteArguments};
+use crate::file::{
+    CloseArguments, CommitArguments, ReadArguments, SetAttrArguments, WriteArguments,
+};
 use crate::open::OpenArguments;
 use crate::session::{CreateSessionArguments, ExchangeIdArguments, SequenceArguments};
 use crate::small::{ANY_LENGTH, Bitmap};
@@ -125,7 +127,11 @@ pub enum Argument<'a> {
 impl<'a> Argument<'a> {
     /// Reads the arguments behind an operation's number.
     #[tactic(auto, unfolding(model::specs::WireArguments::arguments_at))]
-    pub fn read(alloc: Global, operation: Operation, r: &mut Reader<'a>) -> Result<Argument<'a>, Refusal>
+    pub fn read(
+        alloc: Global,
+        operation: Operation,
+        r: &mut Reader<'a>,
+    ) -> Result<Argument<'a>, Refusal>
         ensures { Reads argument_view (arguments_at (number_of operation)) r.old r.new result }
     {
         let mut at = r.fork();
@@ -150,7 +156,9 @@ impl<'a> Argument<'a> {
             Operation::SetAttr => Argument::SetAttr(SetAttrArguments::read(&mut at)?),
             Operation::Write => Argument::Write(WriteArguments::read(&mut at)?),
             Operation::ExchangeId => Argument::ExchangeId(ExchangeIdArguments::read(&mut at)?),
-            Operation::CreateSession => Argument::CreateSession(CreateSessionArguments::read(alloc, &mut at)?),
+            Operation::CreateSession => Argument::CreateSession(CreateSessionArguments::read(
+                alloc, &mut at,
+            )?),
             Operation::DestroySession => Argument::DestroySession(at.read_array()?),
             Operation::Sequence => Argument::Sequence(SequenceArguments::read(&mut at)?),
             Operation::DestroyClientId => Argument::DestroyClientId(at.read_u64()?),

@@ -55,10 +55,7 @@ impl<'a> RenameArguments<'a> {
         let old_name = at.read_opaque(ANY_LENGTH)?;
         let new_name = at.read_opaque(ANY_LENGTH)?;
         *r = at;
-        Ok(RenameArguments {
-            old_name,
-            new_name,
-        })
+        Ok(RenameArguments { old_name, new_name })
     }
 }
 

@@ -23,10 +23,7 @@ impl CloseArguments {
         let seqid = at.read_u32()?;
         let state = StateId::read(&mut at)?;
         *r = at;
-        Ok(CloseArguments {
-            seqid,
-            state,
-        })
+        Ok(CloseArguments { seqid, state })
     }
 }
 
@@ -46,10 +43,7 @@ impl CommitArguments {
         let offset = at.read_u64()?;
         let count = at.read_u32()?;
         *r = at;
-        Ok(CommitArguments {
-            offset,
-            count,
-        })
+        Ok(CommitArguments { offset, count })
     }
 }
 
@@ -124,9 +118,6 @@ impl<'a> SetAttrArguments<'a> {
         let state = StateId::read(&mut at)?;
         let attributes = Attributes::read(&mut at)?;
         *r = at;
-        Ok(SetAttrArguments {
-            state,
-            attributes,
-        })
+        Ok(SetAttrArguments { state, attributes })
     }
 }

@@ -9,13 +9,11 @@ ghost use Rattle.model.specs.WireAnswers.{outcome};
 pub fn arguments_are_exact()
     ensures exact { Exact argument }
     ensures one { OneSpelling argument }
-{
-}
+{}
 
 /// A result of an operation, whether it ended well or was refused.
 #[tactic(auto, using(crate::proofs::ExactAnswers::outcome_exact, crate::proofs::ExactAnswers::one_outcome))]
 pub fn outcomes_are_exact()
     ensures exact { Exact outcome }
     ensures one { OneSpelling outcome }
-{
-}
+{}

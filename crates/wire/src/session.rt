@@ -95,7 +95,10 @@ impl<'a> CreateSessionArguments<'a> {
 }
 
 #[tactic(auto, unfolding(xdr::specs::Forms::elements_at))]
-fn read_securities<'a>(alloc: Global, r: &mut Reader<'a>) -> Result<Vec<CallbackSecurity<'a>>, Refusal>
+fn read_securities<'a>(
+    alloc: Global,
+    r: &mut Reader<'a>,
+) -> Result<Vec<CallbackSecurity<'a>>, Refusal>
     ensures { Reads (λ list. map security_view list.items) ((array 4 callback_security).read) r.old r.new result }
 {
     let mut at = r.fork();

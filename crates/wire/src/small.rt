@@ -1,14 +1,14 @@
 //! The small types (RFC 8881, section 3.3).
 
-ghost use Rattle.std.specs.Prelude.{◌≡◌};
+ghost use Rattle.std.specs.Prelude.{◌<◌, ◌^◌, length};
 ghost use Rattle.std.specs.Option.{option_map};
-ghost use Rattle.xdr.specs.Clauses.{Scans};
+ghost use Rattle.xdr.specs.Clauses.{Scans, Wrote};
 ghost use Rattle.xdr.specs.Grammar.{unsigned_int};
 ghost use Rattle.xdr.specs.Forms.{optional};
 ghost use Rattle.model.specs.WireTypes.{state_id, attributes, change_info, channel, implementation, system_credential, callback_security};
-ghost use Rattle.wire.specs.SmallViews.{state_view, attributes_view, change_view, channel_view, implementation_view, credential_view, security_view};
+ghost use Rattle.wire.specs.SmallViews.{channel_rest, state_view, attributes_view, change_view, channel_view, implementation_view, credential_view, security_view};
 
-use xdr::{Reader, Refusal, Words};
+use xdr::{Reader, Refusal, Words, Writer};
 
 /// Attribute n is bit n % 32 of word n / 32.
 pub type Bitmap = Words<8>;
@@ -34,6 +34,15 @@ impl StateId {
         *r = at;
         Ok(StateId { seqid, other })
     }
+
+    /// Writes it. A refusal may leave a front of it.
+    #[tactic(auto, using(xdr::proofs::Writing::wrote_on, xdr::proofs::Writing::wrote_exit, xdr::proofs::Writing::wrote_end))]
+    pub(crate) fn write(&self, w: &mut Writer) -> Result<(), Refusal>
+        ensures { Wrote w.old w.new result (state_id.spelling (state_view self.now)) }
+    {
+        w.write_u32(self.seqid)?;
+        w.write_fixed(&self.other)
+    }
 }
 
 /// `fattr4`: which attributes, and their values by rising number, spelled one after the other.
@@ -54,6 +63,16 @@ impl<'a> Attributes<'a> {
         *r = at;
         Ok(Attributes { bitmap, values })
     }
+
+    /// Writes it. A refusal may leave a front of it.
+    #[tactic(auto, using(xdr::proofs::Writing::wrote_on, xdr::proofs::Writing::wrote_exit, xdr::proofs::Writing::wrote_end))]
+    pub(crate) fn write(&self, w: &mut Writer) -> Result<(), Refusal>
+        requires { length self.now.values.now < 2 ^ 32 }
+        ensures { Wrote w.old w.new result (attributes.spelling (attributes_view self.now)) }
+    {
+        self.bitmap.write(w)?;
+        w.write_opaque(self.values)
+    }
 }
 
 /// `change_info4`: the directory's change attribute before and after.
@@ -62,6 +81,18 @@ pub struct ChangeInfo {
     pub is_atomic: bool,
     pub before: u64,
     pub after: u64,
+}
+
+impl ChangeInfo {
+    /// Writes it. A refusal may leave a front of it.
+    #[tactic(auto, using(xdr::proofs::Writing::wrote_on, xdr::proofs::Writing::wrote_exit, xdr::proofs::Writing::wrote_end))]
+    pub(crate) fn write(&self, w: &mut Writer) -> Result<(), Refusal>
+        ensures { Wrote w.old w.new result (change_info.spelling (change_view self.now)) }
+    {
+        w.write_bool(self.is_atomic)?;
+        w.write_u64(self.before)?;
+        w.write_u64(self.after)
+    }
 }
 
 /// `channel_attrs4`.
@@ -100,6 +131,27 @@ impl Channel {
             rdma_ird,
         })
     }
+
+    /// Writes it. A refusal may leave a front of it.
+    #[tactic(auto, using(xdr::proofs::Writing::wrote_on, xdr::proofs::Writing::wrote_exit, xdr::proofs::Writing::wrote_end))]
+    pub(crate) fn write(&self, w: &mut Writer) -> Result<(), Refusal>
+        ensures { Wrote w.old w.new result (channel.spelling (channel_view self.now)) }
+    {
+        w.write_u32(self.header_pad_size)?;
+        w.write_u32(self.max_request_size)?;
+        w.write_u32(self.max_response_size)?;
+        self.write_rest(w)
+    }
+
+    #[tactic(auto, using(xdr::proofs::Writing::wrote_on, xdr::proofs::Writing::wrote_exit, xdr::proofs::Writing::wrote_end))]
+    fn write_rest(&self, w: &mut Writer) -> Result<(), Refusal>
+        ensures { Wrote w.old w.new result (channel_rest self.now) }
+    {
+        w.write_u32(self.max_response_size_cached)?;
+        w.write_u32(self.max_operations)?;
+        w.write_u32(self.max_requests)?;
+        write_ird(w, self.rdma_ird)
+    }
 }
 
 fn read_ird(r: &mut Reader<'_>) -> Result<Option<u32>, Refusal>
@@ -113,6 +165,19 @@ fn read_ird(r: &mut Reader<'_>) -> Result<Option<u32>, Refusal>
     };
     *r = at;
     Ok(ird)
+}
+
+#[tactic(auto, using(xdr::proofs::Writing::wrote_on, xdr::proofs::Writing::wrote_exit, xdr::proofs::Writing::wrote_end))]
+fn write_ird(w: &mut Writer, ird: Option<u32>) -> Result<(), Refusal>
+    ensures { Wrote w.old w.new result ((optional unsigned_int).spelling ird) }
+{
+    match ird {
+        None => w.write_u32(0),
+        Some(size) => {
+            w.write_u32(1)?;
+            w.write_u32(size)
+        }
+    }
 }
 
 /// `nfs_impl_id4`: who made the client, and when.
