@@ -5,4 +5,6 @@
 pub mod charge;
 pub mod lookup;
 pub mod names;
+#[cfg(test)]
+mod tests;
 pub mod tree;
