@@ -13,7 +13,7 @@ use Rattle.model.specs.Session.{Table, Session, Slot, SlotState, Kept, Begun, Ru
 use Rattle.model.specs.Tree.{Tree}
 use Rattle.model.specs.World.{World, InProgress, Connection, Quiet, Waiting, Busy, Replied, Closed, HasRun, Gives, Replays, exchanged, created_by, created, tabled, started_in, begun, reclaimed, refuses, in_room, has_room, run, Turned, Entry, entry_of, behind, ends, with_table, kept_by, result_of, with_result, is_last, has_run, operates, Next, Refuses, Reads, next_operation, turned, one, with_connection, without_connection, hangs_up, hung_up, turns, operations_left, is_busy}
 use Rattle.model.specs.Runs.{tree_after, IsGoodPrefix, done_with, executed, executed_by, executed_of, effect_of, Event, Serving, IsAfter}
-use Rattle.model.specs.RuledOut.{IsChange, NoSkip, NoEarlyReply, NoTakingBack, NoSecondRun, NoGap, IsOneFurther, OneATurn, HangsUpLast, EachEventHappens}
+use Rattle.model.specs.RuledOut.{IsChange, NoSkip, NoEarlyReply, NoTakingBack, NoSecondRun, NoGap, IsOneFurther, OneATurn, HangsUpLast, after_turns, HangUpIsEvents, EachEventHappens}
 use Rattle.std.specs.List.{IsAmong}
 use Rattle.model.proofs.Headline.{every_run}
 use Rattle.model.proofs.RunLaws.{EntryFits, event_fits}
@@ -234,6 +234,21 @@ hangs_up_last = record {
       let same : hung_up world number now ≡ hangs_up after number = ap (λ (n : ℕ). hangs_up (turns n world number now) number) most in
       ap (λ (left : World). at number left.connections) (same ∙ dropped after number ended) ∙ at-without_same after.connections number;
 }
+
+turns_are : (most : ℕ) (world : World) (number now : ℕ) → (k : ℕ) × (turns most world number now ≡ after_turns k world number now)
+turns_are zero world number now = (0, refl)
+turns_are (suc most) world number now = by_busy (is_busy (at number world.connections)) (turns_are most (one world number now).world number now)
+  where
+    by_busy : (b : Bool) → (k : ℕ) × (turns most (one world number now).world number now ≡ after_turns k (one world number now).world number now)
+        → (k : ℕ) × (cond b (turns most (one world number now).world number now) world ≡ after_turns k world number now)
+    by_busy true more = (suc more.0, more.1)
+    by_busy false more = (0, refl)
+
+pub hang_up_is_events : HangUpIsEvents
+unfolding hung_up
+hang_up_is_events world number now =
+    let more = turns_are (operations_left (at number world.connections)) world number now in
+    (more.0, ap (λ (left : World). hangs_up left number) more.1)
 
 -- A server that flushes each change at once
 

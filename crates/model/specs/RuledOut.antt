@@ -1,12 +1,12 @@
 -- Servers that these definitions rule out, each by one law.
-use Rattle.std.specs.Prelude.{◌≡◌, ◌≢◌, ℕ, ◌+◌, ◌<◌, true, false, List, [], ◌∷◌, find, Option, None, Some}
+use Rattle.std.specs.Prelude.{◌≡◌, ◌≢◌, ℕ, zero, suc, ◌+◌, ◌<◌, true, false, List, [], ◌∷◌, find, Option, None, Some}
 use Rattle.std.specs.List.{IsAmong}
 use Rattle.model.specs.Keyed.{at}
 use Rattle.model.specs.Operation.{SequenceArguments}
 use Rattle.model.specs.Session.{Table, Session, Kept, Runs, begin, is_session, slot_at, next_number}
 use Rattle.model.specs.Tree.{Tree}
 use Rattle.model.specs.World.{World, ServerLimits, Entry, InProgress, Connection, Busy, Replied, one, hangs_up, hung_up, is_busy}
-use Rattle.model.specs.Runs.{Event, before, IsDurable, is_durable, is_unstable, History, Serving, mounted, executed, MayLeave, Happens, IsRun, IsGoodPrefix}
+use Rattle.model.specs.Runs.{Event, Turns, HangsUp, effect_of, before, IsDurable, is_durable, is_unstable, History, Serving, mounted, executed, MayLeave, Happens, IsRun, IsGoodPrefix}
 
 -- the operation changed the tree, and is no unstable write
 abbrev pub IsChange : Entry → Type 0
@@ -55,6 +55,15 @@ pub record HangsUpLast : Type 0 where
   pub keeps : (world : World) (number : ℕ) → is_busy (at number world.connections) ≡ true → hangs_up world number ≡ world
   pub goes : (world : World) (number now : ℕ) (request : InProgress) → at number world.connections ≡ Some (Busy request)
       → request.answered < request.count → at number (hung_up world number now).connections ≡ None
+
+-- a hang-up is some turns of the connection, and then the event
+abbrev pub after_turns : ℕ → World → (number : ℕ) → (now : ℕ) → World
+after_turns zero world number now = world
+after_turns (suc more) world number now = after_turns more (effect_of world (Turns number now)) number now
+
+abbrev pub HangUpIsEvents : Type 0
+HangUpIsEvents = (world : World) (number now : ℕ)
+    → (k : ℕ) × (hung_up world number now ≡ effect_of (after_turns k world number now) (HangsUp number))
 
 -- What they do not rule out: a server that flushes each change at once. So every list of events is one of a run.
 abbrev pub EachEventHappens : Type 0

@@ -1,6 +1,6 @@
 //! The headline: what users of the server can rely on when it is stopped.
 
-ghost use Rattle.model.specs.RuledOut.{NoSkip, NoEarlyReply, NoTakingBack, NoSecondRun, NoGap, OneATurn, HangsUpLast, EachEventHappens};
+ghost use Rattle.model.specs.RuledOut.{NoSkip, NoEarlyReply, NoTakingBack, NoSecondRun, NoGap, OneATurn, HangsUpLast, HangUpIsEvents, EachEventHappens};
 ghost use Rattle.model.specs.Runs.{EveryRun};
 ghost use Rattle.model.specs.ServedOnce.{EveryServedSlot};
 
@@ -22,6 +22,7 @@ pub fn ruled_out()
     ensures gap { NoGap }
     ensures one { OneATurn }
     ensures hang_up { HangsUpLast }
+    ensures events { HangUpIsEvents }
 {}
 
 /// What they allow: from each state of a server that is up, each event happens, as in a server that flushes every change at
