@@ -1,3 +1,4 @@
+pub mod RecordOnly
 pub mod ServedOnceLaws
 pub mod RuledOutLaws
 pub mod StateIdRows

@@ -3,6 +3,7 @@
 use Rattle.std.specs.Prelude.{◌≡◌, ℕ, zero, suc, ◌+◌, ◌%◌, ◌^◌, ◌<◌, ◌≤◌, Bool, true, false, List, [], ◌∷◌, ◌++◌, length, take, drop, fold, Option, None, Some, nat_lt, nat_le, if◌then◌else◌}
 use Rattle.std.specs.List.{flat_map}
 use Rattle.std.specs.Int.{w32, to_be_bytes, from_be_bytes}
+use Rattle.xdr.specs.Laws.{IsBytes}
 
 -- the bytes of a record, and its fragments
 pub record RecordLimits : Type 0 where
@@ -142,3 +143,15 @@ abbrev pub EveryFragmenting : Type 0
 EveryFragmenting = (limits : RecordLimits) (earlier : List (List ℕ)) (last rest : List ℕ)
     → length (joined earlier last) ≤ limits.bytes → length (joined earlier last) < 2 ^ 31 → length earlier < limits.fragments
     → front limits (record_text earlier last ++ rest) ≡ Whole (joined earlier last) rest
+
+-- What is read is a record so sent, with the bytes behind it: nothing else is taken for one.
+pub record IsSent (limits : RecordLimits) (bytes one rest : List ℕ) : Type 0 where
+  pub earlier : List (List ℕ)
+  pub last : List ℕ
+  pub sent : bytes ≡ record_text earlier last ++ rest
+  pub whole : one ≡ joined earlier last
+  pub size : length one ≤ limits.bytes
+  pub number : length earlier < limits.fragments
+
+abbrev pub OnlySent : Type 0
+OnlySent = (limits : RecordLimits) (bytes one rest : List ℕ) → IsBytes bytes → front limits bytes ≡ Whole one rest → IsSent limits bytes one rest
