@@ -80,7 +80,12 @@ create_session_rest a = (channel & channel).spelling (channel_view a.fore, chann
 
 abbrev pub sequence_view : SequenceAnswer → spec.SequenceAnswer
 sequence_view a = record {
-  session = a.session; sequence = a.sequence; slot = a.slot; highest_slot = a.highest_slot; target_highest_slot = a.target_highest_slot; flags = a.flags;
+  session = a.session;
+  sequence = a.sequence;
+  slot = a.slot;
+  highest_slot = a.highest_slot;
+  target_highest_slot = a.target_highest_slot;
+  flags = a.flags;
 }
 
 abbrev pub sequence_rest : SequenceAnswer → List ℕ

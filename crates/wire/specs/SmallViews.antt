@@ -46,4 +46,4 @@ security_view (security.System credential) = spec.SystemSecurity (credential_vie
 abbrev pub channel_rest : Channel → List ℕ
 channel_rest c =
     (unsigned_int & unsigned_int & unsigned_int & optional unsigned_int).spelling
-        (c.max_response_size_cached, (c.max_operations, (c.max_requests, c.rdma_ird)))
+    (c.max_response_size_cached, (c.max_operations, (c.max_requests, c.rdma_ird)))

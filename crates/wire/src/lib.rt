@@ -14,8 +14,8 @@ mod session;
 mod small;
 
 pub use answers::{
-    AccessAnswer, CreateAnswer, CreateSessionAnswer, Entry, ExchangeIdAnswer, OpenAnswer, ReadAnswer, ReadDirAnswer, RenameAnswer,
-    SequenceAnswer, WriteAnswer,
+    AccessAnswer, CreateAnswer, CreateSessionAnswer, Entry, ExchangeIdAnswer, OpenAnswer,
+    ReadAnswer, ReadDirAnswer, RenameAnswer, SequenceAnswer, WriteAnswer,
 };
 pub use argument::{Argument, Operation};
 pub use directory::{CreateArguments, ReadDirArguments, RenameArguments};
@@ -28,3 +28,6 @@ pub use small::{
     Attributes, Bitmap, CallbackSecurity, ChangeInfo, Channel, Implementation, StateId,
     SystemCredential,
 };
+
+#[cfg(test)]
+mod tests;

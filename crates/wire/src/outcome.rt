@@ -7,8 +7,8 @@ ghost use Rattle.wire.specs.Numbers.{number_of};
 ghost use Rattle.wire.specs.OutcomeView.{answer_view, outcome_view, done_text, refused_text};
 
 use crate::answers::{
-    AccessAnswer, CreateAnswer, CreateSessionAnswer, ExchangeIdAnswer, OpenAnswer, ReadAnswer, ReadDirAnswer, RenameAnswer,
-    SequenceAnswer, WriteAnswer,
+    AccessAnswer, CreateAnswer, CreateSessionAnswer, ExchangeIdAnswer, OpenAnswer, ReadAnswer,
+    ReadDirAnswer, RenameAnswer, SequenceAnswer, WriteAnswer,
 };
 use crate::argument::Operation;
 use crate::small::{Attributes, Bitmap, ChangeInfo, StateId};

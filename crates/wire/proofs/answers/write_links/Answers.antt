@@ -4,7 +4,7 @@ use Rattle.wire.specs.AnswerViews.{link_of}
 use Rattle.wire.proofs.answers.write_links.Goals as goal
 
 pub returns-in_err-write_link : goal.returns-in_err-write_link
-returns-in_err-write_link c = 
+returns-in_err-write_link c =
     let entries = c.args.entries.now in
     let i = c.loop-entry.entry-index in
     let lt : i < length entries = omega arith in
