@@ -3,4 +3,13 @@
 //! `specs/` has one file a subject, each with the section of the public standard that it comes from.
 #![tactic(auto)]
 
+pub mod acl;
+pub mod acl_laws;
+pub mod limits;
+pub mod node;
+pub mod rpc;
+pub mod runs;
+pub mod session;
 pub mod status;
+pub mod step;
+pub mod tree;

@@ -120,8 +120,8 @@ impl<'a> Reader<'a> {
         ensures { Scans (λ u. u) ((always k unsigned_hyper).read) self.old self.new result }
     {
         let mut at = self.fork();
-        let number = at.read_u64()?;
-        if number != k {
+        let hyper = at.read_u64()?;
+        if hyper != k {
             return Err(Refusal::Value);
         }
         *self = at;
@@ -162,6 +162,17 @@ impl<'a> Reader<'a> {
         }
         self.rest = behind;
         Ok(bytes)
+    }
+
+    /// `N` bytes as an array (RFC 4506, section 4.9).
+    #[tactic(auto, using(crate::proofs::Reading::padded_len))]
+    pub fn read_array<const N: usize>(&mut self) -> Result<[u8; N], Refusal>
+        ensures { Scans (λ bytes. bytes) ((fixed_opaque N).read) self.old self.new result }
+    {
+        let bytes = self.read_fixed(N)?;
+        let mut array = [0; N];
+        array.copy_from_slice(bytes);
+        Ok(array)
     }
 
     /// A length of at most `limit`, so many bytes, and zero bytes up to a multiple of 4 (RFC 4506, sections 4.10 and

@@ -1,0 +1,9 @@
+-- Which entry of a given list is refused.
+use Rattle.std.specs.Prelude.{ℕ, Option, Some, None, List}
+use Rattle.model.specs.Inherit.{first_refused}
+use Rattle.model.specs.declared.acl.Ace.{Ace}
+use Rattle.model.specs.declared.node.NodeKind.{NodeKind}
+
+abbrev pub refused_of : ℕ → NodeKind → Option (List Ace) → Option ℕ
+refused_of most of None = None
+refused_of most of (Some acl) = first_refused most of acl

@@ -1,0 +1,158 @@
+//! What a new node gets of its directory's list.
+
+ghost use Rattle.std.specs.Prelude.{◌≡◌, ◌≤◌, not, position, MatchOption, IfOk, IsOkUnless};
+ghost use Rattle.std.specs.Option.{ForSome, option_copied};
+ghost use Rattle.model.specs.Acl.{are_flags_for, is_entry_for};
+ghost use Rattle.model.specs.Inherit.{is_inherited_by, inherited_flags, inherited, created, first_refused};
+ghost use Rattle.acl_set.specs.Refused.{refused_of};
+
+use crate::fault::AclFault;
+use crate::modes::with_mode;
+use acl_eval::{Ace, AceFlags, Acl, Mask, NodeKind};
+use bitflags::Flags;
+use std::alloc::Global;
+
+/// What a creation gave of the new node's attributes.
+#[derive(Clone, Copy)]
+pub struct Given<'a> {
+    /// No attribute was given. Looked at where neither a mode nor a list was.
+    pub empty: bool,
+    /// A mode of at most 0o777.
+    pub mode: Option<u32>,
+    /// A list; a mode beside it is not looked at.
+    pub acl: Option<&'a [Ace]>,
+}
+
+const INHERITANCE: u32 = 0xF;
+
+// Whether a new node of this kind takes the entry.
+fn is_inherited(kind: NodeKind, ace: &Ace) -> bool
+    ensures { result ≡ is_inherited_by kind ace.now }
+{
+    let for_files = ace.flags.intersects(AceFlags::FILE_INHERIT);
+    match kind {
+        NodeKind::File => for_files,
+        NodeKind::Directory => {
+            ace.flags.intersects(AceFlags::DIRECTORY_INHERIT)
+                || (for_files && !ace.flags.intersects(AceFlags::NO_PROPAGATE))
+        }
+    }
+}
+
+// The flags that the new node takes it with.
+fn flags_inherited(kind: NodeKind, flags: AceFlags) -> AceFlags
+    ensures { result.0 ≡ inherited_flags kind flags.0 }
+{
+    let none = flags.difference(AceFlags::from_bits_retain(INHERITANCE));
+    match kind {
+        NodeKind::File => none,
+        NodeKind::Directory => {
+            if !flags.intersects(AceFlags::DIRECTORY_INHERIT) {
+                flags.union(AceFlags::INHERIT_ONLY)
+            } else if flags.intersects(AceFlags::NO_PROPAGATE) {
+                none
+            } else {
+                flags.difference(AceFlags::INHERIT_ONLY)
+            }
+        }
+    }
+}
+
+/// The list that a new node of a kind inherits from its directory's list (RFC 8881, section 6.4.3).
+///
+/// Refused for want of memory alone.
+pub fn inherit(alloc: Global, parent: &[Ace], kind: NodeKind) -> Result<Acl, AclFault>
+    ensures list { IfOk result (λ list. list ≡ inherited parent.now kind) }
+    ensures memory { IsOkUnless result AclFault.Memory }
+{
+    let mut list = Acl::new(alloc);
+    for ace in parent {
+        if is_inherited(kind, ace) {
+            list.push(Ace {
+                flags: flags_inherited(kind, ace.flags),
+                ..*ace
+            })?;
+        }
+    }
+    Ok(list)
+}
+
+fn are_flags_for(kind: NodeKind, flags: AceFlags) -> bool
+    ensures { result ≡ are_flags_for kind flags.0 }
+{
+    let handed_down = AceFlags::FILE_INHERIT.union(AceFlags::DIRECTORY_INHERIT);
+    let further = AceFlags::NO_PROPAGATE.union(AceFlags::INHERIT_ONLY);
+    match kind {
+        NodeKind::File => flags.is_empty(),
+        NodeKind::Directory => {
+            flags
+                .difference(AceFlags::from_bits_retain(INHERITANCE))
+                .is_empty()
+                && (!flags.intersects(further) || flags.intersects(handed_down))
+        }
+    }
+}
+
+const EVERY_RIGHT: u32 = 0x1F01E7;
+
+fn is_entry_for(kind: NodeKind, ace: &Ace) -> bool
+    ensures { result ≡ is_entry_for kind ace.now }
+{
+    are_flags_for(kind, ace.flags)
+        && ace
+            .mask
+            .difference(Mask::from_bits_retain(EVERY_RIGHT))
+            .is_empty()
+}
+
+// The index of the first entry that a node of this kind may not have.
+fn first_unfit(kind: NodeKind, acl: &[Ace]) -> Option<usize>
+    ensures { result ≡ position (λ ace. not (is_entry_for kind ace)) acl.now }
+{
+    acl.iter().position(|ace| !is_entry_for(kind, ace))
+}
+
+/// The index of the first entry that a client may not set on a node of this kind: one of a right that there is not, one of
+/// flags that the kind may not have, or the 33rd. Takes no memory.
+///
+/// A file's entries have no flags. A directory's have NO_PROPAGATE or INHERIT_ONLY only beside FILE_INHERIT or
+/// DIRECTORY_INHERIT, and no other flag than these four: that a number is a group's stands in the name.
+pub fn first_refused(kind: NodeKind, acl: &[Ace]) -> Option<usize>
+    ensures { result ≡ first_refused Acl.MOST_SET kind acl.now }
+{
+    let place = first_unfit(kind, acl)
+        .unwrap_or(acl.len())
+        .min(Acl::MOST_SET);
+    (place < acl.len()).then_some(place)
+}
+
+/// The list of a new node: the one given, else the mode's over what is inherited, else what is inherited; and the empty one
+/// where no attribute was given.
+///
+/// A given list is refused at its first entry that may not be set; nothing else is refused but for want of memory.
+pub fn at_creation(
+    alloc: Global,
+    parent: &[Ace],
+    kind: NodeKind,
+    given: &Given,
+) -> Result<Acl, AclFault>
+    requires { ForSome given.now.mode (λ mode. mode ≤ 511) }
+    ensures list { IfOk result (λ list. list
+        ≡ created parent.now kind given.now.empty given.now.mode (option_copied given.now.acl)) }
+    ensures refused { MatchOption (refused_of Acl.MOST_SET kind (option_copied given.now.acl))
+        (IsOkUnless result AclFault.Memory)
+        (λ place. result ≡ Err (AclFault.Ace place)) }
+{
+    match (given.acl, given.mode) {
+        (Some(acl), _) => match first_refused(kind, acl) {
+            Some(place) => Err(AclFault::Ace(place)),
+            None => Ok(Acl::from_slice(alloc, acl)?),
+        },
+        (None, Some(mode)) => {
+            let inherited = inherit(alloc, parent, kind)?;
+            with_mode(alloc, kind, inherited.as_slice(), mode)
+        }
+        (None, None) if given.empty => Ok(Acl::new(alloc)),
+        (None, None) => inherit(alloc, parent, kind),
+    }
+}

@@ -1,0 +1,170 @@
+use super::*;
+use bitflags::Flags;
+use std::test::Fail;
+
+fn entry(kind: AceKind, who: Who, mask: u32, flags: u32) -> Ace {
+    Ace {
+        kind,
+        flags: AceFlags::from_bits_retain(flags),
+        mask: Mask::from_bits_retain(mask),
+        who,
+    }
+}
+
+#[test]
+fn mode_640_on_a_file(rt: HostRuntime) -> Result<(), Fail> {
+    let old = [entry(AceKind::Allow, Who::User(5), 0x7, 0)];
+    let list = with_mode(rt.alloc(), NodeKind::File, &old, 0o640)?;
+    let want = [
+        entry(AceKind::Allow, Who::Owner, 0x07, 0),
+        entry(AceKind::Deny, Who::Owner, 0x20, 0),
+        entry(AceKind::Allow, Who::User(5), 0x01, 0),
+        entry(AceKind::Allow, Who::Group, 0x01, 0),
+        entry(AceKind::Deny, Who::Group, 0x26, 0),
+    ];
+    assert_eq!(rt; list.as_slice(), want.as_slice());
+    assert_eq!(rt; mode_of(list.as_slice()), 0o640);
+    Ok(())
+}
+
+// A directory's write bit is three rights, and what is handed down stays, in its order, and no longer counts.
+#[test]
+fn mode_751_on_a_directory(rt: HostRuntime) -> Result<(), Fail> {
+    let old = [
+        entry(AceKind::Allow, Who::Group, 0x21, 0x3),
+        entry(AceKind::Deny, Who::NamedGroup(6), 0x47, 0x1),
+        entry(AceKind::Allow, Who::User(5), 0x7, 0xA),
+        entry(AceKind::Allow, Who::Everyone, 0x1F01E7, 0),
+    ];
+    let list = with_mode(rt.alloc(), NodeKind::Directory, &old, 0o751)?;
+    let want = [
+        entry(AceKind::Allow, Who::Owner, 0x67, 0),
+        entry(AceKind::Deny, Who::NamedGroup(6), 0x47, 0x1),
+        entry(AceKind::Allow, Who::Group, 0x21, 0),
+        entry(AceKind::Deny, Who::Group, 0x46, 0),
+        entry(AceKind::Allow, Who::Everyone, 0x20, 0),
+        entry(AceKind::Allow, Who::Group, 0x21, 0xB),
+        entry(AceKind::Allow, Who::User(5), 0x7, 0xA),
+    ];
+    assert_eq!(rt; list.as_slice(), want.as_slice());
+    assert_eq!(rt; mode_of(list.as_slice()), 0o751);
+    Ok(())
+}
+
+fn parent() -> [Ace; 3] {
+    [
+        entry(AceKind::Allow, Who::User(5), 0x1, 0x1),
+        entry(AceKind::Allow, Who::User(6), 0x21, 0x6),
+        entry(AceKind::Allow, Who::Everyone, 0x1, 0xB),
+    ]
+}
+
+#[test]
+fn inheritance(rt: HostRuntime) -> Result<(), Fail> {
+    let file = [
+        entry(AceKind::Allow, Who::User(5), 0x1, 0),
+        entry(AceKind::Allow, Who::Everyone, 0x1, 0),
+    ];
+    let directory = [
+        entry(AceKind::Allow, Who::User(5), 0x1, 0x9),
+        entry(AceKind::Allow, Who::User(6), 0x21, 0),
+        entry(AceKind::Allow, Who::Everyone, 0x1, 0x3),
+    ];
+    let list = inherit(rt.alloc(), &parent(), NodeKind::File)?;
+    assert_eq!(rt; list.as_slice(), file.as_slice());
+    let list = inherit(rt.alloc(), &parent(), NodeKind::Directory)?;
+    assert_eq!(rt; list.as_slice(), directory.as_slice());
+    Ok(())
+}
+
+#[test]
+fn creation(rt: HostRuntime) -> Result<(), Fail> {
+    let given_list = [entry(AceKind::Deny, Who::User(7), 0x2, 0)];
+    let of_mode = [
+        entry(AceKind::Allow, Who::Owner, 0x01, 0),
+        entry(AceKind::Deny, Who::Owner, 0x26, 0),
+        entry(AceKind::Deny, Who::Group, 0x27, 0),
+    ];
+    let cases: [(Given, &[Ace]); 5] = [
+        (
+            Given {
+                empty: true,
+                mode: None,
+                acl: None,
+            },
+            &[],
+        ),
+        (
+            Given {
+                empty: false,
+                mode: None,
+                acl: None,
+            },
+            &[
+                entry(AceKind::Allow, Who::User(5), 0x1, 0),
+                entry(AceKind::Allow, Who::Everyone, 0x1, 0),
+            ],
+        ),
+        (
+            Given {
+                empty: false,
+                mode: Some(0o400),
+                acl: None,
+            },
+            &of_mode,
+        ),
+        (
+            Given {
+                empty: false,
+                mode: None,
+                acl: Some(&given_list),
+            },
+            &given_list,
+        ),
+        (
+            Given {
+                empty: false,
+                mode: Some(0o400),
+                acl: Some(&given_list),
+            },
+            &given_list,
+        ),
+    ];
+    for (given, want) in cases {
+        let list = at_creation(rt.alloc(), &parent(), NodeKind::File, &given)?;
+        assert_eq!(rt; list.as_slice(), want);
+    }
+    Ok(())
+}
+
+#[test]
+fn refused_entries(rt: HostRuntime) {
+    let good = entry(AceKind::Allow, Who::User(5), 0x1, 0);
+    let bad = [
+        entry(AceKind::Allow, Who::User(5), 0x8, 0),
+        entry(AceKind::Allow, Who::User(5), 0x1, 0x40),
+        entry(AceKind::Allow, Who::User(5), 0x1, 0x8),
+    ];
+    for ace in bad {
+        assert_eq!(rt;
+            first_refused(NodeKind::Directory, &[good, ace]),
+            Some(1),
+            "{ace:?}"
+        );
+        let given = Given {
+            empty: false,
+            mode: None,
+            acl: Some(&[good, ace]),
+        };
+        let outcome = at_creation(rt.alloc(), &[], NodeKind::Directory, &given);
+        assert!(rt; matches!(outcome, Err(AclFault::Ace(1))), "{ace:?}");
+    }
+    let inherited = entry(AceKind::Allow, Who::User(5), 0x1, 0x1);
+    assert_eq!(rt;
+        first_refused(NodeKind::Directory, &[good, inherited]),
+        None
+    );
+    assert_eq!(rt; first_refused(NodeKind::File, &[good, inherited]), Some(1));
+    assert_eq!(rt; first_refused(NodeKind::File, &[good; 32]), None);
+    assert_eq!(rt; first_refused(NodeKind::File, &[good; 33]), Some(32));
+}

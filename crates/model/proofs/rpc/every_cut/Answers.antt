@@ -1,0 +1,5 @@
+use Rattle.model.proofs.RecordLaws.{every_cut}
+use Rattle.model.proofs.rpc.every_cut.Goals as goal
+
+pub returns : goal.returns
+returns c = every_cut

@@ -1,0 +1,5 @@
+use Rattle.model.proofs.RecordLaws.{sent_is_read}
+use Rattle.model.proofs.rpc.sent_is_read.Goals as goal
+
+pub returns : goal.returns
+returns c = sent_is_read

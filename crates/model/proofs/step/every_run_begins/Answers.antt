@@ -1,0 +1,5 @@
+use Rattle.model.proofs.StepProofs.{runs_begin}
+use Rattle.model.proofs.step.every_run_begins.Goals as goal
+
+pub returns : goal.returns
+returns c = runs_begin

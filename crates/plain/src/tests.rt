@@ -1,0 +1,144 @@
+use crate::names::{check_name, entry_named};
+use crate::tree::{Content, DirEntry, Node, Tree};
+use acl_eval::{Ace, AceFlags, AceKind, Acl, Cred, Gids, Mask, Who};
+use bitflags::Flags;
+use model::limits::Limits;
+use model::status::Status;
+use std::alloc::Global;
+use std::test::Fail;
+
+const RIGHTS: u32 = 0x1F01E7;
+
+fn node(alloc: Global, number: u64, mask: u32, content: Content) -> Result<Node, Fail> {
+    let everyone = Ace {
+        kind: AceKind::Allow,
+        flags: AceFlags::empty(),
+        mask: Mask::from_bits_retain(mask),
+        who: Who::Everyone,
+    };
+    Ok(Node {
+        number,
+        owner: 0,
+        group: 0,
+        acl: Acl::from_slice(alloc, &[everyone])?,
+        change: number,
+        time_modify: 0,
+        content,
+    })
+}
+
+// A root that holds the file `f` of so many zero bytes, number 2, and the directory `d`, number 3, on which no one has a right.
+fn tree(alloc: Global, bytes: usize) -> Result<Tree, Fail> {
+    let mut names = Vec::new(alloc);
+    for (stamp, name, number) in [(4, b"f", 2), (5, b"d", 3)] {
+        names.push(DirEntry {
+            stamp,
+            name: Vec::from_slice(alloc, name.as_slice())?,
+            number,
+        })?;
+    }
+    let mut nodes = Vec::new(alloc);
+    nodes.push(node(alloc, 1, RIGHTS, Content::Directory(names))?)?;
+    nodes.push(node(alloc, 2, RIGHTS, Content::File(vec![in alloc; 0; bytes]?))?)?;
+    nodes.push(node(alloc, 3, 0, Content::Directory(Vec::new(alloc)))?)?;
+    Ok(Tree { nodes })
+}
+
+#[test]
+fn charges(rt: HostRuntime) -> Result<(), Fail> {
+    for (bytes, want) in [(0, 0), (1, 2), (8200, 4), (364_543, 90), (364_545, 91)] {
+        let content = Content::File(vec![in rt.alloc(); 0; bytes]?);
+        assert_eq!(rt;
+            node(rt.alloc(), 2, RIGHTS, content)?.charge(),
+            want,
+            "{bytes} bytes"
+        );
+    }
+    Ok(())
+}
+
+#[test]
+fn fits_the_region(rt: HostRuntime) -> Result<(), Fail> {
+    let volume = Limits::of_volume(256, 16);
+    for (bytes, want) in [(364_544 - 4096, true), (364_544, true), (364_545, false)] {
+        let fits = tree(rt.alloc(), bytes)?.fits(&volume);
+        assert_eq!(rt; fits, want, "{bytes} bytes");
+    }
+    for (nodes, want) in [(3, true), (2, false)] {
+        let limits = Limits { nodes, ..volume };
+        assert_eq!(rt; tree(rt.alloc(), 0)?.fits(&limits), want, "{nodes} nodes");
+    }
+    for (names, want) in [(2, true), (1, false)] {
+        let limits = Limits { names, ..volume };
+        assert_eq!(rt; tree(rt.alloc(), 0)?.fits(&limits), want, "{names} names");
+    }
+    Ok(())
+}
+
+#[test]
+fn names_are_tested_in_order(rt: HostRuntime) -> Result<(), Fail> {
+    let volume = Limits::of_volume(256, 16);
+    let long = vec![in rt.alloc(); 0xFF; 256]?;
+    assert!(rt; check_name(&long, &volume) == Err(Status::NameTooLong));
+    for (name, want) in [
+        (b"".as_slice(), Err(Status::Inval)),
+        (b"\xC3", Err(Status::Inval)),
+        (b"\xC3/", Err(Status::Inval)),
+        (b"\xC3\xA4", Ok(())),
+        (b"a/b", Err(Status::BadChar)),
+        (b"a\0", Err(Status::BadChar)),
+        (b".", Err(Status::BadName)),
+        (b"..", Err(Status::BadName)),
+        (b"...", Ok(())),
+    ] {
+        assert!(rt; check_name(name, &volume) == want, "{name:?}");
+    }
+    Ok(())
+}
+
+#[test]
+fn lookup_refuses_in_order(rt: HostRuntime) -> Result<(), Fail> {
+    let volume = Limits::of_volume(256, 16);
+    let tree = tree(rt.alloc(), 0)?;
+    let caller = Cred {
+        uid: 7,
+        gid: 7,
+        gids: Gids::new(rt.alloc()),
+    };
+    for (directory, name, want) in [
+        (1, b"f".as_slice(), Ok(2)),
+        (1, b"d", Ok(3)),
+        (9, b"f", Err(Status::Stale)),
+        (2, b"f", Err(Status::NotDir)),
+        (3, b".", Err(Status::BadName)),
+        (3, b"f", Err(Status::Access)),
+        (1, b"g", Err(Status::NoEnt)),
+    ] {
+        assert!(rt;
+            tree.lookup(&volume, &caller, directory, name) == want,
+            "{name:?}"
+        );
+    }
+    Ok(())
+}
+
+#[test]
+fn nodes_and_entries_are_found(rt: HostRuntime) -> Result<(), Fail> {
+    let tree = tree(rt.alloc(), 0)?;
+    assert!(rt; tree.node(4).is_none());
+    let root = tree.node(1);
+    assert!(rt;
+        root.is_some_and(|root| root.content.name_count() == 2 && root.content.blocks() == 1)
+    );
+    if let Some(
+        Node {
+            content: Content::Directory(names),
+            ..
+        },
+    ) = root
+    {
+        assert!(rt; entry_named(names, b"d").is_some_and(|entry| entry.stamp == 5));
+        assert!(rt; entry_named(names, b"e").is_none());
+    }
+    Ok(())
+}
