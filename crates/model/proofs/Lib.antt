@@ -1,2 +1,3 @@
 pub mod ModeLaws
 pub mod NumberLaws
+pub mod LimitLaws
