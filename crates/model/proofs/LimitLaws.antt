@@ -1,16 +1,16 @@
 -- Lists that a node may have stay so under modes and inheritance.
-use Rattle.std.proofs.Common.{⊎_elim, ◌≡◌, ◌∙◌, sym, ap, refl, ℕ, ◌+◌, ◌-◌, ◌^◌, ◌≤◌, ◌==◌, Bool, true, false, cond, if◌then◌else◌, ◌&&◌, ◌||◌, not, All, List, [], ◌∷◌, ◌++◌, length, filter, map, get_or, arith, bit_and}
-use Rattle.std.specs.List.{count_by}
+use Rattle.std.proofs.Common.{⊎_elim, ◌≡◌, ◌∙◌, sym, ap, refl, ℕ, ◌+◌, ◌-◌, ◌^◌, ◌≤◌, ◌==◌, Bool, true, false, cond, if◌then◌else◌, ◌&&◌, ◌||◌, not, min, suc, Option, Some, None, All, List, [], ◌∷◌, ◌++◌, length, filter, map, get_or, arith, bit_and}
+use Rattle.std.specs.List.{AllByRecursion, count_by, position_or_len}
 use Rattle.std.specs.Int.RustNames.{bit_or}
-use Rattle.std.proofs.lemmas.Bool.{false≢true, true≢false, and_parts, and_from, or_cases, cases_Bool, eqb-true, eq-eqb, leb-true, le-leb, or_right, not-true, not-false}
+use Rattle.std.proofs.lemmas.Bool.{false≢true, true≢false, and_parts, and_from, or_cases, cases_Bool, eqb-true, eq-eqb, leb-true, le-leb, ltb-false, or_right, not-true, not-false}
 use Rattle.std.proofs.lemmas.List.{length-append, length-map}
-use Rattle.std.proofs.lemmas.List.Elements.{All-from_recursion, All-append, All-filter, All-map, filter-append, filter_passes}
+use Rattle.std.proofs.lemmas.List.Elements.{All-from_recursion, All-nil, All-append, All-filter, All-map, filter-append, filter_passes}
 use Rattle.std.proofs.lemmas.List.Sums.{AllPass-from_list_all, list_all-from_AllPass, length-filter, count_by-le-length}
 use Rattle.std.proofs.lemmas.Nat.{and_assoc, and_comm, and_or_apart}
 use Rattle.model.specs.Acl.{meets, without, counts, every_right, inheritance, inherit_only, is_special, is_plain, are_flags_for, is_entry_for, is_list_for}
 use Rattle.model.specs.Mode.{moded, write_rights, rights_of, rights_lacking, limited, limited_kind, not_counting, is_handed_down, has_rights, owner_bits, group_bits, other_bits}
-use Rattle.model.specs.Inherit.{is_inherited_by, as_inherited, inherited}
-use Rattle.model.specs.AclLaws.{ModesKeepLimits, InheritanceKeepsLimits}
+use Rattle.model.specs.Inherit.{is_inherited_by, as_inherited, inherited, created_without_list, first_refused}
+use Rattle.model.specs.AclLaws.{ModesKeepLimits, InheritanceKeepsLimits, SetListsAreWithinLimits, CreationKeepsLimits}
 use Rattle.model.proofs.ModeLaws.{head, middle, filter-filter_comm}
 use Rattle.model.specs.declared.acl.Ace.{Ace}
 use Rattle.model.specs.declared.acl.AceKind.{AceKind}
@@ -324,3 +324,39 @@ inheritance_keeps_limits most_set most_stored room of parent e =
     (All-map (Fits of) (as_inherited of) taken
     (λ k d h. inherited_fits of (get_or taken k d) (filter_passes (is_inherited_by of) parent k d h) (All-filter (is_inherited_by of) (Fits node.Directory) parent parts.fit k d h)))
     (omega arith) (omega arith)
+
+-- ---- lists that a client sets, and lists of new nodes
+
+all_step : {X : Type 0} (e : X → Bool) (x : X) (xs : List X) (b : Bool) → e x ≡ b → suc (length xs) ≤ cond (not (not b)) (1 + position_or_len (λ y. not (e y)) xs) 0 → (b ≡ true) × (length xs ≤ position_or_len (λ y. not (e y)) xs)
+all_step e x xs true h le = (refl, omega arith)
+all_step e x xs false h le = absurd (omega arith)
+
+-- where no element fails, each passes
+all_from_position : {X : Type 0} (e : X → Bool) (xs : List X) → length xs ≤ position_or_len (λ y. not (e y)) xs → AllByRecursion (λ y. e y ≡ true) xs
+all_from_position e [] le = tt
+all_from_position e (x ∷ xs) le =
+    let both = all_step e x xs (e x) refl le in
+    (both.0, all_from_position e xs both.1)
+
+none_if : (b : Bool) (n : ℕ) → cond b (Some n) None ≡ None → b ≡ false
+none_if true n e = cc
+none_if false n e = refl
+
+pub set_lists_are_within_limits : SetListsAreWithinLimits
+unfolding first_refused
+set_lists_are_within_limits most_set most_stored room of acl e =
+    let behind : length acl ≤ min most_set (position_or_len (λ ace. not (is_entry_for of ace)) acl) = ltb-false _ _ (none_if _ _ e) in
+    let few = size-le is_other acl in
+    list_from most_set most_stored of acl
+    (All-from_recursion (Fits of) acl (all_from_position (is_entry_for of) acl (omega arith)))
+    (omega arith) (omega arith)
+
+without_list : (most_set most_stored : ℕ) → most_set + 5 ≤ most_stored → (of : NodeKind) (parent : List Ace) (is_empty : Bool) (mode : Option ℕ) → is_list_for most_set most_stored node.Directory parent ≡ true → is_list_for most_set most_stored of (created_without_list parent of is_empty mode) ≡ true
+without_list most_set most_stored room of parent is_empty (Some mode) e =
+    modes_keep_limits most_set most_stored room of (inherited parent of) mode (inheritance_keeps_limits most_set most_stored (omega arith) of parent e)
+without_list most_set most_stored room of parent true None e = list_from most_set most_stored of [] (All-nil (Fits of)) (omega arith) (omega arith)
+without_list most_set most_stored room of parent false None e = inheritance_keeps_limits most_set most_stored (omega arith) of parent e
+
+pub creation_keeps_limits : CreationKeepsLimits
+creation_keeps_limits most_set most_stored room of parent is_empty mode None e taken = without_list most_set most_stored room of parent is_empty mode e
+creation_keeps_limits most_set most_stored room of parent is_empty mode (Some acl) e taken = set_lists_are_within_limits most_set most_stored (omega arith) of acl taken

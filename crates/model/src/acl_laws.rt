@@ -1,6 +1,6 @@
 //! What holds of every access control list that a mode or inheritance gives: each function's contract is a law.
 
-ghost use Rattle.model.specs.AclLaws.{InheritanceKeepsLimits, ModesKeepLimits, ModesReadBack, NumbersStayWithinTheGroup};
+ghost use Rattle.model.specs.AclLaws.{CreationKeepsLimits, InheritanceKeepsLimits, ModesKeepLimits, ModesReadBack, NumbersStayWithinTheGroup, SetListsAreWithinLimits};
 
 /// The list of a mode has that mode, whatever the list was before.
 pub fn modes_read_back()
@@ -20,4 +20,14 @@ pub fn modes_keep_limits()
 /// What is inherited of a list that a directory may have is a list that the new node may have.
 pub fn inheritance_keeps_limits()
     ensures { InheritanceKeepsLimits }
+{}
+
+/// A list of which a client may set every entry is one that the node may have.
+pub fn set_lists_are_within_limits()
+    ensures { SetListsAreWithinLimits }
+{}
+
+/// The list of a new node is one that it may have.
+pub fn creation_keeps_limits()
+    ensures { CreationKeepsLimits }
 {}
