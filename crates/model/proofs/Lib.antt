@@ -10,6 +10,7 @@ pub mod RpcRows
 pub mod RunLaws
 pub mod SessionRows
 pub mod SlotLaw
+pub mod SoundLaws
 pub mod StateIdRows
 pub mod StepCases
 pub mod StepProofs

@@ -223,7 +223,7 @@ module _ (modes : ModesKeepLimits) (inheritance : InheritanceKeepsLimits) where
 -- Runs
 
 -- what was before a stamp was before each later one
-before_later : (stamp later : ℕ) (tree : Tree) → IsBefore stamp tree → stamp ≤ later → IsBefore later tree
+pub before_later : (stamp later : ℕ) (tree : Tree) → IsBefore stamp tree → stamp ≤ later → IsBefore later tree
 before_later stamp later tree before order = record {
   number = λ number node is. let low : number < stamp = before.number number node is in omega arith;
   change = λ number node is. let low : node.change < stamp = before.change number node is in omega arith;

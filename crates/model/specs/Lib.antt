@@ -22,6 +22,7 @@ pub mod Runs
 pub mod ServedForms
 pub mod Session
 pub mod SessionRuns
+pub mod SoundRuns
 pub mod Stamp
 pub mod StateIds
 pub mod Status
