@@ -1,430 +1,362 @@
--- Modes and inheritance keep to the lists that a node may have.
-use Rattle.std.proofs.Common.{ℕ, Bool, true, false, List, [], ◌∷◌, ◌++◌, ◌≡◌, ◌+◌, ◌-◌, ◌^◌, ◌≤◌, suc, ◌&&◌, ◌||◌, not, cond, inl, inr, refl, sym, ap, ◌∙◌, arith, eqb, eq-eqb, eqb-true, le-leb, leb-true, length, filter, map, nat_le, bit_and, bit_or, length-append, ◌⊎◌}
-use Rattle.std.specs.Prelude.{count_by}
-use Rattle.std.specs.List.{list_all}
-use Rattle.std.proofs.lemmas.Bool.{true≢false, cases_Bool, and_parts, and_from, and_right, or_cases, or_right}
-use Rattle.std.proofs.lemmas.List.Folds.{list_all-append}
-use Rattle.std.proofs.lemmas.List.Sums.{sum_by-cons}
-use Rattle.std.proofs.lemmas.Nat.{and_comm, and_assoc, and_or_apart}
+-- Lists that a node may have stay so under modes and inheritance.
+use Rattle.std.proofs.Common.{⊎_elim, ◌≡◌, ◌∙◌, sym, ap, refl, ℕ, ◌+◌, ◌-◌, ◌^◌, ◌≤◌, ◌==◌, Bool, true, false, cond, if◌then◌else◌, ◌&&◌, ◌||◌, not, min, suc, Option, Some, None, All, List, [], ◌∷◌, ◌++◌, length, filter, map, get_or, arith, bit_and}
+use Rattle.std.specs.List.{AllByRecursion, count_by, position_or_len}
+use Rattle.std.specs.Int.RustNames.{bit_or}
+use Rattle.std.proofs.lemmas.Bool.{false≢true, true≢false, and_parts, and_from, or_cases, cases_Bool, eqb-true, eq-eqb, leb-true, le-leb, ltb-false, or_right, not-true, not-false}
+use Rattle.std.proofs.lemmas.List.{length-append, length-map}
+use Rattle.std.proofs.lemmas.List.Elements.{All-from_recursion, All-nil, All-append, All-filter, All-map, filter-append, filter_passes}
+use Rattle.std.proofs.lemmas.List.Sums.{AllPass-from_list_all, list_all-from_AllPass, length-filter, count_by-le-length}
+use Rattle.std.proofs.lemmas.Nat.{and_assoc, and_comm, and_or_apart}
+use Rattle.model.specs.Acl.{meets, without, counts, every_right, inheritance, inherit_only, is_special, is_plain, are_flags_for, is_entry_for, is_list_for}
+use Rattle.model.specs.Mode.{moded, write_rights, rights_of, rights_lacking, limited, limited_kind, not_counting, is_handed_down, has_rights, owner_bits, group_bits, other_bits}
+use Rattle.model.specs.Inherit.{is_inherited_by, as_inherited, inherited, created_without_list, first_refused}
+use Rattle.model.specs.AclLaws.{ModesKeepLimits, InheritanceKeepsLimits, SetListsAreWithinLimits, CreationKeepsLimits}
+use Rattle.model.proofs.ModeLaws.{head, middle, filter-filter_comm}
 use Rattle.model.specs.declared.acl.Ace.{Ace}
 use Rattle.model.specs.declared.acl.AceKind.{AceKind}
-use Rattle.model.specs.declared.acl.AceKind.TheVariants as ace_kind
-use Rattle.model.specs.declared.acl.Who.{Who}
-use Rattle.model.specs.declared.acl.Who.TheVariants as who_is
+use Rattle.model.specs.declared.acl.AceKind.TheVariants as kind
 use Rattle.model.specs.declared.node.NodeKind.{NodeKind}
 use Rattle.model.specs.declared.node.NodeKind.TheVariants as node
-use Rattle.model.specs.Acl.{meets, without, every_right, read_data, execute as execute_right, counts, is_special, are_flags_for, is_entry_for, is_plain, is_list_for}
-use Rattle.model.specs.AclLaws.{ModesKeepLimits, InheritanceKeepsLimits}
-use Rattle.model.specs.Inherit.{is_inherited_by, inherited_flags, as_inherited, inherited}
-use Rattle.model.specs.Mode.{moded, write_rights, rights_of, rights_lacking, limited, limited_kind, is_handed_down, not_counting, has_rights, entry, owner_bits, group_bits, other_bits}
 
--- Words
+-- ---- how many pass
 
--- what meets a word meets each wider one
-meets_wider : (word narrow wide : ℕ) → bit_and wide narrow ≡ narrow → meets word narrow ≡ true → meets word wide ≡ true
-meets_wider word narrow wide within is = elim (cases_Bool (eqb (bit_and word wide) 0)) [
-  | inl none ↦
-      let zero_wide : bit_and word wide ≡ 0 = eqb-true (bit_and word wide) 0 none in
-      let zero_narrow : bit_and word narrow ≡ 0
-      = ap (bit_and word) (sym within) ∙ (sym (and_assoc narrow word wide) ∙ ap (λ w. bit_and w narrow) zero_wide) in
-      absurd (true≢false (sym is ∙ ap not (eq-eqb (bit_and word narrow) 0 zero_narrow)))
-  | inr some ↦ ap not some
-]
+abbrev size : {X : Type 0} → (X → Bool) → List X → ℕ
+size p xs = length (filter p xs)
 
--- a word that lacks what lies outside still lacks it where more is taken away
-still_outside : (word taken kept : ℕ) → bit_and word kept ≡ 0 → bit_and (bit_and word taken) kept ≡ 0
-still_outside word taken kept none =
-    and_assoc kept word taken ∙ (ap (bit_and word) (and_comm taken kept)
-    ∙ (sym (and_assoc taken word kept) ∙ ap (λ w. bit_and w taken) none))
+size-le : {X : Type 0} (p : X → Bool) (xs : List X) → size p xs ≤ length xs
+size-le p xs = rw (length-filter p xs) (count_by-le-length p xs)
 
--- Lists
+size-filter-le : {X : Type 0} (p q : X → Bool) (xs : List X) → size p (filter q xs) ≤ size p xs
+size-filter-le p q xs = rw (filter-filter_comm p q xs) (size-le q (filter p xs))
 
--- how many pass a test, by recursion
-tally : {X : Type 0} → (X → Bool) → List X → ℕ
-tally p [] = 0
-tally p (x ∷ xs) = cond (p x) 1 0 + tally p xs
+size-append : {X : Type 0} (p : X → Bool) (xs ys : List X) → size p (xs ++ ys) ≡ size p xs + size p ys
+size-append p xs ys = ap length (filter-append p xs ys) ∙ length-append (filter p xs) (filter p ys)
 
-count_by-tally : {X : Type 0} (p : X → Bool) (xs : List X) → count_by p xs ≡ tally p xs
-unfolding tally
-count_by-tally p [] = refl
-count_by-tally {X} p (x ∷ xs) = let f : X → ℕ = λ y. cond (p y) 1 0 in sum_by-cons f x xs ∙ ap (λ n. cond (p x) 1 0 + n) (count_by-tally p xs)
+size-map-le : {X Y : Type 0} (p : Y → Bool) (f : X → Y) (xs : List X) → size p (map f xs) ≤ length xs
+size-map-le p f xs = let all = size-le p (map f xs) in let same = length-map xs f in omega arith
 
-module _ {X : Type 0} (p : X → Bool) where
-  tally-append : (xs ys : List X) → tally p (xs ++ ys) ≡ tally p xs + tally p ys
-  unfolding tally
-  tally-append [] ys = omega arith
-  tally-append (x ∷ xs) ys = let rest = tally-append xs ys in omega arith
+one_step : {X : Type 0} (a c : Bool) (x : X) (xs zs : List X) → (a ≡ true → c ≡ true) → length xs ≤ length zs → length (cond a (x ∷ xs) xs) ≤ length (cond c (x ∷ zs) zs)
+one_step true true x xs zs h le = omega arith
+one_step true false x xs zs h le = absurd (false≢true (h refl))
+one_step false true x xs zs h le = omega arith
+one_step false false x xs zs h le = le
 
-  tally-le-length : (xs : List X) → tally p xs ≤ length xs
-  unfolding tally
-  tally-le-length [] = omega arith
-  tally-le-length (x ∷ xs) = let rest = tally-le-length xs in elim (cases_Bool (p x)) [
-    | inl passes ↦ rw passes (omega arith)
-    | inr fails ↦ rw fails (omega arith)
-  ]
+-- what passes one test passes another
+size-weaker : {X : Type 0} (a c : X → Bool) → ((x : X) → a x ≡ true → c x ≡ true) → (xs : List X) → size a xs ≤ size c xs
+size-weaker a c h [] = omega arith
+size-weaker a c h (x ∷ xs) = one_step (a x) (c x) x (filter a xs) (filter c xs) (h x) (size-weaker a c h xs)
 
-  tally-filter : (q : X → Bool) (xs : List X) → tally p (filter q xs) ≤ tally p xs
-  unfolding tally
-  tally-filter q [] = omega arith
-  tally-filter q (x ∷ xs) = let rest = tally-filter q xs in elim (cases_Bool (q x)) [
-    | inl passes ↦ rw passes (omega arith)
-    | inr fails ↦ rw fails (omega arith)
-  ]
+two_step : {X : Type 0} (a b c : Bool) (x : X) (xs ys zs : List X) → (a ≡ true → (c ≡ true) × (b ≡ false)) → (b ≡ true → c ≡ true) → length xs + length ys ≤ length zs → length (cond a (x ∷ xs) xs) + length (cond b (x ∷ ys) ys) ≤ length (cond c (x ∷ zs) zs)
+two_step true true c x xs ys zs h g le = absurd (true≢false (h refl).1)
+two_step true false true x xs ys zs h g le = omega arith
+two_step true false false x xs ys zs h g le = absurd (false≢true (h refl).0)
+two_step false true true x xs ys zs h g le = omega arith
+two_step false true false x xs ys zs h g le = absurd (false≢true (g refl))
+two_step false false true x xs ys zs h g le = omega arith
+two_step false false false x xs ys zs h g le = le
 
-  -- two tests, of which each element that passes p passes one at most, and others none
-  length-filters : (q r : X → Bool) → ((x : X) → cond (q x) 1 0 + cond (r x) 1 0 ≤ cond (p x) 1 0) → (xs : List X)
-      → length (filter q xs) + length (filter r xs) ≤ tally p xs
-  unfolding tally
-  length-filters q r one [] = omega arith
-  length-filters q r one (x ∷ xs) =
-      let rest = length-filters q r one xs in
-      let here = one x in
-      elim (cases_Bool (q x)) [
-        | inl first ↦ elim (cases_Bool (r x)) [
-          | inl second ↦ let here' = rw (first, second) at here in rw (first, second) (omega arith)
-          | inr no_second ↦ let here' = rw (first, no_second) at here in rw (first, no_second) (omega arith)
-        ]
-        | inr no_first ↦ elim (cases_Bool (r x)) [
-          | inl second ↦ let here' = rw (no_first, second) at here in rw (no_first, second) (omega arith)
-          | inr no_second ↦ let here' = rw (no_first, no_second) at here in rw (no_first, no_second) (omega arith)
-        ]
-      ]
+-- two tests that exclude each other
+size-two : {X : Type 0} (a b c : X → Bool) → ((x : X) → a x ≡ true → (c x ≡ true) × (b x ≡ false)) → ((x : X) → b x ≡ true → c x ≡ true) → (xs : List X) → size a xs + size b xs ≤ size c xs
+size-two a b c h g [] = omega arith
+size-two a b c h g (x ∷ xs) = two_step (a x) (b x) (c x) x (filter a xs) (filter b xs) (filter c xs) (h x) (g x) (size-two a b c h g xs)
 
-length-filter-le : {X : Type 0} (q : X → Bool) (xs : List X) → length (filter q xs) ≤ length xs
-length-filter-le q [] = omega arith
-length-filter-le q (x ∷ xs) = let rest = length-filter-le q xs in elim (cases_Bool (q x)) [
-  | inl passes ↦ rw passes (omega arith)
-  | inr fails ↦ rw fails (omega arith)
-]
+abbrev is_other : Ace → Bool
+is_other ace = not (is_plain ace)
 
-list_all-filter : {X : Type 0} (p q : X → Bool) (xs : List X) → list_all p xs ≡ true → list_all p (filter q xs) ≡ true
-list_all-filter p q [] all = refl
-list_all-filter p q (x ∷ xs) all =
-    let here = and_parts (p x) (list_all p xs) all in
-    let rest = list_all-filter p q xs here.1 in
-    elim (cases_Bool (q x)) [
-      | inl passes ↦ rw passes (and_from (p x) (list_all p (filter q xs)) here.0 rest)
-      | inr fails ↦ rw fails rest
-    ]
+abbrev is_of_number : Ace → Bool
+is_of_number ace = counts ace && not (is_special ace.who)
 
--- what is kept of a list and mapped, where each that is kept maps to what passes
-list_all-kept : {X : Type 0} {Y : Type 0} (p keep : X → Bool) (f : X → Y) (q : Y → Bool)
-    → ((x : X) → p x ≡ true → keep x ≡ true → q (f x) ≡ true) → (xs : List X) → list_all p xs ≡ true
-    → list_all q (map f (filter keep xs)) ≡ true
-list_all-kept p keep f q each [] all = refl
-list_all-kept p keep f q each (x ∷ xs) all =
-    let here = and_parts (p x) (list_all p xs) all in
-    let rest = list_all-kept p keep f q each xs here.1 in
-    elim (cases_Bool (keep x)) [
-      | inl kept ↦ rw kept (and_from (q (f x)) (list_all q (map f (filter keep xs))) (each x here.0 kept) rest)
-      | inr left ↦ rw left rest
-    ]
+number_other : (special counting handed : Bool) → (counting && not special) ≡ true → (not ((special && counting) && not handed) ≡ true) × ((not counting || (special && handed)) ≡ false)
+number_other true true handed e = absurd (false≢true e)
+number_other true false handed e = absurd (false≢true e)
+number_other false true handed e = (refl, refl)
+number_other false false handed e = absurd (false≢true e)
 
--- Inheritance: each entry
+handed_other : (special counting handed : Bool) → (not counting || (special && handed)) ≡ true → not ((special && counting) && not handed) ≡ true
+handed_other true true true e = refl
+handed_other true true false e = absurd (false≢true e)
+handed_other true false handed e = refl
+handed_other false true handed e = absurd (false≢true e)
+handed_other false false handed e = refl
 
--- flags are those of a directory's entry where no others are among them, and one of the two kinds of inheritance is
-directory_flags : (flags : ℕ) → without flags 0xF ≡ 0 → meets flags 3 ≡ true → are_flags_for node.Directory flags ≡ true
-directory_flags flags none inherits =
-    and_from (eqb (without flags 0xF) 0) (not (meets flags 12) || meets flags 3) (eq-eqb (without flags 0xF) 0 none)
-    (or_right (not (meets flags 12)) (meets flags 3) inherits)
+numbers_and_tail : (acl : List Ace) → size is_of_number acl + size is_handed_down acl ≤ size is_other acl
+numbers_and_tail acl =
+    size-two is_of_number is_handed_down is_other
+    (λ ace. number_other (is_special ace.who) (counts ace) (meets ace.flags.0 3))
+    (λ ace. handed_other (is_special ace.who) (counts ace) (meets ace.flags.0 3)) acl
+
+module _ (of : NodeKind) (acl : List Ace) (mode : ℕ) where
+  abbrev numbers : List Ace
+  numbers = map (limited of mode) (filter is_of_number acl)
+
+  abbrev tail : List Ace
+  tail = map not_counting (filter is_handed_down acl)
+
+  whole : length (head of mode ++ numbers ++ middle of mode ++ tail) ≤ size is_other acl + 5
+  whole =
+      let parts = numbers_and_tail acl in
+      let a = length-append (head of mode ++ numbers ++ middle of mode) tail in
+      let b = length-append (head of mode ++ numbers) (middle of mode) in
+      let c = length-append (head of mode) numbers in
+      let n = length-map (filter is_of_number acl) (limited of mode) in
+      let t = length-map (filter is_handed_down acl) not_counting in
+      omega arith
+
+  moded_length : length (moded of acl mode) ≤ size is_other acl + 5
+  unfolding moded
+  moded_length =
+      let cut = size-le has_rights (head of mode ++ numbers ++ middle of mode ++ tail) in
+      let all = whole in
+      omega arith
+
+  moded_others : size is_other (moded of acl mode) ≤ size is_other acl
+  unfolding moded
+  moded_others =
+      let cut = size-filter-le is_other has_rights (head of mode ++ numbers ++ middle of mode ++ tail) in
+      let parts = numbers_and_tail acl in
+      let a = size-append is_other (head of mode ++ numbers ++ middle of mode) tail in
+      let b = size-append is_other (head of mode ++ numbers) (middle of mode) in
+      let c = size-append is_other (head of mode) numbers in
+      let n = size-map-le is_other (limited of mode) (filter is_of_number acl) in
+      let t = size-map-le is_other not_counting (filter is_handed_down acl) in
+      omega arith
+
+-- ---- entries
+
+-- a word with a bit of another has one of each word around that
+meets-wider : (word part whole : ℕ) → bit_and whole part ≡ part → meets word part ≡ true → meets word whole ≡ true
+meets-wider word part whole e h =
+    ⊎_elim
+    (λ (yes : meets word whole ≡ true). yes)
+    (λ (no : meets word whole ≡ false).
+    let none : bit_and word whole ≡ 0 = eqb-true _ _ (not-false _ no) in
+    let less : bit_and word part ≡ 0 = ap (bit_and word) (sym e) ∙ sym (and_assoc part word whole) ∙ ap (λ w. bit_and w part) none in
+    absurd (false≢true (sym (ap (λ w. not (w == 0)) less) ∙ h)))
+    (cases_Bool (meets word whole))
+
+-- what had no bit beyond some has none after it lost more
+without-without : (word less every : ℕ) → without word every ≡ 0 → without (without word less) every ≡ 0
+without-without word less every e =
+    and_assoc (2 ^ 32 - 1 - every) word (2 ^ 32 - 1 - less)
+    ∙ ap (bit_and word) (and_comm (2 ^ 32 - 1 - less) (2 ^ 32 - 1 - every))
+    ∙ sym (and_assoc (2 ^ 32 - 1 - less) word (2 ^ 32 - 1 - every))
+    ∙ ap (λ w. bit_and w (2 ^ 32 - 1 - less)) e
+
+abbrev Fits : NodeKind → Ace → Type 0
+Fits of ace = is_entry_for of ace ≡ true
+
+limited_mask : (way : AceKind) (mask lacking : ℕ) → (without mask every_right == 0) ≡ true → (without (limited_kind way mask lacking) every_right == 0) ≡ true
+limited_mask kind.Allow mask lacking e = eq-eqb _ 0 (without-without mask lacking every_right (eqb-true _ 0 e))
+limited_mask kind.Deny mask lacking e = e
+
+limited_fits : (of : NodeKind) (mode : ℕ) (ace : Ace) → Fits of ace → Fits of (limited of mode ace)
+limited_fits of mode ace e =
+    let parts = and_parts (are_flags_for of ace.flags.0) (without ace.mask.0 every_right == 0) e in
+    and_from _ _ parts.0 (limited_mask ace.kind ace.mask.0 (rights_lacking of (group_bits mode)) parts.1)
+
+-- an entry that no longer counts is one for a directory where it was one and was handed down
+handed_meets : (flags : ℕ) (special : Bool) → (not (not (meets flags inherit_only)) || (special && meets flags 3)) ≡ true → (not (meets flags 12) || meets flags 3) ≡ true → meets flags 3 ≡ true
+handed_meets flags special h e =
+    ⊎_elim
+    (λ (silent : not (not (meets flags inherit_only)) ≡ true).
+    let here : meets flags inherit_only ≡ true = not-false _ (not-true _ silent) in
+    let further : meets flags 12 ≡ true = meets-wider flags 8 12 refl here in
+    ⊎_elim
+    (λ (no : not (meets flags 12) ≡ true). absurd (false≢true (sym (not-true _ no) ∙ further)))
+    (λ (yes : meets flags 3 ≡ true). yes)
+    (or_cases _ _ e))
+    (λ (named : (special && meets flags 3) ≡ true). (and_parts special (meets flags 3) named).1)
+    (or_cases _ _ h)
+
+silent_flags : (flags : ℕ) → meets flags 3 ≡ true → (without flags inheritance == 0) ≡ true → are_flags_for node.Directory (bit_or flags inherit_only) ≡ true
+silent_flags flags h e =
+    and_from _ _
+    (ap (λ w. w == 0) (and_or_apart (2 ^ 32 - 1 - inheritance) flags inherit_only refl) ∙ e)
+    (rw (and_or_apart 3 flags inherit_only refl) (or_right (not (meets (bit_or flags inherit_only) 12)) (meets flags 3) h))
+
+file_hands_nothing_down : (flags : ℕ) (special : Bool) → flags ≡ 0 → (not (not (meets flags inherit_only)) || (special && meets flags 3)) ≡ true → false ≡ true
+file_hands_nothing_down flags special none h =
+    let now = rw none at h in
+    (and_parts special false now).1
+
+tail_fits : (of : NodeKind) (ace : Ace) → is_handed_down ace ≡ true → Fits of ace → Fits of (not_counting ace)
+tail_fits node.File ace h e =
+    let parts = and_parts (are_flags_for node.File ace.flags.0) (without ace.mask.0 every_right == 0) e in
+    absurd (false≢true (file_hands_nothing_down ace.flags.0 (is_special ace.who) (eqb-true _ 0 parts.0) h))
+tail_fits node.Directory ace h e =
+    let parts = and_parts (are_flags_for node.Directory ace.flags.0) (without ace.mask.0 every_right == 0) e in
+    let flags = and_parts (without ace.flags.0 inheritance == 0) (not (meets ace.flags.0 12) || meets ace.flags.0 3) parts.0 in
+    and_from _ _ (silent_flags ace.flags.0 (handed_meets ace.flags.0 (is_special ace.who) h flags.1) flags.0) parts.1
+
+-- the masks of a mode
+chosen_fit : (of : NodeKind) (read write execute : Bool) → (without ((if read then 0x1 else 0) + (if write then write_rights of else 0) + (if execute then 0x20 else 0)) every_right == 0) ≡ true
+chosen_fit node.File true true true = refl
+chosen_fit node.File true true false = refl
+chosen_fit node.File true false true = refl
+chosen_fit node.File true false false = refl
+chosen_fit node.File false true true = refl
+chosen_fit node.File false true false = refl
+chosen_fit node.File false false true = refl
+chosen_fit node.File false false false = refl
+chosen_fit node.Directory true true true = refl
+chosen_fit node.Directory true true false = refl
+chosen_fit node.Directory true false true = refl
+chosen_fit node.Directory true false false = refl
+chosen_fit node.Directory false true true = refl
+chosen_fit node.Directory false true false = refl
+chosen_fit node.Directory false false true = refl
+chosen_fit node.Directory false false false = refl
+
+rights_fit : (of : NodeKind) (bits : ℕ) → (without (rights_of of bits) every_right == 0) ≡ true
+rights_fit of bits = chosen_fit of (meets bits 4) (meets bits 2) (meets bits 1)
+
+lacking_fit : (of : NodeKind) (bits : ℕ) → (without (rights_lacking of bits) every_right == 0) ≡ true
+lacking_fit of bits = eq-eqb _ 0 (without-without (rights_of of 7) (rights_of of bits) every_right (eqb-true _ 0 (rights_fit of 7)))
 
 no_flags : (of : NodeKind) → are_flags_for of 0 ≡ true
 no_flags node.File = refl
 no_flags node.Directory = refl
 
-none_outside : (flags : ℕ) → are_flags_for node.Directory flags ≡ true → without flags 0xF ≡ 0
-none_outside flags are = eqb-true (without flags 0xF) 0 (and_parts (eqb (without flags 0xF) 0) (not (meets flags 12) || meets flags 3) are).0
+head_fits : (of : NodeKind) (mode : ℕ) → All (Fits of) (head of mode)
+head_fits of mode =
+    All-from_recursion (Fits of) (head of mode)
+    (and_from _ _ (no_flags of) (rights_fit of (owner_bits mode)), (and_from _ _ (no_flags of) (lacking_fit of (owner_bits mode)), tt))
 
--- with INHERIT_ONLY in addition
-with_inherit_only : (flags : ℕ) → without flags 0xF ≡ 0 → meets flags 3 ≡ true → are_flags_for node.Directory (bit_or flags 8) ≡ true
-with_inherit_only flags none inherits = directory_flags (bit_or flags 8)
-    (and_or_apart (2 ^ 32 - 1 - 0xF) flags 8 refl ∙ none)
-    (ap (λ w. not (eqb w 0)) (and_or_apart 3 flags 8 refl) ∙ inherits)
+middle_fits : (of : NodeKind) (mode : ℕ) → All (Fits of) (middle of mode)
+middle_fits of mode =
+    All-from_recursion (Fits of) (middle of mode)
+    (and_from _ _ (no_flags of) (rights_fit of (group_bits mode)), (and_from _ _ (no_flags of) (lacking_fit of (group_bits mode)), (and_from _ _ (no_flags of) (rights_fit of (other_bits mode)), tt)))
 
--- and without it
-without_inherit_only : (flags : ℕ) → without flags 0xF ≡ 0 → meets flags 3 ≡ true → are_flags_for node.Directory (without flags 8) ≡ true
-without_inherit_only flags none inherits = directory_flags (without flags 8)
-    (still_outside flags (2 ^ 32 - 1 - 8) (2 ^ 32 - 1 - 0xF) none)
-    (ap (λ w. not (eqb w 0)) (and_assoc 3 flags (2 ^ 32 - 1 - 8)) ∙ inherits)
+moded_fits : (of : NodeKind) (acl : List Ace) (mode : ℕ) → All (Fits of) acl → All (Fits of) (moded of acl mode)
+unfolding moded
+moded_fits of acl mode given =
+    let P : Ace → Type 0 = Fits of in
+    let kept = filter is_of_number acl in
+    let down = filter is_handed_down acl in
+    All-filter has_rights P (head of mode ++ map (limited of mode) kept ++ middle of mode ++ map not_counting down)
+    (All-append P (head of mode ++ map (limited of mode) kept ++ middle of mode) (map not_counting down)
+    (All-append P (head of mode ++ map (limited of mode) kept) (middle of mode)
+    (All-append P (head of mode) (map (limited of mode) kept)
+    (head_fits of mode)
+    (All-map P (limited of mode) kept (λ k d h. limited_fits of mode (get_or kept k d) (All-filter is_of_number P acl given k d h))))
+    (middle_fits of mode))
+    (All-map P not_counting down (λ k d h. tail_fits of (get_or down k d) (filter_passes is_handed_down acl k d h) (All-filter is_handed_down P acl given k d h))))
 
-all_taken : (of : NodeKind) (flags : ℕ) → without flags 0xF ≡ 0 → are_flags_for of (without flags 0xF) ≡ true
-all_taken of flags none = ap (are_flags_for of) none ∙ no_flags of
+-- ---- both laws
 
-inherits_something : (of : NodeKind) (ace : Ace) → is_inherited_by of ace ≡ true → meets ace.flags.0 3 ≡ true
-inherits_something node.File ace is = meets_wider ace.flags.0 1 3 refl is
-inherits_something node.Directory ace is = elim (or_cases (meets ace.flags.0 2) (meets ace.flags.0 1 && not (meets ace.flags.0 4)) is) [
-  | inl by_directory ↦ meets_wider ace.flags.0 2 3 refl by_directory
-  | inr by_file ↦ meets_wider ace.flags.0 1 3 refl (and_parts (meets ace.flags.0 1) (not (meets ace.flags.0 4)) by_file).0
-]
+list_parts : (entries short few : Bool) → ((entries && short) && few) ≡ true → (entries ≡ true) × (short ≡ true) × (few ≡ true)
+list_parts true true true e = (refl, refl, refl)
+list_parts true true false e = absurd (false≢true e)
+list_parts true false few e = absurd (false≢true e)
+list_parts false short few e = absurd (false≢true e)
 
-flags_inherited : (of : NodeKind) (flags : ℕ) → without flags 0xF ≡ 0 → meets flags 3 ≡ true → are_flags_for of (inherited_flags of flags) ≡ true
-flags_inherited node.File flags none inherits = all_taken node.File flags none
-flags_inherited node.Directory flags none inherits = elim (cases_Bool (meets flags 2)) [
-  | inl by_directory ↦ elim (cases_Bool (meets flags 4)) [
-    | inl no_further ↦ rw (by_directory, no_further) (all_taken node.Directory flags none)
-    | inr further ↦ rw (by_directory, further) (without_inherit_only flags none inherits)
-  ]
-  | inr by_file ↦ rw by_file (with_inherit_only flags none inherits)
-]
-
-entry_inherited : (of : NodeKind) (ace : Ace) → is_entry_for node.Directory ace ≡ true → is_inherited_by of ace ≡ true
-    → is_entry_for of (as_inherited of ace) ≡ true
-entry_inherited of ace is taken =
-    let parts = and_parts (are_flags_for node.Directory ace.flags.0) (eqb (without ace.mask.0 every_right) 0) is in
-    and_from (are_flags_for of (inherited_flags of ace.flags.0)) (eqb (without ace.mask.0 every_right) 0)
-    (flags_inherited of ace.flags.0 (none_outside ace.flags.0 parts.0) (inherits_something of ace taken)) parts.1
-
--- an entry that is inherited is not plain
-inherited_not_plain : (ace : Ace) → meets ace.flags.0 3 ≡ true → is_plain ace ≡ false
-inherited_not_plain ace inherits = and_right (is_special ace.who && counts ace) (not (meets ace.flags.0 3)) (ap not inherits)
-
-one_at_most : (of : NodeKind) (ace : Ace)
-    → cond (is_inherited_by of ace) 1 0 + 0 ≤ cond (not (is_plain ace)) 1 0
-one_at_most of ace = elim (cases_Bool (is_inherited_by of ace)) [
-  | inl taken ↦ rw (taken, inherited_not_plain ace (inherits_something of ace taken)) (omega arith)
-  | inr left ↦ rw left (omega arith)
-]
-
--- The lists
-
--- the three parts of a list that a node may have
-list_parts : (most_set most_stored : ℕ) (of : NodeKind) (acl : List Ace) → is_list_for most_set most_stored of acl ≡ true
-    → (list_all (is_entry_for of) acl ≡ true) × (length acl ≤ most_stored) × (tally (λ ace. not (is_plain ace)) acl ≤ most_set)
+list_from : (most_set most_stored : ℕ) (of : NodeKind) (acl : List Ace) → All (Fits of) acl → length acl ≤ most_stored → size is_other acl ≤ most_set → is_list_for most_set most_stored of acl ≡ true
 unfolding is_list_for
-list_parts most_set most_stored of acl is =
-    let outer = and_parts (list_all (is_entry_for of) acl && nat_le (length acl) most_stored)
-    (nat_le (count_by (λ ace. not (is_plain ace)) acl) most_set) is in
-    let inner = and_parts (list_all (is_entry_for of) acl) (nat_le (length acl) most_stored) outer.0 in
-    let p : Ace → Bool = λ ace. not (is_plain ace) in
-    let few : count_by p acl ≤ most_set = leb-true (count_by p acl) most_set outer.1 in
-    (inner.0, leb-true (length acl) most_stored inner.1, (rw (count_by-tally p acl) at few))
+list_from most_set most_stored of acl fit short few =
+    and_from _ _
+    (and_from _ _ (list_all-from_AllPass (is_entry_for of) acl fit) (le-leb (length acl) most_stored short))
+    (rw (← length-filter is_other acl) (le-leb (size is_other acl) most_set few))
 
-list_from : (most_set most_stored : ℕ) (of : NodeKind) (acl : List Ace) → list_all (is_entry_for of) acl ≡ true
-    → length acl ≤ most_stored → tally (λ ace. not (is_plain ace)) acl ≤ most_set → is_list_for most_set most_stored of acl ≡ true
+record Parts (most_set most_stored : ℕ) (of : NodeKind) (acl : List Ace) : Type 0 where
+  fit : All (Fits of) acl
+  few : size is_other acl ≤ most_set
+
+parts_of : (most_set most_stored : ℕ) (of : NodeKind) (acl : List Ace) → is_list_for most_set most_stored of acl ≡ true → Parts most_set most_stored of acl
 unfolding is_list_for
-list_from most_set most_stored of acl entries short few =
-    let p : Ace → Bool = λ ace. not (is_plain ace) in
-    let counted : count_by p acl ≤ most_set = rw (count_by-tally p acl) few in
-    and_from (list_all (is_entry_for of) acl && nat_le (length acl) most_stored) (nat_le (count_by p acl) most_set)
-    (and_from (list_all (is_entry_for of) acl) (nat_le (length acl) most_stored) entries (le-leb (length acl) most_stored short))
-    (le-leb (count_by p acl) most_set counted)
+parts_of most_set most_stored of acl e =
+    let three = list_parts _ _ _ e in
+    record {
+      fit = AllPass-from_list_all (is_entry_for of) acl three.0;
+      few = rw (length-filter is_other acl) (leb-true (count_by is_other acl) most_set three.2);
+    }
 
-filter_none : {X : Type 0} (xs : List X) → filter (λ x. false) xs ≡ []
-filter_none [] = refl
-filter_none (x ∷ xs) = filter_none xs
+pub modes_keep_limits : ModesKeepLimits
+modes_keep_limits most_set most_stored room of acl mode e =
+    let parts = parts_of most_set most_stored of acl e in
+    let few = parts.few in
+    let long = moded_length of acl mode in
+    let others = moded_others of acl mode in
+    list_from most_set most_stored of (moded of acl mode) (moded_fits of acl mode parts.fit) (omega arith) (omega arith)
 
-length-map : {X : Type 0} {Y : Type 0} (f : X → Y) (xs : List X) → length (map f xs) ≡ length xs
-length-map f [] = refl
-length-map f (x ∷ xs) = ap suc (length-map f xs)
+meets_some : (flags : ℕ) → (meets flags 2 || (meets flags 1 && not (meets flags 4))) ≡ true → meets flags 3 ≡ true
+meets_some flags h =
+    ⊎_elim
+    (λ (directories : meets flags 2 ≡ true). meets-wider flags 2 3 refl directories)
+    (λ (files : (meets flags 1 && not (meets flags 4)) ≡ true). meets-wider flags 1 3 refl (and_parts _ _ files).0)
+    (or_cases _ _ h)
+
+not_and_false : (b : Bool) → not (b && false) ≡ true
+not_and_false true = refl
+not_and_false false = refl
+
+inherited_other : (of : NodeKind) (ace : Ace) → is_inherited_by of ace ≡ true → is_other ace ≡ true
+inherited_other node.File ace h = rw (meets-wider ace.flags.0 1 3 refl h) (not_and_false (is_special ace.who && counts ace))
+inherited_other node.Directory ace h = rw (meets_some ace.flags.0 h) (not_and_false (is_special ace.who && counts ace))
+
+directory_flags : (flags : ℕ) (directories further : Bool) → meets flags 2 ≡ directories → meets flags 4 ≡ further → (directories || (meets flags 1 && not further)) ≡ true → (without flags inheritance == 0) ≡ true → are_flags_for node.Directory (cond directories (cond further (without flags inheritance) (without flags inherit_only)) (bit_or flags inherit_only)) ≡ true
+directory_flags flags true true e f h none = rw (eqb-true _ 0 none)
+directory_flags flags true false e f h none =
+    and_from _ _
+    (eq-eqb _ 0 (without-without flags inherit_only inheritance (eqb-true _ 0 none)))
+    (or_right _ (meets (without flags inherit_only) 3) (ap (λ w. not (w == 0)) (and_assoc 3 flags (2 ^ 32 - 1 - inherit_only)) ∙ meets-wider flags 2 3 refl e))
+directory_flags flags false further e f h none = silent_flags flags (meets-wider flags 1 3 refl (and_parts _ _ h).0) none
+
+inherited_fits : (of : NodeKind) (ace : Ace) → is_inherited_by of ace ≡ true → Fits node.Directory ace → Fits of (as_inherited of ace)
+inherited_fits node.File ace h e =
+    let parts = and_parts (are_flags_for node.Directory ace.flags.0) (without ace.mask.0 every_right == 0) e in
+    let flags = and_parts (without ace.flags.0 inheritance == 0) (not (meets ace.flags.0 12) || meets ace.flags.0 3) parts.0 in
+    and_from _ _ flags.0 parts.1
+inherited_fits node.Directory ace h e =
+    let parts = and_parts (are_flags_for node.Directory ace.flags.0) (without ace.mask.0 every_right == 0) e in
+    let flags = and_parts (without ace.flags.0 inheritance == 0) (not (meets ace.flags.0 12) || meets ace.flags.0 3) parts.0 in
+    and_from _ _ (directory_flags ace.flags.0 (meets ace.flags.0 2) (meets ace.flags.0 4) refl refl h flags.0) parts.1
 
 pub inheritance_keeps_limits : InheritanceKeepsLimits
 unfolding inherited
-inheritance_keeps_limits most_set most_stored room of parent is =
-    let parts = list_parts most_set most_stored node.Directory parent is in
-    let p : Ace → Bool = λ ace. not (is_plain ace) in
-    let kept : List Ace = filter (is_inherited_by of) parent in
-    let few : length kept + length (filter (λ (ace : Ace). false) parent) ≤ tally p parent
-    = length-filters p (is_inherited_by of) (λ (ace : Ace). false) (one_at_most of) parent in
-    let same : length (map (as_inherited of) kept) ≡ length kept = length-map (as_inherited of) kept in
-    let counted : tally p (map (as_inherited of) kept) ≤ length (map (as_inherited of) kept)
-    = tally-le-length p (map (as_inherited of) kept) in
-    let most : tally p parent ≤ most_set = parts.2 in
-    list_from most_set most_stored of (map (as_inherited of) kept)
-    (list_all-kept (is_entry_for node.Directory) (is_inherited_by of) (as_inherited of) (is_entry_for of) (entry_inherited of) parent parts.0)
+inheritance_keeps_limits most_set most_stored room of parent e =
+    let parts = parts_of most_set most_stored node.Directory parent e in
+    let few = parts.few in
+    let taken = filter (is_inherited_by of) parent in
+    let others = size-weaker (is_inherited_by of) is_other (inherited_other of) parent in
+    let long = length-map taken (as_inherited of) in
+    let left = size-le is_other (map (as_inherited of) taken) in
+    list_from most_set most_stored of (map (as_inherited of) taken)
+    (All-map (Fits of) (as_inherited of) taken
+    (λ k d h. inherited_fits of (get_or taken k d) (filter_passes (is_inherited_by of) parent k d h) (All-filter (is_inherited_by of) (Fits node.Directory) parent parts.fit k d h)))
     (omega arith) (omega arith)
 
--- Modes: each entry
+-- ---- lists that a client sets, and lists of new nodes
 
-sums_within : (of : NodeKind) (read write execute : Bool)
-    → without (cond read read_data 0 + cond write (write_rights of) 0 + cond execute execute_right 0) every_right ≡ 0
-sums_within node.File true true true = refl
-sums_within node.File true true false = refl
-sums_within node.File true false true = refl
-sums_within node.File true false false = refl
-sums_within node.File false true true = refl
-sums_within node.File false true false = refl
-sums_within node.File false false true = refl
-sums_within node.File false false false = refl
-sums_within node.Directory true true true = refl
-sums_within node.Directory true true false = refl
-sums_within node.Directory true false true = refl
-sums_within node.Directory true false false = refl
-sums_within node.Directory false true true = refl
-sums_within node.Directory false true false = refl
-sums_within node.Directory false false true = refl
-sums_within node.Directory false false false = refl
+all_step : {X : Type 0} (e : X → Bool) (x : X) (xs : List X) (b : Bool) → e x ≡ b → suc (length xs) ≤ cond (not (not b)) (1 + position_or_len (λ y. not (e y)) xs) 0 → (b ≡ true) × (length xs ≤ position_or_len (λ y. not (e y)) xs)
+all_step e x xs true h le = (refl, omega arith)
+all_step e x xs false h le = absurd (omega arith)
 
-rights_within : (of : NodeKind) (bits : ℕ) → without (rights_of of bits) every_right ≡ 0
-rights_within of bits = sums_within of (meets bits 4) (meets bits 2) (meets bits 1)
+-- where no element fails, each passes
+all_from_position : {X : Type 0} (e : X → Bool) (xs : List X) → length xs ≤ position_or_len (λ y. not (e y)) xs → AllByRecursion (λ y. e y ≡ true) xs
+all_from_position e [] le = tt
+all_from_position e (x ∷ xs) le =
+    let both = all_step e x xs (e x) refl le in
+    (both.0, all_from_position e xs both.1)
 
-lacking_within : (of : NodeKind) (bits : ℕ) → without (rights_lacking of bits) every_right ≡ 0
-lacking_within of bits =
-    still_outside (rights_of of 7) (2 ^ 32 - 1 - rights_of of bits) (2 ^ 32 - 1 - every_right) (rights_within of 7)
+none_if : (b : Bool) (n : ℕ) → cond b (Some n) None ≡ None → b ≡ false
+none_if true n e = cc
+none_if false n e = refl
 
--- an entry without flags, of rights that this server knows
-plain_entry : (of : NodeKind) (kind : AceKind) (who : Who) (mask : ℕ) → without mask every_right ≡ 0
-    → is_entry_for of (entry kind who mask) ≡ true
-plain_entry of kind who mask within =
-    and_from (are_flags_for of 0) (eqb (without mask every_right) 0) (no_flags of) (eq-eqb (without mask every_right) 0 within)
-
-mask_limited : (kind : AceKind) (mask lacking : ℕ) → without mask every_right ≡ 0 → without (limited_kind kind mask lacking) every_right ≡ 0
-mask_limited ace_kind.Allow mask lacking within = still_outside mask (2 ^ 32 - 1 - lacking) (2 ^ 32 - 1 - every_right) within
-mask_limited ace_kind.Deny mask lacking within = within
-
-entry_limited : (of : NodeKind) (mode : ℕ) (ace : Ace) → is_entry_for of ace ≡ true → is_entry_for of (limited of mode ace) ≡ true
-entry_limited of mode ace is =
-    let parts = and_parts (are_flags_for of ace.flags.0) (eqb (without ace.mask.0 every_right) 0) is in
-    let mask : ℕ = limited_kind ace.kind ace.mask.0 (rights_lacking of (group_bits mode)) in
-    and_from (are_flags_for of ace.flags.0) (eqb (without mask every_right) 0) parts.0
-    (eq-eqb (without mask every_right) 0
-    (mask_limited ace.kind ace.mask.0 (rights_lacking of (group_bits mode)) (eqb-true (without ace.mask.0 every_right) 0 parts.1)))
-
-twice : (b : Bool) → not (not b) ≡ true → b ≡ true
-twice true is = refl
-twice false is = is
-
-handed_flags : (ace : Ace) → is_handed_down ace ≡ true → (meets ace.flags.0 8 ≡ true) ⊎ (meets ace.flags.0 3 ≡ true)
-handed_flags ace is = elim (or_cases (not (counts ace)) (is_special ace.who && meets ace.flags.0 3) is) [
-  | inl silent ↦ inl (twice (meets ace.flags.0 8) silent)
-  | inr inherited ↦ inr (and_parts (is_special ace.who) (meets ace.flags.0 3) inherited).1
-]
-
-flags_handed : (of : NodeKind) (ace : Ace) → are_flags_for of ace.flags.0 ≡ true → is_handed_down ace ≡ true
-    → are_flags_for of (bit_or ace.flags.0 8) ≡ true
-flags_handed node.File ace are is =
-    let none : ace.flags.0 ≡ 0 = eqb-true ace.flags.0 0 are in
-    elim (handed_flags ace is) [
-      | inl silent ↦ absurd (true≢false (sym silent ∙ ap (λ w. meets w 8) none))
-      | inr inherits ↦ absurd (true≢false (sym inherits ∙ ap (λ w. meets w 3) none))
-    ]
-flags_handed node.Directory ace are is =
-    let flags : ℕ = ace.flags.0 in
-    let parts = and_parts (eqb (without flags 0xF) 0) (not (meets flags 12) || meets flags 3) are in
-    let inherits : meets flags 3 ≡ true = elim (handed_flags ace is) [
-      | inl silent ↦ elim (or_cases (not (meets flags 12)) (meets flags 3) parts.1) [
-        | inl neither ↦ absurd (true≢false (sym neither ∙ ap not (meets_wider flags 8 12 refl silent)))
-        | inr inherits ↦ inherits
-      ]
-      | inr inherits ↦ inherits
-    ] in
-    with_inherit_only flags (none_outside flags are) inherits
-
-entry_handed : (of : NodeKind) (ace : Ace) → is_entry_for of ace ≡ true → is_handed_down ace ≡ true
-    → is_entry_for of (not_counting ace) ≡ true
-entry_handed of ace is handed =
-    let parts = and_parts (are_flags_for of ace.flags.0) (eqb (without ace.mask.0 every_right) 0) is in
-    and_from (are_flags_for of (bit_or ace.flags.0 8)) (eqb (without ace.mask.0 every_right) 0)
-    (flags_handed of ace parts.0 handed) parts.1
-
--- Modes: the list
-
-abbrev counting_numbers : List Ace → List Ace
-counting_numbers acl = filter (λ (ace : Ace). counts ace && not (is_special ace.who)) acl
-
-abbrev handed : List Ace → List Ace
-handed acl = filter is_handed_down acl
-
-abbrev owner_entries : NodeKind → ℕ → List Ace
-owner_entries of mode = entry ace_kind.Allow who_is.Owner (rights_of of (owner_bits mode))
-    ∷ entry ace_kind.Deny who_is.Owner (rights_lacking of (owner_bits mode)) ∷ []
-
-abbrev other_entries : NodeKind → ℕ → List Ace
-other_entries of mode = entry ace_kind.Allow who_is.Group (rights_of of (group_bits mode))
-    ∷ entry ace_kind.Deny who_is.Group (rights_lacking of (group_bits mode))
-    ∷ entry ace_kind.Allow who_is.Everyone (rights_of of (other_bits mode)) ∷ []
-
-abbrev unfiltered : NodeKind → List Ace → ℕ → List Ace
-unfiltered of acl mode = owner_entries of mode ++ map (limited of mode) (counting_numbers acl) ++ other_entries of mode
-    ++ map not_counting (handed acl)
-
-owner_suit : (of : NodeKind) (mode : ℕ) → list_all (is_entry_for of) (owner_entries of mode) ≡ true
-owner_suit of mode = rw (
-  plain_entry of ace_kind.Allow who_is.Owner (rights_of of (owner_bits mode)) (rights_within of (owner_bits mode)),
-  plain_entry of ace_kind.Deny who_is.Owner (rights_lacking of (owner_bits mode)) (lacking_within of (owner_bits mode)),
-) refl
-
-other_suit : (of : NodeKind) (mode : ℕ) → list_all (is_entry_for of) (other_entries of mode) ≡ true
-other_suit of mode = rw (
-  plain_entry of ace_kind.Allow who_is.Group (rights_of of (group_bits mode)) (rights_within of (group_bits mode)),
-  plain_entry of ace_kind.Deny who_is.Group (rights_lacking of (group_bits mode)) (lacking_within of (group_bits mode)),
-  plain_entry of ace_kind.Allow who_is.Everyone (rights_of of (other_bits mode)) (rights_within of (other_bits mode)),
-) refl
-
-all_append : {X : Type 0} (p : X → Bool) (xs ys : List X) → list_all p xs ≡ true → list_all p ys ≡ true → list_all p (xs ++ ys) ≡ true
-all_append p xs ys first second = list_all-append p xs ys ∙ and_from (list_all p xs) (list_all p ys) first second
-
-entries_moded : (of : NodeKind) (acl : List Ace) (mode : ℕ) → list_all (is_entry_for of) acl ≡ true
-    → list_all (is_entry_for of) (unfiltered of acl mode) ≡ true
-entries_moded of acl mode all =
-    all_append (is_entry_for of) (owner_entries of mode ++ map (limited of mode) (counting_numbers acl) ++ other_entries of mode)
-    (map not_counting (handed acl))
-    (all_append (is_entry_for of) (owner_entries of mode ++ map (limited of mode) (counting_numbers acl)) (other_entries of mode)
-    (all_append (is_entry_for of) (owner_entries of mode) (map (limited of mode) (counting_numbers acl)) (owner_suit of mode)
-    (list_all-kept (is_entry_for of) (λ (ace : Ace). counts ace && not (is_special ace.who)) (limited of mode) (is_entry_for of)
-    (λ ace is kept. entry_limited of mode ace is) acl all))
-    (other_suit of mode))
-    (list_all-kept (is_entry_for of) is_handed_down not_counting (is_entry_for of) (entry_handed of) acl all)
-
-one_part : (does_count special inherits : Bool)
-    → cond (does_count && not special) 1 0 + cond (not does_count || (special && inherits)) 1 0
-    ≤ cond (not (special && does_count && not inherits)) 1 0
-one_part true true true = omega arith
-one_part true true false = omega arith
-one_part true false true = omega arith
-one_part true false false = omega arith
-one_part false true true = omega arith
-one_part false true false = omega arith
-one_part false false true = omega arith
-one_part false false false = omega arith
-
-parts_apart : (acl : List Ace) → length (counting_numbers acl) + length (handed acl) ≤ tally (λ ace. not (is_plain ace)) acl
-parts_apart acl = length-filters (λ (ace : Ace). not (is_plain ace)) (λ (ace : Ace). counts ace && not (is_special ace.who)) is_handed_down
-    (λ ace. one_part (counts ace) (is_special ace.who) (meets ace.flags.0 3)) acl
-
-length_moded : (of : NodeKind) (acl : List Ace) (mode : ℕ)
-    → length (unfiltered of acl mode) ≡ 5 + (length (counting_numbers acl) + length (handed acl))
-length_moded of acl mode =
-    let numbers = length-map (limited of mode) (counting_numbers acl) in
-    let tail = length-map not_counting (handed acl) in
-    let a = length-append (owner_entries of mode ++ map (limited of mode) (counting_numbers acl) ++ other_entries of mode) (map not_counting (handed acl)) in
-    let b = length-append (owner_entries of mode ++ map (limited of mode) (counting_numbers acl)) (other_entries of mode) in
-    let c = length-append (owner_entries of mode) (map (limited of mode) (counting_numbers acl)) in
-    omega arith
-
-owner_plain : (of : NodeKind) (mode : ℕ) → tally (λ ace. not (is_plain ace)) (owner_entries of mode) ≡ 0
-unfolding tally
-owner_plain of mode = refl
-
-other_plain : (of : NodeKind) (mode : ℕ) → tally (λ ace. not (is_plain ace)) (other_entries of mode) ≡ 0
-unfolding tally
-other_plain of mode = refl
-
-tally_moded : (of : NodeKind) (acl : List Ace) (mode : ℕ)
-    → tally (λ ace. not (is_plain ace)) (unfiltered of acl mode) ≤ length (counting_numbers acl) + length (handed acl)
-tally_moded of acl mode =
-    let p : Ace → Bool = λ ace. not (is_plain ace) in
-    let numbers = length-map (limited of mode) (counting_numbers acl) in
-    let tail = length-map not_counting (handed acl) in
-    let a = tally-append p (owner_entries of mode ++ map (limited of mode) (counting_numbers acl) ++ other_entries of mode) (map not_counting (handed acl)) in
-    let b = tally-append p (owner_entries of mode ++ map (limited of mode) (counting_numbers acl)) (other_entries of mode) in
-    let c = tally-append p (owner_entries of mode) (map (limited of mode) (counting_numbers acl)) in
-    let few_numbers = tally-le-length p (map (limited of mode) (counting_numbers acl)) in
-    let few_handed = tally-le-length p (map not_counting (handed acl)) in
-    let no_owner : tally p (owner_entries of mode) ≡ 0 = owner_plain of mode in
-    let no_other : tally p (other_entries of mode) ≡ 0 = other_plain of mode in
-    omega arith
-
-pub modes_keep_limits : ModesKeepLimits
-unfolding moded
-modes_keep_limits most_set most_stored room of acl mode is =
-    let parts = list_parts most_set most_stored of acl is in
-    let p : Ace → Bool = λ ace. not (is_plain ace) in
-    let apart = parts_apart acl in
-    let whole = length_moded of acl mode in
-    let counted = tally_moded of acl mode in
-    let shorter = length-filter-le has_rights (unfiltered of acl mode) in
-    let fewer = tally-filter p has_rights (unfiltered of acl mode) in
-    let most : tally p acl ≤ most_set = parts.2 in
-    list_from most_set most_stored of (filter has_rights (unfiltered of acl mode))
-    (list_all-filter (is_entry_for of) has_rights (unfiltered of acl mode) (entries_moded of acl mode parts.0))
+pub set_lists_are_within_limits : SetListsAreWithinLimits
+unfolding first_refused
+set_lists_are_within_limits most_set most_stored room of acl e =
+    let behind : length acl ≤ min most_set (position_or_len (λ ace. not (is_entry_for of ace)) acl) = ltb-false _ _ (none_if _ _ e) in
+    let few = size-le is_other acl in
+    list_from most_set most_stored of acl
+    (All-from_recursion (Fits of) acl (all_from_position (is_entry_for of) acl (omega arith)))
     (omega arith) (omega arith)
+
+without_list : (most_set most_stored : ℕ) → most_set + 5 ≤ most_stored → (of : NodeKind) (parent : List Ace) (is_empty : Bool) (mode : Option ℕ) → is_list_for most_set most_stored node.Directory parent ≡ true → is_list_for most_set most_stored of (created_without_list parent of is_empty mode) ≡ true
+without_list most_set most_stored room of parent is_empty (Some mode) e =
+    modes_keep_limits most_set most_stored room of (inherited parent of) mode (inheritance_keeps_limits most_set most_stored (omega arith) of parent e)
+without_list most_set most_stored room of parent true None e = list_from most_set most_stored of [] (All-nil (Fits of)) (omega arith) (omega arith)
+without_list most_set most_stored room of parent false None e = inheritance_keeps_limits most_set most_stored (omega arith) of parent e
+
+pub creation_keeps_limits : CreationKeepsLimits
+creation_keeps_limits most_set most_stored room of parent is_empty mode None e taken = without_list most_set most_stored room of parent is_empty mode e
+creation_keeps_limits most_set most_stored room of parent is_empty mode (Some acl) e taken = set_lists_are_within_limits most_set most_stored (omega arith) of acl taken

@@ -113,7 +113,7 @@ abbrev pub allows : Option Ace → Bool
 allows None = false
 allows (Some ace) = is_allow ace.kind
 
--- what the owner may do whatever the list says (this server's choice; section 6.2.1.3.1 leaves it to the server)
+-- what the owner may do whatever the list says (this server's choice, which section 6.3.1.1 allows)
 abbrev pub is_owners_right : ℕ → Bool
 is_owners_right right = (right == read_acl) || (right == write_acl) || (right == write_attributes)
 

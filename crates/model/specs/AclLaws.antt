@@ -1,8 +1,8 @@
 -- What holds of every list that the definitions of modes and inheritance give.
-use Rattle.std.specs.Prelude.{◌≡◌, ℕ, ◌+◌, ◌≤◌, Bool, true, false, ◌&&◌, not, List, All}
+use Rattle.std.specs.Prelude.{◌≡◌, ℕ, ◌+◌, ◌≤◌, Bool, true, false, ◌&&◌, not, Option, None, IfSome, List, All}
 use Rattle.model.specs.Acl.{meets, counts, is_allow, is_special, is_list_for}
 use Rattle.model.specs.Mode.{group_bits, rights_lacking, mode_of, moded}
-use Rattle.model.specs.Inherit.{inherited}
+use Rattle.model.specs.Inherit.{created, first_refused, inherited}
 use Rattle.model.specs.declared.acl.Ace.{Ace}
 use Rattle.model.specs.declared.node.NodeKind.{NodeKind}
 use Rattle.model.specs.declared.node.NodeKind.TheVariants as node
@@ -28,3 +28,15 @@ ModesKeepLimits = (most_set most_stored : ℕ) → most_set + 5 ≤ most_stored
 abbrev pub InheritanceKeepsLimits : Type 0
 InheritanceKeepsLimits = (most_set most_stored : ℕ) → most_set ≤ most_stored
     → (of : NodeKind) (parent : List Ace) → is_list_for most_set most_stored node.Directory parent ≡ true → is_list_for most_set most_stored of (inherited parent of) ≡ true
+
+-- a list of which a client may set every entry is one that the node may have
+abbrev pub SetListsAreWithinLimits : Type 0
+SetListsAreWithinLimits = (most_set most_stored : ℕ) → most_set ≤ most_stored
+    → (of : NodeKind) (acl : List Ace) → first_refused most_set of acl ≡ None → is_list_for most_set most_stored of acl ≡ true
+
+-- the list of a new node is one that it may have
+abbrev pub CreationKeepsLimits : Type 0
+CreationKeepsLimits = (most_set most_stored : ℕ) → most_set + 5 ≤ most_stored
+    → (of : NodeKind) (parent : List Ace) (is_empty : Bool) (mode : Option ℕ) (acl : Option (List Ace))
+    → is_list_for most_set most_stored node.Directory parent ≡ true → IfSome acl (λ list. first_refused most_set of list ≡ None)
+    → is_list_for most_set most_stored of (created parent of is_empty mode acl) ≡ true

@@ -218,7 +218,7 @@ impl Acl {
     }
 }
 
-/// The groups that a caller is a member of beside the first one: at most [`Gids::MOST`] (RFC 5531, section 8.2).
+/// The groups that a caller is a member of beside the first one: at most [`Gids::MOST`] (RFC 5531, appendix A).
 ///
 /// Contracts see the list of their numbers.
 #[derive(Drop, Debug)]
@@ -267,7 +267,7 @@ impl Gids {
     }
 }
 
-/// Who asks: a user, its first group and its other groups, as its call says (RFC 5531, section 8.2, AUTH_SYS).
+/// Who asks: a user, its first group and its other groups, as its call says (RFC 5531, appendix A, AUTH_SYS).
 #[derive(Drop, Debug)]
 pub struct Cred {
     pub uid: u32,

@@ -1,6 +1,6 @@
 //! What a node of the tree is.
 
-/// The kinds of nodes (RFC 8881, section 3.3.13, `nfs_ftype4`, of which this server has two).
+/// The kinds of nodes (RFC 8881, section 5.8.1.2, `nfs_ftype4`, of which this server has two).
 #[derive(Clone, Copy, PartialEq, Eq, Debug)]
 pub enum NodeKind {
     File = 1,

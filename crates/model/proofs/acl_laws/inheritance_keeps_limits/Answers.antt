@@ -1,0 +1,5 @@
+use Rattle.model.proofs.LimitLaws.{inheritance_keeps_limits}
+use Rattle.model.proofs.acl_laws.inheritance_keeps_limits.Goals as goal
+
+pub returns : goal.returns
+returns c = inheritance_keeps_limits
