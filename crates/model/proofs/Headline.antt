@@ -137,7 +137,7 @@ behind_one start done entry tree false e durable stands = record {
 
 -- The parts of `done` behind an event
 
-abbrev Joined : List Entry → Option Entry → List Entry
+abbrev pub Joined : List Entry → Option Entry → List Entry
 Joined done executed = done ++ option_to_list executed
 
 tree_behind : (start old new : Tree) (done : List Entry) (executed : Option Entry) → EntryFits old new executed → old ≡ tree_after start done
@@ -321,11 +321,11 @@ taken_names history connection (Some reply) bound names = record {
   handed_out = AreBelow-append bound history.handed_out (history.named connection) names.handed_out (names.named connection);
 }
 
-taken_done : (history : History) (connection : ℕ) (reply : Option (List ℕ)) → (taken_by history connection reply).done ≡ history.done
+pub taken_done : (history : History) (connection : ℕ) (reply : Option (List ℕ)) → (taken_by history connection reply).done ≡ history.done
 taken_done history connection None = refl
 taken_done history connection (Some reply) = refl
 
-done_behind : (history : History) (world : World) (event : Event) → Joined history.done (executed_of world event) ≡ (history_after history world event).done
+pub done_behind : (history : History) (world : World) (event : Event) → Joined history.done (executed_of world event) ≡ (history_after history world event).done
 done_behind history world (Arrives connection piece) = append-nil history.done
 done_behind history world (Turns connection now) = refl
 done_behind history world (HangsUp connection) = append-nil history.done

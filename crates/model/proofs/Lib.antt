@@ -7,7 +7,9 @@ pub mod ModeLaws
 pub mod NumberLaws
 pub mod RecordLaws
 pub mod RpcRows
+pub mod RuledOutLaws
 pub mod RunLaws
+pub mod ServedOnceLaws
 pub mod SessionRows
 pub mod SlotLaw
 pub mod SoundLaws

@@ -5,7 +5,7 @@ use Rattle.std.proofs.lemmas.List.{take-append-le, drop-append-le}
 use Rattle.std.proofs.lemmas.Nat.{from_be_bytes-to_be_bytes_4}
 use Rattle.std.specs.List.{flat_map}
 use Rattle.std.specs.Int.{w32, from_be_bytes}
-use Rattle.model.specs.Record.{RecordLimits, RecordFault, Gathered, nothing_gathered, Fragment, Waits, Refuses, Brings, behind_header, fragment, Front, Partial, Refused, Whole, gathered_with, behind_fragment, front_from, front, Stream, behind_front, records_from, records, framed, fed_by, fed, EveryCut, SentIsRead}
+use Rattle.model.specs.Record.{RecordLimits, RecordFault, Gathered, nothing_gathered, Fragment, Waits, Refuses, Brings, behind_header, fragment, Front, Partial, Refused, Whole, gathered_with, behind_fragment, front_from, front, Stream, behind_front, records_from, records, framed, top_bit, fragment_text, record_text, joined, EveryFragmenting, fed_by, fed, EveryCut, SentIsRead}
 
 -- What more bytes behind make of a fragment
 
@@ -267,3 +267,67 @@ pub sent_is_read : SentIsRead
 unfolding framed
 sent_is_read limits bytes rest small short some =
     front_one limits (suc (suc (suc (length (bytes ++ rest))))) (framed bytes ++ rest) bytes rest (sent_fragment limits bytes rest small short some)
+
+-- However it is fragmented
+
+top_is : (is_last : Bool) (size : ℕ) → size < 2 ^ 31 → nat_le (2 ^ 31) (top_bit is_last + size) ≡ is_last
+top_is true size small = le-leb (2 ^ 31) (2 ^ 31 + size) (omega arith)
+top_is false size small = lt-leb (2 ^ 31) (0 + size) (omega arith)
+
+top_size : (is_last : Bool) (size : ℕ) → size < 2 ^ 31 → (top_bit is_last + size) % 2 ^ 31 ≡ size
+top_size true size small = omega arith
+top_size false size small = omega arith
+
+top_fits : (is_last : Bool) (size : ℕ) → size < 2 ^ 31 → top_bit is_last + size < 2 ^ 32
+top_fits true size small = omega arith
+top_fits false size small = omega arith
+
+header_brings : (limits : RecordLimits) (gathered : Gathered) (is_last : Bool) (bytes rest : List ℕ) → length gathered.bytes + length bytes ≤ limits.bytes → length bytes < 2 ^ 31
+    → gathered.fragments < limits.fragments
+    → behind_header limits gathered (top_bit is_last + length bytes) (bytes ++ rest) ≡ Brings bytes is_last rest
+unfolding behind_header
+header_brings limits gathered is_last bytes rest small short some =
+    let size = top_size is_last (length bytes) short in
+    if_false _ _ _ (le-ltb limits.bytes (length gathered.bytes + (top_bit is_last + length bytes) % 2 ^ 31) (omega (arith, size)))
+    ∙ if_false _ _ _ (lt-leb limits.fragments gathered.fragments some)
+    ∙ if_false _ _ _ (le-ltb (length (bytes ++ rest)) ((top_bit is_last + length bytes) % 2 ^ 31) (omega (arith, size, length-append bytes rest)))
+    ∙ ap (λ (n : ℕ). Brings (take n (bytes ++ rest)) (nat_le (2 ^ 31) (top_bit is_last + length bytes)) (drop n (bytes ++ rest))) size
+    ∙ ap (λ (b : Bool). Brings (take (length bytes) (bytes ++ rest)) b (drop (length bytes) (bytes ++ rest))) (top_is is_last (length bytes) short)
+    ∙ ap (λ (front : List ℕ). Brings front is_last (drop (length bytes) (bytes ++ rest))) (take_at bytes rest (length bytes) refl)
+    ∙ ap (λ (left : List ℕ). Brings bytes is_last left) (drop_at bytes rest (length bytes) refl)
+
+fragment_brings : (limits : RecordLimits) (gathered : Gathered) (is_last : Bool) (bytes rest : List ℕ) → length gathered.bytes + length bytes ≤ limits.bytes → length bytes < 2 ^ 31
+    → gathered.fragments < limits.fragments → fragment limits gathered (fragment_text is_last bytes ++ rest) ≡ Brings bytes is_last rest
+unfolding fragment fragment_text
+fragment_brings limits gathered is_last bytes rest small short some =
+    if_false _ _ _ (le-ltb (length (fragment_text is_last bytes ++ rest)) 4 (omega arith))
+    ∙ ap (λ (header : ℕ). behind_header limits gathered header (bytes ++ rest)) (from_be_bytes-to_be_bytes_4 (top_bit is_last + length bytes) (top_fits is_last (length bytes) short))
+    ∙ header_brings limits gathered is_last bytes rest small short some
+
+front_joins : (limits : RecordLimits) (n : ℕ) (gathered : Gathered) (earlier : List (List ℕ)) (last rest : List ℕ) → length earlier < n
+    → length gathered.bytes + length (joined earlier last) ≤ limits.bytes → length (joined earlier last) < 2 ^ 31 → gathered.fragments + length earlier < limits.fragments
+    → front_from limits n gathered (record_text earlier last ++ rest) ≡ Whole (gathered.bytes ++ joined earlier last) rest
+unfolding front_from
+front_joins limits zero gathered earlier last rest fuel small short some = absurd (omega arith)
+front_joins limits (suc n) gathered [] last rest fuel small short some =
+    ap (behind_fragment (front_from limits n) gathered) (fragment_brings limits gathered true last rest small short (omega arith))
+front_joins limits (suc n) gathered (bytes ∷ earlier) last rest fuel small short some =
+    let size = length-append bytes (joined earlier last) in
+    let next = gathered_with gathered bytes in
+    ap (λ (all : List ℕ). front_from limits (suc n) gathered all) (append_assoc (fragment_text false bytes) (record_text earlier last) rest)
+    ∙ ap (behind_fragment (front_from limits n) gathered)
+    (fragment_brings limits gathered false bytes (record_text earlier last ++ rest) (omega (arith, size)) (omega (arith, size)) (omega arith))
+    ∙ front_joins limits n next earlier last rest (omega arith) (omega (arith, size, length-append gathered.bytes bytes)) (omega (arith, size)) (omega arith)
+    ∙ ap (λ (all : List ℕ). Whole all rest) (append_assoc gathered.bytes bytes (joined earlier last))
+
+enough : (earlier : List (List ℕ)) (last rest : List ℕ) → length earlier < length (record_text earlier last ++ rest)
+unfolding fragment_text
+enough [] last rest = omega arith
+enough (bytes ∷ earlier) last rest =
+    let more = enough earlier last rest in
+    let split = append_assoc bytes (record_text earlier last) rest in
+    omega (arith, ap length split, length-append bytes (record_text earlier last ++ rest))
+
+pub every_fragmenting : EveryFragmenting
+every_fragmenting limits earlier last rest small short some =
+    front_joins limits (length (record_text earlier last ++ rest)) nothing_gathered earlier last rest (enough earlier last rest) (omega arith) short (omega arith)

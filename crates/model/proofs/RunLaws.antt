@@ -7,14 +7,14 @@ use Rattle.model.specs.Need.{permitted}
 use Rattle.model.specs.Operation.{Argument, NewDirectory}
 use Rattle.model.specs.Refusal.{Refusals, first_refusal, refused_or}
 use Rattle.model.specs.declared.limits.Limits.{Limits}
-use Rattle.model.specs.Step.{State, Stepped, alters, effect, refusals, early, late, change_refusals, unless_refused, does, does_within}
+use Rattle.model.specs.Step.{State, Stepped, alters, effect, refusals, early, late, change_refusals, unless_refused, does}
 use Rattle.model.specs.Tree.{Tree}
 use Rattle.model.specs.Answer.{ExchangeIdAnswer, CreateSessionAnswer}
-use Rattle.model.specs.Operation.{SequenceArguments}
+use Rattle.model.specs.Operation.{SequenceArguments, operation_of}
 use Rattle.model.specs.Rpc.{CallRead, NoCall, OtherVersion, Calls, Request, Answers, Runs, read_call, request_of}
 use Rattle.model.specs.Session as sessions
 use Rattle.model.specs.Session.{Table, Session}
-use Rattle.model.specs.World.{World, InProgress, Connection, Quiet, Waiting, Busy, Replied, Closed, HasRun, Gives, Replays, exchanged, created_by, created, tabled, started_in, begun, reclaimed, stepped, state_of, run, has_room, Turned, Entry, entry_of, behind, ends, goes_on, with_result, is_last, has_run, operates, Next, Refuses, Reads, next_operation, requested, in_progress, called, turned, one, changed, arrives, arrives_at, takes, without_reply, connects, can_connect, hangs_up, is_busy}
+use Rattle.model.specs.World.{World, InProgress, Connection, Quiet, Waiting, Busy, Replied, Closed, HasRun, Gives, Replays, exchanged, created_by, created, tabled, started_in, begun, reclaimed, stepped, state_of, refuses, in_room, has_room, run, Turned, Entry, entry_of, behind, ends, goes_on, with_result, is_last, has_run, operates, Next, Refuses, Reads, next_operation, requested, in_progress, called, turned, one, changed, arrives, arrives_at, takes, without_reply, connects, can_connect, hangs_up, is_busy}
 use Rattle.model.specs.Keyed.{at}
 use Rattle.model.specs.Runs.{is_done, before, Event, Arrives, Turns, HangsUp, Connects, Takes, effect_of, executed_of}
 
@@ -70,17 +70,6 @@ does_lawful limits state now operation =
     (λ e. passes_permitted limits state operation (change_refusals limits state operation (effect state now operation).state.tree) e)
     (effect_alters state now operation)
 
-still_lawful : (state : State) (operation : Argument) (stepped : Stepped) (refusal : Option Status) → Lawful state operation stepped
-    → Lawful state operation (unless_refused state operation refusal stepped)
-still_lawful state operation stepped (Some reason) lawful differs = absurd (differs refl)
-still_lawful state operation stepped None lawful differs = lawful differs
-
-within_lawful : (has_room : Outcome → Bool) (limits : Limits) (state : State) (now : ℕ) (operation : Argument)
-    → Lawful state operation (does_within has_room limits state now operation)
-unfolding does_within
-within_lawful has_room limits state now operation =
-    still_lawful state operation (does limits state now operation) _ (does_lawful limits state now operation)
-
 -- What a turn does to the tree: nothing, or what the operation did that it executed
 
 abbrev pub LawfulEntry : Entry → Type 0
@@ -130,8 +119,8 @@ reclaimed_fits world request operation None = λ differs. absurd (differs refl)
 reclaimed_fits world request operation (Some reason) = λ differs. absurd (differs refl)
 
 stepped_fits : (world : World) (request : InProgress) (now : ℕ) (operation : Argument)
-    → RanFits world request operation (stepped world request (does_within (has_room world request) world.limits.volume (state_of world request) now operation))
-stepped_fits world request now operation = within_lawful (has_room world request) world.limits.volume (state_of world request) now operation
+    → RanFits world request operation (stepped world request (does world.limits.volume (state_of world request) now operation))
+stepped_fits world request now operation = does_lawful world.limits.volume (state_of world request) now operation
 
 run_fits : (world : World) (request : InProgress) (now : ℕ) (operation : Argument) → RanFits world request operation (run world request now operation)
 unfolding run
@@ -143,6 +132,18 @@ run_fits world request now (Argument.Sequence arguments) = begun_fits world requ
 run_fits world request now (Argument.ReclaimComplete true) = reclaimed_fits world request _ _
 run_fits world request now (Argument.ReclaimComplete false) = tabled_fits world request _ 58 _ _
 run_fits world request now operation = stepped_fits world request now operation
+
+either_ran : (world : World) (request : InProgress) (operation : Argument) (b : Bool) (x y : HasRun) → RanFits world request operation x → RanFits world request operation y
+    → RanFits world request operation (cond b x y)
+either_ran world request operation true x y first second = first
+either_ran world request operation false x y first second = second
+
+in_room_fits : (world : World) (request : InProgress) (operation : Argument) (ran : HasRun) → RanFits world request operation ran
+    → RanFits world request operation (in_room world request (operation_of operation) ran)
+in_room_fits world request operation (Gives (Outcome.Refused number reason) after left) fits = fits
+in_room_fits world request operation (Gives (Outcome.Done answer) after left) fits =
+    either_ran world request operation (has_room world request (Outcome.Done answer)) _ (refuses world request (operation_of operation) status.RepTooBig) fits (λ differs. absurd (differs refl))
+in_room_fits world request operation (Replays result session slot) fits = tt
 
 abbrev TurnFits : Tree → Turned → Type 0
 TurnFits old turned = EntryFits old turned.world.tree turned.executed
@@ -167,7 +168,8 @@ has_run_fits world number request operation (Replays result session slot) fits =
 operates_fits : (world : World) (number now : ℕ) (request : InProgress) (next : Next) → TurnFits world.tree (operates world number now request next)
 operates_fits world number now request (Refuses operation reason) = behind_fits world.tree world number request (Outcome.Refused operation reason) None refl
 operates_fits world number now request (Reads operation rest) =
-    has_run_fits world number (record request { rest = rest }) operation _ (run_fits world (record request { rest = rest }) now operation)
+    has_run_fits world number (record request { rest = rest }) operation _
+    (in_room_fits world (record request { rest = rest }) operation _ (run_fits world (record request { rest = rest }) now operation))
 
 requested_fits : (world : World) (number now xid : ℕ) (request : Request) → TurnFits world.tree (requested world number now xid request)
 requested_fits world number now xid (Answers reply) = refl

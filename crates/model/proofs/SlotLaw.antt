@@ -51,30 +51,30 @@ found P test (y ∷ xs) h x e = found_from P test x y xs (test y) refl h.0 (foun
 -- What stands in a table
 
 -- each session of this id has this last number on the slot
-abbrev HasLast : List ℕ → ℕ → ℕ → Session → Type 0
+abbrev pub HasLast : List ℕ → ℕ → ℕ → Session → Type 0
 HasLast id slot last session = is_session id session ≡ true → slot < length session.slots → (slot_at session slot).last ≡ last
 
 -- the session was made, with a serial up to this one
-abbrev IsMade : ℕ → Session → Type 0
+abbrev pub IsMade : ℕ → Session → Type 0
 IsMade made session = session.serial ≤ made
 
 -- no later session has this id
-IsOld : List ℕ → ℕ → Type 0
+pub IsOld : List ℕ → ℕ → Type 0
 IsOld id made = (client serial : ℕ) → made < serial → serial < 2 ^ 64 → session_id client serial ≡ id → ⊥
 
-record Stands (id : List ℕ) (slot last : ℕ) (table : Table) : Type 0 where
-  made : AllByRecursion (IsMade table.session_serial) table.sessions
-  small : table.session_serial < 2 ^ 64
-  each : AllByRecursion (HasLast id slot last) table.sessions
-  new_or_old : (last ≡ 0) ⊎ IsOld id table.session_serial
+pub record Stands (id : List ℕ) (slot last : ℕ) (table : Table) : Type 0 where
+  pub made : AllByRecursion (IsMade table.session_serial) table.sessions
+  pub small : table.session_serial < 2 ^ 64
+  pub each : AllByRecursion (HasLast id slot last) table.sessions
+  pub new_or_old : (last ≡ 0) ⊎ IsOld id table.session_serial
 
 -- The calls that leave the sessions alone
 
-record SameSessions (old new : Table) : Type 0 where
-  sessions : new.sessions ≡ old.sessions
-  serial : new.session_serial ≡ old.session_serial
+pub record SameSessions (old new : Table) : Type 0 where
+  pub sessions : new.sessions ≡ old.sessions
+  pub serial : new.session_serial ≡ old.session_serial
 
-Stands-same : (id : List ℕ) (slot last : ℕ) (old new : Table) → SameSessions old new → Stands id slot last old → Stands id slot last new
+pub Stands-same : (id : List ℕ) (slot last : ℕ) (old new : Table) → SameSessions old new → Stands id slot last old → Stands id slot last new
 Stands-same id slot last old new same stands = record {
   made = rw same.serial (rw same.sessions stands.made);
   small = rw same.serial stands.small;
@@ -82,7 +82,7 @@ Stands-same id slot last old new same stands = record {
   new_or_old = rw same.serial stands.new_or_old;
 }
 
-abbrev SameIn : {A : Type 0} → Table → A × Table → Type 0
+abbrev pub SameIn : {A : Type 0} → Table → A × Table → Type 0
 SameIn table outcome = SameSessions table outcome.1
 
 new_record_same : (limits : SessionLimits) (uid : ℕ) (arguments : ExchangeIdArguments) (table cleared : Table) → SameSessions table cleared → SameIn table (new_record limits uid arguments table cleared)
@@ -102,7 +102,7 @@ exchange_by_same limits has_opens uid arguments table (Some client) =
     (record { sessions = refl; serial = refl })
     (new_record_same limits uid arguments table (without_client client.number table) (record { sessions = refl; serial = refl })))
 
-exchange_same : (limits : SessionLimits) (has_opens : ℕ → Bool) (uid : ℕ) (arguments : ExchangeIdArguments) (table : Table) → SameIn table (exchange_id limits has_opens uid arguments table)
+pub exchange_same : (limits : SessionLimits) (has_opens : ℕ → Bool) (uid : ℕ) (arguments : ExchangeIdArguments) (table : Table) → SameIn table (exchange_id limits has_opens uid arguments table)
 unfolding exchange_id
 exchange_same limits has_opens uid arguments table =
     both (SameIn table) (has_only exchange_flags arguments.flags) _ _
@@ -114,7 +114,7 @@ destroy_client_by_same has_opens number table None = record { sessions = refl; s
 destroy_client_by_same has_opens number table (Some client) =
     both (SameIn table) (has_state has_opens table number) _ _ (record { sessions = refl; serial = refl }) (record { sessions = refl; serial = refl })
 
-destroy_client_same : (has_opens : ℕ → Bool) (number : ℕ) (table : Table) → SameIn table (destroy_client_id has_opens number table)
+pub destroy_client_same : (has_opens : ℕ → Bool) (number : ℕ) (table : Table) → SameIn table (destroy_client_id has_opens number table)
 unfolding destroy_client_id
 destroy_client_same has_opens number table = destroy_client_by_same has_opens number table (find (is_client number) table.clients)
 
@@ -123,7 +123,7 @@ reclaim_by_same number table None = record { sessions = refl; serial = refl }
 reclaim_by_same number table (Some client) =
     both (SameIn table) client.has_reclaimed _ _ (record { sessions = refl; serial = refl }) (record { sessions = refl; serial = refl })
 
-reclaim_same : (number : ℕ) (table : Table) → SameIn table (reclaim_complete number table)
+pub reclaim_same : (number : ℕ) (table : Table) → SameIn table (reclaim_complete number table)
 unfolding reclaim_complete
 reclaim_same number table = reclaim_by_same number table (find (is_client number) table.clients)
 
@@ -144,7 +144,7 @@ destroy_by_stands id slot last name table None stands = stands
 destroy_by_stands id slot last name table (Some session) stands =
     both (λ (outcome : Option Status × Table). Stands id slot last outcome.1) (is_running session) _ _ stands (Stands-fewer id slot last table (is_session name) stands)
 
-destroy_stands : (id : List ℕ) (slot last : ℕ) (name : List ℕ) (table : Table) → Stands id slot last table → Stands id slot last (destroy_session name table).1
+pub destroy_stands : (id : List ℕ) (slot last : ℕ) (name : List ℕ) (table : Table) → Stands id slot last table → Stands id slot last (destroy_session name table).1
 unfolding destroy_session
 destroy_stands id slot last name table stands = destroy_by_stands id slot last name table (find (is_session name) table.sessions) stands
 
@@ -223,7 +223,7 @@ create_unless_stands limits id slot last arguments client table None e stands =
       new_or_old = new_or_old_later id last made stands.new_or_old;
     }
 
-abbrev StandsIn : List ℕ → ℕ → ℕ → CreateSessionOutcome → Type 0
+abbrev pub StandsIn : List ℕ → ℕ → ℕ → CreateSessionOutcome → Type 0
 StandsIn id slot last outcome = Stands id slot last outcome.table
 
 create_again_stands : (limits : SessionLimits) (id : List ℕ) (slot last : ℕ) (arguments : CreateSessionArguments) (client : Client) (table : Table) (kept : Option CreateSessionAnswer)
@@ -241,7 +241,7 @@ create_by_stands limits id slot last uid arguments table (Some client) stands =
     both (StandsIn id slot last) (client.principal == uid) _ _
     (create_again_stands limits id slot last arguments client table client.kept stands) stands
 
-create_stands : (limits : SessionLimits) (id : List ℕ) (slot last uid : ℕ) (arguments : CreateSessionArguments) (table : Table)
+pub create_stands : (limits : SessionLimits) (id : List ℕ) (slot last uid : ℕ) (arguments : CreateSessionArguments) (table : Table)
     → Stands id slot last table → StandsIn id slot last (create_session limits uid arguments table)
 unfolding create_session
 create_stands limits id slot last uid arguments table stands =
@@ -290,7 +290,7 @@ made_still : (made : ℕ) (test : Session → Bool) (change : Session → Sessio
 made_still made test change same session is =
     both (IsMade made) (test session) (change session) session (subst (λ (n : ℕ). n ≤ made) (sym (same session)) is) is
 
-finish_stands : (id : List ℕ) (slot last : ℕ) (name : List ℕ) (place : ℕ) (reply : List ℕ) (table : Table) → Stands id slot last table
+pub finish_stands : (id : List ℕ) (slot last : ℕ) (name : List ℕ) (place : ℕ) (reply : List ℕ) (table : Table) → Stands id slot last table
     → Stands id slot last (finish name place reply table)
 unfolding finish
 finish_stands id slot last name place reply table stands = record {
@@ -304,18 +304,18 @@ finish_stands id slot last name place reply table stands = record {
 
 -- What SEQUENCE looked at where the slot runs
 
-cond_runs : (b : Bool) (x y : Begun) → (y ≡ Runs → ⊥) → cond b x y ≡ Runs → (b ≡ true) × (x ≡ Runs)
+pub cond_runs : (b : Bool) (x y : Begun) → (y ≡ Runs → ⊥) → cond b x y ≡ Runs → (b ≡ true) × (x ≡ Runs)
 cond_runs true x y never e = (refl, e)
 cond_runs false x y never e = absurd (never e)
 
-cond_never : (b : Bool) (x y : Begun) → (x ≡ Runs → ⊥) → (y ≡ Runs → ⊥) → cond b x y ≡ Runs → ⊥
+pub cond_never : (b : Bool) (x y : Begun) → (x ≡ Runs → ⊥) → (y ≡ Runs → ⊥) → cond b x y ≡ Runs → ⊥
 cond_never true x y no_x no_y e = no_x e
 cond_never false x y no_x no_y e = no_y e
 
-refuses_not : (reason : Status) → Refuses reason ≡ Runs → ⊥
+pub refuses_not : (reason : Status) → Refuses reason ≡ Runs → ⊥
 refuses_not reason e = cc
 
-replays_not : (reply : List ℕ) → Replays reply ≡ Runs → ⊥
+pub replays_not : (reply : List ℕ) → Replays reply ≡ Runs → ⊥
 replays_not reply e = cc
 
 new_runs : (count : ℕ) (arguments : SequenceArguments) (session : Session) (slot : Slot) → begin_new count arguments session slot ≡ Runs
@@ -336,11 +336,11 @@ slot_runs uid count arguments session slot (Kept reply) e = kept_runs (arguments
     kept_runs true e = absurd (cond_never (uid == slot.uid) (Replays reply) (Refuses status.SeqFalseRetry) (replays_not reply) (refuses_not status.SeqFalseRetry) e)
     kept_runs false e = new_runs count arguments session slot e
 
-record RunsOn (arguments : SequenceArguments) (known : Option Session) : Type 0 where
-  session : Session
-  is : known ≡ Some session
-  within : arguments.slot < length session.slots
-  next : arguments.sequence ≡ next_number (slot_at session arguments.slot).last
+pub record RunsOn (arguments : SequenceArguments) (known : Option Session) : Type 0 where
+  pub session : Session
+  pub is : known ≡ Some session
+  pub within : arguments.slot < length session.slots
+  pub next : arguments.sequence ≡ next_number (slot_at session arguments.slot).last
 
 by_runs : (uid count : ℕ) (arguments : SequenceArguments) (known : Option Session) → begin_by uid count arguments known ≡ Runs → RunsOn arguments known
 by_runs uid count arguments None e = absurd (refuses_not status.BadSession e)
@@ -353,7 +353,7 @@ by_runs uid count arguments (Some session) e =
       next = slot_runs uid count arguments session (slot_at session arguments.slot) (slot_at session arguments.slot).state tested.1;
     }
 
-begin_runs : (uid count : ℕ) (arguments : SequenceArguments) (table : Table) → begin uid count arguments table ≡ Runs
+pub begin_runs : (uid count : ℕ) (arguments : SequenceArguments) (table : Table) → begin uid count arguments table ≡ Runs
     → RunsOn arguments (find (is_session arguments.session) table.sessions)
 unfolding begin
 begin_runs uid count arguments table e = by_runs uid count arguments _ e
@@ -395,7 +395,7 @@ started_there id slot last uid arguments session other has = by_name (is_session
 
 -- What a call does to a slot: its number runs next, or nothing changes there
 
-abbrev Goes : List ℕ → ℕ → ℕ → Table → Option ℕ → Type 0
+abbrev pub Goes : List ℕ → ℕ → ℕ → Table → Option ℕ → Type 0
 Goes id slot last new None = Stands id slot last new
 Goes id slot last new (Some number) = (number ≡ next_number last) × Stands id slot number new
 
@@ -464,7 +464,7 @@ runs_go id slot last uid arguments table runs stands false e =
         let joined : (bytes_eq arguments.session id && arguments.slot == slot) ≡ true = rw one two in
         cc
 
-begins_go : (id : List ℕ) (slot last uid count : ℕ) (arguments : SequenceArguments) (table : Table) → Stands id slot last table
+pub begins_go : (id : List ℕ) (slot last uid count : ℕ) (arguments : SequenceArguments) (table : Table) → Stands id slot last table
     → (begun : Begun) → begin uid count arguments table ≡ begun
     → Goes id slot last (started_by uid arguments table begun) (number_on id slot arguments begun)
 begins_go id slot last uid count arguments table stands (Refuses reason) e = stands

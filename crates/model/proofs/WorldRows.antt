@@ -1,6 +1,6 @@
 -- Worked rows over the world, bytes in and bytes out, on a fresh volume of 256 sectors and 16 nodes in its first run; the caller has
 -- uid 7 and gid 7, and each turn is at the moment 0.
-use Rattle.std.proofs.Common.{◌≡◌, ℕ, zero, suc, ◌+◌, ◌*◌, refl, List, [], ◌∷◌, ◌++◌, length, fold, Option, Some}
+use Rattle.std.proofs.Common.{◌≡◌, ℕ, zero, suc, ◌+◌, ◌*◌, refl, List, [], ◌∷◌, ◌++◌, length, replicate, fold, Option, Some}
 use Rattle.std.specs.Int.{w32}
 use Rattle.xdr.specs.Grammar.{number, number_at}
 use Rattle.xdr.specs.Forms.{padded, padded_at, counted, counted_at, each_at, elements, elements_at}
@@ -17,12 +17,11 @@ use Rattle.model.specs.Name.{name_refusals}
 use Rattle.model.specs.Need.{permitted}
 use Rattle.model.specs.Record.{front_from, fragment, behind_header, framed}
 use Rattle.model.specs.Rpc.{words, read_call, request_of, reply_text, compound_text}
-use Rattle.model.specs.ServedForms.{outcome_text}
 use Rattle.model.specs.WireArguments.{arguments_at}
 use Rattle.model.specs.Session.{exchange_id, create_session, destroy_session, destroy_client_id, reclaim_complete, begin, started, finish, session_id}
 use Rattle.model.specs.Step.{does, does_within, effect, refusals}
 use Rattle.model.specs.Tree.{root, names_at}
-use Rattle.model.specs.World.{World, ServerLimits, mounted_world, one, arrives, takes, connects, hung_up, hangs_up, turns, reply_at, Turn, Idle, Ran, Answered, next_operation, run}
+use Rattle.model.specs.World.{World, ServerLimits, mounted_world, one, arrives, takes, connects, hung_up, hangs_up, turns, reply_at, Turn, Idle, Ran, Answered, next_operation, run, outcome_text}
 
 abbrev limits : ServerLimits
 limits = record {
@@ -305,3 +304,53 @@ null_in_bytes : reply_at (turned 1 (fold byte_arrives fresh
     ≡ Some (record_of (1 ∷ 1 ∷ 0 ∷ 0 ∷ 0 ∷ 0 ∷ []))
 unfolding fresh comes turned
 null_in_bytes = refl
+
+-- a reply without room for CREATE's result: it is refused with REP_TOO_BIG, and nothing is made
+small : World
+unfolding opened
+small = record opened { limits = record limits { reply_bytes = 100 } }
+
+no_room : answer 4 small 0 (make_call 7) ≡ Some (compound_reply 9 10066 3 (53 ∷ 0 ∷ 1 ∷ 1 ∷ 0 ∷ 1 ∷ 1 ∷ 0 ∷ 7 ∷ 7 ∷ 0 ∷ 24 ∷ 0 ∷ 6 ∷ 10066 ∷ []))
+unfolding small answer
+no_room = refl
+
+no_room_made : length (names_at (behind 4 small 0 (make_call 7)).tree root) ≡ 0
+unfolding small behind
+no_room_made = refl
+
+-- one turn runs SEQUENCE alone, and two run nothing that makes "a"
+one_operation : length (names_at half_made.tree root) ≡ 0
+unfolding half_made
+one_operation = refl
+
+-- Lengths and counts that are too great: a name of 2^32 - 1 bytes and a bitmap of 9 words in the last operation, a tag of 256 bytes
+abbrev begun_reply : (status operation : ℕ) → List ℕ
+begun_reply status operation = compound_reply 10 status 3 (53 ∷ 0 ∷ 1 ∷ 1 ∷ 0 ∷ 1 ∷ 2 ∷ 0 ∷ 7 ∷ 7 ∷ 0 ∷ 24 ∷ 0 ∷ operation ∷ status ∷ [])
+
+long_name : answer 3 made 0 (compound 10 7 3 (begin_on 0 2 ++ (24 ∷ 15 ∷ 0xFFFFFFFF ∷ 0 ∷ []))) ≡ Some (begun_reply 10036 15)
+unfolding made answer
+long_name = refl
+
+long_bitmap : answer 3 made 0 (compound 10 7 3 (begin_on 0 2 ++ (24 ∷ 6 ∷ 2 ∷ 1 ∷ 0x62000000 ∷ 9 ∷ 0 ∷ 0 ∷ 0 ∷ 0 ∷ 0 ∷ 0 ∷ 0 ∷ 0 ∷ 0 ∷ 0 ∷ [])))
+    ≡ Some (begun_reply 10036 6)
+unfolding made answer
+long_bitmap = refl
+
+long_tag : answer 1 made 0 (record_of (10 ∷ 0 ∷ 2 ∷ 0x186a3 ∷ 4 ∷ 1 ∷ 1 ∷ 0x14 ∷ 0 ∷ 0 ∷ 7 ∷ 7 ∷ 0 ∷ 0 ∷ 0 ∷ 256 ∷ (replicate 64 0 ++ (1 ∷ 1 ∷ begin_on 0 2))))
+    ≡ Some (record_of (10 ∷ 1 ∷ 0 ∷ 0 ∷ 0 ∷ 4 ∷ []))
+unfolding made answer
+long_tag = refl
+
+-- of a CREATE of another type nothing more is looked at: BADTYPE
+other_type : answer 3 made 0 (compound 10 7 3 (begin_on 0 2 ++ (24 ∷ 6 ∷ 1 ∷ 5 ∷ 5 ∷ []))) ≡ Some (begun_reply 10007 6)
+unfolding made answer
+other_type = refl
+
+-- by another caller "a" may be looked up, and its handle put again; nothing may be made in it
+abbrev other_caller : List ℕ → List ℕ
+other_caller operation = compound 10 8 4 (begin_on 0 2 ++ (24 ∷ (15 ∷ 1 ∷ 0x61000000 ∷ operation)))
+
+not_permitted : answer 4 made 0 (other_caller (make_directory 0x62000000))
+    ≡ Some (compound_reply 10 13 4 (53 ∷ 0 ∷ 1 ∷ 1 ∷ 0 ∷ 1 ∷ 2 ∷ 0 ∷ 7 ∷ 7 ∷ 0 ∷ 24 ∷ 0 ∷ 15 ∷ 0 ∷ 6 ∷ 13 ∷ []))
+unfolding made answer
+not_permitted = refl

@@ -18,8 +18,10 @@ pub mod Operation
 pub mod Record
 pub mod Refusal
 pub mod Rpc
+pub mod RuledOut
 pub mod Runs
-pub mod ServedForms
+pub mod Served
+pub mod ServedOnce
 pub mod Session
 pub mod SessionRuns
 pub mod SoundRuns
@@ -31,6 +33,7 @@ pub mod StepExamples
 pub mod StepLaws
 pub mod Tree
 pub mod WellFormed
+pub mod WireAnswers
 pub mod WireArguments
 pub mod WireTypes
 pub mod World

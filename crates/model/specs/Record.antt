@@ -119,3 +119,26 @@ abbrev pub SentIsRead : Type 0
 SentIsRead = (limits : RecordLimits) (bytes rest : List ℕ)
     → length bytes ≤ limits.bytes → length bytes < 2 ^ 31 → 0 < limits.fragments
     → front limits (framed bytes ++ rest) ≡ Whole bytes rest
+
+-- A record as it may be sent: fragments, of which the last one has the top bit
+
+abbrev pub top_bit : (is_last : Bool) → ℕ
+top_bit true = 2 ^ 31
+top_bit false = 0
+
+unfoldable pub fragment_text : (is_last : Bool) → List ℕ → List ℕ
+fragment_text is_last bytes = to_be_bytes w32 (top_bit is_last + length bytes) ++ bytes
+
+abbrev pub record_text : (earlier : List (List ℕ)) → (last : List ℕ) → List ℕ
+record_text [] last = fragment_text true last
+record_text (bytes ∷ earlier) last = fragment_text false bytes ++ record_text earlier last
+
+abbrev pub joined : (earlier : List (List ℕ)) → (last : List ℕ) → List ℕ
+joined [] last = last
+joined (bytes ∷ earlier) last = bytes ++ joined earlier last
+
+-- However a record is fragmented within the limits, it is read as its fragments joined, whatever follows.
+abbrev pub EveryFragmenting : Type 0
+EveryFragmenting = (limits : RecordLimits) (earlier : List (List ℕ)) (last rest : List ℕ)
+    → length (joined earlier last) ≤ limits.bytes → length (joined earlier last) < 2 ^ 31 → length earlier < limits.fragments
+    → front limits (record_text earlier last ++ rest) ≡ Whole (joined earlier last) rest

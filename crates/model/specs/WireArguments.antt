@@ -1,10 +1,10 @@
 -- The arguments of the operations on the wire, as grammars: RFC 8881, section 18, and RFC 5662.
-use Rattle.std.specs.Prelude.{◌≢◌, ℕ, ◌<◌, ◌≤◌, Bool, List, [], Option, Result}
+use Rattle.std.specs.Prelude.{◌≢◌, ℕ, ◌<◌, Bool, List, [], Option, Result}
 use Rattle.xdr.specs.declared.refusal.Refusal.{Refusal}
 use Rattle.xdr.specs.Grammar.{Grammar, ◌&◌, of, void, unsigned_int, unsigned_hyper}
 use Rattle.xdr.specs.Forms.{below, always, boolean, array, optional, bitmap}
-use Rattle.xdr.specs.Union.{Told, tells, Choice, on, no_other, any_other, union}
-use Rattle.model.specs.Operation.{StateId, Attributes, Channel, Implementation, CallbackSecurity, CloseArguments, CommitArguments, CreateArguments, NewDirectory, OtherType, NoCreate, Unchecked, Guarded, Claim, ByName, ByHandle, OtherClaim, Opening, Opens, Exclusive, OpenArguments, ReadArguments, ReadDirArguments, RenameArguments, SetAttrArguments, WriteArguments, ExchangeIdArguments, CreateSessionArguments, SequenceArguments, Argument}
+use Rattle.xdr.specs.Union.{Told, tells, Choice, on, no_other, any_other, other_below, union}
+use Rattle.model.specs.Operation.{StateId, Attributes, Channel, Implementation, CallbackSecurity, CloseArguments, CommitArguments, CreateArguments, NewDirectory, OtherType, OpenType, NoCreate, Unchecked, Guarded, Claim, ByName, ByHandle, OtherClaim, Opening, Opens, Exclusive, OpenArguments, ReadArguments, ReadDirArguments, RenameArguments, SetAttrArguments, WriteArguments, ExchangeIdArguments, CreateSessionArguments, SequenceArguments, Argument}
 use Rattle.model.specs.WireTypes.{any_opaque, file_handle, verifier, session_id, owner_id, state_id, attributes, channel, implementation, callback_security}
 
 abbrev pub close_arguments : Grammar CloseArguments
@@ -41,14 +41,13 @@ abbrev pub create_how_told : Opening → Told
 create_how_told (Opens (Unchecked given) by) = tells 0 (attributes & claim) (given, by)
 create_how_told (Opens (Guarded given) by) = tells 1 (attributes & claim) (given, by)
 create_how_told (Opens NoCreate by) = record { number = 0; Fits = ⊥; text = [] }
-create_how_told (Exclusive mode) = record { number = mode; Fits = (2 ≤ mode) × (mode < 4); text = [] }
+create_how_told (Exclusive mode) = record { number = mode; Fits = (mode ≢ 0) × (mode ≢ 1) × (mode < 4); text = [] }
 
 abbrev pub create_how_choice : Choice Opening
 create_how_choice =
     on 0 (attributes & claim) (λ (p : Attributes × Claim). Opens (Unchecked p.0) p.1)
     (on 1 (attributes & claim) (λ (p : Attributes × Claim). Opens (Guarded p.0) p.1)
-    (on 2 void (λ _. Exclusive 2)
-    (on 3 void (λ _. Exclusive 3) no_other)))
+    (other_below 4 Exclusive))
 
 abbrev pub create_how : Grammar Opening
 create_how = union create_how_told create_how_choice
@@ -106,13 +105,7 @@ exchange_id_arguments = of
 abbrev pub create_session_arguments : Grammar CreateSessionArguments
 create_session_arguments = of
     (λ (p : ℕ × (ℕ × (ℕ × (Channel × (Channel × (ℕ × List CallbackSecurity)))))). record {
-      client = p.0;
-      sequence = p.1.0;
-      flags = p.1.1.0;
-      fore = p.1.1.1.0;
-      back = p.1.1.1.1.0;
-      callback_program = p.1.1.1.1.1.0;
-      security = p.1.1.1.1.1.1;
+      client = p.0; sequence = p.1.0; flags = p.1.1.0; fore = p.1.1.1.0; back = p.1.1.1.1.0; callback_program = p.1.1.1.1.1.0; security = p.1.1.1.1.1.1;
     })
     (λ a. (a.client, (a.sequence, (a.flags, (a.fore, (a.back, (a.callback_program, a.security)))))))
     (unsigned_hyper & unsigned_int & unsigned_int & channel & channel & unsigned_int & array 4 callback_security)

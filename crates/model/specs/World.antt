@@ -13,15 +13,16 @@ use Rattle.model.specs.Context.{Context}
 use Rattle.model.specs.Keyed.{Keyed, at, is_key, with, without}
 use Rattle.model.specs.declared.limits.Limits.{Limits}
 use Rattle.model.specs.Opens.{Opens, Open}
-use Rattle.model.specs.Operation.{Argument, SequenceArguments}
+use Rattle.model.specs.Operation.{Argument, SequenceArguments, operation_of}
 use Rattle.model.specs.Record.{RecordLimits, Front, Partial, Refused, Whole, front, framed}
 use Rattle.model.specs.Refusal.{first_refusal}
 use Rattle.model.specs.Rpc.{CallRead, NoCall, OtherVersion, Calls, read_call, is_call_read, Request, Answers, Runs, request_of, Reply, VersionRefused, Success, Compound, reply_text, compound_text, is_empty}
-use Rattle.model.specs.ServedForms.{is_served, looks_no_further, outcome_text}
+use Rattle.model.specs.Served.{is_served, looks_no_further}
 use Rattle.model.specs.Session as sessions
 use Rattle.model.specs.Session.{SessionLimits, Table, Session}
-use Rattle.model.specs.Step.{State, Stepped, does_within, current_refusals}
+use Rattle.model.specs.Step.{State, Stepped, does, current_refusals}
 use Rattle.model.specs.Tree.{Tree}
+use Rattle.model.specs.WireAnswers as answers
 use Rattle.model.specs.WireArguments.{arguments_at}
 
 -- The state
@@ -153,14 +154,6 @@ abbrev pub status_of : Outcome → Status
 status_of (Outcome.Done answer) = status.Ok
 status_of (Outcome.Refused operation reason) = reason
 
--- the reply's record if this result were the last one, without the record's header
-abbrev pub reply_with : InProgress → Outcome → List ℕ
-reply_with request outcome = reply_text request.xid
-    (Success (compound_text (status_of outcome) request.tag (request.answered + 1) (request.results ++ outcome_text outcome)))
-
-abbrev pub has_room : World → InProgress → Outcome → Bool
-has_room world request outcome = nat_le (length (reply_with request outcome)) world.limits.reply_bytes
-
 abbrev pub has_opens : Opens → (client : ℕ) → Bool
 has_opens opens client = list_any (λ (entry : ℕ × Open). entry.1.client == client) opens
 
@@ -242,7 +235,27 @@ run world request now (Argument.ReclaimComplete true) = reclaimed world request 
 run world request now (Argument.ReclaimComplete false) =
     tabled world request 58 Answer.ReclaimComplete (sessions.reclaim_complete request.context.client world.table)
 run world request now operation =
-    stepped world request (does_within (has_room world request) world.limits.volume (state_of world request) now operation)
+    stepped world request (does world.limits.volume (state_of world request) now operation)
+
+-- a result on the wire
+unfoldable pub outcome_text : Outcome → List ℕ
+outcome_text result = answers.outcome.spelling result
+
+-- the reply's record if this result were the last one, without the record's header
+abbrev pub reply_with : InProgress → Outcome → List ℕ
+reply_with request outcome = reply_text request.xid
+    (Success (compound_text (status_of outcome) request.tag (request.answered + 1) (request.results ++ outcome_text outcome)))
+
+abbrev pub has_room : World → InProgress → Outcome → Bool
+has_room world request outcome = nat_le (length (reply_with request outcome)) world.limits.reply_bytes
+
+-- The last test of all (section 15.1.3): an OK result for which the reply has no room is refused, and nothing changes.
+abbrev pub in_room : World → InProgress → (operation : ℕ) → HasRun → HasRun
+in_room world request operation (Gives (Outcome.Refused number reason) after left) = Gives (Outcome.Refused number reason) after left
+in_room world request operation (Gives (Outcome.Done answer) after left) =
+    if has_room world request (Outcome.Done answer) then Gives (Outcome.Done answer) after left
+    else refuses world request operation status.RepTooBig
+in_room world request operation (Replays result session slot) = Replays result session slot
 
 -- One turn
 
@@ -344,7 +357,8 @@ has_run world number request operation (Replays result session slot) = record {
 abbrev pub operates : World → (number : ℕ) → (now : ℕ) → InProgress → Next → Turned
 operates world number now request (Refuses operation reason) = behind world number request (Outcome.Refused operation reason) None
 operates world number now request (Reads operation rest) =
-    has_run world number (record request { rest = rest }) operation (run world (record request { rest = rest }) now operation)
+    has_run world number (record request { rest = rest }) operation
+    (in_room world (record request { rest = rest }) (operation_of operation) (run world (record request { rest = rest }) now operation))
 
 -- a COMPOUND before its first operation
 abbrev pub in_progress : World → (xid : ℕ) → Cred → Compound → InProgress

@@ -7,3 +7,4 @@ pub mod Arrays
 pub mod Unions
 pub mod Reading
 pub mod Writing
+pub mod Loops

@@ -9,6 +9,7 @@ use Rattle.xdr.specs.declared.refusal.Refusal.{Refusal}
 use Rattle.xdr.specs.declared.refusal.Refusal.TheVariants.{Short, Value, Long}
 use Rattle.xdr.specs.Grammar.{number_at}
 use Rattle.xdr.specs.Forms.{padding, are_zeros, padded_at}
+use Rattle.xdr.proofs.Opaques.{padded_takes}
 
 pub short_int : (bytes : List ℕ) → length bytes < 4 → number_at w32 bytes ≡ Err Short
 unfolding number_at
@@ -65,3 +66,6 @@ found_padded n pad bytes text behind zeros rest le is_text is_behind is_pad long
     let same : take (padding n) (drop n bytes) ≡ zeros = ap (λ (k : ℕ). take k (drop n bytes)) (sym is_pad) ∙ ap (take pad) (sym is_behind) ∙ sym is_zeros in
     let after : drop (n + padding n) bytes ≡ rest = sym (drop-drop (padding n) n bytes) ∙ ap (λ (k : ℕ). drop k (drop n bytes)) (sym is_pad) ∙ ap (drop pad) (sym is_behind) ∙ sym is_rest in
     rw (long_enough n pad bytes behind le is_behind is_pad long, same, pass, ← is_text, after) refl
+
+pub padded_len : (n : ℕ) (bytes text rest : List ℕ) → padded_at n bytes ≡ Ok (text, rest) → length text ≡ n
+padded_len n bytes text rest e = (padded_takes n bytes text rest e).0

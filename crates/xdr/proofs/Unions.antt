@@ -1,13 +1,13 @@
 -- A union of exact forms is exact.
-use Rattle.std.proofs.Common.{◌≡◌, ◌≢◌, ℕ, ◌^◌, ◌<◌, Bool, true, false, cond, eqb, List, ◌++◌, Result, Ok, Err, refl, sym, ap, subst, ◌∙◌, inl, inr, append_assoc}
+use Rattle.std.proofs.Common.{◌≡◌, ◌≢◌, ℕ, ◌^◌, ◌<◌, Bool, true, false, cond, eqb, ltb, List, [], ◌++◌, Result, Ok, Err, refl, sym, ap, subst, ◌∙◌, inl, inr, append_assoc}
 use Rattle.std.specs.Int.{w32}
-use Rattle.std.proofs.lemmas.Bool.{eqb-true, eqb-false}
+use Rattle.std.proofs.lemmas.Bool.{eqb-true, eqb-false, ltb-true}
 use Rattle.xdr.specs.declared.refusal.Refusal.{Refusal}
 use Rattle.xdr.specs.declared.refusal.Refusal.TheVariants.{Value}
 use Rattle.xdr.specs.Grammar.{Grammar, ◌>>=◌, number, number_at}
-use Rattle.xdr.specs.Union.{Told, tells, Choice, made, on, no_other, any_other, union}
+use Rattle.xdr.specs.Union.{Told, tells, Choice, made, on, no_other, any_other, other_below, union}
 use Rattle.xdr.specs.Laws.{IsBytes, Exact}
-use Rattle.xdr.proofs.Steps.{bind_ok, chosen, ok_is, IsBytes-behind}
+use Rattle.xdr.proofs.Steps.{bind_ok, pass_ok, chosen, ok_is, IsBytes-behind}
 use Rattle.xdr.proofs.Numbers.{int_takes, int_again}
 
 -- what was read by number n tells n, and is spelled so
@@ -26,7 +26,7 @@ abbrev pub AgainBy : {W : Type 0} → (W → Told) → Choice W → Type 0
 AgainBy {W = W} told choice = (w : W) (rest : List ℕ) → (told w).number < 2 ^ 32 → (told w).Fits → choice (told w).number ((told w).text ++ rest) ≡ Ok (w, rest)
 
 pub on_takes : {V W : Type 0} (told : W → Told) (P : ℕ → Type 0) (n : ℕ) (g : Grammar V) (make : V → W) (otherwise : Choice W) → Exact g
-    → ((v : V) → told (make v) ≡ tells n g v) → TakesBy told (λ m. P m × (m ≢ n)) otherwise → TakesBy told P (on n g make otherwise)
+    → ((v : V) → g.Fits v → told (make v) ≡ tells n g v) → TakesBy told (λ m. P m × (m ≢ n)) otherwise → TakesBy told P (on n g make otherwise)
 on_takes {V = V} {W = W} told P n g make otherwise exact tells_so others m bytes w rest p fits e =
     elim (chosen (eqb m n) (made make g bytes) (otherwise m bytes) (Ok (w, rest)) e) [
       | inl h ↦
@@ -35,7 +35,7 @@ on_takes {V = V} {W = W} told P n g make otherwise exact tells_so others m bytes
           let got : W × List ℕ = (make q.0.0, q.0.1) in
           let Q : Told → Type 0 = λ x. (m ≡ x.number) × x.Fits × (bytes ≡ x.text ++ q.0.1) in
           let same : (m ≡ n) × g.Fits q.0.0 × (bytes ≡ g.spelling q.0.0 ++ q.0.1) = (eqb-true m n h.0, t.0, t.1) in
-          let here : (m ≡ (told (make q.0.0)).number) × (told (make q.0.0)).Fits × (bytes ≡ (told (make q.0.0)).text ++ q.0.1) = subst Q (sym (tells_so q.0.0)) same in
+          let here : (m ≡ (told (make q.0.0)).number) × (told (make q.0.0)).Fits × (bytes ≡ (told (make q.0.0)).text ++ q.0.1) = subst Q (sym (tells_so q.0.0 t.0)) same in
           let whole : TakesOne told m bytes (make q.0.0) q.0.1 = record { is_number = here.0; fits = here.1; parts = here.2 } in
           let R : W × List ℕ → Type 0 = λ x. TakesOne told m bytes x.0 x.1 in
           subst R (ok_is got (w, rest) q.2) whole
@@ -44,6 +44,20 @@ on_takes {V = V} {W = W} told P n g make otherwise exact tells_so others m bytes
 
 pub no_other_takes : {W : Type 0} (told : W → Told) (P : ℕ → Type 0) → TakesBy told P no_other
 no_other_takes told P n bytes w rest p fits e = absurd cc
+
+pub any_other_takes : {W : Type 0} (told : W → Told) (P : ℕ → Type 0) (make : ℕ → W)
+    → ((n : ℕ) → P n → (n ≡ (told (make n)).number) × (told (make n)).Fits × ((told (make n)).text ≡ [])) → TakesBy told P (any_other make)
+any_other_takes {W = W} told P make tells_so n bytes w rest p fits e =
+    let got : W × List ℕ = (make n, bytes) in
+    let t = tells_so n p in
+    let R : W × List ℕ → Type 0 = λ x. TakesOne told n bytes x.0 x.1 in
+    subst R (ok_is got (w, rest) e) (record { is_number = t.0; fits = t.1; parts = ap (λ (x : List ℕ). x ++ bytes) (sym t.2) })
+
+pub other_below_takes : {W : Type 0} (told : W → Told) (P : ℕ → Type 0) (limit : ℕ) (make : ℕ → W)
+    → ((n : ℕ) → P n → n < limit → (n ≡ (told (make n)).number) × (told (make n)).Fits × ((told (make n)).text ≡ [])) → TakesBy told P (other_below limit make)
+other_below_takes {W = W} told P limit make tells_so n bytes w rest p fits e =
+    let q = pass_ok (ltb n limit) Value (Ok (make n, bytes)) (w, rest) e in
+    any_other_takes told (λ m. P m × (m < limit)) make (λ m r. tells_so m r.0 r.1) n bytes w rest (p, ltb-true n limit q.0) fits q.1
 
 union_takes : {W : Type 0} (told : W → Told) (choice : Choice W) → TakesBy told (λ n. n < 2 ^ 32) choice → (bytes : List ℕ) (w : W) (rest : List ℕ) → IsBytes bytes
     → (union told choice).read bytes ≡ Ok (w, rest) → (((told w).number < 2 ^ 32) × (told w).Fits) × (bytes ≡ (number w32 (told w).number ++ (told w).text) ++ rest)

@@ -1,8 +1,10 @@
 -- What stands behind what: one write after the other.
-use Rattle.std.proofs.Common.{◌≡◌, ℕ, ◌+◌, ◌<◌, ◌≤◌, List, [], ◌++◌, length, Result, Ok, Err, refl, sym, ap, subst, ◌∙◌, take, replicate, append_assoc, arith}
+use Rattle.std.proofs.Common.{◌≡◌, ℕ, ◌+◌, ◌<◌, ◌≤◌, List, [], ◌++◌, length, get_or, drop, ◌∷◌, Result, Ok, Err, refl, sym, ap, subst, ◌∙◌, take, replicate, append_assoc, arith}
 use Rattle.std.specs.Prelude.{OnOk, OnErr, IfErr}
 use Rattle.std.specs.Result.{IsErrAnd}
-use Rattle.std.proofs.lemmas.List.{append-nil, length-append, take_at, take-replicate}
+use Rattle.std.specs.List.{flat_map}
+use Rattle.std.proofs.lemmas.List.{append-nil, length-append, take_at, take-replicate, take_more, drop_more, take-append-drop}
+use Rattle.std.proofs.lemmas.Grind.{flat_map-append}
 use Rattle.std.proofs.lemmas.Result.{err_from_is_err_and}
 use Rattle.xdr.specs.declared.refusal.Refusal.{Refusal}
 use Rattle.xdr.specs.declared.refusal.Refusal.TheVariants.{Memory}
@@ -76,3 +78,35 @@ unfolding padded
 wrote_padded {a = a} {b = b} {c = c} {r = r} {s = s} {z = z} pad v w is_z is_pad small =
     let zeros : z ≡ replicate (padding (length s)) 0 = is_z ∙ take-replicate pad 3 0 (omega arith) ∙ ap (λ (k : ℕ). replicate k 0) is_pad in
     subst (λ (x : List ℕ). Wrote a c r (s ++ x)) zeros (wrote_on v w)
+
+-- nothing was written
+pub wrote_nothing : (a b : Written) (t : List ℕ) → b ≡ a → t ≡ [] → Wrote a b (Ok tt) t
+wrote_nothing a b t same none =
+    let here : b.bytes ≡ a.bytes = ap (λ (w : Written). w.bytes) same in
+    let cap : b.capacity ≡ a.capacity = ap (λ (w : Written). w.capacity) same in
+    record {
+      ok = here ∙ sym (append-nil a.bytes) ∙ ap (λ (x : List ℕ). a.bytes ++ x) (sym none);
+      full = tt;
+      memory = tt;
+      keeps = omega arith;
+      stands = begins_same b.bytes a.bytes here;
+    }
+
+-- one element more in a loop, and an element that failed
+
+pub wrote_more : {A : Type 0} {a b c : Written} (spelling : A → List ℕ) (xs : List A) (i : ℕ) (x : A) → i < length xs → x ≡ get_or xs i x
+    → Wrote a b (Ok tt) (flat_map spelling (take i xs)) → Wrote b c (Ok tt) (spelling x) → Wrote a c (Ok tt) (flat_map spelling (take (i + 1) xs))
+wrote_more {A = A} {a = a} {b = b} {c = c} spelling xs i x lt is v w =
+    let more : take (i + 1) xs ≡ take i xs ++ x ∷ [] = take_more xs i x lt ∙ ap (λ (y : A). take i xs ++ y ∷ []) (sym is) in
+    let text : flat_map spelling (take (i + 1) xs) ≡ flat_map spelling (take i xs) ++ spelling x =
+        ap (flat_map spelling) more ∙ flat_map-append spelling (take i xs) (x ∷ []) ∙ ap (λ (t : List ℕ). flat_map spelling (take i xs) ++ t) (append-nil (spelling x)) in
+    subst (λ (t : List ℕ). Wrote a c (Ok tt) t) (sym text) (wrote_on v w)
+
+pub wrote_stop : {A : Type 0} {a b c : Written} {r : Result (Unit {0}) Refusal} {e : Refusal} (spelling : A → List ℕ) (xs : List A) (i : ℕ) (x : A) → i < length xs → x ≡ get_or xs i x
+    → Wrote a b (Ok tt) (flat_map spelling (take i xs)) → IsErrAnd r (λ y. y ≡ e) → Wrote b c (Err e) (spelling x) → Wrote a c r (flat_map spelling xs)
+wrote_stop {A = A} {a = a} {b = b} {c = c} {r = r} spelling xs i x lt is v err w =
+    let rest : drop i xs ≡ x ∷ drop (i + 1) xs = drop_more xs i x lt ∙ ap (λ (y : A). y ∷ drop (i + 1) xs) (sym is) in
+    let whole : xs ≡ take i xs ++ (x ∷ drop (i + 1) xs) = sym (take-append-drop i xs) ∙ ap (λ (ys : List A). take i xs ++ ys) rest in
+    let text : flat_map spelling xs ≡ flat_map spelling (take i xs) ++ (spelling x ++ flat_map spelling (drop (i + 1) xs)) =
+        ap (flat_map spelling) whole ∙ flat_map-append spelling (take i xs) (x ∷ drop (i + 1) xs) in
+    subst (λ (t : List ℕ). Wrote a c r t) (sym text) (wrote_on v (wrote_exit (flat_map spelling (drop (i + 1) xs)) err w))

@@ -3,3 +3,4 @@ pub mod Forms
 pub mod Union
 pub mod Laws
 pub mod Clauses
+pub mod Filling

@@ -1,5 +1,5 @@
 -- Discriminated unions (RFC 4506, section 4.15): a number, and the form that the number chooses.
-use Rattle.std.specs.Prelude.{ℕ, ◌<◌, ◌^◌, List, ◌++◌, Result, Ok, Err, ◌==◌, if◌then◌else◌}
+use Rattle.std.specs.Prelude.{ℕ, ◌<◌, ◌^◌, List, ◌++◌, Result, Ok, Err, nat_lt, ◌==◌, if◌then◌else◌}
 use Rattle.std.specs.Int.{w32}
 use Rattle.xdr.specs.declared.refusal.Refusal.{Refusal}
 use Rattle.xdr.specs.declared.refusal.Refusal.TheVariants.{Value}
@@ -32,6 +32,10 @@ no_other m bytes = Err Value
 -- any other number stands for itself, and what follows is not looked at
 abbrev pub any_other : {W : Type 0} → (ℕ → W) → Choice W
 any_other make m bytes = Ok (make m, bytes)
+
+-- the same for the other numbers below a limit
+abbrev pub other_below : {W : Type 0} → ℕ → (ℕ → W) → Choice W
+other_below limit make m bytes = if nat_lt m limit then Ok (make m, bytes) else Err Value
 
 abbrev pub union : {W : Type 0} → (W → Told) → Choice W → Grammar W
 union told choice = record {

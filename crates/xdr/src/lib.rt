@@ -8,11 +8,13 @@
 mod laws;
 mod reader;
 mod refusal;
+mod words;
 mod writer;
 
 pub use laws::{bitmaps_are_exact, booleans_are_exact, numbers_are_exact, opaques_are_exact};
 pub use reader::Reader;
 pub use refusal::Refusal;
+pub use words::Words;
 pub use writer::Writer;
 
 #[cfg(test)]

@@ -164,6 +164,17 @@ impl<'a> Reader<'a> {
         Ok(bytes)
     }
 
+    /// `N` bytes as an array (RFC 4506, section 4.9).
+    #[tactic(auto, using(crate::proofs::Reading::padded_len))]
+    pub fn read_array<const N: usize>(&mut self) -> Result<[u8; N], Refusal>
+        ensures { Scans (λ bytes. bytes) ((fixed_opaque N).read) self.old self.new result }
+    {
+        let bytes = self.read_fixed(N)?;
+        let mut array = [0; N];
+        array.copy_from_slice(bytes);
+        Ok(array)
+    }
+
     /// A length of at most `limit`, so many bytes, and zero bytes up to a multiple of 4 (RFC 4506, sections 4.10 and
     /// 4.11). A greater length is `Long`, whatever follows.
     #[tactic(auto, unfolding(crate::specs::Forms::counted_at))]

@@ -1,0 +1,295 @@
+-- The laws of what the definitions rule out.
+use Rattle.std.proofs.Common.{inr, get_or, ◌⊎◌, ◌≡◌, ◌≢◌, ℕ, zero, suc, ◌+◌, ◌-◌, ◌<◌, ◌≤◌, inl, Bool, true, false, cond, ◌==◌, nat_lt, List, [], ◌∷◌, ◌++◌, length, take, find, Option, None, Some, Result, Ok, Err, refl, sym, ap, ◌∙◌, subst, arith, eq-eqb}
+use borrow.Author.Tests.{eqb-false}
+use Rattle.model.specs.declared.status.Status.{Status}
+use Rattle.model.specs.declared.status.Status.TheVariants as status
+use Rattle.model.specs.Answer.{Answer, Outcome, ExchangeIdAnswer, CreateSessionAnswer}
+use Rattle.model.specs.Keyed.{at}
+use Rattle.model.specs.Operation.{Argument, SequenceArguments, operation_of}
+use Rattle.model.specs.Record.{framed}
+use Rattle.model.specs.Rpc.{reply_text, Success}
+use Rattle.model.specs.Session as sessions
+use Rattle.model.specs.Session.{Table, Session, Slot, SlotState, Kept, Begun, Runs, begin, begin_by, begin_slot, begin_new, is_session, slot_at, next_number}
+use Rattle.model.specs.Tree.{Tree}
+use Rattle.model.specs.World.{World, InProgress, Connection, Quiet, Waiting, Busy, Replied, Closed, HasRun, Gives, Replays, exchanged, created_by, created, tabled, started_in, begun, reclaimed, refuses, in_room, has_room, run, Turned, Entry, entry_of, behind, ends, with_table, kept_by, result_of, with_result, is_last, has_run, operates, Next, Refuses, Reads, next_operation, turned, one, with_connection, without_connection, hangs_up, hung_up, turns, operations_left, is_busy}
+use Rattle.model.specs.Runs.{tree_after, IsGoodPrefix, done_with, executed, executed_by, executed_of, effect_of, Event, Serving, IsAfter}
+use Rattle.model.specs.RuledOut.{IsChange, NoSkip, NoEarlyReply, NoTakingBack, NoSecondRun, NoGap, IsOneFurther, OneATurn, HangsUpLast, after_turns, HangUpIsEvents, EachEventHappens}
+use Rattle.std.specs.List.{IsAmong}
+use Rattle.model.proofs.Headline.{every_run}
+use Rattle.model.proofs.RunLaws.{EntryFits, event_fits}
+use Rattle.model.proofs.KeyedLaws.{at-with_same, at-without_same}
+use Rattle.model.proofs.SlotLaw.{cond_runs, cond_never, refuses_not, replays_not, begin_runs}
+
+pub no_skip : NoSkip
+no_skip start write change tree durable prefix =
+    let above : 1 < prefix.k = prefix.good 1 change (0, (omega arith, refl)) refl durable in
+    let within : prefix.k ≤ 2 = prefix.within in
+    let two : prefix.k ≡ 2 = omega arith in
+    prefix.holds ∙ ap (λ (n : ℕ). tree_after start (take n (write ∷ change ∷ []))) two
+
+pub no_early_reply : NoEarlyReply
+no_early_reply old new event entry happens e lasts changes among = changes (happens.durable entry e lasts (before_of entry) among)
+  where
+    before_of : Entry → Tree
+    before_of entry = entry.state.tree
+
+taken_back : (start tree : Tree) (change : Entry) → IsChange change → IsGoodPrefix start (change ∷ []) (0 ∷ []) tree → tree ≡ change.after
+taken_back start tree change changes prefix =
+    let above : 0 < prefix.k = prefix.good 0 change (0, (omega arith, refl)) refl (inl changes) in
+    let within : prefix.k ≤ 1 = prefix.within in
+    let one : prefix.k ≡ 1 = omega arith in
+    prefix.holds ∙ ap (λ (n : ℕ). tree_after start (take n (change ∷ []))) one
+
+pub no_taking_back : NoTakingBack
+no_taking_back limits run start serving history change event is_run done handed_out changes none may =
+    let prefix = every_run limits run start serving history is_run event change.state.tree may in
+    let all : done_with history (executed serving event) ≡ change ∷ [] =
+    ap (done_with history) none ∙ ap (λ (done : List Entry). done ++ []) done in
+    let first = subst (λ (done : List Entry). IsGoodPrefix start done history.handed_out change.state.tree) all prefix in
+    let second = subst (λ (names : List ℕ). IsGoodPrefix start (change ∷ []) names change.state.tree) handed_out first in
+    changes.0 (taken_back start change.state.tree change changes second)
+
+-- SEQUENCE
+
+kept_never : (uid count : ℕ) (arguments : SequenceArguments) (session : Session) (slot : Slot) (reply : List ℕ) → arguments.sequence ≡ slot.last
+    → begin_slot uid count arguments session slot (Kept reply) ≡ Runs → ⊥
+kept_never uid count arguments session slot reply same e = by_test (arguments.sequence == slot.last) (eq-eqb arguments.sequence slot.last same) e
+  where
+    by_test : (b : Bool) → b ≡ true → cond b (cond (uid == slot.uid) (sessions.Replays reply) (sessions.Refuses status.SeqFalseRetry)) (begin_new count arguments session slot) ≡ Runs → ⊥
+    by_test true is e = cond_never (uid == slot.uid) (sessions.Replays reply) (sessions.Refuses status.SeqFalseRetry) (replays_not reply) (refuses_not status.SeqFalseRetry) e
+    by_test false is e = absurd (never is)
+      where
+        never : false ≡ true → ⊥
+        never e = cc
+
+pub no_second_run : NoSecondRun
+unfolding begin
+no_second_run uid count arguments table session reply known kept same e =
+    let there : begin_by uid count arguments (Some session) ≡ Runs = ap (begin_by uid count arguments) (sym known) ∙ e in
+    let slot = slot_at session arguments.slot in
+    let at_slot = (cond_runs (nat_lt arguments.slot (length session.slots)) _ (sessions.Refuses status.BadSlot) (refuses_not status.BadSlot) there).1 in
+    kept_never uid count arguments session slot reply same (ap (begin_slot uid count arguments session slot) (sym kept) ∙ at_slot)
+
+pub no_gap : NoGap
+no_gap uid count arguments table session known e =
+    let runs = begin_runs uid count arguments table e in
+    let both : Some runs.session ≡ Some session = sym runs.is ∙ known in
+    let same : runs.session ≡ session = cc in
+    runs.next ∙ ap (λ (one : Session). next_number (slot_at one arguments.slot).last) same
+
+-- One operation a turn
+
+abbrev Keeps : InProgress → HasRun → Type 0
+Keeps request (Gives outcome after left) = (left.answered ≡ request.answered) × (left.count ≡ request.count)
+Keeps request (Replays result session slot) = Unit {0}
+
+exchanged_keeps : (world : World) (request : InProgress) (outcome : Result ExchangeIdAnswer Status × Table) → Keeps request (exchanged world request outcome)
+exchanged_keeps world request (Err reason, table) = (refl, refl)
+exchanged_keeps world request (Ok answer, table) = (refl, refl)
+
+created_by_keeps : (world : World) (request : InProgress) (outcome : sessions.CreateSessionOutcome) (answer : Result CreateSessionAnswer Status) → Keeps request (created_by world request outcome answer)
+created_by_keeps world request outcome (Err reason) = (refl, refl)
+created_by_keeps world request outcome (Ok answer) = (refl, refl)
+
+created_keeps : (world : World) (request : InProgress) (outcome : sessions.CreateSessionOutcome) → Keeps request (created world request outcome)
+created_keeps world request outcome = created_by_keeps world request outcome outcome.answer
+
+tabled_keeps : (world : World) (request : InProgress) (number : ℕ) (answer : Answer) (outcome : Option Status × Table) → Keeps request (tabled world request number answer outcome)
+tabled_keeps world request number answer (Some reason, table) = (refl, refl)
+tabled_keeps world request number answer (None, table) = (refl, refl)
+
+started_in_keeps : (world : World) (request : InProgress) (arguments : SequenceArguments) (known : Option Session) → Keeps request (started_in world request arguments known)
+started_in_keeps world request arguments None = (refl, refl)
+started_in_keeps world request arguments (Some session) = (refl, refl)
+
+begun_keeps : (world : World) (request : InProgress) (arguments : SequenceArguments) (begin : Begun) → Keeps request (begun world request arguments begin)
+begun_keeps world request arguments (sessions.Refuses reason) = (refl, refl)
+begun_keeps world request arguments (sessions.Replays reply) = tt
+begun_keeps world request arguments sessions.Runs = started_in_keeps world request arguments (find (is_session arguments.session) world.table.sessions)
+
+reclaimed_keeps : (world : World) (request : InProgress) (refusal : Option Status) → Keeps request (reclaimed world request refusal)
+reclaimed_keeps world request None = (refl, refl)
+reclaimed_keeps world request (Some reason) = (refl, refl)
+
+run_keeps : (world : World) (request : InProgress) (now : ℕ) (operation : Argument) → Keeps request (run world request now operation)
+unfolding run
+run_keeps world request now (Argument.ExchangeId arguments) = exchanged_keeps world request _
+run_keeps world request now (Argument.CreateSession arguments) = created_keeps world request _
+run_keeps world request now (Argument.DestroySession id) = tabled_keeps world request 44 _ _
+run_keeps world request now (Argument.DestroyClientId client) = tabled_keeps world request 57 _ _
+run_keeps world request now (Argument.Sequence arguments) = begun_keeps world request arguments _
+run_keeps world request now (Argument.ReclaimComplete true) = reclaimed_keeps world request _
+run_keeps world request now (Argument.ReclaimComplete false) = tabled_keeps world request 58 _ _
+run_keeps world request now operation = (refl, refl)
+
+either_keeps : (request : InProgress) (b : Bool) (x y : HasRun) → Keeps request x → Keeps request y → Keeps request (cond b x y)
+either_keeps request true x y first second = first
+either_keeps request false x y first second = second
+
+in_room_keeps : (world : World) (request : InProgress) (operation : ℕ) (ran : HasRun) → Keeps request ran → Keeps request (in_room world request operation ran)
+in_room_keeps world request operation (Gives (Outcome.Refused number reason) after left) keeps = keeps
+in_room_keeps world request operation (Gives (Outcome.Done answer) after left) keeps =
+    either_keeps request (has_room world request (Outcome.Done answer)) _ (refuses world request operation status.RepTooBig) keeps (refl, refl)
+in_room_keeps world request operation (Replays result session slot) keeps = tt
+
+-- what stands at the connection then
+
+abbrev Further : InProgress → ℕ → Turned → Type 0
+Further request number turned = IsOneFurther request (at number turned.world.connections)
+
+replied_further : (request : InProgress) (world : World) (number : ℕ) (reply : List ℕ) → IsOneFurther request (at number (with_connection world number (Replied reply)).connections)
+replied_further request world number reply = subst (IsOneFurther request) (sym (at-with_same world.connections number (Replied reply))) tt
+
+busy_further : (request left : InProgress) (world : World) (number : ℕ) (outcome : Outcome) → left.answered ≡ request.answered → left.count ≡ request.count → is_last left ≡ false
+    → IsOneFurther request (at number (with_connection world number (Busy (with_result left outcome))).connections)
+busy_further request left world number outcome answered count more =
+    subst (IsOneFurther request) (sym (at-with_same world.connections number (Busy (with_result left outcome))))
+    (ap (λ (n : ℕ). n + 1) answered, count, λ last. eqb-false (left.answered + 1) left.count more (ap (λ (n : ℕ). n + 1) answered ∙ last ∙ sym count))
+
+chosen_further : (request : InProgress) (number : ℕ) (b : Bool) (x y : Turned) → Further request number x → (b ≡ false → Further request number y)
+    → Further request number (cond b x y)
+chosen_further request number true x y first second = first
+chosen_further request number false x y first second = second refl
+
+ends_further : (request left : InProgress) (world : World) (number : ℕ) (last : Status) (entry : Option Entry) → Further request number (ends world number left last entry)
+ends_further request left world number last entry =
+    replied_further request (with_table world (kept_by left.slot (result_of left last) world.table)) number
+    (framed (reply_text left.xid (Success (result_of left last))))
+
+behind_further : (request left : InProgress) (world : World) (number : ℕ) (outcome : Outcome) (entry : Option Entry) → left.answered ≡ request.answered → left.count ≡ request.count
+    → Further request number (behind world number left outcome entry)
+behind_further request left world number (Outcome.Refused operation reason) entry answered count =
+    ends_further request (with_result left (Outcome.Refused operation reason)) world number reason entry
+behind_further request left world number (Outcome.Done answer) entry answered count =
+    chosen_further request number (is_last left) _ _ (ends_further request (with_result left (Outcome.Done answer)) world number status.Ok entry)
+    (λ more. busy_further request left world number (Outcome.Done answer) answered count more)
+
+has_run_further : (request : InProgress) (world : World) (number : ℕ) (operation : Argument) (ran : HasRun) → Keeps request ran → Further request number (has_run world number request operation ran)
+has_run_further request world number operation (Gives outcome after left) keeps =
+    behind_further request left after number outcome (Some (entry_of world request operation outcome after)) keeps.0 keeps.1
+has_run_further request world number operation (Replays result session slot) keeps = replied_further request world number _
+
+operates_further : (world : World) (number now : ℕ) (request : InProgress) (next : Next) → Further request number (operates world number now request next)
+operates_further world number now request (Refuses operation reason) = behind_further request request world number (Outcome.Refused operation reason) None refl refl
+operates_further world number now request (Reads operation rest) =
+    has_run_further (record request { rest = rest }) world number operation _
+    (in_room_keeps world (record request { rest = rest }) (operation_of operation) _ (run_keeps world (record request { rest = rest }) now operation))
+
+pub one_a_turn : OneATurn
+unfolding one
+one_a_turn world number now request is =
+    subst (λ (connection : Option Connection). Further request number (turned world number now connection)) (sym is)
+    (operates_further world number now request (next_operation request))
+
+-- A hang-up
+
+quiet_turns : (most : ℕ) (world : World) (number now : ℕ) → is_busy (at number world.connections) ≡ false → turns most world number now ≡ world
+quiet_turns zero world number now e = refl
+quiet_turns (suc most) world number now e = ap (λ (b : Bool). cond b (turns most (one world number now).world number now) world) e
+
+busy_turns : (most : ℕ) (world : World) (number now : ℕ) → is_busy (at number world.connections) ≡ true → turns (suc most) world number now ≡ turns most (one world number now).world number now
+busy_turns most world number now e = ap (λ (b : Bool). cond b (turns most (one world number now).world number now) world) e
+
+-- behind a turn, with what its further turns come to
+turns_end : (most : ℕ) (world : World) (number now : ℕ) (request : InProgress) → at number world.connections ≡ Some (Busy request) → request.count ≡ request.answered + most
+    → request.answered < request.count → is_busy (at number (turns most world number now).connections) ≡ false
+turns_end zero world number now request is left some = absurd (omega arith)
+turns_end (suc most) world number now request is left some =
+    let further = one_a_turn world number now request is in
+    let busy : is_busy (at number world.connections) ≡ true = ap is_busy is in
+    subst (λ (after : World). is_busy (at number after.connections) ≡ false) (sym (busy_turns most world number now busy))
+    (by_connection (at number (one world number now).world.connections) refl further (λ after at_after count some. turns_end most (one world number now).world number now after at_after count some))
+  where
+    by_connection : (connection : Option Connection) → at number (one world number now).world.connections ≡ connection → IsOneFurther request connection
+        → ((after : InProgress) → at number (one world number now).world.connections ≡ Some (Busy after) → after.count ≡ after.answered + most → after.answered < after.count
+        → is_busy (at number (turns most (one world number now).world number now).connections) ≡ false)
+        → is_busy (at number (turns most (one world number now).world number now).connections) ≡ false
+    by_connection None e further more = absurd further
+    by_connection (Some (Quiet bytes)) e further more = absurd further
+    by_connection (Some (Waiting bytes)) e further more = absurd further
+    by_connection (Some Closed) e further more = absurd further
+    by_connection (Some (Replied reply)) e further more =
+        let quiet : is_busy (at number (one world number now).world.connections) ≡ false = ap is_busy e in
+        subst (λ (after : World). is_busy (at number after.connections) ≡ false) (sym (quiet_turns most (one world number now).world number now quiet)) quiet
+    by_connection (Some (Busy after)) e further more =
+        let answered = further.0 in
+        let count = further.1 in
+        more after e (omega (arith, left)) (below after answered count further.2)
+      where
+        below : (after : InProgress) → after.answered ≡ request.answered + 1 → after.count ≡ request.count → request.answered + 1 ≢ request.count → after.answered < after.count
+        below after answered count unequal = omega (arith, some)
+
+dropped : (world : World) (number : ℕ) → is_busy (at number world.connections) ≡ false → hangs_up world number ≡ without_connection world number
+unfolding hangs_up
+dropped world number e = ap (λ (b : Bool). cond b world (without_connection world number)) e
+
+pub hangs_up_last : HangsUpLast
+unfolding hangs_up hung_up
+hangs_up_last = record {
+  keeps = λ world number e. ap (λ (b : Bool). cond b world (without_connection world number)) e;
+  goes = λ world number now request is some.
+      let most : operations_left (at number world.connections) ≡ request.count - request.answered = ap operations_left is in
+      let ended = turns_end (request.count - request.answered) world number now request is (omega arith) some in
+      let after = turns (request.count - request.answered) world number now in
+      let same : hung_up world number now ≡ hangs_up after number = ap (λ (n : ℕ). hangs_up (turns n world number now) number) most in
+      ap (λ (left : World). at number left.connections) (same ∙ dropped after number ended) ∙ at-without_same after.connections number;
+}
+
+turns_are : (most : ℕ) (world : World) (number now : ℕ) → (k : ℕ) × (turns most world number now ≡ after_turns k world number now)
+turns_are zero world number now = (0, refl)
+turns_are (suc most) world number now = by_busy (is_busy (at number world.connections)) (turns_are most (one world number now).world number now)
+  where
+    by_busy : (b : Bool) → (k : ℕ) × (turns most (one world number now).world number now ≡ after_turns k (one world number now).world number now)
+        → (k : ℕ) × (cond b (turns most (one world number now).world number now) world ≡ after_turns k world number now)
+    by_busy true more = (suc more.0, more.1)
+    by_busy false more = (0, refl)
+
+pub hang_up_is_events : HangUpIsEvents
+unfolding hung_up
+hang_up_is_events world number now =
+    let more = turns_are (operations_left (at number world.connections)) world number now in
+    (more.0, ap (λ (left : World). hangs_up left number) more.1)
+
+-- A server that flushes each change at once
+
+flushed : Serving → Event → Serving
+flushed old event = record {
+  world = effect_of old.world event;
+  recent = (effect_of old.world event).tree ∷ [];
+  is_down = false;
+}
+
+one_left : (only tree : Tree) → IsAmong (only ∷ []) tree → tree ≡ only
+one_left only tree among = by_place among.0 among.1.0 among.1.1
+  where
+    by_place : (place : ℕ) → place < length (only ∷ []) → tree ≡ get_or (only ∷ []) place tree → tree ≡ only
+    by_place zero less e = e
+    by_place (suc place) less e = absurd (omega arith)
+
+left_flushed : (old : Serving) (new tree : Tree) (made : Option Entry) → EntryFits old.world.tree new made → IsAmong old.recent old.world.tree → tree ≡ new
+    → (IsAmong old.recent tree) ⊎ (IsAfter made tree)
+left_flushed old new tree None fits among same = inl (subst (IsAmong old.recent) (sym (same ∙ fits)) among)
+left_flushed old new tree (Some entry) fits among same = inr (same ∙ fits.1)
+
+lasts_flushed : (old new tree : Tree) (made : Option Entry) (entry : Entry) → EntryFits old new made → made ≡ Some entry → tree ≡ new → tree ≡ entry.after
+lasts_flushed old new tree made entry fits is same =
+    let there : EntryFits old new (Some entry) = subst (EntryFits old new) is fits in
+    same ∙ there.1
+
+pub each_event_happens : EachEventHappens
+unfolding flushed
+each_event_happens old event up among =
+    let fits = event_fits old.world event in
+    let is : executed old event ≡ executed_of old.world event = ap (executed_by old.world event) up in (
+      flushed old event,
+      record {
+        up = up;
+        world = refl;
+        still_up = refl;
+        no_others = λ tree left. subst (λ (made : Option Entry). (IsAmong old.recent tree) ⊎ (IsAfter made tree)) (sym is)
+            (left_flushed old (effect_of old.world event).tree tree (executed_of old.world event) fits among (one_left _ tree left));
+        durable = λ entry e lasts tree left.
+            lasts_flushed old.world.tree (effect_of old.world event).tree tree (executed_of old.world event) entry fits (sym is ∙ e) (one_left _ tree left);
+      },
+      (0, (omega arith, refl)),
+    )

@@ -1,0 +1,5 @@
+use Rattle.model.proofs.RuledOutLaws.{each_event_happens}
+use Rattle.model.proofs.runs.each_event_happens.Goals as goal
+
+pub returns : goal.returns
+returns c = each_event_happens

@@ -1,0 +1,5 @@
+use Rattle.model.proofs.ServedOnceLaws.{every_served_slot}
+use Rattle.model.proofs.runs.every_served_slot.Goals as goal
+
+pub returns : goal.returns
+returns c = every_served_slot

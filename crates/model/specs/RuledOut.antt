@@ -1,0 +1,71 @@
+-- Servers that these definitions rule out, each by one law.
+use Rattle.std.specs.Prelude.{◌≡◌, ◌≢◌, ℕ, zero, suc, ◌+◌, ◌<◌, true, false, List, [], ◌∷◌, find, Option, None, Some}
+use Rattle.std.specs.List.{IsAmong}
+use Rattle.model.specs.Keyed.{at}
+use Rattle.model.specs.Operation.{SequenceArguments}
+use Rattle.model.specs.Session.{Table, Session, Kept, Runs, begin, is_session, slot_at, next_number}
+use Rattle.model.specs.Tree.{Tree}
+use Rattle.model.specs.World.{World, ServerLimits, Entry, InProgress, Connection, Busy, Replied, one, hangs_up, hung_up, is_busy}
+use Rattle.model.specs.Runs.{Event, Turns, HangsUp, effect_of, before, IsDurable, is_durable, is_unstable, History, Serving, mounted, executed, MayLeave, Happens, IsRun, IsGoodPrefix}
+
+-- the operation changed the tree, and is no unstable write
+abbrev pub IsChange : Entry → Type 0
+IsChange entry = (before entry ≢ entry.after) × (is_unstable entry.operation ≡ false)
+
+-- One that keeps a later change and skips an unstable write before it: the tree left is the one behind both.
+abbrev pub NoSkip : Type 0
+NoSkip = (start : Tree) (write change : Entry) (tree : Tree) → IsDurable change
+    → IsGoodPrefix start (write ∷ change ∷ []) (1 ∷ []) tree → tree ≡ change.after
+
+-- One that gives a reply before its change is kept: behind the turn the tree before it is none that a stop may leave.
+abbrev pub NoEarlyReply : Type 0
+NoEarlyReply = (old new : Serving) (event : Event) (entry : Entry) → Happens old event new → executed old event ≡ Some entry
+    → is_durable entry ≡ true → before entry ≢ entry.after → IsAmong new.recent (before entry) → ⊥
+
+-- One that takes an answered change away and puts it back within a later call: at no moment of that call may it be missing.
+abbrev pub NoTakingBack : Type 0
+NoTakingBack = (limits : ServerLimits) (run : ℕ) (start : Tree) (serving : Serving) (history : History) (change : Entry) (event : Event)
+    → IsRun (mounted limits run start) serving history → history.done ≡ change ∷ [] → history.handed_out ≡ 0 ∷ [] → IsChange change
+    → executed serving event ≡ None → MayLeave serving event (before change) → ⊥
+
+-- One that runs a retry again: where the slot keeps the reply to this number, nothing runs.
+abbrev pub NoSecondRun : Type 0
+NoSecondRun = (uid count : ℕ) (arguments : SequenceArguments) (table : Table) (session : Session) (reply : List ℕ)
+    → find (is_session arguments.session) table.sessions ≡ Some session → (slot_at session arguments.slot).state ≡ Kept reply
+    → arguments.sequence ≡ (slot_at session arguments.slot).last → begin uid count arguments table ≡ Runs → ⊥
+
+-- One whose slots take a number other than the next: what runs has the number behind the slot's last.
+abbrev pub NoGap : Type 0
+NoGap = (uid count : ℕ) (arguments : SequenceArguments) (table : Table) (session : Session)
+    → find (is_session arguments.session) table.sessions ≡ Some session → begin uid count arguments table ≡ Runs
+    → arguments.sequence ≡ next_number (slot_at session arguments.slot).last
+
+-- One whose turn runs more than one operation: a turn of a request that has begun gives its reply, or one more result.
+abbrev pub IsOneFurther : InProgress → Option Connection → Type 0
+IsOneFurther request (Some (Busy after)) = (after.answered ≡ request.answered + 1) × (after.count ≡ request.count) × (request.answered + 1 ≢ request.count)
+IsOneFurther request (Some (Replied reply)) = Unit {0}
+IsOneFurther request _ = ⊥
+
+abbrev pub OneATurn : Type 0
+OneATurn = (world : World) (number now : ℕ) (request : InProgress) → at number world.connections ≡ Some (Busy request)
+    → IsOneFurther request (at number (one world number now).world.connections)
+
+-- One whose hang-up drops the rest of a request that has begun: the connection goes only once the request is answered.
+pub record HangsUpLast : Type 0 where
+  pub keeps : (world : World) (number : ℕ) → is_busy (at number world.connections) ≡ true → hangs_up world number ≡ world
+  pub goes : (world : World) (number now : ℕ) (request : InProgress) → at number world.connections ≡ Some (Busy request)
+      → request.answered < request.count → at number (hung_up world number now).connections ≡ None
+
+-- a hang-up is some turns of the connection, and then the event
+abbrev pub after_turns : ℕ → World → (number : ℕ) → (now : ℕ) → World
+after_turns zero world number now = world
+after_turns (suc more) world number now = after_turns more (effect_of world (Turns number now)) number now
+
+abbrev pub HangUpIsEvents : Type 0
+HangUpIsEvents = (world : World) (number now : ℕ)
+    → (k : ℕ) × (hung_up world number now ≡ effect_of (after_turns k world number now) (HangsUp number))
+
+-- What they do not rule out: a server that flushes each change at once. So every list of events is one of a run.
+abbrev pub EachEventHappens : Type 0
+EachEventHappens = (old : Serving) (event : Event) → old.is_down ≡ false → IsAmong old.recent old.world.tree
+    → (new : Serving) × Happens old event new × IsAmong new.recent new.world.tree

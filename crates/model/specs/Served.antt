@@ -1,0 +1,21 @@
+-- The operations that are served so far: RFC 8881, section 18. Another one of the standard's is answered NOTSUPP.
+use Rattle.std.specs.Prelude.{ℕ, ◌==◌, Bool, true, false, List, [], ◌∷◌}
+use Rattle.std.specs.List.{list_any}
+use Rattle.model.specs.Operation.{Argument, OtherType, Opening, Opens, Exclusive, OtherClaim}
+
+abbrev pub served : List ℕ
+served = 6 ∷ 10 ∷ 15 ∷ 22 ∷ 24 ∷ 42 ∷ 43 ∷ 44 ∷ 53 ∷ 57 ∷ 58 ∷ []
+
+abbrev pub is_served : (operation : ℕ) → Bool
+is_served operation = list_any (λ known. known == operation) served
+
+-- What stands behind the arguments is not looked at: a CREATE of another type, an OPEN that is exclusive or has another claim
+abbrev pub opens_no_further : Opening → Bool
+opens_no_further (Opens kind (OtherClaim claim)) = true
+opens_no_further (Opens kind claim) = false
+opens_no_further (Exclusive mode) = true
+
+abbrev pub looks_no_further : Argument → Bool
+looks_no_further (Argument.Create (OtherType other)) = true
+looks_no_further (Argument.Open arguments) = opens_no_further arguments.opening
+looks_no_further _ = false

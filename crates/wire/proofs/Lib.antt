@@ -1,0 +1,4 @@
+pub mod ExactTypes
+pub mod ExactArguments
+pub mod ExactAnswers
+pub mod Entries

@@ -1,0 +1,11 @@
+use Rattle.std.proofs.Common.{◌<◌, length, arith}
+use Rattle.xdr.proofs.Writing.{wrote_stop}
+use Rattle.wire.specs.AnswerViews.{link_of}
+use Rattle.wire.proofs.answers.write_links.Goals as goal
+
+pub returns-in_err-write_link : goal.returns-in_err-write_link
+returns-in_err-write_link c = 
+    let entries = c.args.entries.now in
+    let i = c.loop-entry.entry-index in
+    let lt : i < length entries = omega arith in
+    wrote_stop link_of entries i c.entry-item.result lt c.entry-item.is c.loop-entry.invariant c.from_residual.ensures.1 c.in_err-write_link.ensures

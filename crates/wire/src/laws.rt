@@ -1,0 +1,19 @@
+//! The laws of the grammars: each is exact, and so one value has one spelling and no spelling begins another.
+
+ghost use Rattle.xdr.specs.Laws.{Exact, OneSpelling};
+ghost use Rattle.model.specs.WireArguments.{argument};
+ghost use Rattle.model.specs.WireAnswers.{outcome};
+
+/// An operation with its arguments.
+#[tactic(auto, using(crate::proofs::ExactArguments::argument_exact, crate::proofs::ExactArguments::one_argument))]
+pub fn arguments_are_exact()
+    ensures exact { Exact argument }
+    ensures one { OneSpelling argument }
+{}
+
+/// A result of an operation, whether it ended well or was refused.
+#[tactic(auto, using(crate::proofs::ExactAnswers::outcome_exact, crate::proofs::ExactAnswers::one_outcome))]
+pub fn outcomes_are_exact()
+    ensures exact { Exact outcome }
+    ensures one { OneSpelling outcome }
+{}

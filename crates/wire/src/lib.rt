@@ -1,0 +1,30 @@
+//! The operations of NFS version 4.1 on the wire (RFC 8881, section 18; RFC 5662).
+//!
+//! One type for each argument; names and data are borrowed from the record that was read.
+#![tactic(auto)]
+
+mod answers;
+mod argument;
+mod directory;
+mod file;
+mod laws;
+mod open;
+mod outcome;
+mod session;
+mod small;
+
+pub use answers::{
+    AccessAnswer, CreateAnswer, CreateSessionAnswer, Entry, ExchangeIdAnswer, OpenAnswer, ReadAnswer, ReadDirAnswer, RenameAnswer,
+    SequenceAnswer, WriteAnswer,
+};
+pub use argument::{Argument, Operation};
+pub use directory::{CreateArguments, ReadDirArguments, RenameArguments};
+pub use file::{CloseArguments, CommitArguments, ReadArguments, SetAttrArguments, WriteArguments};
+pub use laws::{arguments_are_exact, outcomes_are_exact};
+pub use open::{Claim, OpenArguments, OpenType, Opening};
+pub use outcome::{Answer, Outcome};
+pub use session::{CreateSessionArguments, ExchangeIdArguments, SequenceArguments};
+pub use small::{
+    Attributes, Bitmap, CallbackSecurity, ChangeInfo, Channel, Implementation, StateId,
+    SystemCredential,
+};
