@@ -8,18 +8,18 @@ use Rattle.model.specs.declared.status.Status.TheVariants as status
 use Rattle.model.specs.Answer.{Answer, Outcome, ExchangeIdAnswer, CreateSessionAnswer}
 use Rattle.model.specs.Keyed.{at, with, without}
 use Rattle.model.specs.Opens.{Opens}
-use Rattle.model.specs.Operation.{Argument, SequenceArguments}
+use Rattle.model.specs.Operation.{Argument, SequenceArguments, operation_of}
 use Rattle.model.specs.Record.{Front, Partial, Refused, Whole}
 use Rattle.model.specs.Rpc.{CallRead, NoCall, OtherVersion, Calls, Request, Answers, Runs, Reply, read_call, request_of, is_call_read}
 use Rattle.model.specs.Session as sessions
 use Rattle.model.specs.Session.{Table, Session}
 use Rattle.model.specs.SoundRuns.{IsStart, EveryTreeIsSound}
 use Rattle.model.specs.Stamp.{next_stamp}
-use Rattle.model.specs.Step.{does_within}
+use Rattle.model.specs.Step.{does}
 use Rattle.model.specs.StepLaws.{IsSound}
 use Rattle.model.specs.Tree.{Tree}
 use Rattle.model.specs.WellFormed.{IsWellFormed, IsBefore}
-use Rattle.model.specs.World.{World, ServerLimits, InProgress, Connection, Quiet, Waiting, Busy, Replied, Closed, HasRun, Gives, Replays, with_connection, with_table, exchanged, created_by, tabled, started_in, begun, reclaimed, stepped, state_of, run as runs_operation, has_room, Turned, Entry, entry_of, replies, behind, ends, goes_on, with_result, is_last, has_run, operates, Next, Refuses, Reads, next_operation, requested, in_progress, called, turned, one, changed, arrived, arrives, arrives_at, takes, without_reply, connects, can_connect, hangs_up, is_busy, without_connection, mounted_world}
+use Rattle.model.specs.World.{in_room, refuses, has_room, World, ServerLimits, InProgress, Connection, Quiet, Waiting, Busy, Replied, Closed, HasRun, Gives, Replays, with_connection, with_table, exchanged, created_by, tabled, started_in, begun, reclaimed, stepped, state_of, run as runs_operation, Turned, Entry, entry_of, replies, behind, ends, goes_on, with_result, is_last, has_run, operates, Next, Refuses, Reads, next_operation, requested, in_progress, called, turned, one, changed, arrived, arrives, arrives_at, takes, without_reply, connects, can_connect, hangs_up, is_busy, without_connection, mounted_world}
 use Rattle.model.specs.Runs.{Event, Arrives, Turns, HangsUp, Connects, Takes, effect_of, executed_of, executed_by, executed, Serving, History, IsRun, Begins, Goes_on, Fails_at, Stays_down, IsAfter, MayLeave, mounted}
 use Rattle.model.proofs.FreshTree.{fresh_well_formed, fresh_before}
 use Rattle.model.proofs.KeyedLaws.{at-with_same, at-with_other, at-without_same, at-without_other, some≢none}
@@ -143,10 +143,10 @@ module _ (limits : ServerLimits) (run : ℕ) (room : limits.volume.aces_set + 5 
     }
 
     stepped_sound : (now : ℕ) (operation : Argument)
-        → SoundRan (stepped world request (does_within (has_room world request) world.limits.volume (state_of world request) now operation))
+        → SoundRan (stepped world request (does world.limits.volume (state_of world request) now operation))
     unfolding SoundRan
     stepped_sound now operation =
-        let law = (every_step modes_keep_limits inheritance_keeps_limits).does_within (has_room world request) world.limits.volume
+        let law = every_step modes_keep_limits inheritance_keeps_limits world.limits.volume
         (state_of world request) now operation in
         let before : IsSound world.limits.volume (state_of world request)
         = subst (λ (l : ServerLimits). IsSound l.volume (state_of world request)) (sym sound.limits_are) state_sound in
@@ -156,10 +156,10 @@ module _ (limits : ServerLimits) (run : ℕ) (room : limits.volume.aces_set + 5 
             limits_are = sound.limits_are;
             run_is = sound.run_is;
             well_formed = subst (λ (l : ServerLimits). IsWellFormed l.volume
-                (does_within (has_room world request) world.limits.volume (state_of world request) now operation).state.tree) sound.limits_are after.well_formed;
+                (does world.limits.volume (state_of world request) now operation).state.tree) sound.limits_are after.well_formed;
             before = subst (λ r. IsBefore (next_stamp r
-                (does_within (has_room world request) world.limits.volume (state_of world request) now operation).state.changes)
-                (does_within (has_room world request) world.limits.volume (state_of world request) now operation).state.tree) of_run after.before;
+                (does world.limits.volume (state_of world request) now operation).state.changes)
+                (does world.limits.volume (state_of world request) now operation).state.tree) of_run after.before;
             counted = after.counted;
             busy = sound.busy;
           },
@@ -177,6 +177,19 @@ module _ (limits : ServerLimits) (run : ℕ) (room : limits.volume.aces_set + 5 
     run_sound now (Argument.ReclaimComplete true) = reclaimed_sound _
     run_sound now (Argument.ReclaimComplete false) = tabled_sound 58 _ _
     run_sound now operation = stepped_sound now operation
+
+  -- the last test of all
+  in_room_sound : (world : World) (request : InProgress) (operation : ℕ) (ran : HasRun) → IsSoundWorld limits run world
+      → request.context.run ≡ run → SoundRan ran → SoundRan (in_room world request operation ran)
+  unfolding SoundRan
+  in_room_sound world request operation (Gives (Outcome.Refused number reason) after left) sound same ran = ran
+  in_room_sound world request operation (Gives (Outcome.Done answer) after left) sound same ran = either (has_room world request (Outcome.Done answer)) ran
+    where
+      either : (b : Bool) → IsSoundWorld limits run after × (left.context.run ≡ run)
+          → SoundRan (cond b (Gives (Outcome.Done answer) after left) (refuses world request operation status.RepTooBig))
+      either true ran = ran
+      either false ran = (sound, same)
+  in_room_sound world request operation (Replays result session slot) sound same ran = tt
 
   -- One turn
 
@@ -224,7 +237,9 @@ module _ (limits : ServerLimits) (run : ℕ) (room : limits.volume.aces_set + 5 
   operates_sound world number now request (Refuses operation reason) sound same =
       behind_sound world number request (Outcome.Refused operation reason) None sound same
   operates_sound world number now request (Reads operation rest) sound same =
-      has_run_sound world number (record request { rest = rest }) operation _ sound (run_sound world (record request { rest = rest }) sound same now operation)
+      has_run_sound world number (record request { rest = rest }) operation _ sound
+      (in_room_sound world (record request { rest = rest }) (operation_of operation) _ sound same
+      (run_sound world (record request { rest = rest }) sound same now operation))
 
   replies_sound : (world : World) (number xid : ℕ) (reply : Reply) → IsSoundWorld limits run world → SoundTurned (replies world number xid reply)
   unfolding SoundTurned
