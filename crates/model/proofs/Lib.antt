@@ -17,3 +17,4 @@ pub mod ModeLaws
 pub mod NumberLaws
 pub mod StepCases
 pub mod StepProofs
+pub mod SoundLaws

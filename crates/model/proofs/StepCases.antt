@@ -3,14 +3,13 @@ use Rattle.std.proofs.Common.{ℕ, Bool, true, false, [], ◌∷◌, ◌++◌, �
 use Rattle.std.specs.Prelude.{Option, Some, None}
 use Rattle.model.specs.declared.status.Status.{Status}
 use Rattle.model.specs.declared.status.Status.TheVariants as status
-use Rattle.model.specs.Answer.{Outcome}
 use Rattle.model.specs.Charge.{fits}
 use Rattle.model.specs.Limits.{Limits}
 use Rattle.model.specs.Need.{permitted}
 use Rattle.model.specs.Operation.{Argument}
 use Rattle.model.specs.Refusal.{Refusals, first_refusal, refused_or}
 use Rattle.model.specs.Stamp.{is_stamp_left}
-use Rattle.model.specs.Step.{State, Stepped, early, late, refusals, alters, effect, change_refusals, refused, unless_refused, does, does_within, too_big_if, lacks_room}
+use Rattle.model.specs.Step.{State, Stepped, early, late, refusals, alters, effect, change_refusals, refused, unless_refused, does}
 
 -- Refusals one after the other
 
@@ -87,16 +86,5 @@ does_cases limits state now operation = elim (unless_cases state operation
     ++ change_refusals limits state operation (effect state now operation).state.tree))
     (effect state now operation)) [
       | inl went ↦ inl (passes limits state now operation went.0, went.1)
-      | inr not_gone ↦ inr not_gone
-    ]
-
--- and with room for its result alone
-pub does_within_cases : (has_room : Outcome → Bool) (limits : Limits) (state : State) (now : ℕ) (operation : Argument)
-    → (does_within has_room limits state now operation ≡ does limits state now operation)
-    ⊎ ((of : Status) × (does_within has_room limits state now operation ≡ refused state operation of))
-unfolding does_within
-does_within_cases has_room limits state now operation = elim (unless_cases state operation
-    (too_big_if (lacks_room has_room (does limits state now operation).outcome)) (does limits state now operation)) [
-      | inl went ↦ inl went.1
       | inr not_gone ↦ inr not_gone
     ]

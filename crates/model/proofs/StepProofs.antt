@@ -19,13 +19,13 @@ use Rattle.model.specs.Name.{name_refusals}
 use Rattle.model.specs.Operation.{Argument, Attributes, NewDirectory, OtherType, operation_of}
 use Rattle.model.specs.Refusal.{first_refusal}
 use Rattle.model.specs.Stamp.{is_stamp_left}
-use Rattle.model.specs.Step.{State, current, stamp_of, current_refusals, named_refusals, is_name_there, alters, effect, made, refused, does, does_within}
+use Rattle.model.specs.Step.{State, current, stamp_of, current_refusals, named_refusals, is_name_there, alters, effect, made, refused, does}
 use Rattle.model.specs.StepLaws.{IsSound, IsLawful, EveryStepIsLawful, RunsBeginSound}
 use Rattle.model.specs.Tree.{Tree, Node, kind_of, names_of, names_at, names_of_node, is_directory, is_directory_node, is_directory_at, entry_of}
 use Rattle.model.specs.WellFormed.{IsNode, IsWellFormed, IsBefore}
 use Rattle.model.proofs.ChildLaws.{kind_of_directory, tree_after, well_formed_after, before_after, changes_tree}
 use Rattle.model.proofs.FreshTree.{no_names, fresh_well_formed, fresh_before}
-use Rattle.model.proofs.StepCases.{Passes, none_in_front, none_in_both, does_cases, does_within_cases}
+use Rattle.model.proofs.StepCases.{Passes, none_in_front, none_in_both, does_cases}
 
 -- What an operation is answered with
 
@@ -210,20 +210,13 @@ module _ (modes : ModesKeepLimits) (inheritance : InheritanceKeepsLimits) where
     | inr not_gone ↦ subst (IsLawful limits state operation) (sym not_gone.1) (refused_is_lawful limits state operation not_gone.0)
   ]
 
-  does_within_is_lawful : (has_room : Outcome → Bool) (limits : Limits) (state : State) (now : ℕ) (operation : Argument)
-      → IsLawful limits state operation (does_within has_room limits state now operation)
-  does_within_is_lawful has_room limits state now operation = elim (does_within_cases has_room limits state now operation) [
-    | inl went ↦ subst (IsLawful limits state operation) (sym went) (does_is_lawful limits state now operation)
-    | inr not_gone ↦ subst (IsLawful limits state operation) (sym not_gone.1) (refused_is_lawful limits state operation not_gone.0)
-  ]
-
   pub every_step : EveryStepIsLawful
-  every_step = record { does = does_is_lawful; does_within = does_within_is_lawful }
+  every_step = does_is_lawful
 
 -- Runs
 
 -- what was before a stamp was before each later one
-before_later : (stamp later : ℕ) (tree : Tree) → IsBefore stamp tree → stamp ≤ later → IsBefore later tree
+pub before_later : (stamp later : ℕ) (tree : Tree) → IsBefore stamp tree → stamp ≤ later → IsBefore later tree
 before_later stamp later tree before order = record {
   number = λ number node is. let low : number < stamp = before.number number node is in omega arith;
   change = λ number node is. let low : node.change < stamp = before.change number node is in omega arith;

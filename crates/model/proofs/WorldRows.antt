@@ -19,7 +19,7 @@ use Rattle.model.specs.Record.{front_from, fragment, behind_header, framed}
 use Rattle.model.specs.Rpc.{words, read_call, request_of, reply_text, compound_text}
 use Rattle.model.specs.WireArguments.{arguments_at}
 use Rattle.model.specs.Session.{exchange_id, create_session, destroy_session, destroy_client_id, reclaim_complete, begin, started, finish, session_id}
-use Rattle.model.specs.Step.{does, does_within, effect, refusals}
+use Rattle.model.specs.Step.{does, effect, refusals}
 use Rattle.model.specs.Tree.{root, names_at}
 use Rattle.model.specs.World.{World, ServerLimits, mounted_world, one, arrives, takes, connects, hung_up, hangs_up, turns, reply_at, Turn, Idle, Ran, Answered, next_operation, run, outcome_text}
 
@@ -56,7 +56,7 @@ unfolding arrives front_from fragment behind_header read_call number number_at p
 comes world connection bytes = arrives world connection bytes
 
 turned : ℕ → World → ℕ → World
-unfolding one framed read_call request_of reply_text compound_text arguments_at outcome_text next_operation run number number_at padded padded_at counted counted_at each_at elements elements_at exchange_id create_session destroy_session destroy_client_id reclaim_complete begin started finish session_id does does_within effect refusals permitted granted first_of fits name_refusals attribute_refusals attributes_of inherited moded is_utf8 chars encode_utf8
+unfolding one framed read_call request_of reply_text compound_text arguments_at outcome_text next_operation run number number_at padded padded_at counted counted_at each_at elements elements_at exchange_id create_session destroy_session destroy_client_id reclaim_complete begin started finish session_id does effect refusals permitted granted first_of fits name_refusals attribute_refusals attributes_of inherited moded is_utf8 chars encode_utf8
 turned zero world connection = world
 turned (suc turns) world connection = turned turns (one world connection 0).world connection
 

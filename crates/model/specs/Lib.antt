@@ -24,6 +24,7 @@ pub mod Served
 pub mod ServedOnce
 pub mod Session
 pub mod SessionRuns
+pub mod SoundRuns
 pub mod Stamp
 pub mod StateIds
 pub mod Status
@@ -32,7 +33,7 @@ pub mod StepExamples
 pub mod StepLaws
 pub mod Tree
 pub mod WellFormed
-pub mod World
 pub mod WireAnswers
 pub mod WireArguments
 pub mod WireTypes
+pub mod World

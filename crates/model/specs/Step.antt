@@ -140,24 +140,9 @@ abbrev pub unless_refused : State → Argument → Option Status → Stepped →
 unless_refused state operation None stepped = stepped
 unless_refused state operation (Some reason) stepped = refused state operation reason
 
--- One operation
+-- One operation. That the reply has room for its result is tested behind it, for every operation alike.
 unfoldable pub does : Limits → State → (now : ℕ) → Argument → Stepped
 does limits state now operation =
     let stepped = effect state now operation in
     unless_refused state operation
     (first_refusal (refusals limits state operation ++ change_refusals limits state operation stepped.state.tree)) stepped
-
--- One operation where the reply has to have room for its result (section 15.1.3, NFS4ERR_REP_TOO_BIG): the last test of all
-
-abbrev pub lacks_room : (has_room : Outcome → Bool) → Outcome → Bool
-lacks_room has_room (Outcome.Done answer) = not (has_room (Outcome.Done answer))
-lacks_room has_room (Outcome.Refused number reason) = false
-
-abbrev pub too_big_if : Bool → Option Status
-too_big_if true = Some status.RepTooBig
-too_big_if false = None
-
-unfoldable pub does_within : (has_room : Outcome → Bool) → Limits → State → (now : ℕ) → Argument → Stepped
-does_within has_room limits state now operation =
-    let stepped = does limits state now operation in
-    unless_refused state operation (too_big_if (lacks_room has_room stepped.outcome)) stepped

@@ -1,5 +1,5 @@
 -- Operations worked out by hand, on a fresh volume of 256 sectors and 16 nodes in its first run: the definitions compute to them.
-use Rattle.std.specs.Prelude.{ℕ, true, false, List, [], ◌∷◌, Option, Some, None, ◌≡◌, ◌-◌, ◌^◌, replicate}
+use Rattle.std.specs.Prelude.{ℕ, true, List, [], ◌∷◌, Option, Some, None, ◌≡◌, ◌-◌, ◌^◌, replicate}
 use Rattle.model.specs.declared.acl.Cred.{Cred}
 use Rattle.model.specs.declared.acl.AceKind.TheVariants as kind
 use Rattle.model.specs.declared.acl.Who.TheVariants as who
@@ -14,7 +14,7 @@ use Rattle.model.specs.Mode.{entry}
 use Rattle.model.specs.Name.{name_refusals}
 use Rattle.model.specs.Operation.{Argument, Attributes, NewDirectory, OtherType}
 use Rattle.model.specs.Refusal.{first_refusal}
-use Rattle.model.specs.Step.{State, does, does_within}
+use Rattle.model.specs.Step.{State, does}
 use Rattle.model.specs.Tree.{Tree, Directory}
 
 abbrev pub volume : Limits
@@ -142,8 +142,6 @@ pub record StepExamples : Type 0 where
   -- after 2^32 - 1 changes no stamp is left
   pub no_stamp_left : outcomes volume (begun 7 fresh_tree (2 ^ 32 - 1)) (Argument.PutRootFh ∷ make_a ∷ [])
       ≡ at_root ∷ Outcome.Refused 6 status.ServerFault ∷ []
-  pub no_room_for_reply : (does_within (λ outcome. false) volume (begun 7 fresh_tree 0) 1000 Argument.PutRootFh).outcome
-      ≡ Outcome.Refused 24 status.RepTooBig
   -- what is not served yet
   pub not_served : in_root 7 (Argument.Remove (97 ∷ [])) ≡ at_root ∷ Outcome.Refused 28 status.NotSupp ∷ []
   -- charges of 8,200, 364,543, 364,545 and 16,777,216 bytes; the data region

@@ -1,12 +1,12 @@
 -- What holds of every operation, whatever the tree and whoever asks.
-use Rattle.std.specs.Prelude.{ℕ, Bool, ◌≡◌, ◌≢◌, ◌+◌, ◌^◌, ◌<◌, ◌≤◌, IsTrue, IsFalse}
+use Rattle.std.specs.Prelude.{ℕ, ◌≡◌, ◌≢◌, ◌+◌, ◌^◌, ◌<◌, ◌≤◌, IsTrue, IsFalse}
 use Rattle.model.specs.declared.status.Status.{Status}
 use Rattle.model.specs.Answer.{Answer, Outcome}
 use Rattle.model.specs.Fresh.{fresh_tree}
 use Rattle.model.specs.Limits.{Limits}
 use Rattle.model.specs.Need.{permitted}
 use Rattle.model.specs.Operation.{Argument}
-use Rattle.model.specs.Step.{State, Stepped, alters, stamp_of, does, does_within}
+use Rattle.model.specs.Step.{State, Stepped, alters, stamp_of, does}
 use Rattle.model.specs.WellFormed.{IsWellFormed, IsBefore}
 
 -- the tree is well formed, all its stamps are from before the next one, each change had one, and the limits leave a mode its
@@ -40,12 +40,9 @@ pub record IsLawful (limits : Limits) (state : State) (operation : Argument) (st
   -- a well-formed tree stays one
   pub keeps_soundness : IsSound limits state → IsSound limits stepped.state
 
--- with room for every result, and with room for some
-pub record EveryStepIsLawful : Type 0 where
-  pub does : (limits : Limits) (state : State) (now : ℕ) (operation : Argument)
-      → IsLawful limits state operation (does limits state now operation)
-  pub does_within : (has_room : Outcome → Bool) (limits : Limits) (state : State) (now : ℕ) (operation : Argument)
-      → IsLawful limits state operation (does_within has_room limits state now operation)
+abbrev pub EveryStepIsLawful : Type 0
+EveryStepIsLawful = (limits : Limits) (state : State) (now : ℕ) (operation : Argument)
+    → IsLawful limits state operation (does limits state now operation)
 
 -- The first run is sound on a fresh volume, and each later one on the tree of any sound state of a run before it
 pub record RunsBeginSound : Type 0 where

@@ -4,7 +4,7 @@ use Rattle.xdr.specs.declared.refusal.Refusal.{Refusal}
 use Rattle.xdr.specs.Grammar.{Grammar, ◌&◌, of, void, unsigned_int, unsigned_hyper}
 use Rattle.xdr.specs.Forms.{below, always, boolean, array, optional, bitmap}
 use Rattle.xdr.specs.Union.{Told, tells, Choice, on, no_other, any_other, other_below, union}
-use Rattle.model.specs.Operation.{StateId, Attributes, Channel, Implementation, CallbackSecurity, CloseArguments, CommitArguments, CreateArguments, NewDirectory, OtherType, OpenType, NoCreate, Unchecked, Guarded, Claim, ByName, ByHandle, OtherClaim, Opening, Opens, Exclusive, OpenArguments, ReadArguments, ReadDirArguments, RenameArguments, SetAttrArguments, WriteArguments, ExchangeIdArguments, CreateSessionArguments, SequenceArguments, Argument}
+use Rattle.model.specs.Operation.{StateId, Attributes, Channel, Implementation, CallbackSecurity, CloseArguments, CommitArguments, CreateArguments, NewDirectory, OtherType, NoCreate, Unchecked, Guarded, Claim, ByName, ByHandle, OtherClaim, Opening, Opens, Exclusive, OpenArguments, ReadArguments, ReadDirArguments, RenameArguments, SetAttrArguments, WriteArguments, ExchangeIdArguments, CreateSessionArguments, SequenceArguments, Argument}
 use Rattle.model.specs.WireTypes.{any_opaque, file_handle, verifier, session_id, owner_id, state_id, attributes, channel, implementation, callback_security}
 
 abbrev pub close_arguments : Grammar CloseArguments
@@ -105,7 +105,13 @@ exchange_id_arguments = of
 abbrev pub create_session_arguments : Grammar CreateSessionArguments
 create_session_arguments = of
     (λ (p : ℕ × (ℕ × (ℕ × (Channel × (Channel × (ℕ × List CallbackSecurity)))))). record {
-      client = p.0; sequence = p.1.0; flags = p.1.1.0; fore = p.1.1.1.0; back = p.1.1.1.1.0; callback_program = p.1.1.1.1.1.0; security = p.1.1.1.1.1.1;
+      client = p.0;
+      sequence = p.1.0;
+      flags = p.1.1.0;
+      fore = p.1.1.1.0;
+      back = p.1.1.1.1.0;
+      callback_program = p.1.1.1.1.1.0;
+      security = p.1.1.1.1.1.1;
     })
     (λ a. (a.client, (a.sequence, (a.flags, (a.fore, (a.back, (a.callback_program, a.security)))))))
     (unsigned_hyper & unsigned_int & unsigned_int & channel & channel & unsigned_int & array 4 callback_security)

@@ -10,6 +10,7 @@ pub mod node;
 pub mod rpc;
 pub mod runs;
 pub mod session;
+pub mod sound;
 pub mod status;
 pub mod step;
 pub mod tree;

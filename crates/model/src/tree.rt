@@ -1,6 +1,5 @@
 //! The laws of the tree: each is the contract of a function that does nothing.
 
-ghost use Rattle.model.specs.AclLaws.{ModesKeepLimits, InheritanceKeepsLimits};
 ghost use Rattle.model.specs.Fresh.{FreshIsWellFormed};
 ghost use Rattle.model.specs.Keyed.{OnlyMap, ReadsBack, KeepsOrder};
 ghost use Rattle.model.specs.Limits.{Limits};
@@ -31,10 +30,4 @@ pub fn stamps()
 /// The tree of a fresh volume is well formed.
 pub fn fresh()
     ensures { (limits : Limits) → FreshIsWellFormed limits }
-{}
-
-/// Setting a mode and inheritance keep to the lists that a node may have.
-pub fn lists()
-    ensures modes { ModesKeepLimits }
-    ensures inheritance { InheritanceKeepsLimits }
 {}

@@ -3,8 +3,10 @@
 #![tactic(auto)]
 
 pub mod charge;
+pub mod fresh;
 pub mod lookup;
 pub mod names;
+pub mod stamp;
 #[cfg(test)]
 mod tests;
 pub mod tree;

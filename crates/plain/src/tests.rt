@@ -1,4 +1,5 @@
 use crate::names::{check_name, entry_named};
+use crate::stamp::{filehandle_of, next_stamp, number_of};
 use crate::tree::{Content, DirEntry, Node, Tree};
 use acl_eval::{Ace, AceFlags, AceKind, Acl, Cred, Gids, Mask, Who};
 use bitflags::Flags;
@@ -140,5 +141,29 @@ fn nodes_and_entries_are_found(rt: HostRuntime) -> Result<(), Fail> {
         assert!(rt; entry_named(names, b"d").is_some_and(|entry| entry.stamp == 5));
         assert!(rt; entry_named(names, b"e").is_none());
     }
+    Ok(())
+}
+
+#[test]
+fn stamps_and_handles(rt: HostRuntime) {
+    assert!(rt; next_stamp(1, 0) == Some(4_294_967_297));
+    assert!(rt; next_stamp(1, u32::MAX - 1) == Some(8_589_934_591));
+    assert!(rt; next_stamp(1, u32::MAX).is_none());
+    let handle = filehandle_of(4_294_967_297);
+    assert!(rt; handle == [0, 0, 0, 1, 0, 0, 0, 1]);
+    assert!(rt; number_of(&handle) == Ok(4_294_967_297));
+    assert!(rt; number_of(&handle[..7]) == Err(Status::BadHandle));
+}
+
+#[test]
+fn a_fresh_tree_has_a_root(rt: HostRuntime) -> Result<(), Fail> {
+    let fresh = Tree::fresh(rt.alloc())?;
+    assert!(rt; fresh.fits(&Limits::of_volume(256, 16)));
+    assert!(rt;
+        fresh
+            .node(1)
+            .is_some_and(|root| root.change == 1 && root.charge() == 0)
+    );
+    assert_eq!(rt; fresh.nodes.len(), 1);
     Ok(())
 }

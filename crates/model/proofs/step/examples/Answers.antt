@@ -6,13 +6,13 @@ use Rattle.model.specs.Inherit.{inherited}
 use Rattle.model.specs.Mode.{moded}
 use Rattle.model.specs.Name.{name_refusals}
 use Rattle.model.specs.Need.{permitted}
-use Rattle.model.specs.Step.{refusals, effect, does, does_within}
+use Rattle.model.specs.Step.{refusals, effect, does}
 use Rattle.std.specs.Char.{encode_utf8}
 use Rattle.std.specs.Str.{is_utf8, chars}
 use Rattle.model.proofs.step.examples.Goals as goal
 
 pub returns : goal.returns
-unfolding first_of granted attributes_of attribute_refusals fits inherited moded name_refusals permitted refusals effect does does_within is_utf8 chars encode_utf8
+unfolding first_of granted attributes_of attribute_refusals fits inherited moded name_refusals permitted refusals effect does is_utf8 chars encode_utf8
 returns c = record {
   makes = refl;
   made = refl;
@@ -43,7 +43,6 @@ returns c = record {
   no_node_left = refl;
   last_node = refl;
   no_stamp_left = refl;
-  no_room_for_reply = refl;
   not_served = refl;
   charges = refl;
   bitmap = refl;

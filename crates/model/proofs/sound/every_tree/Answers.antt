@@ -1,0 +1,5 @@
+use Rattle.model.proofs.SoundLaws.{every_tree}
+use Rattle.model.proofs.sound.every_tree.Goals as goal
+
+pub returns : goal.returns
+returns c = every_tree
