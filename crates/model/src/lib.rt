@@ -3,4 +3,7 @@
 //! `specs/` has one file a subject, each with the section of the public standard that it comes from.
 #![tactic(auto)]
 
+pub mod acl;
+pub mod acl_laws;
+pub mod node;
 pub mod status;

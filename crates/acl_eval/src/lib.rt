@@ -1,0 +1,54 @@
+//! Whether an access control list grants rights to a caller (RFC 8881, section 6.2.1).
+#![tactic(auto)]
+
+ghost use Rattle.std.specs.Prelude.{◌≡◌, ◌&&◌};
+ghost use Rattle.model.specs.Acl.{counts, granted, matches};
+
+use bitflags::Flags;
+pub use model::acl::{Ace, AceFlags, AceKind, Acl, Cred, Gids, Mask, Who};
+pub use model::node::NodeKind;
+
+// READ_ACL, WRITE_ACL and WRITE_ATTRIBUTES: with these no list locks the owner out.
+const OWNERS_RIGHTS: u32 = 0x60100;
+
+// Whether an entry says something about the node itself, and of this caller.
+fn concerns(ace: &Ace, owner: u32, group: u32, cred: &Cred) -> bool
+    ensures { result ≡ (counts ace.now && matches ace.now.who owner group cred.now) }
+{
+    ace.counts() && ace.who.matches(owner, group, cred)
+}
+
+/// Whether a caller has all the rights of a mask on a node of this owner and group.
+///
+/// Each right is decided by the first entry that counts, names it and matches the caller: it is granted where that entry
+/// is ALLOW, and denied where there is none. The owner may always read and write the list and write the attributes. No user
+/// is above the list, whatever its number. Takes no memory.
+pub fn granted(acl: &[Ace], owner: u32, group: u32, cred: &Cred, mask: Mask) -> bool
+    ensures { result ≡ granted acl.now owner group cred.now mask.0 }
+{
+    let asked = mask.bits();
+    let mut undecided = if cred.uid == owner {
+        asked & !OWNERS_RIGHTS
+    } else {
+        asked
+    };
+    for ace in acl {
+        if !concerns(ace, owner, group, cred) {
+            continue;
+        }
+        let named = ace.mask.bits();
+        match ace.kind {
+            AceKind::Allow => undecided &= !named,
+            AceKind::Deny => {
+                let is_denied = undecided & named != 0;
+                if is_denied {
+                    return false;
+                }
+            }
+        }
+    }
+    undecided == 0
+}
+
+#[cfg(test)]
+mod tests;

@@ -1,0 +1,287 @@
+//! Access control entries, and the credentials that they are matched against (RFC 8881, section 6.2).
+
+ghost use Rattle.std.specs.Prelude.{⊤, ◌≡◌, ◌<◌, ◌≤◌, ◌++◌, [], ◌∷◌, IfOk, OnOk, OnErr, codes, length};
+
+use bitflags::{Flag, Flags, bitflag_items};
+use std::alloc::{AllocError, Global};
+use std::marker::Model;
+
+/// The rights that an entry names (RFC 8881, section 6.2.1.3, `acemask4`): a 32-bit word.
+#[derive(Clone, Copy, PartialEq, Eq, Debug)]
+pub struct Mask(u32);
+
+bitflag_items! {
+    impl Mask: u32 {
+        /// To read a file's bytes, or to list a directory (`LIST_DIRECTORY`).
+        const READ_DATA = 0x1;
+        /// To write a file's bytes, or to add a file to a directory (`ADD_FILE`).
+        const WRITE_DATA = 0x2;
+        /// To write behind a file's end, or to add a directory to a directory (`ADD_SUBDIRECTORY`).
+        const APPEND_DATA = 0x4;
+        const EXECUTE = 0x20;
+        const DELETE_CHILD = 0x40;
+        const READ_ATTRIBUTES = 0x80;
+        const WRITE_ATTRIBUTES = 0x100;
+        const DELETE = 0x10000;
+        const READ_ACL = 0x20000;
+        const WRITE_ACL = 0x40000;
+        const WRITE_OWNER = 0x80000;
+        const SYNCHRONIZE = 0x100000;
+    }
+}
+
+impl Flags for Mask {
+    type Bits = u32;
+
+    ghost exact = { ⊤ };
+
+    ghost table = { (codes "READ_DATA", 0x1) ∷ (codes "WRITE_DATA", 0x2) ∷ (codes "APPEND_DATA", 0x4) ∷ (codes "EXECUTE", 0x20)
+        ∷ (codes "DELETE_CHILD", 0x40) ∷ (codes "READ_ATTRIBUTES", 0x80) ∷ (codes "WRITE_ATTRIBUTES", 0x100)
+        ∷ (codes "DELETE", 0x10000) ∷ (codes "READ_ACL", 0x20000) ∷ (codes "WRITE_ACL", 0x40000)
+        ∷ (codes "WRITE_OWNER", 0x80000) ∷ (codes "SYNCHRONIZE", 0x100000) ∷ [] };
+
+    ghost set_of = { λ mask. mask.0 };
+
+    fn flags<'a>() -> &'a [Flag<Mask>] {
+        Mask::FLAGS
+    }
+
+    fn bits(&self) -> u32 {
+        self.0
+    }
+
+    fn from_bits_retain(bits: u32) -> Mask {
+        Mask(bits)
+    }
+}
+
+/// The flags of an entry (RFC 8881, section 6.2.1.4, `aceflag4`): a 32-bit word.
+#[derive(Clone, Copy, PartialEq, Eq, Debug)]
+pub struct AceFlags(u32);
+
+bitflag_items! {
+    impl AceFlags: u32 {
+        const FILE_INHERIT = 0x1;
+        const DIRECTORY_INHERIT = 0x2;
+        const NO_PROPAGATE = 0x4;
+        const INHERIT_ONLY = 0x8;
+        /// On the wire: the number is a group's. In an [`Ace`] its `who` tells that.
+        const IDENTIFIER_GROUP = 0x40;
+    }
+}
+
+impl Flags for AceFlags {
+    type Bits = u32;
+
+    ghost exact = { ⊤ };
+
+    ghost table = { (codes "FILE_INHERIT", 0x1) ∷ (codes "DIRECTORY_INHERIT", 0x2) ∷ (codes "NO_PROPAGATE", 0x4)
+        ∷ (codes "INHERIT_ONLY", 0x8) ∷ (codes "IDENTIFIER_GROUP", 0x40) ∷ [] };
+
+    ghost set_of = { λ flags. flags.0 };
+
+    fn flags<'a>() -> &'a [Flag<AceFlags>] {
+        AceFlags::FLAGS
+    }
+
+    fn bits(&self) -> u32 {
+        self.0
+    }
+
+    fn from_bits_retain(bits: u32) -> AceFlags {
+        AceFlags(bits)
+    }
+}
+
+/// Whether an entry grants or denies (RFC 8881, section 6.2.1.1, `acetype4`).
+#[derive(Clone, Copy, PartialEq, Eq, Debug)]
+pub enum AceKind {
+    Allow = 0,
+    Deny = 1,
+}
+
+/// Whom an entry speaks of (RFC 8881, section 6.2.1.5).
+#[derive(Clone, Copy, PartialEq, Eq, Debug)]
+pub enum Who {
+    /// `OWNER@`: the node's owner.
+    Owner,
+    /// `GROUP@`: the members of the node's group.
+    Group,
+    /// `EVERYONE@`: everyone, the owner and the group's members included.
+    Everyone,
+    /// The user of this number.
+    User(u32),
+    /// The members of the group of this number.
+    NamedGroup(u32),
+}
+
+impl Who {
+    ghost use Rattle.model.specs.Acl.{is_special, matches};
+
+    /// Whether this is `OWNER@`, `GROUP@` or `EVERYONE@`.
+    pub fn is_special(self) -> bool
+        ensures { result ≡ is_special self }
+    {
+        matches!(self, Who::Owner | Who::Group | Who::Everyone)
+    }
+
+    /// Whether a caller is meant, on a node of this owner and group.
+    pub fn matches(self, owner: u32, group: u32, cred: &Cred) -> bool
+        ensures { result ≡ matches self owner group cred.now }
+    {
+        match self {
+            Who::Owner => cred.uid == owner,
+            Who::Group => cred.is_member(group),
+            Who::Everyone => true,
+            Who::User(number) => cred.uid == number,
+            Who::NamedGroup(number) => cred.is_member(number),
+        }
+    }
+}
+
+/// An access control entry (RFC 8881, section 6.2.1, `nfsace4`).
+#[derive(Clone, Copy, PartialEq, Eq, Debug)]
+pub struct Ace {
+    pub kind: AceKind,
+    pub flags: AceFlags,
+    pub mask: Mask,
+    pub who: Who,
+}
+
+impl Ace {
+    ghost use Rattle.model.specs.Acl.{counts};
+
+    /// Whether the entry says something about its own node: one with `INHERIT_ONLY` does not.
+    pub fn counts(&self) -> bool
+        ensures { result ≡ counts self.now }
+    {
+        !self.flags.intersects(AceFlags::INHERIT_ONLY)
+    }
+}
+
+/// An access control list: its entries, in the order in which they are evaluated.
+///
+/// Contracts see the list of the entries.
+#[derive(Drop, Debug)]
+pub struct Acl {
+    entries: Vec<Ace>,
+}
+
+impl Model for Acl {
+    ghost use Rattle.std.specs.Prelude.{List};
+    ghost use Rattle.model.specs.declared.acl.Ace.{Ace};
+
+    ghost Value = { List Ace };
+
+    ghost view = { λ acl. acl.entries.items };
+}
+
+impl Acl {
+    /// How many entries a client may set.
+    pub const MOST_SET: usize = 32;
+
+    /// How many entries a node's list may have.
+    pub const MOST_STORED: usize = 40;
+
+    /// A list without entries.
+    pub fn new(alloc: Global) -> Acl
+        ensures { result ≡ [] }
+    {
+        Acl {
+            entries: Vec::new(alloc),
+        }
+    }
+
+    /// A list of these entries.
+    pub fn from_slice(alloc: Global, entries: &[Ace]) -> Result<Acl, AllocError>
+        ensures { IfOk result (λ acl. acl ≡ entries.now) }
+    {
+        Ok(Acl {
+            entries: Vec::from_slice(alloc, entries)?,
+        })
+    }
+
+    /// Puts an entry at the end. Where no memory is had, the list stays as it is.
+    pub fn push(&mut self, ace: Ace) -> Result<(), AllocError>
+        ensures added { OnOk result (self.new ≡ self.old ++ ace ∷ []) }
+        ensures kept { OnErr result (self.new ≡ self.old) }
+    {
+        self.entries.push(ace)?;
+        Ok(())
+    }
+
+    /// The entries.
+    pub fn as_slice(&self) -> &[Ace]
+        ensures { result.now ≡ self.now }
+    {
+        self.entries.as_slice()
+    }
+}
+
+/// The groups that a caller is a member of beside the first one: at most [`Gids::MOST`] (RFC 5531, section 8.2).
+///
+/// Contracts see the list of their numbers.
+#[derive(Drop, Debug)]
+pub struct Gids {
+    numbers: Vec<u32>,
+}
+
+impl Model for Gids {
+    ghost use Rattle.std.specs.Prelude.{ℕ, List, length, ◌≤◌};
+
+    ghost Value = { List ℕ };
+
+    ghost view = { λ gids. gids.numbers.items };
+
+    ghost invariant = { λ gids. length gids.numbers.items ≤ 16 };
+}
+
+impl Gids {
+    pub const MOST: usize = 16;
+
+    /// No groups.
+    pub fn new(alloc: Global) -> Gids
+        ensures { result ≡ [] }
+    {
+        Gids {
+            numbers: Vec::new(alloc),
+        }
+    }
+
+    /// Puts a group at the end. Where no memory is had, the list stays as it is.
+    pub fn push(&mut self, gid: u32) -> Result<(), AllocError>
+        requires { length self.old < 16 }
+        ensures added { OnOk result (self.new ≡ self.old ++ gid ∷ []) }
+        ensures kept { OnErr result (self.new ≡ self.old) }
+    {
+        self.numbers.push(gid)?;
+        Ok(())
+    }
+
+    /// The groups' numbers.
+    pub fn as_slice(&self) -> &[u32]
+        ensures numbers { result.now ≡ self.now }
+        ensures few { length result.now ≤ 16 }
+    {
+        self.numbers.as_slice()
+    }
+}
+
+/// Who asks: a user, its first group and its other groups, as its call says (RFC 5531, section 8.2, AUTH_SYS).
+#[derive(Drop, Debug)]
+pub struct Cred {
+    pub uid: u32,
+    pub gid: u32,
+    pub gids: Gids,
+}
+
+impl Cred {
+    ghost use Rattle.model.specs.Acl.{is_member};
+
+    /// Whether the group is the caller's first one or among its others.
+    pub fn is_member(&self, gid: u32) -> bool
+        ensures { result ≡ is_member self.now gid }
+    {
+        self.gid == gid || self.gids.as_slice().contains(&gid)
+    }
+}
