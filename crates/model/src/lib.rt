@@ -5,5 +5,8 @@
 
 pub mod acl;
 pub mod acl_laws;
+pub mod limits;
 pub mod node;
 pub mod status;
+pub mod step;
+pub mod tree;

@@ -1,0 +1,50 @@
+use Rattle.std.proofs.Common.{refl}
+use Rattle.model.specs.Acl.{first_of, granted}
+use Rattle.model.specs.Attribute.{attributes_of, attribute_refusals}
+use Rattle.model.specs.Charge.{fits}
+use Rattle.model.specs.Inherit.{inherited}
+use Rattle.model.specs.Mode.{moded}
+use Rattle.model.specs.Name.{name_refusals}
+use Rattle.model.specs.Need.{permitted}
+use Rattle.model.specs.Step.{refusals, effect, does, does_within}
+use Rattle.std.specs.Char.{encode_utf8}
+use Rattle.std.specs.Str.{is_utf8, chars}
+use Rattle.model.proofs.step.examples.Goals as goal
+
+pub returns : goal.returns
+unfolding first_of granted attributes_of attribute_refusals fits inherited moded name_refusals permitted refusals effect does does_within is_utf8 chars encode_utf8
+returns c = record {
+  makes = refl;
+  made = refl;
+  counted = refl;
+  found = refl;
+  put = refl;
+  exist = refl;
+  none = refl;
+  empty = refl;
+  longest = refl;
+  too_long = refl;
+  no_text = refl;
+  text = refl;
+  path = refl;
+  null = refl;
+  dot = refl;
+  dots = refl;
+  three_dots = refl;
+  no_handle = refl;
+  bad_handle = refl;
+  stale = refl;
+  bad_type = refl;
+  high_mode = refl;
+  list_given = refl;
+  owner_given = refl;
+  short_values = refl;
+  not_granted = refl;
+  no_node_left = refl;
+  last_node = refl;
+  no_stamp_left = refl;
+  no_room_for_reply = refl;
+  not_served = refl;
+  charges = refl;
+  bitmap = refl;
+}

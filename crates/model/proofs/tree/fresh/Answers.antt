@@ -1,0 +1,5 @@
+use Rattle.model.proofs.FreshTree.{fresh}
+use Rattle.model.proofs.tree.fresh.Goals as goal
+
+pub returns : goal.returns
+returns c = fresh

@@ -1,0 +1,57 @@
+-- Names in directories, and new directories: RFC 8881, sections 18.4 (CREATE) and 18.13 (LOOKUP).
+use Rattle.std.specs.Prelude.{ℕ, List, [], Option, Some, None}
+use Rattle.model.specs.declared.acl.Ace.{Ace}
+use Rattle.model.specs.declared.acl.Cred.{Cred}
+use Rattle.model.specs.declared.node.NodeKind.TheVariants as kind
+use Rattle.model.specs.Attribute.{is_empty, mode_given}
+use Rattle.model.specs.Inherit.{created}
+use Rattle.model.specs.Keyed.{Keyed, at, with}
+use Rattle.model.specs.Operation.{Attributes}
+use Rattle.model.specs.Tree.{Tree, Node, DirEntry, Directory, names_of, names_at, entry_of}
+
+-- the number that a name leads to: 0, which no node has, where the directory lacks it
+abbrev pub number_of_entry : Option (ℕ × DirEntry) → ℕ
+number_of_entry None = 0
+number_of_entry (Some entry) = entry.1.number
+
+abbrev pub number_named : Tree → (directory : ℕ) → (name : List ℕ) → ℕ
+number_named tree directory name = number_of_entry (entry_of name (names_at tree directory))
+
+-- what a directory has of a change, and what it hands down: 0 and nothing where there is no such node
+
+abbrev pub change_of : Option Node → ℕ
+change_of None = 0
+change_of (Some node) = node.change
+
+abbrev pub acl_of : Option Node → List Ace
+acl_of None = []
+acl_of (Some node) = node.acl
+
+-- a directory whose names a change alters
+abbrev pub with_names : Node → Keyed DirEntry → (stamp now : ℕ) → Node
+with_names node names stamp now = record node { change = stamp; time_modify = now; content = Directory names }
+
+-- A new directory is the caller's. A list of entries cannot be given yet: it has those of the mode, those handed down, or none
+-- where no attribute is given (section 6.4.3).
+abbrev pub new_directory : Cred → (parent : List Ace) → Attributes → (stamp now : ℕ) → Node
+new_directory cred parent given stamp now = record {
+  owner = cred.uid;
+  group = cred.gid;
+  acl = created parent kind.Directory (is_empty given.bitmap) (mode_given given) None;
+  change = stamp;
+  time_modify = now;
+  content = Directory [];
+}
+
+-- The tree in which a directory has a new name, with the change's stamp as its entry stamp, that leads to a new node, with the
+-- stamp as its number
+abbrev pub with_child_of : Tree → (directory : ℕ) → Option Node → (name : List ℕ) → Node → (stamp now : ℕ) → Tree
+with_child_of tree directory None name node stamp now = tree
+with_child_of tree directory (Some parent) name node stamp now =
+    with
+    (with tree directory
+    (with_names parent (with (names_of parent.content) stamp (record { name = name; number = stamp })) stamp now))
+    stamp node
+
+abbrev pub with_child : Tree → (directory : ℕ) → (name : List ℕ) → Node → (stamp now : ℕ) → Tree
+with_child tree directory name node stamp now = with_child_of tree directory (at directory tree) name node stamp now
