@@ -87,7 +87,10 @@ fn refuses_what_no_inode_spells(rt: HostRuntime) -> Result<(), Fail> {
     ];
     for (place, byte) in changes {
         let mut sector = vector();
-        sector[place] = byte;
+        let Some(at) = sector.get_mut(place) else {
+            return Err("no such byte".into());
+        };
+        *at = byte;
         if place == 51 {
             sector[50] = 0;
         }
