@@ -34,7 +34,7 @@ module _ {A : Type 0} (spelling : A → List ℕ) (width base : ℕ) where
       let end : base + width * (n + 1) ≡ at + width = omega arith in
       let more : take (n + 1) xs ≡ take n xs ++ x ∷ [] = take_more xs n x h ∙ ap (λ (y : A). take n xs ++ y ∷ []) (sym is) in
       let spelled : flat_map spelling (take (n + 1) xs) ≡ flat_map spelling (take n xs) ++ spelling x =
-          ap (flat_map spelling) more ∙ flat_map-append spelling (take n xs) (x ∷ []) ∙ ap (λ (bytes : List ℕ). flat_map spelling (take n xs) ++ bytes) (append-nil (spelling x)) in
+      ap (flat_map spelling) more ∙ flat_map-append spelling (take n xs) (x ∷ []) ∙ ap (λ (bytes : List ℕ). flat_map spelling (take n xs) ++ bytes) (append-nil (spelling x)) in
       record {
         front = ap (λ (i : ℕ). take i new) end ∙ front ∙ ap (λ (i : ℕ). take i mid ++ spelling x) place ∙ ap (λ (bytes : List ℕ). bytes ++ spelling x) far.front
             ∙ append_assoc (take base old) (flat_map spelling (take n xs)) (spelling x) ∙ ap (λ (bytes : List ℕ). take base old ++ bytes) (sym spelled);
@@ -69,8 +69,8 @@ module _ {A : Type 0} (spelling : A → List ℕ) (P : A → Type 0) (width : �
     len = length_push xs x ∙ omega (arith, far.len);
     each = each_push P xs x far.each is;
     only = λ others rest all many e.
-      let x_is : x ≡ get_or others n x = same (get_or others n x) (flat_map spelling (drop (n + 1) others) ++ rest) (each_at P others n x all (omega arith)) (there others rest x at many e h place) in
-      ap (λ (ys : List A). ys ++ x ∷ []) (far.only others rest all many e) ∙ ap (λ (y : A). take n others ++ y ∷ []) x_is ∙ sym (take_more others n x (omega arith));
+        let x_is : x ≡ get_or others n x = same (get_or others n x) (flat_map spelling (drop (n + 1) others) ++ rest) (each_at P others n x all (omega arith)) (there others rest x at many e h place) in
+        ap (λ (ys : List A). ys ++ x ∷ []) (far.only others rest all many e) ∙ ap (λ (y : A). take n others ++ y ∷ []) x_is ∙ sym (take_more others n x (omega arith));
   }
 
   -- where no record stands at the n-th place, no records do
