@@ -1,0 +1,105 @@
+-- What a change of the records keeps.
+use Rattle.std.proofs.Common.{◌≡◌, ◌≢◌, ◌<◌, ◌-◌, ℕ, zero, suc, List, [], ◌∷◌, ◌++◌, length, get_or, set, take, map, sym, ap, ◌∙◌, arith, inl, inr}
+use Rattle.std.specs.List.{AllByRecursion, swap_remove}
+use Rattle.std.proofs.lemmas.Bool.{cases_eq, cases_lt}
+use Rattle.std.proofs.lemmas.List.{length-set, length-take, length-map, length_push, get_or-set_same, get_or-set_other, get_or-take, get_or-map, get_or_default, get_or_append_left, get_or_push, take-map, map-set}
+use Rattle.sector.specs.Written.{each_at, each_push}
+use Rattle.directory.specs.declared.entry.Entry.{Entry}
+use Rattle.directory.specs.Records.{Record, record_of, record_from, without_place, AreApart, IsRecord, IsDirectory}
+
+each_set : (xs : List Record) (p : ℕ) (x : Record) → AllByRecursion IsRecord xs → IsRecord x → AllByRecursion IsRecord (set xs p x)
+each_set [] p x all is = tt
+each_set (y ∷ xs) zero x all is = (is, all.1)
+each_set (y ∷ xs) (suc p) x all is = (all.0, each_set xs p x all.1 is)
+
+each_take : (n : ℕ) (xs : List Record) → AllByRecursion IsRecord xs → AllByRecursion IsRecord (take n xs)
+each_take zero xs all = tt
+each_take (suc n) [] all = tt
+each_take (suc n) (x ∷ xs) all = (all.0, each_take n xs all.1)
+
+-- the same names at the same places
+apart_same : (xs ys : List Record) → length ys ≡ length xs → ((i : ℕ) (d : Record) → i < length xs → (get_or ys i d).1.name ≡ (get_or xs i d).1.name) → AreApart xs → AreApart ys
+apart_same xs ys len same apart i j d lt within = λ e.
+    apart i j d lt (omega arith) (sym (same i d (omega arith)) ∙ e ∙ same j d (omega arith))
+
+set_name : (xs : List Record) (p : ℕ) (new : Record) → p < length xs → ((d : Record) → (get_or xs p d).1.name ≡ new.1.name) → (i : ℕ) (d : Record) → i < length xs → (get_or (set xs p new) i d).1.name ≡ (get_or xs i d).1.name
+set_name xs p new h same i d lt =
+    elim (cases_eq i p) [
+      | inl e ↦ ap (λ (k : ℕ). (get_or (set xs p new) k d).1.name) e ∙ ap (λ (r : Record). r.1.name) (get_or-set_same xs p new d h) ∙ sym (same d) ∙ ap (λ (k : ℕ). (get_or xs k d).1.name) (sym e)
+      | inr apart ↦ ap (λ (r : Record). r.1.name) (get_or-set_other xs p i new d apart)
+    ]
+
+pub IsDirectory-set : (xs : List Record) (p : ℕ) (new : Record) → IsDirectory xs → p < length xs → ((d : Record) → (get_or xs p d).1.name ≡ new.1.name) → IsRecord new → IsDirectory (set xs p new)
+IsDirectory-set xs p new kept h same is = record {
+  few = omega (arith, length-set xs p new, kept.few);
+  each = each_set xs p new kept.each is;
+  apart = apart_same xs (set xs p new) (length-set xs p new) (set_name xs p new h same) kept.apart;
+}
+
+pub IsDirectory-push : (xs : List Record) (new : Record) → IsDirectory xs → length xs < 1024 → ((i : ℕ) (d : Record) → i < length xs → (get_or xs i d).1.name ≢ new.1.name) → IsRecord new → IsDirectory (xs ++ new ∷ [])
+IsDirectory-push xs new kept room fresh is = record {
+  few = omega (arith, length_push xs new);
+  each = each_push IsRecord xs new kept.each is;
+  apart = λ i j d lt within.
+      let front : get_or (xs ++ new ∷ []) i d ≡ get_or xs i d = get_or_append_left xs (new ∷ []) d i (omega (arith, length_push xs new)) in
+      elim (cases_lt j (length xs)) [
+        | inl old ↦ λ e. kept.apart i j d lt old (ap (λ (r : Record). r.1.name) (sym front) ∙ e ∙ ap (λ (r : Record). r.1.name) (get_or_append_left xs (new ∷ []) d j old))
+        | inr last ↦
+            let back : get_or (xs ++ new ∷ []) j d ≡ new = get_or_push xs new d j (omega (arith, length_push xs new)) in
+            λ e. fresh i d (omega (arith, length_push xs new)) (ap (λ (r : Record). r.1.name) (sym front) ∙ e ∙ ap (λ (r : Record). r.1.name) back)
+      ];
+}
+
+-- the last record, and what stands at a place once it moved
+module _ (xs : List Record) (p : ℕ) (kept : IsDirectory xs) (h : p < length xs) (last : Record) (is : last ≡ get_or xs (length xs - 1) last) where
+  moved_at : (i : ℕ) (d : Record) → i < length xs - 1 → (i ≢ p) → get_or (take (length xs - 1) (set xs p last)) i d ≡ get_or xs i d
+  moved_at i d lt apart = get_or-take (length xs - 1) (set xs p last) i d lt ∙ get_or-set_other xs p i last d apart
+
+  moved_here : (i : ℕ) (d : Record) → i < length xs - 1 → i ≡ p → get_or (take (length xs - 1) (set xs p last)) i d ≡ get_or xs (length xs - 1) d
+  moved_here i d lt e =
+      get_or-take (length xs - 1) (set xs p last) i d lt ∙ ap (λ (k : ℕ). get_or (set xs p last) k d) e ∙ get_or-set_same xs p last d h ∙ is
+      ∙ get_or_default xs (length xs - 1) last d (omega arith)
+
+  moved_apart : AreApart (take (length xs - 1) (set xs p last))
+  moved_apart i j d lt within =
+      let end : j < length xs - 1 = omega (arith, length-take (length xs - 1) (set xs p last), length-set xs p last) in
+      let name = λ (r : Record). r.1.name in
+      elim (cases_eq i p) [
+        | inl here ↦
+            let other : j ≢ p = omega arith in
+            λ e. kept.apart j (length xs - 1) d end (omega arith) (sym (ap name (sym (moved_here i d (omega arith) here)) ∙ e ∙ ap name (moved_at j d end other)))
+        | inr apart ↦
+            elim (cases_eq j p) [
+              | inl here ↦ λ e. kept.apart i (length xs - 1) d (omega arith) (omega arith) (ap name (sym (moved_at i d (omega arith) apart)) ∙ e ∙ ap name (moved_here j d end here))
+              | inr other ↦ λ e. kept.apart i j d lt (omega arith) (ap name (sym (moved_at i d (omega arith) apart)) ∙ e ∙ ap name (moved_at j d end other))
+            ]
+      ]
+
+  IsDirectory-moved : IsDirectory (take (length xs - 1) (set xs p last))
+  IsDirectory-moved = record {
+    few = omega (arith, length-take (length xs - 1) (set xs p last), length-set xs p last, kept.few);
+    each = each_take (length xs - 1) (set xs p last) (each_set xs p last kept.each (rw is (each_at IsRecord xs (length xs - 1) last kept.each (omega arith))));
+    apart = moved_apart;
+  }
+
+nameless : Record
+nameless = record_from 0 [] 0
+
+pub IsDirectory-remove : (xs : List Record) (p : ℕ) → IsDirectory xs → p < length xs → IsDirectory (without_place xs p)
+unfolding nameless
+IsDirectory-remove (x ∷ xs) p kept h =
+    let ys = x ∷ xs in
+    let last = get_or ys (length ys - 1) nameless in
+    IsDirectory-moved ys p kept h last (get_or_default ys (length ys - 1) nameless last (omega arith))
+IsDirectory-remove [] p kept h = absurd (omega arith)
+
+-- the records of entries from which one was taken
+pub records_removed : (entries : List Entry) (p : ℕ) (d : Entry) → p < length entries → map record_of (swap_remove entries p d) ≡ without_place (map record_of entries) p
+records_removed entries p d h =
+    let n : length (map record_of entries) ≡ length entries = length-map entries record_of in
+    let last : record_of (get_or entries (length entries - 1) d) ≡ get_or (map record_of entries) (length entries - 1) (record_from 0 [] 0) =
+    sym (get_or-map record_of entries (length entries - 1) d (record_from 0 [] 0) (omega arith)) in
+    sym (take-map record_of (length entries - 1) (set entries p (get_or entries (length entries - 1) d)))
+    ∙ ap (take (length entries - 1)) (map-set record_of entries p (get_or entries (length entries - 1) d))
+    ∙ ap (λ (r : Record). take (length entries - 1) (set (map record_of entries) p r)) last
+    ∙ ap (λ (k : ℕ). take (k - 1) (set (map record_of entries) p (get_or (map record_of entries) (k - 1) (record_from 0 [] 0)))) (sym n)

@@ -1,0 +1,53 @@
+-- A directory's names in the order of their records: each with its entry stamp, which is the name's cookie (RFC 8881, section
+-- 18.23.3), and the number of its node. As a map from names the order does not matter, and no two records have one name.
+use Rattle.std.specs.Prelude.{◌≢◌, ◌<◌, ◌≤◌, ◌+◌, ◌^◌, ℕ, Bool, List, [], ◌∷◌, bytes_eq, length, if◌then◌else◌, slice_index_or}
+use Rattle.std.specs.List.{swap_remove, AllByRecursion}
+use Rattle.model.specs.Tree.{DirEntry}
+use Rattle.directory.specs.declared.entry.Entry.{Entry}
+
+-- the most names of a directory
+abbrev pub most_names : ℕ
+most_names = 1024
+
+abbrev pub Record : Type 0
+Record = ℕ × DirEntry
+
+abbrev pub record_from : (stamp : ℕ) → (name : List ℕ) → (number : ℕ) → Record
+record_from stamp name number = (stamp, record { name = name; number = number })
+
+abbrev pub record_of : Entry → Record
+record_of entry = record_from entry.stamp entry.name.items entry.number
+
+abbrev pub is_named : List ℕ → Record → Bool
+is_named name entry = bytes_eq name entry.1.name
+
+-- where a name stands: behind the last record, where none has it
+abbrev pub place_of : List ℕ → List Record → ℕ
+place_of name [] = 0
+place_of name (entry ∷ rest) = if is_named name entry then 0 else place_of name rest + 1
+
+-- the records with this one, in the place of the one of its name, or behind the last
+abbrev pub with_record : List Record → Record → List Record
+with_record [] new = new ∷ []
+with_record (entry ∷ rest) new = if is_named new.1.name entry then new ∷ rest else entry ∷ with_record rest new
+
+-- no two records have one name
+abbrev pub AreApart : List Record → Type 0
+AreApart names = (i j : ℕ) (d : Record) → i < j → j < length names → (slice_index_or names i d).1.name ≢ (slice_index_or names j d).1.name
+
+-- the records without the one at a place, into which the last one moves
+abbrev pub without_place : List Record → ℕ → List Record
+without_place names place = swap_remove names place (record_from 0 [] 0)
+
+-- a record that has a spelling: a name of 1 to 255 bytes
+pub record IsRecord (entry : Record) : Type 0 where
+  pub stamp : entry.0 < 2 ^ 64
+  pub number : entry.1.number < 2 ^ 64
+  pub some : 0 < length entry.1.name
+  pub few : length entry.1.name ≤ 255
+
+-- what a directory keeps: at most 1,024 names, each of 1 to 255 bytes, no two the same
+pub record IsDirectory (names : List Record) : Type 0 where
+  pub few : length names ≤ 1024
+  pub each : AllByRecursion IsRecord names
+  pub apart : AreApart names

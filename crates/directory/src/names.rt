@@ -1,0 +1,135 @@
+//! The names of a directory.
+
+ghost use Rattle.std.specs.Prelude.{◌≡◌, ◌≢◌, ◌<◌, ◌≤◌, ◌+◌, ℕ, List, [], Option, Some, None, length, map, take, drop, option_map, slice_get, slice_set, IsErrOf, IfOk, IfSome, IfNone, OnOk, OnErr};
+ghost use Rattle.model.specs.Tree.{entry_of};
+ghost use Rattle.directory.specs.Spelling.{directory_sector};
+ghost use Rattle.directory.specs.Records.{record_of, record_from, place_of, with_record, without_place, IsDirectory};
+
+use crate::entry::Entry;
+use crate::fault::DirectoryFault;
+use crate::sectors::{self, RECORDS};
+use std::alloc::Global;
+use std::marker::Model;
+
+/// The names of a directory, at most 1,024, in the order of their records.
+///
+/// Contracts see the list of the records.
+#[derive(Drop)]
+pub struct Names {
+    alloc: Global,
+    entries: Vec<Entry>,
+}
+
+impl Model for Names {
+    ghost use Rattle.std.specs.Prelude.{ℕ, List, map};
+    ghost use Rattle.model.specs.Tree.{DirEntry};
+
+    ghost Value = { List (ℕ × DirEntry) };
+
+    ghost use Rattle.directory.specs.Records.{record_of, IsDirectory};
+
+    ghost view = { λ names. map record_of names.entries.items };
+
+    ghost invariant = { λ names. IsDirectory (map record_of names.entries.items) };
+}
+
+impl Names {
+    /// The most names of a directory.
+    pub const MOST: usize = 1024;
+
+    /// No names.
+    pub fn new(alloc: Global) -> Names
+        ensures { result ≡ [] }
+    {
+        Names {
+            alloc,
+            entries: Vec::new(alloc),
+        }
+    }
+
+    /// How many names there are.
+    pub fn count(&self) -> usize
+        ensures count { result ≡ length self.now }
+        ensures names { IsDirectory self.now }
+    {
+        self.entries.len()
+    }
+
+    /// The name's stamp and the number of its node.
+    pub fn get(&self, name: &[u8]) -> Option<(u64, u64)>
+        ensures { option_map (λ found. record_from found.0 name.now found.1) result ≡ entry_of name.now self.now }
+    {
+        let place = place_in(&self.entries, name);
+        let entry = self.entries.get(place)?;
+        Some((entry.stamp, entry.number))
+    }
+
+    /// Puts a name: in the place of its record, or behind the last record. The answer is the record's place. An `Err` changes
+    /// nothing.
+    ///
+    /// # Errors
+    /// `Full` exactly where the name is new and there are 1,024 names.
+    pub fn put(&mut self, name: &[u8], stamp: u64, number: u64) -> Result<usize, DirectoryFault>
+        requires some { 0 < length name.now }
+        requires few { length name.now ≤ 255 }
+        ensures ok { OnOk result (self.new ≡ with_record self.old (record_from stamp name.now number)) }
+        ensures place { IfOk result (λ place. place ≡ place_of name.now self.old) }
+        ensures full { IsErrOf result DirectoryFault.Full → (place_of name.now self.old ≡ length self.old) × (length self.old ≡ 1024) }
+        ensures err { OnErr result (self.new ≡ self.old) }
+    {
+        let place = place_in(&self.entries, name);
+        if place < self.entries.len() {
+            let entry = &mut self.entries[place];
+            entry.stamp = stamp;
+            entry.number = number;
+        } else {
+            if place >= Names::MOST {
+                return Err(DirectoryFault::Full);
+            }
+            let name = Vec::from_slice(self.alloc, name)?;
+            self.entries.push(Entry {
+                name,
+                stamp,
+                number,
+            })?;
+        }
+        Ok(place)
+    }
+
+    /// Writes the sector of the records from `first` on, 15 at most.
+    pub fn to_sector(&self, first: usize, sector: &mut [u8; 4096])
+        ensures { sector.new ≡ directory_sector (take 15 (drop first self.now)) }
+    {
+        let from = first.min(self.entries.len());
+        let to = self.entries.len().min(from + RECORDS);
+        sectors::write(&self.entries[from..to], sector);
+    }
+
+    /// Removes a name, and moves the last record into its place. The answer is that place.
+    pub fn remove(&mut self, name: &[u8]) -> Option<usize>
+        ensures place { IfSome result (λ place. (place ≡ place_of name.now self.old) × (place < length self.old)) }
+        ensures removed { IfSome result (λ place. self.new ≡ without_place self.old place) }
+        ensures absent { IfNone result (place_of name.now self.old ≡ length self.old) }
+        ensures unchanged { IfNone result (self.new ≡ self.old) }
+    {
+        let place = place_in(&self.entries, name);
+        if place >= self.entries.len() {
+            return None;
+        }
+        self.entries.swap_remove(place);
+        Some(place)
+    }
+}
+
+/// Where a name stands: behind the last entry where none has it.
+fn place_in(entries: &[Entry], name: &[u8]) -> usize
+    ensures place { result ≡ place_of name.now (map record_of entries.now) }
+    ensures within { result ≤ length entries.now }
+{
+    for (i, entry) in entries.iter().enumerate() {
+        if name == entry.name.as_slice() {
+            return i;
+        }
+    }
+    entries.len()
+}

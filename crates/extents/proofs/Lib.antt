@@ -1,0 +1,5 @@
+pub mod Holes
+pub mod RunLemmas
+pub mod Making
+pub mod Laying
+pub mod SectorLemmas

@@ -1,0 +1,15 @@
+//! Where the blocks of a node stand: a list of sectors with holes, and the runs that it is kept in on disk.
+#![tactic(auto)]
+
+mod fault;
+mod list;
+mod run;
+mod sector_runs;
+
+pub use fault::ExtentsFault;
+pub use list::BlockList;
+pub use run::Run;
+pub use sector_runs::{MOST_RUNS, read_run_sector, write_run_sector};
+
+#[cfg(test)]
+mod tests;

@@ -1,0 +1,37 @@
+-- Two sectors show one set, and a set has one spelling.
+use Rattle.std.proofs.Common.{◌≡◌, ◌<◌, ◌+◌, ◌-◌, ◌*◌, ◌/◌, ◌%◌, ◌^◌, ℕ, zero, suc, Bool, true, false, get_or, refl, sym, ap, ◌∙◌, arith}
+use Rattle.std.proofs.Math.Nat.{pow-suc, div-one}
+use Rattle.std.proofs.lemmas.Nat.{shr-shr}
+use Rattle.std.proofs.lemmas.List.{ext_get_or}
+use Rattle.freemap.specs.Places.{bit_from, bit_of, OneSet, OneSpelling}
+use Rattle.freemap.proofs.Bits.{bit_in-shown}
+
+same_place : (x y : Bool) → bit_from x ≡ bit_from y → x ≡ y
+same_place true true e = refl
+same_place true false e = absurd cc
+same_place false true e = absurd cc
+same_place false false e = refl
+
+pub one_set : OneSet
+one_set low high count a b fits shown other =
+    ext_get_or false a b (shown.count_is ∙ sym other.count_is) (λ i h.
+    let within : i < 65536 = omega (arith, shown.count_is) in
+    same_place (get_or a i false) (get_or b i false) (sym (bit_in-shown low high count a shown i within) ∙ bit_in-shown low high count b other i within))
+
+-- numbers with the same bits are one
+same_bits : (n x y : ℕ) → x < 2 ^ n → y < 2 ^ n → ((i : ℕ) → i < n → x / 2 ^ i % 2 ≡ y / 2 ^ i % 2) → x ≡ y
+same_bits zero x y small other same = omega arith
+same_bits (suc n) x y small other same =
+    let power : 2 ^ suc n ≡ 2 ^ n * 2 = pow-suc 2 n in
+    let low : x % 2 ≡ y % 2 = ap (λ (k : ℕ). k % 2) (sym (div-one x)) ∙ same 0 (omega arith) ∙ ap (λ (k : ℕ). k % 2) (div-one y) in
+    let high : x / 2 ≡ y / 2 = same_bits n (x / 2) (y / 2) (omega arith) (omega arith) (λ i h. ap (λ (k : ℕ). k % 2) (shr-shr x 1 i) ∙ same (1 + i) (omega arith) ∙ ap (λ (k : ℕ). k % 2) (sym (shr-shr y 1 i))) in
+    omega arith
+
+pub one_spelling : OneSpelling
+one_spelling places first a b fits other shown again =
+    ext_get_or 0 a b (shown.len ∙ sym again.len) (λ k h. same_bits 8 (get_or a k 0) (get_or b k 0) (fits k) (other k) (λ i small.
+    let within : 8 * k + (7 - i) < 32768 = omega (arith, shown.len) in
+    let row : (8 * k + (7 - i)) / 8 ≡ k = omega arith in
+    let column : 7 - (8 * k + (7 - i)) % 8 ≡ i = omega arith in
+    let both : bit_of a (8 * k + (7 - i)) ≡ bit_of b (8 * k + (7 - i)) = shown.bits (8 * k + (7 - i)) within ∙ sym (again.bits (8 * k + (7 - i)) within) in
+    rw (row, column) at both))

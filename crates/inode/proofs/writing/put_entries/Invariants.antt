@@ -1,0 +1,6 @@
+use Rattle.sector.specs.Written.{AreWritten}
+use Rattle.inode.specs.Spelling.{ace_bytes}
+use Rattle.inode.proofs.writing.put_entries.Given as goal
+
+abbrev pub invariant-loop-i : goal.invariant-loop-i
+invariant-loop-i l = AreWritten ace_bytes 16 128 l.initial.sector l.sector l.aces l.i

@@ -1,0 +1,16 @@
+//! The sector of a node.
+#![tactic(auto)]
+
+mod entries;
+mod fault;
+mod node;
+mod reading;
+mod writing;
+
+pub use fault::InodeFault;
+pub use node::{Form, Inode};
+pub use reading::from_sector;
+pub use writing::to_sector;
+
+#[cfg(test)]
+mod tests;

@@ -1,0 +1,134 @@
+//! Reading a node's sector.
+
+ghost use Rattle.std.specs.Prelude.{◌≡◌, ◌≤◌, ◌+◌, ◌*◌, ◌++◌, ℕ, List, length, drop, vec_len, IfOk, IfSome, OnErr, IsErrOf, Some};
+ghost use Rattle.std.specs.List.{AllByRecursion, flat_map};
+ghost use Rattle.model.specs.declared.acl.Ace.{Ace};
+ghost use Rattle.model.specs.declared.node.NodeKind.{NodeKind};
+ghost use Rattle.inode.specs.declared.node.Form.{Form};
+ghost use Rattle.inode.specs.Fields.{Fields, fields_of, IsAce, IsRunSector, IsInode};
+ghost use Rattle.inode.specs.Spelling.{inode_sector, ace_bytes, number_bytes, kind_byte};
+
+use crate::entries::ace_at;
+use crate::fault::InodeFault;
+use crate::node::{Form, Inode};
+use crate::writing::{ENTRIES, RUN_SECTORS, WIDTH, to_sector};
+use model::acl::Acl;
+use model::node::NodeKind;
+use sector::{SIZE, u16_at, u32_at, u64_at};
+use std::alloc::Global;
+
+/// The most runs that nine run sectors keep.
+const MOST_RUNS: u16 = 4500;
+
+fn kind_from(byte: u8) -> Option<NodeKind>
+    ensures { (kind : NodeKind) → byte ≡ kind_byte kind → result ≡ Some kind }
+{
+    match byte {
+        1 => Some(NodeKind::File),
+        2 => Some(NodeKind::Directory),
+        _ => None,
+    }
+}
+
+/// The number of a run sector at place `at`; none where 0 stands there.
+fn run_sector_at(sector: &[u8; 4096], at: usize) -> Option<u32>
+    requires { at + 4 ≤ 4096 }
+    ensures fits { IfSome result IsRunSector }
+    ensures only { (number : ℕ) (rest : List ℕ) → IsRunSector number
+        → drop at sector.now ≡ number_bytes number ++ rest → result ≡ Some number }
+{
+    let number = u32_at(sector, at);
+    if number == 0 { None } else { Some(number) }
+}
+
+/// The numbers of the first run sectors.
+fn run_sectors_in(alloc: Global, sector: &[u8; 4096], count: usize) -> Result<Vec<u32>, InodeFault>
+    requires { count ≤ 9 }
+    ensures fits { IfOk result (λ numbers. (vec_len numbers ≡ count) × AllByRecursion IsRunSector numbers.items) }
+    ensures only { (numbers : List ℕ) (rest : List ℕ) → AllByRecursion IsRunSector numbers → length numbers ≡ count
+        → drop 48 sector.now ≡ flat_map number_bytes numbers ++ rest → IfOk result (λ found. found.items ≡ numbers) }
+    ensures err { IsErrOf result InodeFault.NotInode → (numbers : List ℕ) (rest : List ℕ) → AllByRecursion IsRunSector numbers
+        → length numbers ≡ count → drop 48 sector.now ≡ flat_map number_bytes numbers ++ rest → ⊥ }
+{
+    let mut numbers = Vec::new(alloc);
+    for i in 0..count {
+        let Some(number) = run_sector_at(sector, RUN_SECTORS + 4 * i) else {
+            return Err(InodeFault::NotInode);
+        };
+        numbers.push(number)?;
+    }
+    Ok(numbers)
+}
+
+/// The first entries.
+fn acl_in(alloc: Global, sector: &[u8; 4096], count: usize) -> Result<Acl, InodeFault>
+    requires { count ≤ 40 }
+    ensures fits { IfOk result (λ acl. (length acl ≡ count) × AllByRecursion IsAce acl) }
+    ensures only { (aces : List Ace) (rest : List ℕ) → AllByRecursion IsAce aces → length aces ≡ count
+        → drop 128 sector.now ≡ flat_map ace_bytes aces ++ rest → IfOk result (λ acl. acl ≡ aces) }
+    ensures err { IsErrOf result InodeFault.NotInode → (aces : List Ace) (rest : List ℕ) → AllByRecursion IsAce aces
+        → length aces ≡ count → drop 128 sector.now ≡ flat_map ace_bytes aces ++ rest → ⊥ }
+{
+    let mut acl = Acl::new(alloc);
+    for i in 0..count {
+        let Some(ace) = ace_at(sector, ENTRIES + WIDTH * i) else {
+            return Err(InodeFault::NotInode);
+        };
+        acl.push(ace)?;
+    }
+    Ok(acl)
+}
+
+/// The inode that would stand in a sector, whatever stands in the bytes between its fields.
+fn inode_in(alloc: Global, sector: &[u8; 4096]) -> Result<Inode, InodeFault>
+    ensures fits { IfOk result (λ inode. IsInode (fields_of inode)) }
+    ensures only { (form : Form) (fields : Fields) → IsInode fields → sector.now ≡ inode_sector form fields
+        → IfOk result (λ inode. fields_of inode ≡ fields) }
+    ensures err { IsErrOf result InodeFault.NotInode → (form : Form) (fields : Fields) → IsInode fields
+        → sector.now ≡ inode_sector form fields → ⊥ }
+{
+    let Some(kind) = kind_from(sector[4]) else {
+        return Err(InodeFault::NotInode);
+    };
+    let aces = usize::from(sector[5]);
+    let runs = u16_at(sector, 6);
+    if aces > Acl::MOST_STORED {
+        return Err(InodeFault::NotInode);
+    }
+    if runs > MOST_RUNS {
+        return Err(InodeFault::NotInode);
+    }
+    let run_sectors = run_sectors_in(alloc, sector, usize::from(runs).div_ceil(500))?;
+    let acl = acl_in(alloc, sector, aces)?;
+    Ok(Inode {
+        kind,
+        number: u64_at(sector, 8),
+        owner: u32_at(sector, 16),
+        group: u32_at(sector, 20),
+        change: u64_at(sector, 24),
+        time_modify: u64_at(sector, 32),
+        size: u64_at(sector, 40),
+        runs,
+        run_sectors,
+        acl,
+    })
+}
+
+/// The inode that has these bytes.
+///
+/// # Errors
+/// `NotInode` exactly where no inode has them: whatever is read is written again, and has to give each byte back.
+pub fn from_sector(alloc: Global, form: Form, sector: &[u8; 4096]) -> Result<Inode, InodeFault>
+    ensures fits { IfOk result (λ inode. IsInode (fields_of inode)) }
+    ensures found { IfOk result (λ inode. sector.now ≡ inode_sector form (fields_of inode)) }
+    ensures not_inode { IsErrOf result InodeFault.NotInode → (fields : Fields) → IsInode fields
+        → ¬ (sector.now ≡ inode_sector form fields) }
+{
+    let inode = inode_in(alloc, sector)?;
+    let mut spelled = [0; SIZE];
+    to_sector(&inode, form, &mut spelled);
+    if spelled != *sector {
+        return Err(InodeFault::NotInode);
+    }
+    Ok(inode)
+}

@@ -1,0 +1,91 @@
+//! Writing a node's sector.
+
+ghost use Rattle.std.specs.Prelude.{◌≡◌, ◌≤◌, ◌+◌, ◌-◌, ◌*◌, ◌++◌, length, take, replicate};
+ghost use Rattle.std.specs.List.{AllByRecursion};
+ghost use Rattle.inode.specs.Fields.{fields_of, IsAce, IsInode};
+ghost use Rattle.inode.specs.Spelling.{inode_sector, head, nine, magic, acl_bytes};
+ghost use Rattle.inode.specs.Spelling as spelled;
+
+use crate::entries::put_ace;
+use crate::node::{Form, Inode};
+use model::acl::Ace;
+use model::node::NodeKind;
+use sector::{SIZE, put_bytes, put_u16, put_u32, put_u64, put_zeros};
+
+/// Where the run sectors, the zeros behind them and the entries begin, and how long an entry is.
+pub(crate) const RUN_SECTORS: usize = 48;
+
+const ZEROS: usize = 84;
+
+pub(crate) const ENTRIES: usize = 128;
+
+pub(crate) const WIDTH: usize = 16;
+
+fn kind_byte(kind: NodeKind) -> u8
+    ensures { result ≡ spelled.kind_byte kind }
+{
+    match kind {
+        NodeKind::File => 1,
+        NodeKind::Directory => 2,
+    }
+}
+
+fn magic_of(form: Form) -> [u8; 4]
+    ensures { result ≡ magic form }
+{
+    match form {
+        Form::One => *b"NODE",
+    }
+}
+
+fn put_head(inode: &Inode, form: Form, sector: &mut [u8; 4096])
+    requires { length inode.now.acl ≤ 40 }
+    ensures front { take 48 sector.new ≡ head form (fields_of inode.now) }
+    ensures len { length sector.new ≡ 4096 }
+{
+    let count = inode.acl.as_slice().len() as u8;
+    put_bytes(sector, 0, &magic_of(form));
+    put_bytes(sector, 4, &[kind_byte(inode.kind), count]);
+    put_u16(sector, 6, inode.runs);
+    put_u64(sector, 8, inode.number);
+    put_u32(sector, 16, inode.owner);
+    put_u32(sector, 20, inode.group);
+    put_u64(sector, 24, inode.change);
+    put_u64(sector, 32, inode.time_modify);
+    put_u64(sector, 40, inode.size);
+}
+
+fn put_run_sectors(numbers: &[u32], sector: &mut [u8; 4096])
+    requires { length numbers.now ≤ 9 }
+    ensures front { take 84 sector.new ≡ take 48 sector.old ++ nine numbers.now }
+    ensures len { length sector.new ≡ 4096 }
+{
+    for (i, number) in numbers.iter().enumerate() {
+        put_u32(sector, RUN_SECTORS + 4 * i, *number);
+    }
+    let end = RUN_SECTORS + 4 * numbers.len();
+    put_zeros(sector, end, ZEROS - end);
+}
+
+fn put_entries(aces: &[Ace], sector: &mut [u8; 4096])
+    requires few { length aces.now ≤ 40 }
+    requires each { AllByRecursion IsAce aces.now }
+    ensures { sector.new ≡ take 128 sector.old ++ acl_bytes aces.now }
+{
+    for (i, ace) in aces.iter().enumerate() {
+        put_ace(sector, ENTRIES + WIDTH * i, *ace);
+    }
+    let end = ENTRIES + WIDTH * aces.len();
+    put_zeros(sector, end, SIZE - end);
+}
+
+/// Writes the sector of a node, each byte of it.
+pub fn to_sector(inode: &Inode, form: Form, sector: &mut [u8; 4096])
+    requires { IsInode (fields_of inode.now) }
+    ensures { sector.new ≡ inode_sector form (fields_of inode.now) }
+{
+    put_head(inode, form, sector);
+    put_run_sectors(&inode.run_sectors, sector);
+    put_zeros(sector, ZEROS, ENTRIES - ZEROS);
+    put_entries(inode.acl.as_slice(), sector);
+}

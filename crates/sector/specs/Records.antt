@@ -1,0 +1,35 @@
+-- Records of one width, end to end.
+use Rattle.std.specs.Prelude.{◌≡◌, ◌≤◌, ◌<◌, ◌+◌, ◌*◌, ℕ, zero, suc, List, [], ◌∷◌, ◌++◌, length, drop}
+use Rattle.std.specs.List.{flat_map}
+use Rattle.std.proofs.Common.{refl, sym, ap, ◌∙◌, arith, append_assoc, get_or}
+use Rattle.std.proofs.lemmas.List.{length-append, drop_at, drop-drop, drop_more}
+
+-- each record has this width
+abbrev pub AreWide : {A : Type 0} → (A → List ℕ) → ℕ → Type 0
+AreWide {A = A} spelling width = (record_ : A) → length (spelling record_) ≡ width
+
+module _ {A : Type 0} (spelling : A → List ℕ) (width : ℕ) (wide : AreWide spelling width) where
+  pub length-records : (xs : List A) → length (flat_map spelling xs) ≡ width * length xs
+  length-records [] = omega arith
+  length-records (x ∷ xs) = omega (arith, length-append (spelling x) (flat_map spelling xs), wide x, length-records xs)
+
+  -- the records from the k-th on
+  pub drop-records : (k : ℕ) (xs : List A) (rest : List ℕ) → k ≤ length xs → drop (width * k) (flat_map spelling xs ++ rest) ≡ flat_map spelling (drop k xs) ++ rest
+  drop-records zero xs rest h = let e : width * 0 ≡ 0 = omega arith in rw e refl
+  drop-records (suc k) [] rest h = absurd (omega arith)
+  drop-records (suc k) (x ∷ xs) rest h =
+      let moved : width * suc k ≡ width + width * k = omega arith in
+      let behind : drop width ((spelling x ++ flat_map spelling xs) ++ rest) ≡ flat_map spelling xs ++ rest =
+      ap (drop width) (append_assoc (spelling x) (flat_map spelling xs) rest) ∙ drop_at (spelling x) (flat_map spelling xs ++ rest) width (wide x) in
+      rw moved (sym (drop-drop (width * k) width ((spelling x ++ flat_map spelling xs) ++ rest)) ∙ ap (drop (width * k)) behind ∙ drop-records k xs rest (omega arith))
+
+  -- the k-th record, and what stands behind it
+  pub drop-record : (k : ℕ) (xs : List A) (rest : List ℕ) (d : A) → k < length xs → drop (width * k) (flat_map spelling xs ++ rest) ≡ spelling (get_or xs k d) ++ (flat_map spelling (drop (k + 1) xs) ++ rest)
+  drop-record k xs rest d h =
+      drop-records k xs rest (omega arith)
+      ∙ ap (λ (ys : List A). flat_map spelling ys ++ rest) (drop_more xs k d h)
+      ∙ append_assoc (spelling (get_or xs k d)) (flat_map spelling (drop (k + 1) xs)) rest
+
+  -- behind the last one
+  pub drop-records_all : (xs : List A) (rest : List ℕ) → drop (width * length xs) (flat_map spelling xs ++ rest) ≡ rest
+  drop-records_all xs rest = drop_at (flat_map spelling xs) rest (width * length xs) (length-records xs)
