@@ -9,11 +9,12 @@ use Rattle.model.specs.Operation.{Argument, SequenceArguments, operation_of}
 use Rattle.model.specs.Record.{framed}
 use Rattle.model.specs.Rpc.{reply_text, Success}
 use Rattle.model.specs.Session as sessions
-use Rattle.model.specs.Session.{Table, Session, Slot, SlotState, Kept, Begun, Runs, begin, begin_by, begin_slot, begin_new, is_session, slot_at, next_number}
+use Rattle.model.specs.Session.{Table, Session, Slot, SlotState, Kept, Begun, Runs, begin, begin_by, begin_slot, begin_new, finish, finished_slot, changed_where, is_session, slot_at, next_number}
 use Rattle.model.specs.Tree.{Tree}
 use Rattle.model.specs.World.{World, InProgress, Connection, Quiet, Waiting, Busy, Replied, Closed, HasRun, Gives, Replays, exchanged, created_by, created, tabled, started_in, begun, reclaimed, refuses, in_room, has_room, run, Turned, Entry, entry_of, behind, ends, with_table, kept_by, result_of, with_result, is_last, has_run, operates, Next, Refuses, Reads, next_operation, turned, one, with_connection, without_connection, hangs_up, hung_up, turns, operations_left, is_busy}
 use Rattle.model.specs.Runs.{tree_after, IsGoodPrefix, done_with, executed, executed_by, executed_of, effect_of, Event, Serving, IsAfter}
-use Rattle.model.specs.RuledOut.{IsChange, NoSkip, NoEarlyReply, NoTakingBack, NoSecondRun, NoGap, IsOneFurther, OneATurn, HangsUpLast, after_turns, HangUpIsEvents, EachEventHappens}
+use Rattle.model.specs.RuledOut.{IsChange, NoSkip, NoEarlyReply, NoTakingBack, NoSecondRun, NoForgetting, NoGap, IsOneFurther, OneATurn, HangsUpLast, after_turns, HangUpIsEvents, EachEventHappens}
+use Rattle.std.proofs.Common.{get_or-set_same, length-set, lt-ltb}
 use Rattle.std.specs.List.{IsAmong}
 use Rattle.model.proofs.Headline.{every_run}
 use Rattle.model.proofs.RunLaws.{EntryFits, event_fits}
@@ -69,6 +70,50 @@ no_second_run uid count arguments table session reply known kept same e =
     let slot = slot_at session arguments.slot in
     let at_slot = (cond_runs (nat_lt arguments.slot (length session.slots)) _ (sessions.Refuses status.BadSlot) (refuses_not status.BadSlot) there).1 in
     kept_never uid count arguments session slot reply same (ap (begin_slot uid count arguments session slot) (sym kept) ∙ at_slot)
+
+-- what is found is found again, as it was changed
+found_changed : (id : List ℕ) (change : Session → Session) (sessions : List Session) (session : Session) → ((one : Session) → is_session id (change one) ≡ is_session id one)
+    → find (is_session id) sessions ≡ Some session
+    → find (is_session id) (changed_where (is_session id) change sessions) ≡ Some (change session)
+found_changed id change [] session same e = let never : ⊥ = cc in absurd never
+found_changed id change (one ∷ others) session same e = by_test (is_session id one) refl e (found_changed id change others session same)
+  where
+    by_test : (b : Bool) → is_session id one ≡ b → cond b (Some one) (find (is_session id) others) ≡ Some session
+        → (find (is_session id) others ≡ Some session → find (is_session id) (changed_where (is_session id) change others) ≡ Some (change session))
+        → cond (is_session id (cond b (change one) one)) (Some (cond b (change one) one)) (find (is_session id) (changed_where (is_session id) change others)) ≡ Some (change session)
+    by_test true is e later =
+        let first : one ≡ session = cc in
+        ap (λ (b : Bool). cond b (Some (change one)) (find (is_session id) (changed_where (is_session id) change others))) (same one ∙ is)
+        ∙ ap (λ (s : Session). Some (change s)) first
+    by_test false is e later =
+        ap (λ (b : Bool). cond b (Some one) (find (is_session id) (changed_where (is_session id) change others))) is ∙ later e
+
+if_true : {A : Type 0} (b : Bool) (x y : A) → b ≡ true → cond b x y ≡ x
+if_true b x y e = ap (λ (b : Bool). cond b x y) e
+
+kept_replays : (uid count : ℕ) (arguments : SequenceArguments) (session : Session) (slot : Slot) (reply : List ℕ) → arguments.sequence ≡ slot.last → uid ≡ slot.uid
+    → begin_slot uid count arguments session slot (Kept reply) ≡ sessions.Replays reply
+kept_replays uid count arguments session slot reply same caller =
+    if_true _ _ _ (eq-eqb arguments.sequence slot.last same) ∙ if_true _ _ _ (eq-eqb uid slot.uid caller)
+
+finished_replays : (uid count : ℕ) (arguments : SequenceArguments) (session : Session) (reply : List ℕ) → arguments.slot < length session.slots
+    → arguments.sequence ≡ (slot_at session arguments.slot).last → uid ≡ (slot_at session arguments.slot).uid
+    → begin_by uid count arguments (Some (finished_slot arguments.slot reply session)) ≡ sessions.Replays reply
+finished_replays uid count arguments session reply within same caller =
+    let new : Slot = record (slot_at session arguments.slot) { state = Kept reply } in
+    let done = finished_slot arguments.slot reply session in
+    let there : slot_at done arguments.slot ≡ new = get_or-set_same session.slots arguments.slot new sessions.no_slot within in
+    let inside : arguments.slot < length done.slots = omega (arith, length-set session.slots arguments.slot new) in
+    if_true _ _ _ (lt-ltb arguments.slot (length done.slots) inside)
+    ∙ ap (λ (slot : Slot). begin_slot uid count arguments done slot slot.state) there
+    ∙ kept_replays uid count arguments done new reply same caller
+
+pub no_forgetting : NoForgetting
+unfolding begin finish
+no_forgetting uid count arguments table session reply known within same caller =
+    ap (begin_by uid count arguments)
+    (found_changed arguments.session (finished_slot arguments.slot reply) table.sessions session (λ one. refl) known)
+    ∙ finished_replays uid count arguments session reply within same caller
 
 pub no_gap : NoGap
 no_gap uid count arguments table session known e =

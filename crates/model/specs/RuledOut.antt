@@ -1,9 +1,9 @@
 -- Servers that these definitions rule out, each by one law.
-use Rattle.std.specs.Prelude.{◌≡◌, ◌≢◌, ℕ, zero, suc, ◌+◌, ◌<◌, true, false, List, [], ◌∷◌, find, Option, None, Some}
+use Rattle.std.specs.Prelude.{◌≡◌, ◌≢◌, ℕ, zero, suc, ◌+◌, ◌<◌, true, false, List, [], ◌∷◌, length, find, Option, None, Some}
 use Rattle.std.specs.List.{IsAmong}
 use Rattle.model.specs.Keyed.{at}
 use Rattle.model.specs.Operation.{SequenceArguments}
-use Rattle.model.specs.Session.{Table, Session, Kept, Runs, begin, is_session, slot_at, next_number}
+use Rattle.model.specs.Session.{Table, Session, Kept, Runs, Replays, begin, finish, is_session, slot_at, next_number}
 use Rattle.model.specs.Tree.{Tree}
 use Rattle.model.specs.World.{World, ServerLimits, Entry, InProgress, Connection, Busy, Replied, one, hangs_up, hung_up, is_busy}
 use Rattle.model.specs.Runs.{Event, Turns, HangsUp, effect_of, before, IsDurable, is_durable, is_unstable, History, Serving, mounted, executed, MayLeave, Happens, IsRun, IsGoodPrefix}
@@ -33,6 +33,13 @@ abbrev pub NoSecondRun : Type 0
 NoSecondRun = (uid count : ℕ) (arguments : SequenceArguments) (table : Table) (session : Session) (reply : List ℕ)
     → find (is_session arguments.session) table.sessions ≡ Some session → (slot_at session arguments.slot).state ≡ Kept reply
     → arguments.sequence ≡ (slot_at session arguments.slot).last → begin uid count arguments table ≡ Runs → ⊥
+
+-- One that forgets a reply: once it is kept, the same number by the same caller is answered by it.
+abbrev pub NoForgetting : Type 0
+NoForgetting = (uid count : ℕ) (arguments : SequenceArguments) (table : Table) (session : Session) (reply : List ℕ)
+    → find (is_session arguments.session) table.sessions ≡ Some session → arguments.slot < length session.slots
+    → arguments.sequence ≡ (slot_at session arguments.slot).last → uid ≡ (slot_at session arguments.slot).uid
+    → begin uid count arguments (finish arguments.session arguments.slot reply table) ≡ Replays reply
 
 -- One whose slots take a number other than the next: what runs has the number behind the slot's last.
 abbrev pub NoGap : Type 0

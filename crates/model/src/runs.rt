@@ -1,6 +1,6 @@
 //! The headline: what users of the server can rely on when it is stopped.
 
-ghost use Rattle.model.specs.RuledOut.{NoSkip, NoEarlyReply, NoTakingBack, NoSecondRun, NoGap, OneATurn, HangsUpLast, HangUpIsEvents, EachEventHappens};
+ghost use Rattle.model.specs.RuledOut.{NoSkip, NoEarlyReply, NoTakingBack, NoSecondRun, NoForgetting, NoGap, OneATurn, HangsUpLast, HangUpIsEvents, EachEventHappens};
 ghost use Rattle.model.specs.Runs.{EveryRun};
 ghost use Rattle.model.specs.ServedOnce.{EveryServedSlot};
 
@@ -12,13 +12,14 @@ pub fn every_run()
 {}
 
 /// What the definitions rule out: a prefix that skips an unstable write, a reply before its change is kept, a change that
-/// is taken away and put back, a retry that runs again, a slot that takes another number than the next, a turn that runs
-/// more than one operation, and a hang-up that drops the rest of a request.
+/// is taken away and put back, a retry that runs again, a reply that is forgotten, a slot that takes another number than the
+/// next, a turn that runs more than one operation, and a hang-up that drops the rest of a request.
 pub fn ruled_out()
     ensures skip { NoSkip }
     ensures early { NoEarlyReply }
     ensures back { NoTakingBack }
     ensures twice { NoSecondRun }
+    ensures kept { NoForgetting }
     ensures gap { NoGap }
     ensures one { OneATurn }
     ensures hang_up { HangsUpLast }

@@ -1,4 +1,4 @@
-use Rattle.model.proofs.RuledOutLaws.{no_skip, no_early_reply, no_taking_back, no_second_run, no_gap, one_a_turn, hangs_up_last, hang_up_is_events}
+use Rattle.model.proofs.RuledOutLaws.{no_skip, no_early_reply, no_taking_back, no_second_run, no_forgetting, no_gap, one_a_turn, hangs_up_last, hang_up_is_events}
 use Rattle.model.proofs.runs.ruled_out.Goals as goal
 
 pub returns-clause-skip : goal.returns-clause-skip
@@ -24,3 +24,6 @@ returns-clause-hang_up c = hangs_up_last
 
 pub returns-clause-events : goal.returns-clause-events
 returns-clause-events c = hang_up_is_events
+
+pub returns-clause-kept : goal.returns-clause-kept
+returns-clause-kept c = no_forgetting
