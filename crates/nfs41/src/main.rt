@@ -6,6 +6,8 @@ mod line;
 mod message;
 mod refused;
 mod script;
+#[cfg(test)]
+mod tests;
 mod words;
 
 use std::io::BufReader;
