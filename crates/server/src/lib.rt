@@ -24,3 +24,6 @@ mod turn;
 pub use fault::{FormatFault, MountFault, ServerFault};
 pub use server::{Server, Unmounted};
 pub use turn::Turn;
+
+#[cfg(test)]
+mod tests;
