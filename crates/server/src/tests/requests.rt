@@ -92,7 +92,8 @@ fn framed(alloc: Global, xid: u32, front: &[u32], back: &[u32]) -> Result<Vec<u8
     words.push(xid)?;
     words.extend_from_slice(front)?;
     words.extend_from_slice(back)?;
-    let length = (words.len() as u32).wrapping_mul(4);
+    // no record is longer
+    let length = 4 * words.len().min(4096) as u32;
     let mut bytes = Vec::from_slice(alloc, &(0x8000_0000 | length).to_be_bytes())?;
     bytes.extend_from_slice(&bytes_of(alloc, &words)?)?;
     Ok(bytes)
