@@ -25,3 +25,6 @@ pub use fault::{FormatFault, MountFault, ServerFault};
 pub use superblock::is_volume_size;
 pub use server::{Server, Unmounted};
 pub use turn::Turn;
+
+#[cfg(test)]
+mod tests;
