@@ -58,7 +58,11 @@ write_answer = of
 abbrev pub exchange_id_answer : Grammar ExchangeIdAnswer
 exchange_id_answer = of
     (λ (p : ℕ × (ℕ × (ℕ × (Unit {0} × (Unit {0} × (List ℕ × (List ℕ × Unit {0}))))))). record {
-      client = p.0; sequence = p.1.0; flags = p.1.1.0; major_id = p.1.1.1.1.1.0; scope = p.1.1.1.1.1.1.0;
+      client = p.0;
+      sequence = p.1.0;
+      flags = p.1.1.0;
+      major_id = p.1.1.1.1.1.0;
+      scope = p.1.1.1.1.1.1.0;
     })
     (λ a. (a.client, (a.sequence, (a.flags, (tt, (tt, (a.major_id, (a.scope, tt))))))))
     (unsigned_hyper & unsigned_int & unsigned_int & always 0 unsigned_int & always 0 unsigned_hyper & any_opaque & any_opaque & always 0 unsigned_int)
@@ -72,7 +76,12 @@ create_session_answer = of
 abbrev pub sequence_answer : Grammar SequenceAnswer
 sequence_answer = of
     (λ (p : List ℕ × (ℕ × (ℕ × (ℕ × (ℕ × ℕ))))). record {
-      session = p.0; sequence = p.1.0; slot = p.1.1.0; highest_slot = p.1.1.1.0; target_highest_slot = p.1.1.1.1.0; flags = p.1.1.1.1.1;
+      session = p.0;
+      sequence = p.1.0;
+      slot = p.1.1.0;
+      highest_slot = p.1.1.1.0;
+      target_highest_slot = p.1.1.1.1.0;
+      flags = p.1.1.1.1.1;
     })
     (λ a. (a.session, (a.sequence, (a.slot, (a.highest_slot, (a.target_highest_slot, a.flags))))))
     (session_id & unsigned_int & unsigned_int & unsigned_int & unsigned_int & unsigned_int)
@@ -179,4 +188,4 @@ outcome_at operation bytes = outcome_choice operation bytes
 
 -- nfs_resop4
 abbrev pub outcome : Grammar Outcome
-outcome = union outcome_told outcome_choice
+outcome = union outcome_told outcome_at

@@ -105,7 +105,13 @@ exchange_id_arguments = of
 abbrev pub create_session_arguments : Grammar CreateSessionArguments
 create_session_arguments = of
     (λ (p : ℕ × (ℕ × (ℕ × (Channel × (Channel × (ℕ × List CallbackSecurity)))))). record {
-      client = p.0; sequence = p.1.0; flags = p.1.1.0; fore = p.1.1.1.0; back = p.1.1.1.1.0; callback_program = p.1.1.1.1.1.0; security = p.1.1.1.1.1.1;
+      client = p.0;
+      sequence = p.1.0;
+      flags = p.1.1.0;
+      fore = p.1.1.1.0;
+      back = p.1.1.1.1.0;
+      callback_program = p.1.1.1.1.1.0;
+      security = p.1.1.1.1.1.1;
     })
     (λ a. (a.client, (a.sequence, (a.flags, (a.fore, (a.back, (a.callback_program, a.security)))))))
     (unsigned_hyper & unsigned_int & unsigned_int & channel & channel & unsigned_int & array 4 callback_security)
@@ -178,4 +184,4 @@ arguments_at operation bytes = argument_choice operation bytes
 
 -- an operation's number, and its arguments
 abbrev pub argument : Grammar Argument
-argument = union argument_told argument_choice
+argument = union argument_told arguments_at

@@ -47,8 +47,13 @@ change_info = of
 abbrev pub channel : Grammar Channel
 channel = of
     (λ (p : ℕ × (ℕ × (ℕ × (ℕ × (ℕ × (ℕ × Option ℕ)))))). record {
-      header_pad_size = p.0; max_request_size = p.1.0; max_response_size = p.1.1.0; max_response_size_cached = p.1.1.1.0;
-      max_operations = p.1.1.1.1.0; max_requests = p.1.1.1.1.1.0; rdma_ird = p.1.1.1.1.1.1;
+      header_pad_size = p.0;
+      max_request_size = p.1.0;
+      max_response_size = p.1.1.0;
+      max_response_size_cached = p.1.1.1.0;
+      max_operations = p.1.1.1.1.0;
+      max_requests = p.1.1.1.1.1.0;
+      rdma_ird = p.1.1.1.1.1.1;
     })
     (λ c. (c.header_pad_size, (c.max_request_size, (c.max_response_size, (c.max_response_size_cached, (c.max_operations, (c.max_requests, c.rdma_ird)))))))
     (unsigned_int & unsigned_int & unsigned_int & unsigned_int & unsigned_int & unsigned_int & optional unsigned_int)
