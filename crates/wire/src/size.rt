@@ -1,14 +1,15 @@
 //! How many bytes results take.
 
-ghost use Rattle.std.specs.Prelude.{◌≡◌, ◌<◌, ◌≤◌, ◌^◌, length, All};
+ghost use Rattle.std.specs.Prelude.{◌≡◌, ◌+◌, ◌<◌, ◌≤◌, ◌^◌, length, All};
 ghost use Rattle.model.specs.WireTypes.{attributes, channel};
-ghost use Rattle.model.specs.WireAnswers.{answer_told, entry};
+ghost use Rattle.model.specs.WireAnswers.{answer_told, behind_refusal, entry, outcome};
 ghost use Rattle.wire.specs.SmallViews.{attributes_view, channel_view};
 ghost use Rattle.wire.specs.AnswerViews.{entry_view, links_of, chain_of, EntryFits};
-ghost use Rattle.wire.specs.OutcomeView.{answer_view};
+ghost use Rattle.wire.specs.OutcomeView.{answer_view, outcome_view};
 
 use crate::answers::Entry;
-use crate::outcome::Answer;
+use crate::argument::Operation;
+use crate::outcome::{Answer, Outcome};
 use crate::small::{Attributes, Channel};
 use xdr::opaque_size;
 
@@ -90,5 +91,30 @@ impl Answer<'_> {
             Answer::Sequence(_) => 36,
             _ => 0,
         }
+    }
+}
+
+impl Outcome<'_> {
+    /// How many bytes `write` writes.
+    pub fn size(&self) -> usize
+        requires fits { outcome.Fits (outcome_view self.now) }
+        requires small { length (outcome.spelling (outcome_view self.now)) < 2 ^ 63 }
+        ensures { result ≡ length (outcome.spelling (outcome_view self.now)) }
+    {
+        match self {
+            Outcome::Done(answer) => 8 + answer.size(),
+            Outcome::Refused { operation, .. } => refused_size(*operation),
+        }
+    }
+}
+
+#[tactic(auto, using(xdr::proofs::Sizes::int_length))]
+fn refused_size(operation: u32) -> usize
+    ensures { result ≡ 8 + length (behind_refusal operation) }
+{
+    if operation == Operation::SetAttr.number() {
+        12
+    } else {
+        8
     }
 }
