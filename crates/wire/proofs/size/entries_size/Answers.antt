@@ -1,4 +1,4 @@
-use Rattle.std.proofs.Common.{◌+◌, ◌≡◌, ◌<◌, ◌≤◌, length, take, ap, ◌∙◌, sym, arith}
+use Rattle.std.proofs.Common.{◌+◌, ◌≡◌, ◌<◌, ◌≤◌, length, take, ap, arith}
 use Rattle.std.proofs.lemmas.List.{take_all}
 use Rattle.wire.specs.AnswerViews.{links_of}
 use Rattle.wire.proofs.Sizes.{chain_length, links_more, links_part}

@@ -1,4 +1,4 @@
-use Rattle.std.proofs.Common.{◌≡◌, ◌<◌, length, arith}
+use Rattle.std.proofs.Common.{arith}
 use Rattle.std.proofs.lemmas.List.{length-append}
 use Rattle.xdr.proofs.Sizes.{int_length, hyper_length, padded_length}
 use Rattle.wire.proofs.Entries.{links-map, entries_fit}
