@@ -188,4 +188,4 @@ outcome_at operation bytes = outcome_choice operation bytes
 
 -- nfs_resop4
 abbrev pub outcome : Grammar Outcome
-outcome = union outcome_told outcome_choice
+outcome = union outcome_told outcome_at

@@ -184,4 +184,4 @@ arguments_at operation bytes = argument_choice operation bytes
 
 -- an operation's number, and its arguments
 abbrev pub argument : Grammar Argument
-argument = union argument_told argument_choice
+argument = union argument_told arguments_at

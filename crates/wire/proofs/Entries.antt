@@ -1,5 +1,5 @@
 -- The entries of a directory, as the code has them.
-use Rattle.std.proofs.Common.{◌≡◌, ℕ, ◌^◌, ◌<◌, ◌≤◌, List, [], ◌∷◌, ◌++◌, length, All, refl, sym, ap, ◌∙◌, append_assoc, arith}
+use Rattle.std.proofs.Common.{◌≡◌, ℕ, ◌≤◌, List, [], ◌∷◌, ◌++◌, length, All, refl, sym, ap, ◌∙◌, append_assoc, arith}
 use Rattle.std.specs.Prelude.{map}
 use Rattle.std.specs.Int.{w32}
 use Rattle.std.specs.List.{AllByRecursion}
@@ -8,7 +8,7 @@ use Rattle.xdr.specs.Grammar.{number}
 use Rattle.xdr.specs.Forms.{links}
 use Rattle.model.specs.WireAnswers.{entry}
 use Rattle.wire.specs.declared.answers.Entry.{Entry}
-use Rattle.wire.specs.AnswerViews.{entry_view, link_of, links_of, chain_of, EntryFits}
+use Rattle.wire.specs.AnswerViews.{entry_view, links_of, chain_of, EntryFits}
 
 -- their chain
 pub links-map : (es : List Entry) → links entry.spelling (map entry_view es) ≡ chain_of es

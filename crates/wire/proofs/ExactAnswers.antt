@@ -1,14 +1,12 @@
 -- The results are exact.
-use Rattle.std.proofs.Common.{◌≡◌, ◌≢◌, ℕ, ◌^◌, ◌<◌, Bool, true, false, List, [], ◌∷◌, ◌++◌, Option, Some, None, Result, Ok, Err, refl, sym, ap, subst, ◌∙◌, ◌⊎◌, inl, inr, cond, eqb, append_assoc, arith}
+use Rattle.std.proofs.Common.{◌≡◌, ◌≢◌, ℕ, ◌^◌, ◌<◌, Bool, true, false, List, [], ◌∷◌, ◌++◌, Option, Some, None, Ok, refl, sym, ap, subst, ◌∙◌, ◌⊎◌, inl, inr, cond, eqb, append_assoc, arith}
 use Rattle.std.specs.Prelude.{find}
 use Rattle.std.specs.Int.{w32}
 use Rattle.std.proofs.lemmas.Bool.{eqb-true, eqb-false, ne_eqb}
-use Rattle.xdr.specs.declared.refusal.Refusal.{Refusal}
-use Rattle.xdr.specs.declared.refusal.Refusal.TheVariants.{Value}
-use Rattle.xdr.specs.Grammar.{Grammar, ◌>>=◌, void, number, number_at, unsigned_int, unsigned_hyper}
-use Rattle.xdr.specs.Forms.{always, boolean, trimmed_bitmap, chain}
+use Rattle.xdr.specs.Grammar.{◌>>=◌, void, number, number_at, unsigned_int, unsigned_hyper}
+use Rattle.xdr.specs.Forms.{always, trimmed_bitmap}
 use Rattle.xdr.specs.Laws.{IsBytes, Exact, OneSpelling}
-use Rattle.xdr.specs.Union.{made, on, no_other}
+use Rattle.xdr.specs.Union.{made}
 use Rattle.xdr.proofs.Steps.{bind_ok, chosen, ok_is, IsBytes-behind}
 use Rattle.xdr.proofs.Numbers.{int_takes, int_again, int_exact, hyper_exact}
 use Rattle.xdr.proofs.Sequences.{void_exact, then_exact, of_exact, one_spelling}
@@ -19,8 +17,8 @@ use Rattle.model.specs.declared.status.Status.{Status}
 use Rattle.model.specs.declared.status.Status.TheVariants as status
 use Rattle.model.specs.Status.{code_of}
 use Rattle.model.specs.Answer.{Answer, Outcome, Done, Refused}
-use Rattle.model.specs.WireTypes.{file_handle, verifier, session_id, state_id, change_info}
-use Rattle.model.specs.WireAnswers.{answered_attributes, access_answer, create_answer, open_answer, read_answer, entry, read_dir_answer, rename_answer, write_answer, exchange_id_answer, create_session_answer, sequence_answer, answer_told, answer_choice, refusals, refusal_of, behind_refusal, outcome_told, refused_by, behind_status, outcome_choice, outcome}
+use Rattle.model.specs.WireTypes.{file_handle, verifier, state_id, change_info}
+use Rattle.model.specs.WireAnswers.{answered_attributes, access_answer, create_answer, open_answer, read_answer, entry, read_dir_answer, rename_answer, write_answer, exchange_id_answer, create_session_answer, sequence_answer, answer_told, answer_choice, refusals, refusal_of, behind_refusal, outcome_told, refused_by, behind_status, outcome_choice, outcome_at, outcome}
 use Rattle.wire.proofs.ExactTypes.{any_opaque_exact, file_handle_exact, verifier_exact, session_id_exact, state_id_exact, attributes_of_exact, change_info_exact, channel_exact}
 
 pub answered_attributes_exact : Exact answered_attributes
@@ -290,7 +288,8 @@ outcome_again (Refused n reason) rest small fits =
     (behind_again n reason rest)
 
 pub outcome_exact : Exact outcome
-outcome_exact = union_exact _ _ outcome_takes outcome_again
+unfolding outcome_at
+outcome_exact = union_exact outcome_told outcome_at outcome_takes outcome_again
 
 pub one_outcome : OneSpelling outcome
 one_outcome = one_spelling outcome outcome_exact

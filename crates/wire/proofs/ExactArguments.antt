@@ -1,18 +1,23 @@
 -- The arguments are exact.
-use Rattle.std.proofs.Common.{◌≡◌, ◌≢◌, ℕ, ◌^◌, ◌<◌, Bool, false, List, [], ◌++◌, Result, Ok, refl, cond, eqb, ltb, arith}
+use Rattle.std.proofs.Common.{◌≡◌, ◌≢◌, ℕ, ◌^◌, ◌<◌, List, Result, refl, arith}
 use Rattle.std.proofs.lemmas.Bool.{ne_eqb, lt-ltb}
-use Rattle.xdr.specs.Grammar.{Grammar, ◌&◌, void, unsigned_int, unsigned_hyper}
+use Rattle.xdr.specs.Grammar.{◌&◌, void, unsigned_int, unsigned_hyper}
 use Rattle.xdr.specs.Forms.{boolean, bitmap}
-use Rattle.xdr.specs.Laws.{Exact, OneSpelling}
+use Rattle.xdr.specs.Laws.{IsBytes, Exact, OneSpelling}
+use Rattle.xdr.specs.declared.refusal.Refusal.{Refusal}
+use Rattle.xdr.specs.Clauses.{Reads, Accepts}
+use Rattle.xdr.proofs.Accepting.{accepts}
+use Rattle.wire.specs.declared.argument.Argument.{Argument as Argument'}
+use Rattle.wire.specs.ArgumentView.{argument_view}
 use Rattle.xdr.specs.Union.{on, no_other, any_other, other_below}
 use Rattle.xdr.proofs.Numbers.{int_exact, hyper_exact}
 use Rattle.xdr.proofs.Sequences.{void_exact, then_exact, of_exact, one_spelling}
 use Rattle.xdr.proofs.Tests.{boolean_exact, below_exact, always_exact}
 use Rattle.xdr.proofs.Arrays.{array_exact, optional_exact, bitmap_exact}
 use Rattle.xdr.proofs.Unions.{TakesBy, AgainBy, on_takes, no_other_takes, any_other_takes, other_below_takes, union_exact, made_again}
-use Rattle.model.specs.Operation.{StateId, Attributes, CreateArguments, NewDirectory, OtherType, OpenType, NoCreate, Unchecked, Guarded, Claim, ByName, ByHandle, OtherClaim, Opening, Opens, Exclusive, Argument}
+use Rattle.model.specs.Operation.{Attributes, NewDirectory, OtherType, NoCreate, Unchecked, Guarded, Claim, ByName, ByHandle, OtherClaim, Opening, Opens, Exclusive, Argument}
 use Rattle.model.specs.WireTypes.{any_opaque, file_handle, session_id, attributes, implementation, callback_security}
-use Rattle.model.specs.WireArguments.{close_arguments, commit_arguments, create_told, create_choice, create_arguments, claim_told, claim_choice, claim, create_how_told, create_how_choice, create_how, opening_told, opening_choice, opening, open_arguments, read_arguments, read_dir_arguments, rename_arguments, set_attr_arguments, write_arguments, exchange_id_arguments, create_session_arguments, sequence_arguments, argument_told, argument_choice, argument}
+use Rattle.model.specs.WireArguments.{close_arguments, commit_arguments, create_told, create_choice, create_arguments, claim_told, claim_choice, claim, create_how_told, create_how_choice, create_how, opening_told, opening_choice, opening, open_arguments, read_arguments, read_dir_arguments, rename_arguments, set_attr_arguments, write_arguments, exchange_id_arguments, create_session_arguments, sequence_arguments, argument_told, argument_choice, arguments_at, argument}
 use Rattle.wire.proofs.ExactTypes.{any_opaque_exact, file_handle_exact, verifier_exact, session_id_exact, owner_id_exact, state_id_exact, attributes_exact, channel_exact, implementation_exact, callback_security_exact}
 
 pub close_arguments_exact : Exact close_arguments
@@ -182,7 +187,12 @@ argument_again (Argument.DestroyClientId v) rest small fits = made_again unsigne
 argument_again (Argument.ReclaimComplete v) rest small fits = made_again boolean Argument.ReclaimComplete boolean_exact v rest fits
 
 pub argument_exact : Exact argument
-argument_exact = union_exact _ _ argument_takes argument_again
+unfolding arguments_at
+argument_exact = union_exact argument_told arguments_at argument_takes argument_again
+
+-- a reader that gives what is read takes exactly its spellings
+pub argument_accepted : (old new : List ℕ) (result : Result Argument' Refusal) → IsBytes old → Reads argument_view argument.read old new result → Accepts argument_view argument old new result
+argument_accepted old new result bytes reads = accepts argument_view argument argument_exact old new result bytes reads
 
 pub one_argument : OneSpelling argument
 one_argument = one_spelling argument argument_exact

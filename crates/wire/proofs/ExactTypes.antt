@@ -1,6 +1,6 @@
 -- The small types are exact.
-use Rattle.std.proofs.Common.{◌≡◌, ℕ, ◌^◌, ◌<◌, List, ◌++◌, Ok, refl, arith, cond}
-use Rattle.xdr.specs.Grammar.{Grammar, void, unsigned_int, unsigned_hyper}
+use Rattle.std.proofs.Common.{ℕ, ◌^◌, ◌<◌, List, refl, arith}
+use Rattle.xdr.specs.Grammar.{Grammar, void, unsigned_int}
 use Rattle.xdr.specs.Forms.{bitmap}
 use Rattle.xdr.specs.Union.{on, no_other}
 use Rattle.xdr.specs.Laws.{Exact}
@@ -10,7 +10,7 @@ use Rattle.xdr.proofs.Tests.{boolean_exact}
 use Rattle.xdr.proofs.Opaques.{fixed_exact, opaque_exact}
 use Rattle.xdr.proofs.Arrays.{array_exact, optional_exact, bitmap_exact}
 use Rattle.xdr.proofs.Unions.{TakesBy, AgainBy, on_takes, no_other_takes, union_exact, made_again}
-use Rattle.model.specs.Operation.{CallbackSecurity, NoSecurity, SystemSecurity}
+use Rattle.model.specs.Operation.{NoSecurity, SystemSecurity}
 use Rattle.model.specs.WireTypes.{any_opaque, file_handle, verifier, session_id, owner_id, state_id, attributes_of, attributes, change_info, channel, implementation, system_credential, security_told, callback_security}
 
 pub any_opaque_exact : Exact any_opaque

@@ -2,3 +2,4 @@ pub mod ExactTypes
 pub mod ExactArguments
 pub mod ExactAnswers
 pub mod Entries
+pub mod Sizes

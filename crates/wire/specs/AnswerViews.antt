@@ -3,7 +3,7 @@ use Rattle.std.specs.Prelude.{ℕ, ◌<◌, ◌^◌, List, ◌++◌, length, map
 use Rattle.std.specs.Int.{w32}
 use Rattle.std.specs.List.{flat_map}
 use Rattle.xdr.specs.Grammar.{◌&◌, number, unsigned_int, unsigned_hyper}
-use Rattle.xdr.specs.Forms.{always, chain, trimmed_bitmap}
+use Rattle.xdr.specs.Forms.{always, trimmed_bitmap}
 use Rattle.model.specs.WireTypes.{any_opaque, channel}
 use Rattle.model.specs.WireAnswers.{entry}
 use Rattle.model.specs.Answer as spec

@@ -1,9 +1,10 @@
 //! The operations by their numbers (RFC 8881, section 18).
 
 ghost use Rattle.std.specs.Prelude.{◌≡◌, ℕ, List, Err, IfSome, IfNone};
-ghost use Rattle.xdr.specs.Clauses.{Reads};
+ghost use Rattle.xdr.specs.Clauses.{Accepts, Reads};
+ghost use Rattle.xdr.specs.Laws.{IsBytes};
 ghost use Rattle.xdr.specs.declared.refusal.Refusal.TheVariants.{Value};
-ghost use Rattle.model.specs.WireArguments.{arguments_at};
+ghost use Rattle.model.specs.WireArguments.{argument, arguments_at};
 ghost use Rattle.wire.specs.Numbers.{number_of};
 ghost use Rattle.wire.specs.ArgumentView.{argument_view};
 
@@ -164,6 +165,31 @@ impl<'a> Argument<'a> {
             Operation::DestroyClientId => Argument::DestroyClientId(at.read_u64()?),
             Operation::ReclaimComplete => Argument::ReclaimComplete(at.read_bool()?),
         };
+        *r = at;
+        Ok(argument)
+    }
+
+    /// Reads an operation's number and its arguments.
+    ///
+    /// What is read is exactly its spelling; a refusal other than `Memory` comes only where no front of the bytes is one.
+    #[tactic(auto, using(crate::proofs::ExactArguments::argument_accepted))]
+    pub fn read_numbered(alloc: Global, r: &mut Reader<'a>) -> Result<Argument<'a>, Refusal>
+        ensures accepts { Accepts argument_view argument r.old r.new result }
+        ensures reads { Reads argument_view (argument.read) r.old r.new result }
+    {
+        Argument::numbered(alloc, r)
+    }
+
+    fn numbered(alloc: Global, r: &mut Reader<'a>) -> Result<Argument<'a>, Refusal>
+        ensures reads { Reads argument_view (argument.read) r.old r.new result }
+        ensures bytes { IsBytes r.old }
+    {
+        let mut at = r.fork();
+        let number = at.read_u32()?;
+        let Some(operation) = Operation::from_number(number) else {
+            return Err(Refusal::Value);
+        };
+        let argument = Argument::read(alloc, operation, &mut at)?;
         *r = at;
         Ok(argument)
     }

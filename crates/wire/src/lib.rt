@@ -11,6 +11,7 @@ mod laws;
 mod open;
 mod outcome;
 mod session;
+mod size;
 mod small;
 
 pub use answers::{

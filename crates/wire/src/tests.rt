@@ -40,21 +40,29 @@ fn create_is_read(rt: HostRuntime) -> Result<(), Fail> {
         0, 1, 0xed,
     ];
     let mut reader = Reader::new(&bytes);
-    match Argument::read(rt.alloc(), Operation::Create, &mut reader)? {
+    let argument = Argument::read(rt.alloc(), Operation::Create, &mut reader)?;
+    match &argument {
         Argument::Create(CreateArguments::NewDirectory { name, attributes }) => {
-            assert_eq!(rt; name, b"a".as_slice());
+            assert_eq!(rt; *name, b"a".as_slice());
             assert_eq!(rt; attributes.bitmap.as_slice(), [0, 2].as_slice());
             assert_eq!(rt; attributes.values, [0, 0, 1, 0xed].as_slice());
         }
         _ => assert!(rt; false),
     }
     assert!(rt; reader.is_empty());
-    let mut other = Reader::new(&[0, 0, 0, 5, 0xff]);
-    match Argument::read(rt.alloc(), Operation::Create, &mut other)? {
-        Argument::Create(CreateArguments::OtherType(number)) => assert_eq!(rt; number, 5),
+    Ok(())
+}
+
+#[test]
+fn nothing_behind_another_type_is_read(rt: HostRuntime) -> Result<(), Fail> {
+    let bytes = [0, 0, 0, 5, 0xff];
+    let mut reader = Reader::new(&bytes);
+    let argument = Argument::read(rt.alloc(), Operation::Create, &mut reader)?;
+    match &argument {
+        Argument::Create(CreateArguments::OtherType(number)) => assert_eq!(rt; *number, 5),
         _ => assert!(rt; false),
     }
-    assert_eq!(rt; other.len(), 1);
+    assert_eq!(rt; reader.len(), 1);
     Ok(())
 }
 
@@ -65,14 +73,15 @@ fn open_is_read(rt: HostRuntime) -> Result<(), Fail> {
         0, 0, 1, 0, 0, 0, 1, 0, 0, 0, 0, 0, 0, 0, 0, 0, 0, 0, 0, 0, 0, 0, 1, b'f', 0, 0, 0,
     ];
     let mut reader = Reader::new(&bytes);
-    match Argument::read(rt.alloc(), Operation::Open, &mut reader)? {
+    let argument = Argument::read(rt.alloc(), Operation::Open, &mut reader)?;
+    match &argument {
         Argument::Open(a) => {
             assert_eq!(rt; a.access, 3);
             assert_eq!(rt; a.client, 1);
             assert_eq!(rt; a.owner, b"A".as_slice());
-            match a.opening {
+            match &a.opening {
                 Opening::Opens { how, claim } => {
-                    assert_eq!(rt; claim, Claim::ByName(b"f"));
+                    assert!(rt; matches!(claim, Claim::ByName(b"f")));
                     assert!(rt; matches!(how, OpenType::Guarded(_)));
                 }
                 Opening::Exclusive(_) => assert!(rt; false),

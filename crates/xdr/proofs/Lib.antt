@@ -8,3 +8,5 @@ pub mod Unions
 pub mod Reading
 pub mod Writing
 pub mod Loops
+pub mod Sizes
+pub mod Accepting

@@ -99,7 +99,7 @@ pub wrote_more : {A : Type 0} {a b c : Written} (spelling : A → List ℕ) (xs 
 wrote_more {A = A} {a = a} {b = b} {c = c} spelling xs i x lt is v w =
     let more : take (i + 1) xs ≡ take i xs ++ x ∷ [] = take_more xs i x lt ∙ ap (λ (y : A). take i xs ++ y ∷ []) (sym is) in
     let text : flat_map spelling (take (i + 1) xs) ≡ flat_map spelling (take i xs) ++ spelling x =
-        ap (flat_map spelling) more ∙ flat_map-append spelling (take i xs) (x ∷ []) ∙ ap (λ (t : List ℕ). flat_map spelling (take i xs) ++ t) (append-nil (spelling x)) in
+    ap (flat_map spelling) more ∙ flat_map-append spelling (take i xs) (x ∷ []) ∙ ap (λ (t : List ℕ). flat_map spelling (take i xs) ++ t) (append-nil (spelling x)) in
     subst (λ (t : List ℕ). Wrote a c (Ok tt) t) (sym text) (wrote_on v w)
 
 pub wrote_stop : {A : Type 0} {a b c : Written} {r : Result (Unit {0}) Refusal} {e : Refusal} (spelling : A → List ℕ) (xs : List A) (i : ℕ) (x : A) → i < length xs → x ≡ get_or xs i x
@@ -108,5 +108,5 @@ wrote_stop {A = A} {a = a} {b = b} {c = c} {r = r} spelling xs i x lt is v err w
     let rest : drop i xs ≡ x ∷ drop (i + 1) xs = drop_more xs i x lt ∙ ap (λ (y : A). y ∷ drop (i + 1) xs) (sym is) in
     let whole : xs ≡ take i xs ++ (x ∷ drop (i + 1) xs) = sym (take-append-drop i xs) ∙ ap (λ (ys : List A). take i xs ++ ys) rest in
     let text : flat_map spelling xs ≡ flat_map spelling (take i xs) ++ (spelling x ++ flat_map spelling (drop (i + 1) xs)) =
-        ap (flat_map spelling) whole ∙ flat_map-append spelling (take i xs) (x ∷ drop (i + 1) xs) in
+    ap (flat_map spelling) whole ∙ flat_map-append spelling (take i xs) (x ∷ drop (i + 1) xs) in
     subst (λ (t : List ℕ). Wrote a c r t) (sym text) (wrote_on v (wrote_exit (flat_map spelling (drop (i + 1) xs)) err w))

@@ -15,7 +15,7 @@ pub use laws::{bitmaps_are_exact, booleans_are_exact, numbers_are_exact, opaques
 pub use reader::Reader;
 pub use refusal::Refusal;
 pub use words::Words;
-pub use writer::Writer;
+pub use writer::{Writer, opaque_size};
 
 #[cfg(test)]
 mod tests;

@@ -3,6 +3,7 @@
 ghost use Rattle.std.specs.Prelude.{◌≡◌, ◌<◌, ◌↔◌, IsTrue, length};
 ghost use Rattle.xdr.specs.Grammar.{unsigned_int, unsigned_hyper};
 ghost use Rattle.xdr.specs.Forms.{below, always, boolean, fixed_opaque, opaque, padding, are_zeros};
+ghost use Rattle.xdr.specs.Laws.{IsBytes};
 ghost use Rattle.xdr.specs.Clauses.{Scans};
 
 use crate::refusal::Refusal;
@@ -22,7 +23,11 @@ impl<'a> Model for Reader<'a> {
 
     ghost Value = { List ℕ };
 
+    ghost use Rattle.xdr.specs.Laws.{IsBytes};
+
     ghost view = { λ r. r.rest.now };
+
+    ghost invariant = { λ r. IsBytes r.rest.now };
 }
 
 impl<'a> Reader<'a> {
@@ -35,7 +40,8 @@ impl<'a> Reader<'a> {
 
     /// A second reader at the same place.
     pub fn fork(&self) -> Reader<'a>
-        ensures { result ≡ self.now }
+        ensures same { result ≡ self.now }
+        ensures bytes { IsBytes self.now }
     {
         Reader { rest: self.rest }
     }

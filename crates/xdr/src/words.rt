@@ -1,6 +1,6 @@
 //! Short arrays of numbers.
 
-ghost use Rattle.std.specs.Prelude.{◌≡◌, ◌<◌, ◌≤◌, ◌^◌, ◌++◌, ◌∷◌, [], length, OnErr};
+ghost use Rattle.std.specs.Prelude.{◌≡◌, ◌<◌, ◌≤◌, ◌+◌, ◌*◌, ◌^◌, ◌++◌, ◌∷◌, [], length, OnErr};
 ghost use Rattle.xdr.specs.Grammar.{number, unsigned_int};
 ghost use Rattle.xdr.specs.Forms.{array, elements};
 ghost use Rattle.std.specs.Int.{w32};
@@ -72,6 +72,16 @@ impl<const N: usize> Words<N> {
     {
         self.words[self.count] = word;
         self.count += 1;
+    }
+
+    /// How many bytes `write` writes.
+    #[tactic(auto, using(crate::proofs::Sizes::elements_length))]
+    pub fn size(&self) -> usize
+        requires { N < 2 ^ 32 }
+        ensures value { result ≡ length (elements (λ n. number w32 n) self.now) }
+        ensures bound { result ≤ 4 + 4 * N }
+    {
+        4 + 4 * self.as_slice().len()
     }
 
     /// Writes their number and the numbers (RFC 4506, section 4.13).

@@ -197,3 +197,13 @@ impl Writer {
         Ok(())
     }
 }
+
+/// How many bytes `write_opaque` writes of these.
+#[tactic(auto, using(crate::proofs::Sizes::counted_length))]
+pub fn opaque_size(bytes: &[u8]) -> usize
+    requires { length bytes.now < 2 ^ 32 }
+    ensures value { result ≡ length (counted bytes.now) }
+    ensures bound { result < 2 ^ 32 + 8 }
+{
+    4 + bytes.len() + pad_len(bytes.len())
+}

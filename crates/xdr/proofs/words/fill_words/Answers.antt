@@ -14,8 +14,8 @@ returns-in_err-word c =
     let i = c.loop-word.word-index in
     let lt : i < length c.args.words.now = omega arith in
     rw (p.1, p.2)
-        (ends (λ bytes. number_at w32 bytes) (take i c.loop-word.words) (length c.args.words.now) i c.loop-word.at c.in_err-word.field-0.0
-            (each_at (λ bytes. number_at w32 bytes) (length c.args.words.now) c.args.at) lt c.in_err-word.ensures.0 c.loop-word.invariant)
+    (ends (λ bytes. number_at w32 bytes) (take i c.loop-word.words) (length c.args.words.now) i c.loop-word.at c.in_err-word.field-0.0
+    (each_at (λ bytes. number_at w32 bytes) (length c.args.words.now) c.args.at) lt c.in_err-word.ensures.0 c.loop-word.invariant)
 
 pub loop-word-preserved : goal.loop-word-preserved
 loop-word-preserved c =
@@ -25,8 +25,8 @@ loop-word-preserved c =
     let within : i < length c.loop-word.words = omega arith in
     let taken : take (i + 1) (slice_set c.loop-word.words i v) ≡ take i c.loop-word.words ++ v ∷ [] = take_more_set c.loop-word.words i v within in
     rw taken
-        (goes_on (λ bytes. number_at w32 bytes) (take i c.loop-word.words) (length c.args.words.now) i c.loop-word.at v c.read_u32.new.self
-            (each_at (λ bytes. number_at w32 bytes) (length c.args.words.now) c.args.at) lt c.in_ok-word.ensures c.loop-word.invariant)
+    (goes_on (λ bytes. number_at w32 bytes) (take i c.loop-word.words) (length c.args.words.now) i c.loop-word.at v c.read_u32.new.self
+    (each_at (λ bytes. number_at w32 bytes) (length c.args.words.now) c.args.at) lt c.in_ok-word.ensures c.loop-word.invariant)
 
 pub returns : goal.returns
 returns c =
@@ -34,5 +34,5 @@ returns c =
     let le : length c.args.words.now ≤ i = omega arith in
     let all : take i c.loop-word.words ≡ c.loop-word.words = take_all i c.loop-word.words (omega arith) in
     is_done (λ bytes. number_at w32 bytes) (take i c.loop-word.words) (length c.args.words.now) i c.loop-word.at
-        (each_at (λ bytes. number_at w32 bytes) (length c.args.words.now) c.args.at) le c.loop-word.invariant
+    (each_at (λ bytes. number_at w32 bytes) (length c.args.words.now) c.args.at) le c.loop-word.invariant
     ∙ ap (λ (words : List ℕ). Ok (words, c.loop-word.at)) all

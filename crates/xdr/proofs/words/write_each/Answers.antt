@@ -14,4 +14,4 @@ returns-in_err-write_u32 c =
     let i = c.loop-word.word-index in
     let lt : i < length words = omega arith in
     wrote_stop (λ (n : ℕ). number w32 n) words i (get_or words i 0) lt (get_or_default words i 0 (get_or words i 0) lt)
-        c.loop-word.invariant c.from_residual.ensures.1 c.in_err-write_u32.ensures.wrote
+    c.loop-word.invariant c.from_residual.ensures.1 c.in_err-write_u32.ensures.wrote
