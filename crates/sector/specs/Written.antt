@@ -1,8 +1,8 @@
 -- Records of one width that are written one behind the other from a place on, and read there.
-use Rattle.std.specs.Prelude.{◌≡◌, ◌≤◌, ◌<◌, ◌+◌, ◌-◌, ◌*◌, ℕ, zero, suc, List, [], ◌∷◌, ◌++◌, length, take, drop, replicate}
+use Rattle.std.specs.Prelude.{◌≡◌, ◌≤◌, ◌<◌, ◌+◌, ◌*◌, ℕ, zero, suc, List, [], ◌∷◌, ◌++◌, length, take, drop, replicate}
 use Rattle.std.specs.List.{flat_map, AllByRecursion}
 use Rattle.std.proofs.Common.{refl, sym, ap, ◌∙◌, arith, append_assoc, get_or}
-use Rattle.std.proofs.lemmas.List.{append-nil, length-append, length-replicate, length_push, drop-drop, take_more, take_all}
+use Rattle.std.proofs.lemmas.List.{append-nil, length-replicate, length_push, drop-drop, take_more, take_all}
 use Rattle.std.proofs.lemmas.List.Concat.{flat_map-append}
 use Rattle.sector.specs.Records.{AreWide, drop-record}
 
