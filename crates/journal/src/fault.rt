@@ -1,0 +1,21 @@
+use thiserror::Error;
+
+/// Why the journal did not do what it was asked.
+#[derive(Debug, Drop, Error)]
+pub enum JournalFault {
+    /// The device failed. The journal is down from then on.
+    #[error("the device failed")]
+    Fault,
+    /// The gate sector has no form that a journal writes.
+    #[error("the gate has no form")]
+    Damaged,
+    /// A transaction of more than 48 sectors. Nothing changed.
+    #[error("more than 48 sectors in a transaction")]
+    TooMany,
+    /// No memory. Nothing changed.
+    #[error("out of memory")]
+    Memory,
+    /// The device failed in an earlier call.
+    #[error("down since the device failed")]
+    Down,
+}
