@@ -1,2 +1,4 @@
 pub mod Moments
 pub mod Cause
+pub mod Calls
+pub mod Memory

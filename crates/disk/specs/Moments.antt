@@ -3,7 +3,7 @@
 -- A sector is whole. After a crash each sector, by itself, holds what it held at the last successful
 -- sync or any content written to it since. A crash within a write or a sync falls under the same rule:
 -- it is one at the moment before the call or after it.
-use Rattle.std.specs.Prelude.{◌≡◌, ◌≢◌, ◌≤◌, ◌<◌, ◌⊎◌, ◌==◌, ℕ, List, [], ◌∷◌, ◌++◌, length, if◌then◌else◌}
+use Rattle.std.specs.Prelude.{◌≡◌, ◌≤◌, ◌⊎◌, ◌==◌, ℕ, List, [], ◌∷◌, length, if◌then◌else◌}
 use Rattle.disk.specs.declared.update.Update.{Update}
 
 -- every sector's content by its number; past the end of a device nobody asks
@@ -28,6 +28,12 @@ pub record Moment : Type 0 where
 abbrev pub Among : List Update → ℕ → List ℕ → Type 0
 Among [] n content = ⊥
 Among (update ∷ updates) n content = ((update.target ≡ n) × (update.content ≡ content)) ⊎ Among updates n content
+
+-- the contents that the list gives sector n, in the list's order
+abbrev pub written_to : ℕ → List Update → List (List ℕ)
+written_to n [] = []
+written_to n (update ∷ updates) =
+    if n == update.target then update.content ∷ written_to n updates else written_to n updates
 
 -- after a crash at this moment sector n may hold this
 abbrev pub MayHold : Moment → ℕ → List ℕ → Type 0

@@ -5,10 +5,14 @@
 //! write and every sync makes a new moment, and a crash stops at one of them.
 #![tactic(auto)]
 
+mod call;
 mod device;
 mod fault;
+mod memory;
 mod update;
 
+pub use call::Call;
 pub use device::Device;
 pub use fault::DiskFault;
+pub use memory::MemDevice;
 pub use update::{SECTOR, Update};

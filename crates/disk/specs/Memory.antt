@@ -1,0 +1,20 @@
+-- What the contracts see of a device in memory.
+use Rattle.std.specs.Prelude.{ℕ, List, vec_len}
+use Rattle.disk.specs.declared.call.Call.{Call}
+use Rattle.disk.specs.declared.memory.MemDevice.{MemDevice}
+use Rattle.disk.specs.Moments.{History}
+use Rattle.disk.specs.Calls.{history_of_calls}
+
+abbrev pub size_of : MemDevice → ℕ
+size_of device = vec_len device.sectors
+
+abbrev pub failures_of : MemDevice → ℕ
+failures_of device = device.failures
+
+-- the writes and syncs since it was made, the first of them first
+abbrev pub calls_of : MemDevice → List Call
+calls_of device = device.calls.items
+
+-- what these calls make of its first contents
+abbrev pub history_of : MemDevice → History
+history_of device = history_of_calls device.first.items device.calls.items
