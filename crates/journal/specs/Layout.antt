@@ -4,10 +4,11 @@
 --   sector 1            the gate
 --   sectors 2 to 97     the payload
 --   from sector 98 on   the caller's, written by transactions
-use Rattle.std.specs.Prelude.{◌≡◌, ◌≢◌, ◌≤◌, ◌<◌, ◌⊎◌, ◌==◌, ◌+◌, ◌*◌, ◌-◌, ℕ, List, [], ◌∷◌, ◌++◌, length, replicate, All, AllPairs, if◌then◌else◌}
+use Rattle.std.specs.Prelude.{◌≡◌, ◌≢◌, ◌≤◌, ◌<◌, ◌⊎◌, ◌==◌, ◌+◌, ◌*◌, ◌-◌, ℕ, List, [], ◌∷◌, ◌++◌, length, replicate, flat_map, All, AllPairs, if◌then◌else◌}
 use Rattle.byteorder.specs.Endian.{big_bytes}
 use Rattle.disk.specs.declared.update.Update.{Update}
 use Rattle.disk.specs.Moments.{Image}
+use Rattle.disk.specs.Calls.{zero_sector}
 
 -- sectors that a transaction may write: from 98 on, on the device, and all different
 pub record AreTargets (size : ℕ) (to : List ℕ) : Type 0 where
@@ -17,12 +18,7 @@ pub record AreTargets (size : ℕ) (to : List ℕ) : Type 0 where
 
 -- numbers one after the other, each in four bytes, the highest first
 abbrev pub words : List ℕ → List ℕ
-words [] = []
-words (number ∷ numbers) = big_bytes 4 number ++ words numbers
-
--- a sector of zeros
-unfoldable pub zero_sector : List ℕ
-zero_sector = replicate 4096 0
+words numbers = flat_map (big_bytes 4) numbers
 
 -- a gate's words: 1, how many targets, and the targets
 abbrev pub gate_words : List ℕ → List ℕ

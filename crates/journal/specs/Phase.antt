@@ -1,5 +1,5 @@
 -- What one phase does to a device: it writes some sectors, and then syncs.
-use Rattle.std.specs.Prelude.{◌≡◌, ◌≤◌, ◌⊎◌, ℕ, List, [], ◌∷◌, Result, OnErr, OnOk}
+use Rattle.std.specs.Prelude.{◌≡◌, ◌≤◌, ◌⊎◌, ℕ, List, [], ◌∷◌, Result, OnErr}
 use Rattle.disk.specs.declared.update.Update.{Update}
 use Rattle.disk.specs.Moments.{Image, Moment, History, MayHold, Among, AddsOnly, applied, seen}
 use Rattle.disk.specs.Cause.{IsCounted}
@@ -14,11 +14,9 @@ pub record IsFixedAs (updates : List Update) (old new : History) : Type 0 where
   pub fixed : new.now.fixed ≡ applied updates (seen old.now)
   pub unsynced : new.now.unsynced ≡ []
 
--- at every moment since, a map left is one left before, but for sectors with an update's content;
--- and where the phase ended, all of them are fixed
-pub record IsPhase {T E : Type 0} (updates : List Update) (old new : History) (result : Result T E) : Type 0 where
-  pub moments : AddsOnly (LeftWith updates old.now) old new
-  pub ok : OnOk result (IsFixedAs updates old new)
+-- at every moment since, a map left is one left before, but for sectors with an update's content
+abbrev pub AddsUpdates : List Update → History → History → Type 0
+AddsUpdates updates old new = AddsOnly (LeftWith updates old.now) old new
 
 -- a failure is one that the device counted
 pub record FailsCounted {T E : Type 0} (before after : ℕ) (result : Result T E) : Type 0 where

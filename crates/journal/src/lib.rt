@@ -2,5 +2,8 @@
 #![tactic(auto)]
 
 mod fault;
+mod gate;
+mod layout;
+mod phase;
 
 pub use fault::JournalFault;
