@@ -1,3 +1,4 @@
+pub mod GateBytes
 pub mod Images
 pub mod Moments
 pub mod Phases

@@ -1,3 +1,4 @@
 pub mod Layout
 pub mod Settled
 pub mod Phase
+pub mod Commit
