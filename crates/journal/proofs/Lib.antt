@@ -1,3 +1,4 @@
+pub mod Commits
 pub mod GateBytes
 pub mod Images
 pub mod Moments

@@ -33,7 +33,7 @@ no_targets size = record {
   apart = λ i j d l h. absurd (omega arith);
 }
 
-kept_not_1 : (size n : ℕ) → IsKept size n → n ≡ 1 → ⊥
+pub kept_not_1 : (size n : ℕ) → IsKept size n → n ≡ 1 → ⊥
 kept_not_1 size n k e = ⊎_elim (λ (z : n ≡ 0). omega arith) (λ (z : 98 ≤ n). omega arith) k.0
 
 -- a kept sector is not in the payload
