@@ -6,10 +6,13 @@ use Rattle.journal.specs.Layout.{through, targets}
 use Rattle.journal.specs.Settled.{AreSame, Settles}
 use Rattle.journal.specs.Phase.{IsGated}
 
--- while updates are recorded, a map left settles to what was there, or to that with all of them
+-- at every moment since, a map left is one left before, or settles to this base or to it with all of the updates
+abbrev pub AddsEither : ℕ → List Update → Image → History → History → Type 0
+AddsEither size updates base old new = AddsOnly (λ image. Settles size image base ⊎ Settles size image (applied updates base)) old new
+
+-- while updates are recorded, the base is what was seen before
 abbrev pub Records : ℕ → List Update → History → History → Type 0
-Records size updates old new =
-    AddsOnly (λ image. Settles size image (seen old.now) ⊎ Settles size image (applied updates (seen old.now))) old new
+Records size updates old new = AddsEither size updates (seen old.now) old new
 
 -- the gate is open for the updates, and through it the device reads as with them
 pub record IsRecorded (size : ℕ) (updates : List Update) (old new : History) : Type 0 where

@@ -1,3 +1,6 @@
+ghost use Rattle.std.specs.Prelude.{◌≡◌};
+
+use disk::DiskFault;
 use thiserror::Error;
 
 /// Why the journal did not do what it was asked.
@@ -18,4 +21,14 @@ pub enum JournalFault {
     /// The device failed in an earlier call.
     #[error("down since the device failed")]
     Down,
+}
+
+impl From<DiskFault> for JournalFault {
+    ghost use Rattle.journal.specs.declared.fault.JournalFault.TheVariants.{Fault};
+
+    ghost from_gives = { λ _ fault. fault ≡ Fault };
+
+    fn from(_: DiskFault) -> JournalFault {
+        JournalFault::Fault
+    }
 }

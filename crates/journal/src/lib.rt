@@ -4,7 +4,9 @@
 mod commit;
 mod fault;
 mod gate;
+mod journal;
 mod layout;
 mod phase;
 
+pub use journal::Journal;
 pub use fault::JournalFault;

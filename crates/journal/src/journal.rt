@@ -1,0 +1,142 @@
+//! The journal: a base, and a list of transactions that go into it through the gate.
+
+ghost use Rattle.std.specs.Prelude.{◌≡◌, ◌≤◌, ◌⊎◌, ℕ, [], length, get_or, false, is_err, vec_len, vec_capacity, OnOk, IfErr};
+ghost use Rattle.disk.specs.Moments.{seen, AddsOnly, applied};
+ghost use Rattle.journal.specs.Layout.{AreTargets, gate, targets};
+ghost use Rattle.journal.specs.Settled.{AreSame, Settles};
+ghost use Rattle.journal.specs.Phase.{FailsCounted};
+ghost use Rattle.journal.specs.Commit.{AddsEither};
+ghost use Rattle.journal.specs.Log.{AddsFronts, Answers, IsSettled, Moved, contents};
+ghost use Rattle.journal.specs.Transactions.{transactions};
+
+use crate::{commit, JournalFault};
+use disk::{Device, DiskFault, Update};
+use std::alloc::Global;
+use std::collections::VecDeque;
+
+/// A journal over a device.
+#[derive(Drop)]
+pub struct Journal<D: Device> {
+    alloc: Global,
+    device: D,
+    gate_targets: Vec<u32>,
+    list: VecDeque<Vec<Update>>,
+    is_down: bool,
+    ghost large: { 256 ≤ D.size device },
+    ghost few: { length gate_targets.items ≤ 96 },
+    ghost room: { 96 ≤ vec_capacity gate_targets },
+    ghost fit: { AreTargets (D.size device) gate_targets.items },
+    ghost rests: { D.keeps_word → is_down ≡ false → length (D.history device).now.unsynced ≡ 0 },
+    ghost gate_is: { D.keeps_word → is_down ≡ false → seen (D.history device).now 1 ≡ gate gate_targets.items },
+    ghost short: { (k : ℕ) → length (get_or (transactions list.items) k []) ≤ 48 },
+    ghost listed: { (k : ℕ) → AreTargets (D.size device) (targets (get_or (transactions list.items) k [])) },
+}
+
+#[tactic(auto, unfolding(crate::specs::Journal::log_of, crate::specs::Journal::failures_of))]
+impl<D: Device> Journal<D> {
+    ghost use Rattle.journal.specs.Journal.{log_of, failures_of};
+
+    /// Copies the payload home and closes the gate, if it is open.
+    fn close_gate(&mut self) -> Result<(), DiskFault>
+        requires { (log_of self.old).is_down ≡ false }
+        ensures moments { D.keeps_word → AddsOnly (λ image. Settles (log_of self.old).size image (log_of self.old).base)
+            (log_of self.old).history (log_of self.new).history }
+        ensures same { D.keeps_word → OnOk result (AreSame (log_of self.old).size (log_of self.old).base (log_of self.new).base) }
+        ensures closed { OnOk result (self.new.gate_targets.items ≡ []) }
+        ensures list { (log_of self.new).list ≡ (log_of self.old).list }
+        ensures size { (log_of self.new).size ≡ (log_of self.old).size }
+        ensures is_down { (log_of self.new).is_down ≡ is_err result }
+        ensures failures { FailsCounted (failures_of self.old) (failures_of self.new) result }
+    {
+        if self.gate_targets.is_empty() {
+            return Ok(());
+        }
+        self.is_down = true;
+        if commit::copy_home(&mut self.device, &self.gate_targets).is_err() {
+            return Err(DiskFault::Fault);
+        }
+        self.gate_targets.clear();
+        self.is_down = false;
+        Ok(())
+    }
+    /// Records updates behind the gate, which is closed.
+    fn open_gate(&mut self, updates: &[Update]) -> Result<(), DiskFault>
+        requires up { (log_of self.old).is_down ≡ false }
+        requires closed { self.old.gate_targets.items ≡ [] }
+        requires few { length updates.now ≤ 48 }
+        requires fit { AreTargets (log_of self.old).size (targets updates.now) }
+        ensures moments { D.keeps_word → AddsEither (log_of self.old).size updates.now (log_of self.old).base
+            (log_of self.old).history (log_of self.new).history }
+        ensures same { D.keeps_word → OnOk result
+            (AreSame (log_of self.old).size (applied updates.now (log_of self.old).base) (log_of self.new).base) }
+        ensures list { (log_of self.new).list ≡ (log_of self.old).list }
+        ensures size { (log_of self.new).size ≡ (log_of self.old).size }
+        ensures is_down { (log_of self.new).is_down ≡ is_err result }
+        ensures failures { FailsCounted (failures_of self.old) (failures_of self.new) result }
+    {
+        self.is_down = true;
+        name_targets(&mut self.gate_targets, updates);
+        if commit::record(&mut self.device, &self.gate_targets, updates).is_err() {
+            return Err(DiskFault::Fault);
+        }
+        self.is_down = false;
+        Ok(())
+    }
+
+    /// Takes one transaction into the base.
+    fn commit(&mut self, updates: &[Update]) -> Result<(), DiskFault>
+        requires up { (log_of self.old).is_down ≡ false }
+        requires few { length updates.now ≤ 48 }
+        requires fit { AreTargets (log_of self.old).size (targets updates.now) }
+        ensures moments { D.keeps_word → AddsEither (log_of self.old).size updates.now (log_of self.old).base
+            (log_of self.old).history (log_of self.new).history }
+        ensures same { D.keeps_word → OnOk result
+            (AreSame (log_of self.old).size (applied updates.now (log_of self.old).base) (log_of self.new).base) }
+        ensures list { (log_of self.new).list ≡ (log_of self.old).list }
+        ensures size { (log_of self.new).size ≡ (log_of self.old).size }
+        ensures is_down { (log_of self.new).is_down ≡ is_err result }
+        ensures failures { FailsCounted (failures_of self.old) (failures_of self.new) result }
+    {
+        self.close_gate()?;
+        self.open_gate(updates)?;
+        self.close_gate()?;
+        Ok(())
+    }
+
+    /// Takes the whole list into the base, one transaction after the other.
+    ///
+    /// # Errors
+    ///
+    /// [`JournalFault::Fault`] where the device failed, and [`JournalFault::Down`] after such a call.
+    pub fn flush(&mut self) -> Result<(), JournalFault>
+        ensures moments { D.keeps_word → AddsFronts (log_of self.old) (log_of self.new) }
+        ensures ok { D.keeps_word → OnOk result (AreSame (log_of self.old).size (contents (log_of self.old)) (log_of self.new).base) }
+        ensures emptied { OnOk result ((log_of self.new).list ≡ []) }
+        ensures moved { D.keeps_word → (log_of self.new).is_down ≡ false
+            → Moved (log_of self.old).list (log_of self.old) (log_of self.new) }
+        ensures settled { D.keeps_word → (log_of self.new).is_down ≡ false → IsSettled (log_of self.new) }
+        ensures size { (log_of self.new).size ≡ (log_of self.old).size }
+        ensures answers { Answers (log_of self.old) (log_of self.new) (failures_of self.old) (failures_of self.new) result }
+        ensures refuses { IfErr result (λ fault. (fault ≡ JournalFault.Fault) ⊎ (fault ≡ JournalFault.Down)) }
+    {
+        if self.is_down {
+            return Err(JournalFault::Down);
+        }
+        while let Some(updates) = self.list.pop_front() {
+            self.commit(&updates)?;
+        }
+        Ok(())
+    }
+}
+
+/// Puts the updates' targets in place of what `named` held.
+fn name_targets(named: &mut Vec<u32>, updates: &[Update])
+    requires { length updates.now ≤ vec_capacity named.old }
+    ensures items { named.new.items ≡ targets updates.now }
+    ensures capacity { vec_capacity named.new ≡ vec_capacity named.old }
+{
+    named.clear();
+    for update in updates {
+        named.push_reserved(update.target);
+    }
+}
