@@ -125,3 +125,27 @@ settled_of size to h few fit gated image left =
         (λ (a : Among h.now.unsynced n (image n)).
           let Q : List Update → Type 0 = λ unsynced. Among unsynced n (image n) in absurd (subst Q gated.rests a))
         (left n)))
+
+-- the three steps of a commit, each with the size that it was called at
+module _ (size size1 size2 : ℕ) (us : List Update) (base base1 base2 : Image) (h h1 h2 : History) (same_size1 : size1 ≡ size) (same_size2 : size2 ≡ size1)
+    (first : AddsOnly (λ image. Settles size image base) h h1) (same1 : AreSame size base base1)
+    (next : AddsEither size1 us base1 h1 h2) where
+  pub opened_moments : AddsEither size us base h h2
+  opened_moments =
+      let P : ℕ → Type 0 = λ s. AddsEither s us base1 h1 h2 in
+      open_next size us base base1 h h1 h2 same1 (close_first size us base h h1 first) (subst P same_size1 next)
+
+  opened_same : AreSame size1 (applied us base1) base2 → AreSame size (applied us base) base2
+  opened_same e =
+      let P : ℕ → Type 0 = λ s. AreSame s (applied us base1) base2 in
+      same_join size (applied us base) (applied us base1) base2 (applied_keeps size us base base1 same1) (subst P same_size1 e)
+
+  pub closed_moments : (h3 : History) → AreSame size1 (applied us base1) base2 → AddsOnly (λ image. Settles size2 image base2) h2 h3 → AddsEither size us base h h3
+  closed_moments h3 e last =
+      let P : ℕ → Type 0 = λ s. AddsOnly (λ image. Settles s image base2) h2 h3 in
+      close_last size us base base2 h h2 h3 (opened_same e) opened_moments (subst P (same_size2 ∙ same_size1) last)
+
+  pub closed_same : (base3 : Image) → AreSame size1 (applied us base1) base2 → AreSame size2 base2 base3 → AreSame size (applied us base) base3
+  closed_same base3 e last =
+      let P : ℕ → Type 0 = λ s. AreSame s base2 base3 in
+      same_join size (applied us base) base2 base3 (opened_same e) (subst P (same_size2 ∙ same_size1) last)
