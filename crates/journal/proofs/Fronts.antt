@@ -1,5 +1,6 @@
 -- Fronts of a list of transactions, and what a flush adds one after the other.
-use Rattle.std.proofs.Common.{◌≡◌, ◌≤◌, ◌<◌, ◌⊎◌, ◌+◌, ℕ, suc, zero, Bool, true, false, List, [], ◌∷◌, ◌++◌, length, take, drop, get_or, map, refl, sym, ap, ◌∙◌, subst, inl, inr, ⊎_elim, arith, Result, Ok, Err, OnOk, IsErrOf, IsErrAnd, OnErr}
+use Rattle.std.proofs.Common.{◌≡◌, ◌≤◌, ◌<◌, ◌⊎◌, ◌+◌, ℕ, suc, zero, Bool, true, false, List, [], ◌∷◌, ◌++◌, length, take, drop, get_or, map, refl, sym, ap, ◌∙◌, subst, inl, inr, ⊎_elim, arith, Result, Ok, Err, OnOk, IsErrOf, IsErrAnd, OnErr, Vec}
+use Rattle.std.specs.declared.alloc.Global.{Global}
 use Rattle.std.proofs.lemmas.List.{take-append-drop, append-nil}
 use Rattle.std.proofs.lemmas.Bool.{cases_eq}
 use Rattle.disk.specs.declared.update.Update.{Update}
@@ -8,7 +9,8 @@ use Rattle.journal.specs.Layout.{AreTargets, gate, through, targets}
 use Rattle.journal.specs.Settled.{IsKept, AreSame, Settles}
 use Rattle.journal.specs.Phase.{IsGated}
 use Rattle.journal.specs.Commit.{AddsEither}
-use Rattle.journal.specs.Log.{applied_all, StandsForFront}
+use Rattle.journal.specs.Log.{Log, applied_all, contents, StandsForFront, AddsFronts, Moved}
+use Rattle.journal.specs.Transactions.{transactions}
 use Rattle.journal.proofs.Images.{put_same, put_other}
 use Rattle.journal.proofs.Moments.{AddsOnly-weaken, AddsOnly-join}
 use Rattle.journal.proofs.Stages.{gated_stage}
@@ -149,3 +151,48 @@ module _ (size size1 size2 : ℕ) (us : List Update) (base base1 base2 : Image) 
   closed_same base3 e last =
       let P : ℕ → Type 0 = λ s. AreSame s base2 base3 in
       same_join size (applied us base) base2 base3 (opened_same e) (subst P (same_size2 ∙ same_size1) last)
+
+-- one turn of a flush
+pub flush_moments : (old a : Log) (us : List Update) (rest : List (List Update)) (h2 : History) → a.size ≡ old.size → Moved old.list old a → a.list ≡ us ∷ rest
+    → AddsFronts old a → AddsEither a.size us a.base a.history h2 → AddsOnly (StandsForFront old.size old.base old.list) old.history h2
+flush_moments old a us rest h2 e moved split w v =
+    let P : ℕ → Type 0 = λ size. AddsEither size us a.base a.history h2 in
+    step_moments old.size old.base a.base old.list moved.count us rest moved.base (sym split ∙ moved.list)
+      old.history a.history h2 w (subst P e v)
+
+pub flush_moved : (old a b : Log) (us : List Update) (rest : List (List Update)) → a.size ≡ old.size → Moved old.list old a → a.list ≡ us ∷ rest
+    → AreSame a.size (applied us a.base) b.base → b.list ≡ rest → Moved old.list old b
+flush_moved old a b us rest e moved split same left =
+    let P : ℕ → Type 0 = λ size. AreSame size (applied us a.base) b.base in
+    let q = first_of_rest old.list moved.count us rest (sym split ∙ moved.list) in
+    record {
+      count = suc moved.count;
+      within = omega (arith, q.0);
+      base = step_same old.size old.base a.base old.list moved.count us rest moved.base (sym split ∙ moved.list) b.base (subst P e same);
+      list = left ∙ q.1;
+    }
+
+-- a flush that took all
+pub flushed_all : (old new : Log) → Moved old.list old new → new.list ≡ [] → AreSame old.size (contents old) new.base
+flushed_all old new moved e n k =
+    ap (λ (list : List (List Update)). applied_all list old.base n) (sym (all_moved old.list moved.count (sym e ∙ moved.list))) ∙ moved.base n k
+
+-- a flush that took nothing yet
+pub moved_none : (old new : Log) → AreSame old.size old.base new.base → new.list ≡ old.list → Moved old.list old new
+moved_none old new same e = record { count = 0; within = omega arith; base = same; list = e }
+
+-- the list without its first transaction
+pub popped : (list rest : List (Vec Update Global)) (first : Vec Update Global) (us : List Update) → list ≡ first ∷ rest → us ≡ first.items
+    → transactions list ≡ us ∷ transactions rest
+popped list rest first us e q =
+    ap (λ (xs : List (Vec Update Global)). transactions xs) e ∙ ap (λ (xs : List Update). xs ∷ transactions rest) (sym q)
+
+each_of_drop : (P : List Update → Type 0) (list : List (Vec Update Global)) → ((k : ℕ) → P (get_or (transactions list) k [])) → (k : ℕ) → P (get_or (transactions (drop 1 list)) k [])
+each_of_drop P [] f k = f k
+each_of_drop P (v ∷ list) f k = f (suc k)
+
+pub each_of_rest : (P : List Update → Type 0) (list rest : List (Vec Update Global)) → rest ≡ drop 1 list
+    → ((k : ℕ) → P (get_or (transactions list) k [])) → (k : ℕ) → P (get_or (transactions rest) k [])
+each_of_rest P list rest e f k =
+    let Q : List (Vec Update Global) → Type 0 = λ xs. P (get_or (transactions xs) k []) in
+    subst Q (sym e) (each_of_drop P list f k)
