@@ -5,7 +5,7 @@ use Rattle.disk.specs.Calls.{zero_sector}
 use Rattle.journal.specs.Layout.{gate, gate_words, words}
 use borrow.Rule.Slice.PartMut.{put_mid}
 
-take_past : (xs : List ℕ) (n : ℕ) → length xs ≤ n → take n xs ≡ xs
+pub take_past : (xs : List ℕ) (n : ℕ) → length xs ≤ n → take n xs ≡ xs
 take_past [] zero l = refl
 take_past [] (suc n) l = refl
 take_past (x ∷ xs) zero l = absurd (omega arith)

@@ -1,6 +1,7 @@
 pub mod Commits
 pub mod Fronts
 pub mod GateBytes
+pub mod GateWords
 pub mod Images
 pub mod Journals
 pub mod Moments

@@ -4,8 +4,9 @@
 --   sector 1            the gate
 --   sectors 2 to 97     the payload
 --   from sector 98 on   the caller's, written by transactions
-use Rattle.std.specs.Prelude.{◌≡◌, ◌≢◌, ◌≤◌, ◌<◌, ◌⊎◌, ◌==◌, ◌+◌, ◌*◌, ◌-◌, ℕ, List, [], ◌∷◌, ◌++◌, length, replicate, flat_map, All, AllPairs, if◌then◌else◌}
-use Rattle.byteorder.specs.Endian.{big_bytes}
+use Rattle.std.specs.Prelude.{◌≡◌, ◌≢◌, ◌≤◌, ◌<◌, ◌⊎◌, ◌==◌, ◌+◌, ◌*◌, ◌-◌, ℕ, List, [], ◌∷◌, ◌++◌, length, replicate, flat_map, map, drop, All, AllPairs, if◌then◌else◌}
+use Rattle.std.specs.List.{range_with_len}
+use Rattle.byteorder.specs.Endian.{big_bytes, big_number}
 use Rattle.disk.specs.declared.update.Update.{Update}
 use Rattle.disk.specs.Moments.{Image}
 use Rattle.disk.specs.Calls.{zero_sector}
@@ -53,3 +54,13 @@ placed place (update ∷ updates) = (record { target = place; content = update.c
 abbrev pub copies : Image → ℕ → List ℕ → List Update
 copies image place [] = []
 copies image place (target ∷ targets) = (record { target = target; content = image place }) ∷ copies image (place + 1) targets
+
+-- a gate sector names these targets
+pub record NamesTargets (size : ℕ) (sector : List ℕ) (to : List ℕ) : Type 0 where
+  pub few : length to ≤ 96
+  pub fit : AreTargets size to
+  pub gate_is : sector ≡ gate to
+
+-- the targets that a gate sector's words tell of: the second word's number of them, from the third on
+abbrev pub words_in : List ℕ → List ℕ
+words_in sector = map (λ i. big_number 4 (drop (8 + 4 * i) sector)) (range_with_len 0 (big_number 4 (drop 4 sector)))

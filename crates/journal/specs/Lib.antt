@@ -5,3 +5,4 @@ pub mod Commit
 pub mod Transactions
 pub mod Log
 pub mod Journal
+pub mod Recover

@@ -18,3 +18,7 @@ pub record Settles (size : ℕ) (image settled : Image) : Type 0 where
   pub fit : AreTargets size to
   pub gate_is : image 1 ≡ gate to
   pub same : AreSame size settled (through to image)
+
+-- an image settles to all that this one settles to
+abbrev pub SettlesAs : ℕ → Image → Image → Type 0
+SettlesAs size first image = (settled : Image) → Settles size first settled → Settles size image settled

@@ -7,6 +7,7 @@ mod gate;
 mod journal;
 mod layout;
 mod phase;
+mod recover;
 
 pub use journal::Journal;
 pub use fault::JournalFault;
