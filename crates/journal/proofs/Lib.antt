@@ -6,4 +6,5 @@ pub mod Images
 pub mod Journals
 pub mod Moments
 pub mod Phases
+pub mod Recovers
 pub mod Stages
