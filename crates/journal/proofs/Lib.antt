@@ -8,3 +8,4 @@ pub mod Moments
 pub mod Phases
 pub mod Recovers
 pub mod Stages
+pub mod Superblocks

@@ -32,3 +32,12 @@ impl From<DiskFault> for JournalFault {
         JournalFault::Fault
     }
 }
+
+/// A mount that was refused, with the device as it is now.
+#[derive(Drop)]
+pub struct MountFault<D> {
+    /// The device.
+    pub device: D,
+    /// Why it was refused: `Fault`, `Damaged` or `Memory`.
+    pub fault: JournalFault,
+}

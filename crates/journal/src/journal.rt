@@ -1,16 +1,19 @@
 //! The journal: a base, and a list of transactions that go into it through the gate.
 
-ghost use Rattle.std.specs.Prelude.{◌≡◌, ◌≤◌, ◌⊎◌, ℕ, [], length, get_or, false, is_err, vec_len, vec_capacity, OnOk, IfErr};
-ghost use Rattle.disk.specs.Moments.{seen, AddsOnly, applied};
+ghost use Rattle.std.specs.Prelude.{◌≡◌, ◌≤◌, ◌⊎◌, ℕ, [], length, get_or, false, is_err, vec_len, vec_capacity, OnOk, IfOk, IfErr, ◌∷◌};
+ghost use Rattle.disk.specs.Moments.{seen, put, AddsOnly, applied};
 ghost use Rattle.journal.specs.Layout.{AreTargets, gate, targets};
-ghost use Rattle.journal.specs.Settled.{AreSame, Settles};
+ghost use Rattle.journal.specs.Settled.{AreSame, Settles, SettlesAs};
+ghost use Rattle.journal.specs.Recover.{LeavesOnlySynced};
+ghost use Rattle.disk.specs.Cause.{IsCounted};
 ghost use Rattle.journal.specs.Phase.{FailsCounted};
 ghost use Rattle.journal.specs.Commit.{AddsEither};
 ghost use Rattle.journal.specs.Log.{AddsFronts, Answers, IsSettled, Moved, contents};
 ghost use Rattle.journal.specs.Transactions.{transactions};
 
-use crate::{commit, JournalFault};
-use disk::{Device, DiskFault, Update};
+use crate::layout::{PAYLOAD_SECTORS, SUPERBLOCK};
+use crate::{JournalFault, MountFault, commit, phase, recover};
+use disk::{Device, DiskFault, SECTOR, Update};
 use std::alloc::Global;
 use std::collections::VecDeque;
 
@@ -35,6 +38,82 @@ pub struct Journal<D: Device> {
 #[tactic(auto, unfolding(crate::specs::Journal::log_of, crate::specs::Journal::failures_of))]
 impl<D: Device> Journal<D> {
     ghost use Rattle.journal.specs.Journal.{log_of, failures_of};
+
+    /// Mounts the journal of a device: what an open gate shows is copied home first.
+    ///
+    /// # Errors
+    ///
+    /// The device comes back with the reason: `Damaged` where the gate has no form, and then nothing
+    /// was written; `Fault` where the device failed; `Memory`, and then it was not touched.
+    pub fn mount(alloc: Global, device: D) -> Result<Journal<D>, MountFault<D>>
+        requires { 256 ≤ D.size device }
+        ensures moments { D.keeps_word → IfOk result (λ journal.
+            AddsOnly (SettlesAs (D.size device) (seen (D.history device).now)) (D.history device) (log_of journal).history) }
+        ensures base { D.keeps_word → IfOk result (λ journal. Settles (D.size device) (seen (D.history device).now) (log_of journal).base) }
+        ensures settled { D.keeps_word → IfOk result (λ journal. IsSettled (log_of journal)) }
+        ensures list { IfOk result (λ journal. (log_of journal).list ≡ []) }
+        ensures is_down { IfOk result (λ journal. (log_of journal).is_down ≡ false) }
+        ensures size { IfOk result (λ journal. (log_of journal).size ≡ D.size device) }
+        ensures failures { IfOk result (λ journal. D.failed device ≤ failures_of journal) }
+
+        ensures refused { D.keeps_word → IfErr result (λ refused.
+            AddsOnly (SettlesAs (D.size device) (seen (D.history device).now)) (D.history device) (D.history refused.device)) }
+        ensures damaged { D.keeps_word → IfErr result (λ refused. refused.fault ≡ JournalFault.Damaged
+            → LeavesOnlySynced (D.size device) (D.history device) (D.history refused.device)) }
+        ensures memory { IfErr result (λ refused. refused.fault ≡ JournalFault.Memory → refused.device ≡ device) }
+        ensures counted { IfErr result (λ refused. refused.fault ≡ JournalFault.Fault
+            → IsCounted (D.failed device) (D.failed refused.device)) }
+        ensures reasons { IfErr result (λ refused. (refused.fault ≡ JournalFault.Fault)
+            ⊎ ((refused.fault ≡ JournalFault.Damaged) ⊎ (refused.fault ≡ JournalFault.Memory))) }
+    {
+        let mut device = device;
+        let mut gate_targets = match Vec::with_capacity(alloc, PAYLOAD_SECTORS) {
+            Ok(targets) => targets,
+            Err(_) => {
+                return Err(MountFault {
+                    device,
+                    fault: JournalFault::Memory,
+                });
+            }
+        };
+        match recover::recover(&mut device, &mut gate_targets) {
+            Ok(()) => Ok(Journal {
+                alloc,
+                device,
+                gate_targets,
+                list: VecDeque::new(alloc),
+                is_down: false,
+            }),
+            Err(fault) => Err(MountFault { device, fault }),
+        }
+    }
+
+    /// Writes sector 0 by itself, and syncs. A stop leaves the old one or the new one.
+    ///
+    /// # Errors
+    ///
+    /// [`JournalFault::Fault`] where the device failed, and [`JournalFault::Down`] after such a call.
+    pub fn superblock(&mut self, content: &[u8; SECTOR]) -> Result<(), JournalFault>
+        ensures moments { D.keeps_word → AddsEither (log_of self.old).size ((record { target = 0; content = content.now }) ∷ [])
+            (log_of self.old).base (log_of self.old).history (log_of self.new).history }
+        ensures ok { D.keeps_word → OnOk result (AreSame (log_of self.old).size
+            (put (log_of self.old).base (record { target = 0; content = content.now })) (log_of self.new).base) }
+        ensures list { (log_of self.new).list ≡ (log_of self.old).list }
+        ensures settled { D.keeps_word → OnOk result (IsSettled (log_of self.new)) }
+        ensures size { (log_of self.new).size ≡ (log_of self.old).size }
+        ensures answers { Answers (log_of self.old) (log_of self.new) (failures_of self.old) (failures_of self.new) result }
+        ensures refuses { IfErr result (λ fault. (fault ≡ JournalFault.Fault) ⊎ (fault ≡ JournalFault.Down)) }
+    {
+        if self.is_down {
+            return Err(JournalFault::Down);
+        }
+        self.is_down = true;
+        if phase::write_sector(&mut self.device, SUPERBLOCK, content).is_err() {
+            return Err(JournalFault::Fault);
+        }
+        self.is_down = false;
+        Ok(())
+    }
 
     /// Copies the payload home and closes the gate, if it is open.
     fn close_gate(&mut self) -> Result<(), DiskFault>

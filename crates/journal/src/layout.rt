@@ -1,5 +1,8 @@
 //! Where the journal stands on a device.
 
+/// The sector that the caller writes by itself.
+pub(crate) const SUPERBLOCK: u32 = 0;
+
 /// The sector of the gate.
 pub(crate) const GATE: u32 = 1;
 

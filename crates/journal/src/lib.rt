@@ -10,4 +10,4 @@ mod phase;
 mod recover;
 
 pub use journal::Journal;
-pub use fault::JournalFault;
+pub use fault::{JournalFault, MountFault};
