@@ -4,6 +4,7 @@ pub mod GateBytes
 pub mod GateWords
 pub mod Images
 pub mod Journals
+pub mod Lists
 pub mod Moments
 pub mod Phases
 pub mod Recovers

@@ -2,9 +2,9 @@
 
 ghost use Rattle.std.specs.Prelude.{◌≡◌, ◌≤◌, ◌<◌, ◌*◌, ◌↔◌, ℕ, List, [], ◌++◌, length, drop, false, IsTrue, vec_capacity};
 ghost use Rattle.byteorder.specs.Endian.{big_number};
-ghost use Rattle.journal.specs.Layout.{AreTargets, NamesTargets, gate, words, gate_words, words_in};
+ghost use Rattle.journal.specs.Layout.{AreTargets, NamesTargets, gate, home, words, gate_words, words_in};
 
-use crate::layout::{FIRST_TARGET, PAYLOAD_SECTORS};
+use crate::layout::{FIRST_TARGET, PAYLOAD, PAYLOAD_SECTORS};
 use byteorder::{BigEndian, ByteOrder};
 use disk::SECTOR;
 
@@ -84,4 +84,17 @@ fn are_targets(to: &[u32], sectors: u32) -> bool
         }
     }
     true
+}
+
+/// Where sector `n` stands while the gate is open for these targets.
+pub(crate) fn place_of(to: &[u32], n: u32) -> u32
+    requires { length to.now ≤ 96 }
+    ensures { result ≡ home to.now 2 n }
+{
+    for (i, target) in to.iter().enumerate() {
+        if *target == n {
+            return PAYLOAD + i as u32;
+        }
+    }
+    n
 }

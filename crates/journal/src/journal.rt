@@ -1,6 +1,6 @@
 //! The journal: a base, and a list of transactions that go into it through the gate.
 
-ghost use Rattle.std.specs.Prelude.{◌≡◌, ◌≤◌, ◌⊎◌, ℕ, [], length, get_or, false, is_err, vec_len, vec_capacity, OnOk, IfOk, IfErr, ◌∷◌};
+ghost use Rattle.std.specs.Prelude.{◌≡◌, ◌≤◌, ◌<◌, ◌⊎◌, ℕ, [], length, get_or, false, is_err, vec_len, vec_capacity, OnOk, IfOk, IfErr, ◌∷◌};
 ghost use Rattle.disk.specs.Moments.{seen, put, AddsOnly, applied};
 ghost use Rattle.journal.specs.Layout.{AreTargets, gate, targets};
 ghost use Rattle.journal.specs.Settled.{AreSame, Settles, SettlesAs};
@@ -12,7 +12,7 @@ ghost use Rattle.journal.specs.Log.{AddsFronts, Answers, IsSettled, Moved, conte
 ghost use Rattle.journal.specs.Transactions.{transactions};
 
 use crate::layout::{PAYLOAD_SECTORS, SUPERBLOCK};
-use crate::{JournalFault, MountFault, commit, phase, recover};
+use crate::{JournalFault, MountFault, commit, gate, list, phase, recover};
 use disk::{Device, DiskFault, SECTOR, Update};
 use std::alloc::Global;
 use std::collections::VecDeque;
@@ -86,6 +86,34 @@ impl<D: Device> Journal<D> {
             }),
             Err(fault) => Err(MountFault { device, fault }),
         }
+    }
+
+    /// The newest content of sector `n`, whether it went into the base yet or not. What is read of
+    /// the journal's own sectors, 1 to 97, says nothing.
+    ///
+    /// # Errors
+    ///
+    /// [`JournalFault::Fault`] where the device failed, and [`JournalFault::Down`] after such a call.
+    pub fn read(&mut self, n: u32) -> Result<[u8; SECTOR], JournalFault>
+        requires { n < (log_of self.old).size }
+        ensures content { D.keeps_word → IfOk result (λ content. content ≡ contents (log_of self.old) n) }
+        ensures log { log_of self.new ≡ record (log_of self.old) { is_down = (log_of self.new).is_down } }
+        ensures answers { Answers (log_of self.old) (log_of self.new) (failures_of self.old) (failures_of self.new) result }
+        ensures refuses { IfErr result (λ fault. (fault ≡ JournalFault.Fault) ⊎ (fault ≡ JournalFault.Down)) }
+    {
+        if self.is_down {
+            return Err(JournalFault::Down);
+        }
+        if let Some(content) = list::newest(&self.list, n) {
+            return Ok(content);
+        }
+        let mut content = [0; SECTOR];
+        let place = gate::place_of(&self.gate_targets, n);
+        if self.device.read(place, &mut content).is_err() {
+            self.is_down = true;
+            return Err(JournalFault::Fault);
+        }
+        Ok(content)
     }
 
     /// Writes sector 0 by itself, and syncs. A stop leaves the old one or the new one.

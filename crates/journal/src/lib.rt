@@ -6,6 +6,7 @@ mod fault;
 mod gate;
 mod journal;
 mod layout;
+mod list;
 mod phase;
 mod recover;
 
