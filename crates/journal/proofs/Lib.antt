@@ -1,3 +1,4 @@
+pub mod Answerings
 pub mod Commits
 pub mod Fronts
 pub mod GateBytes
