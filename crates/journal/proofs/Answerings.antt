@@ -80,3 +80,15 @@ moved_push old mid new us m base list = record {
     ∙ ap (λ f. f n) (sym base);
   list = list ∙ ap (λ (xs : List (List Update)). xs ++ us ∷ []) m.list ∙ sym (drop_front old.list us m.count m.within);
 }
+
+-- each of a list is as before, where the list is
+pub each_same : (P : List Update → Type 0) (list next : List (Vec Update Global)) → next ≡ list → ((k : ℕ) → P (get_or (transactions list) k []))
+    → (k : ℕ) → P (get_or (transactions next) k [])
+each_same P list next e f k =
+    let Q : List (Vec Update Global) → Type 0 = λ xs. P (get_or (transactions xs) k []) in subst Q (sym e) (f k)
+
+pub each_pushed : (P : List Update → Type 0) (list next : List (Vec Update Global)) (v : Vec Update Global) (us : List Update) → next ≡ list ++ v ∷ [] → v.items ≡ us
+    → P [] → P us → ((k : ℕ) → P (get_or (transactions list) k [])) → (k : ℕ) → P (get_or (transactions next) k [])
+each_pushed P list next v us e q none one f =
+    let R : List Update → Type 0 = λ xs. P xs in
+    each_same P (list ++ v ∷ []) next e (each_push P list v none (subst R (sym q) one) f)

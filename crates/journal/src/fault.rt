@@ -1,6 +1,7 @@
 ghost use Rattle.std.specs.Prelude.{◌≡◌};
 
 use disk::DiskFault;
+use std::alloc::AllocError;
 use thiserror::Error;
 
 /// Why the journal did not do what it was asked.
@@ -30,6 +31,16 @@ impl From<DiskFault> for JournalFault {
 
     fn from(_: DiskFault) -> JournalFault {
         JournalFault::Fault
+    }
+}
+
+impl From<AllocError> for JournalFault {
+    ghost use Rattle.journal.specs.declared.fault.JournalFault.TheVariants.{Memory};
+
+    ghost from_gives = { λ _ fault. fault ≡ Memory };
+
+    fn from(_: AllocError) -> JournalFault {
+        JournalFault::Memory
     }
 }
 

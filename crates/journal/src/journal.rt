@@ -1,6 +1,6 @@
 //! The journal: a base, and a list of transactions that go into it through the gate.
 
-ghost use Rattle.std.specs.Prelude.{◌≡◌, ◌≤◌, ◌<◌, ◌⊎◌, ℕ, [], length, get_or, false, is_err, vec_len, vec_capacity, OnOk, IfOk, IfErr, ◌∷◌};
+ghost use Rattle.std.specs.Prelude.{◌≡◌, ◌≤◌, ◌<◌, ◌⊎◌, ℕ, [], length, get_or, false, is_err, vec_len, vec_capacity, OnOk, IfOk, IfErr, IsErrOf, ◌∷◌, ◌++◌};
 ghost use Rattle.disk.specs.Moments.{seen, put, AddsOnly, applied};
 ghost use Rattle.journal.specs.Layout.{AreTargets, gate, targets};
 ghost use Rattle.journal.specs.Settled.{AreSame, Settles, SettlesAs};
@@ -9,9 +9,10 @@ ghost use Rattle.disk.specs.Cause.{IsCounted};
 ghost use Rattle.journal.specs.Phase.{FailsCounted};
 ghost use Rattle.journal.specs.Commit.{AddsEither};
 ghost use Rattle.journal.specs.Log.{AddsFronts, Answers, IsSettled, Moved, contents};
-ghost use Rattle.journal.specs.Transactions.{transactions};
+ghost use Rattle.journal.specs.Transactions.{transactions, FitTogether};
+ghost use Rattle.std.specs.VecDeque.{deque_len, deque_capacity};
 
-use crate::layout::{PAYLOAD_SECTORS, SUPERBLOCK};
+use crate::layout::{MAX_UPDATES, PAYLOAD_SECTORS, SUPERBLOCK};
 use crate::{JournalFault, MountFault, commit, gate, list, phase, recover};
 use disk::{Device, DiskFault, SECTOR, Update};
 use std::alloc::Global;
@@ -151,6 +152,7 @@ impl<D: Device> Journal<D> {
         ensures same { D.keeps_word → OnOk result (AreSame (log_of self.old).size (log_of self.old).base (log_of self.new).base) }
         ensures closed { OnOk result (self.new.gate_targets.items ≡ []) }
         ensures list { (log_of self.new).list ≡ (log_of self.old).list }
+        ensures same_list { self.new.list ≡ self.old.list }
         ensures size { (log_of self.new).size ≡ (log_of self.old).size }
         ensures is_down { (log_of self.new).is_down ≡ is_err result }
         ensures failures { FailsCounted (failures_of self.old) (failures_of self.new) result }
@@ -177,6 +179,7 @@ impl<D: Device> Journal<D> {
         ensures same { D.keeps_word → OnOk result
             (AreSame (log_of self.old).size (applied updates.now (log_of self.old).base) (log_of self.new).base) }
         ensures list { (log_of self.new).list ≡ (log_of self.old).list }
+        ensures same_list { self.new.list ≡ self.old.list }
         ensures size { (log_of self.new).size ≡ (log_of self.old).size }
         ensures is_down { (log_of self.new).is_down ≡ is_err result }
         ensures failures { FailsCounted (failures_of self.old) (failures_of self.new) result }
@@ -200,6 +203,7 @@ impl<D: Device> Journal<D> {
         ensures same { D.keeps_word → OnOk result
             (AreSame (log_of self.old).size (applied updates.now (log_of self.old).base) (log_of self.new).base) }
         ensures list { (log_of self.new).list ≡ (log_of self.old).list }
+        ensures same_list { self.new.list ≡ self.old.list }
         ensures size { (log_of self.new).size ≡ (log_of self.old).size }
         ensures is_down { (log_of self.new).is_down ≡ is_err result }
         ensures failures { FailsCounted (failures_of self.old) (failures_of self.new) result }
@@ -211,6 +215,83 @@ impl<D: Device> Journal<D> {
     }
 
     /// Takes the whole list into the base, one transaction after the other.
+    fn take_all(&mut self) -> Result<(), DiskFault>
+        requires { (log_of self.old).is_down ≡ false }
+        ensures moments { D.keeps_word → AddsFronts (log_of self.old) (log_of self.new) }
+        ensures moved { D.keeps_word → OnOk result (Moved (log_of self.old).list (log_of self.old) (log_of self.new)) }
+        ensures emptied { OnOk result ((log_of self.new).list ≡ []) }
+        ensures size { (log_of self.new).size ≡ (log_of self.old).size }
+        ensures capacity { deque_capacity self.new.list ≡ deque_capacity self.old.list }
+        ensures is_down { (log_of self.new).is_down ≡ is_err result }
+        ensures failures { FailsCounted (failures_of self.old) (failures_of self.new) result }
+    {
+        while let Some(updates) = self.list.pop_front() {
+            self.commit(&updates)?;
+        }
+        Ok(())
+    }
+
+    /// Takes the list into the base if the updates would not fit the payload beside it.
+    fn make_room(&mut self, updates: &[Update], seen: &mut Vec<u32>) -> Result<(), DiskFault>
+        requires up { (log_of self.old).is_down ≡ false }
+        requires space { 96 ≤ vec_capacity seen.old }
+        requires place { deque_len self.old.list < deque_capacity self.old.list }
+        ensures moments { D.keeps_word → AddsFronts (log_of self.old) (log_of self.new) }
+        ensures moved { D.keeps_word → OnOk result (Moved (log_of self.old).list (log_of self.old) (log_of self.new)) }
+        ensures kept { OnOk result (FitTogether ((log_of self.old).list ++ updates.now ∷ []) → log_of self.new ≡ log_of self.old) }
+        ensures emptied { OnOk result ((FitTogether ((log_of self.old).list ++ updates.now ∷ []) → ⊥) → (log_of self.new).list ≡ []) }
+        ensures size { (log_of self.new).size ≡ (log_of self.old).size }
+        ensures room { OnOk result (deque_len self.new.list < deque_capacity self.new.list) }
+        ensures is_down { (log_of self.new).is_down ≡ is_err result }
+        ensures failures { FailsCounted (failures_of self.old) (failures_of self.new) result }
+    {
+        if !list::fits(&self.list, updates, seen) {
+            self.take_all()?;
+        }
+        Ok(())
+    }
+
+    /// Puts a transaction at the list's end: all of its updates, or after a stop none. Where the list
+    /// and it together have more than 96 different sectors, the list is flushed first.
+    ///
+    /// # Errors
+    ///
+    /// [`JournalFault::TooMany`] above 48 updates, and [`JournalFault::Memory`]: nothing changed.
+    /// [`JournalFault::Fault`] where the device failed, and [`JournalFault::Down`] after such a call.
+    pub fn apply(&mut self, updates: &[Update]) -> Result<(), JournalFault>
+        requires { AreTargets (log_of self.old).size (targets updates.now) }
+        ensures moments { D.keeps_word → AddsFronts (log_of self.old) (log_of self.new) }
+        ensures moved { D.keeps_word → OnOk result (Moved ((log_of self.old).list ++ updates.now ∷ []) (log_of self.old) (log_of self.new)) }
+        ensures kept { OnOk result (FitTogether ((log_of self.old).list ++ updates.now ∷ [])
+            → log_of self.new ≡ record (log_of self.old) { list = (log_of self.old).list ++ updates.now ∷ [] }) }
+        ensures flushed { OnOk result ((FitTogether ((log_of self.old).list ++ updates.now ∷ []) → ⊥)
+            → (log_of self.new).list ≡ updates.now ∷ []) }
+        ensures settled { D.keeps_word → (log_of self.new).is_down ≡ false → IsSettled (log_of self.new) }
+        ensures size { (log_of self.new).size ≡ (log_of self.old).size }
+        ensures few { OnOk result (length updates.now ≤ 48) }
+        ensures too_many { IsErrOf result JournalFault.TooMany → 48 < length updates.now }
+        ensures unchanged { IfErr result (λ fault. ((fault ≡ JournalFault.TooMany) ⊎ (fault ≡ JournalFault.Memory))
+            → log_of self.new ≡ log_of self.old) }
+        ensures answers { Answers (log_of self.old) (log_of self.new) (failures_of self.old) (failures_of self.new) result }
+        ensures not_damaged { IsErrOf result JournalFault.Damaged → ⊥ }
+    {
+        if self.is_down {
+            return Err(JournalFault::Down);
+        }
+        if updates.len() > MAX_UPDATES {
+            return Err(JournalFault::TooMany);
+        }
+        let copy = list::copied(self.alloc, updates)?;
+        let mut seen = Vec::with_capacity(self.alloc, PAYLOAD_SECTORS)?;
+        if self.list.reserve(1).is_err() {
+            return Err(JournalFault::Memory);
+        }
+        self.make_room(updates, &mut seen)?;
+        self.list.push_back_reserved(copy);
+        Ok(())
+    }
+
+    /// Takes the whole list into the base, one transaction after the other: no stop loses it.
     ///
     /// # Errors
     ///
@@ -229,9 +310,7 @@ impl<D: Device> Journal<D> {
         if self.is_down {
             return Err(JournalFault::Down);
         }
-        while let Some(updates) = self.list.pop_front() {
-            self.commit(&updates)?;
-        }
+        self.take_all()?;
         Ok(())
     }
 }

@@ -1,11 +1,14 @@
-use Rattle.std.proofs.Common.{◌≡◌, ◌≤◌, ◌<◌, ℕ, List, [], ◌∷◌, length, get_or, ap, sym, ◌∙◌, subst, arith}
+use Rattle.std.proofs.Common.{◌≡◌, ◌≤◌, ◌<◌, ℕ, List, [], ◌∷◌, length, get_or, ap, sym, ◌∙◌, subst, arith, Vec}
+use Rattle.std.specs.declared.alloc.Global.{Global}
+use Rattle.std.specs.VecDeque.{deque_capacity}
+use Rattle.std.specs.declared.collections.VecDeque.{VecDeque}
 use Rattle.disk.specs.declared.update.Update.{Update}
 use Rattle.journal.specs.Layout.{AreTargets, targets}
 use Rattle.journal.specs.Transactions.{transactions}
 use Rattle.journal.specs.Log.{Log, AddsFronts}
 use Rattle.journal.specs.Journal.{log_of, failures_of}
 use Rattle.journal.proofs.Fronts.{each_of_rest, popped, flush_moments, flush_moved}
-use Rattle.journal.proofs.journal.Journal.flush.Goals as goal
+use Rattle.journal.proofs.journal.Journal.take_all.Goals as goal
 
 pub invariant_of-self-clause-short : goal.invariant_of-self-clause-short
 invariant_of-self-clause-short g c =
@@ -41,6 +44,7 @@ unfolding log_of failures_of
 loop-updates-preserved g c =
     let e = popped c.loop-updates.self.list.items c.pop_front.new.self.items c.in-Some.updates c.deref.result.now c.in-Some.ensures.items c.deref.ensures.value in
     record {
+      capacity = ap (λ (list : VecDeque (Vec Update Global) Global). deque_capacity list) c.in_ok-commit.ensures.same_list ∙ c.in-Some.ensures.capacity ∙ c.loop-updates.invariant.capacity;
       up = c.in_ok-commit.ensures.is_down;
       size = c.in_ok-commit.ensures.size ∙ c.loop-updates.invariant.size;
       later = omega (arith, c.in_ok-commit.ensures.failures.later);
