@@ -1,5 +1,6 @@
 pub mod Answerings
 pub mod Commits
+pub mod Formats
 pub mod Fronts
 pub mod GateBytes
 pub mod GateWords

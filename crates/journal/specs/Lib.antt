@@ -6,3 +6,4 @@ pub mod Transactions
 pub mod Log
 pub mod Journal
 pub mod Recover
+pub mod Format

@@ -9,10 +9,11 @@ ghost use Rattle.disk.specs.Cause.{IsCounted};
 ghost use Rattle.journal.specs.Phase.{FailsCounted};
 ghost use Rattle.journal.specs.Commit.{AddsEither};
 ghost use Rattle.journal.specs.Log.{AddsFronts, Answers, IsSettled, Moved, contents};
+ghost use Rattle.journal.specs.Format.{AddsFormats, IsFormatted};
 ghost use Rattle.journal.specs.Transactions.{transactions, FitTogether};
 ghost use Rattle.std.specs.VecDeque.{deque_len, deque_capacity};
 
-use crate::layout::{MAX_UPDATES, PAYLOAD_SECTORS, SUPERBLOCK};
+use crate::layout::{self, MAX_UPDATES, PAYLOAD_SECTORS, SUPERBLOCK};
 use crate::{JournalFault, MountFault, commit, gate, list, phase, recover};
 use disk::{Device, DiskFault, SECTOR, Update};
 use std::alloc::Global;
@@ -39,6 +40,28 @@ pub struct Journal<D: Device> {
 #[tactic(auto, unfolding(crate::specs::Journal::log_of, crate::specs::Journal::failures_of))]
 impl<D: Device> Journal<D> {
     ghost use Rattle.journal.specs.Journal.{log_of, failures_of};
+
+    /// Formats a device: zeros, with this sector 0 and these updates. Until sector 0 is written, last
+    /// of all, a stop leaves what was there before or a sector 0 of zeros.
+    ///
+    /// # Errors
+    ///
+    /// [`JournalFault::Fault`] where the device failed.
+    pub fn format(device: &mut D, sector0: &[u8; SECTOR], updates: &[Update]) -> Result<(), JournalFault>
+        requires large { 256 ≤ D.size device.old }
+        requires fit { AreTargets (D.size device.old) (targets updates.now) }
+        ensures moments { D.keeps_word
+            → AddsFormats (D.size device.old) sector0.now updates.now (D.history device.old) (D.history device.new) }
+        ensures ok { D.keeps_word → OnOk result (IsFormatted (D.size device.old) sector0.now updates.now (D.history device.new)) }
+        ensures size { D.size device.new ≡ D.size device.old }
+        ensures failures { FailsCounted (D.failed device.old) (D.failed device.new) result }
+        ensures refuses { IfErr result (λ fault. fault ≡ JournalFault.Fault) }
+    {
+        phase::write_sector(device, SUPERBLOCK, &layout::zeros())?;
+        phase::write_fresh(device, updates)?;
+        phase::write_sector(device, SUPERBLOCK, sector0)?;
+        Ok(())
+    }
 
     /// Mounts the journal of a device: what an open gate shows is copied home first.
     ///

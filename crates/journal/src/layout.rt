@@ -1,5 +1,10 @@
 //! Where the journal stands on a device.
 
+ghost use Rattle.std.specs.Prelude.{◌≡◌};
+ghost use Rattle.disk.specs.Calls.{zero_sector};
+
+use disk::SECTOR;
+
 /// The sector that the caller writes by itself.
 pub(crate) const SUPERBLOCK: u32 = 0;
 
@@ -17,3 +22,11 @@ pub(crate) const FIRST_TARGET: u32 = 98;
 
 /// The most sectors of one transaction.
 pub(crate) const MAX_UPDATES: usize = 48;
+
+/// A sector of zeros.
+#[tactic(auto, unfolding(disk::specs::Calls::zero_sector))]
+pub(crate) fn zeros() -> [u8; SECTOR]
+    ensures { result ≡ zero_sector }
+{
+    [0; SECTOR]
+}

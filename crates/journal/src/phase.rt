@@ -3,9 +3,11 @@
 ghost use Rattle.std.specs.Prelude.{OnOk, ◌≡◌, ◌≤◌, ◌<◌, ◌+◌, [], ◌∷◌, length};
 ghost use Rattle.disk.specs.Moments.{seen};
 ghost use Rattle.journal.specs.Layout.{AreTargets, placed, copies};
+ghost use Rattle.journal.specs.Format.{fresh};
 ghost use Rattle.journal.specs.Phase.{AddsUpdates, IsFixedAs, FailsCounted};
 
-use crate::layout::PAYLOAD;
+use crate::layout::{self, PAYLOAD};
+use crate::list;
 use disk::{Device, DiskFault, SECTOR, Update};
 
 /// Writes the updates' contents to the payload, one after the other.
@@ -56,6 +58,24 @@ pub(crate) fn write_sector<D: Device>(device: &mut D, n: u32, content: &[u8; SEC
     ensures failures { FailsCounted (D.failed device.old) (D.failed device.new) result }
 {
     device.write(n, content)?;
+    device.sync()?;
+    Ok(())
+}
+
+/// Writes every sector but sector 0: what the updates say, and zeros elsewhere.
+pub(crate) fn write_fresh<D: Device>(device: &mut D, updates: &[Update]) -> Result<(), DiskFault>
+    requires { 256 ≤ D.size device.old }
+    ensures moments { D.keeps_word
+        → AddsUpdates (fresh (D.size device.old) updates.now) (D.history device.old) (D.history device.new) }
+    ensures ok { D.keeps_word → OnOk result
+        (IsFixedAs (fresh (D.size device.old) updates.now) (D.history device.old) (D.history device.new)) }
+    ensures size { D.size device.new ≡ D.size device.old }
+    ensures failures { FailsCounted (D.failed device.old) (D.failed device.new) result }
+{
+    for n in 1..device.sectors() {
+        let content = list::newer(updates, n, None).unwrap_or(layout::zeros());
+        device.write(n, &content)?;
+    }
     device.sync()?;
     Ok(())
 }
