@@ -157,3 +157,10 @@ pub erased_fixed : (bytes : List ℕ) (h h1 : History) → bytes ≡ zero_sector
     → (let u : Update = record { target = 0; content = bytes } in IsFixedAs (u ∷ []) h h1) → IsFixedAs (zero_update ∷ []) h h1
 erased_fixed bytes h h1 e w =
     let P : List ℕ → Type 0 = λ b. let u : Update = record { target = 0; content = b } in IsFixedAs (u ∷ []) h h1 in subst P e w
+
+-- the device's size stays
+pub fresh_moments_at : (old new : ℕ) (updates : List Update) (h h1 : History) → new ≡ old → AddsUpdates (fresh new updates) h h1 → AddsUpdates (fresh old updates) h h1
+fresh_moments_at old new updates h h1 e w = let P : ℕ → Type 0 = λ size. AddsUpdates (fresh size updates) h h1 in subst P e w
+
+pub fresh_fixed_at : (old new : ℕ) (updates : List Update) (h h1 : History) → new ≡ old → IsFixedAs (fresh new updates) h h1 → IsFixedAs (fresh old updates) h h1
+fresh_fixed_at old new updates h h1 e w = let P : ℕ → Type 0 = λ size. IsFixedAs (fresh size updates) h h1 in subst P e w
