@@ -1,1 +1,4 @@
 pub mod RecordLemmas
+pub mod CallLemmas
+pub mod LandingLemmas
+pub mod TrialLemmas

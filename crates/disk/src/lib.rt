@@ -5,14 +5,26 @@
 //! write and every sync makes a new moment, and a crash stops at one of them.
 #![tactic(auto)]
 
+mod borrowed;
 mod call;
+mod crash;
 mod device;
 mod fault;
+mod file;
+mod landing;
 mod memory;
+mod trial;
 mod update;
 
 pub use call::Call;
+pub use crash::{CrashDevice, Stop};
 pub use device::Device;
 pub use fault::DiskFault;
+pub use file::FileDevice;
+pub use landing::{Landed, Unsynced};
 pub use memory::MemDevice;
+pub use trial::{ALL_COMBINATIONS, landings};
 pub use update::{SECTOR, Update};
+
+#[cfg(test)]
+mod tests;

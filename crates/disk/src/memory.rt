@@ -1,10 +1,11 @@
 //! A device in memory, which keeps its word and a record of all its calls.
 
-ghost use Rattle.std.specs.Prelude.{◌≡◌, ◌+◌, ◌-◌, ◌^◌, ◌<◌, ◌≤◌, ◌++◌, ℕ, List, [], ◌∷◌, length, vec_len, replicate, min, IfOk, OnErr};
-ghost use Rattle.disk.specs.Moments.{seen, at_rest, written_to};
-ghost use Rattle.disk.specs.Cause.{IsCounted};
-ghost use Rattle.disk.specs.Calls.{image_of, zero_sector, history_of_calls};
+ghost use Rattle.std.specs.Prelude.{◌≡◌, ◌+◌, ◌-◌, ◌^◌, ◌<◌, ◌≤◌, ◌++◌, ◌↔◌, ℕ, List, [], ◌∷◌, length, vec_len, replicate, reverse, min, IfOk, OnOk, OnErr, IsErrOf, IsOk};
+ghost use Rattle.disk.specs.Moments.{seen, wrote, at_rest, written_to};
+ghost use Rattle.disk.specs.Cause.{IsCounted, HasCause};
+ghost use Rattle.disk.specs.Calls.{image_of, zero_sector, written_by, history_of_calls};
 
+use crate::call::{replay, synced_count};
 use crate::{Call, Device, DiskFault, SECTOR, Update};
 use std::alloc::Global;
 
@@ -19,8 +20,11 @@ pub struct MemDevice {
     calls: Vec<Call>,
     failures: u64,
     ghost few: { vec_len sectors < 2 ^ 32 },
-    ghost told: { (n : ℕ) → image_of sectors.items n ≡ seen (history_of_calls first.items calls.items).now n },
-    ghost within: { (n : ℕ) → vec_len sectors ≤ n → written_to n (history_of_calls first.items calls.items).now.unsynced ≡ [] },
+    ghost same_size: { vec_len first ≡ vec_len sectors },
+    ghost told: { (n : ℕ) → image_of sectors.items n
+        ≡ seen (history_of_calls first.items calls.items).now n },
+    ghost within: { (n : ℕ) → vec_len sectors ≤ n
+        → written_to n (history_of_calls first.items calls.items).now.unsynced ≡ [] },
 }
 
 impl MemDevice {
@@ -29,7 +33,8 @@ impl MemDevice {
     /// A device of zeros, just made: all that it holds is fixed. Refuses only for want of memory.
     pub fn new(alloc: Global, sectors: u32) -> Result<MemDevice, DiskFault>
         ensures size { IfOk result (λ device. size_of device ≡ sectors) }
-        ensures history { IfOk result (λ device. history_of device ≡ at_rest (image_of (replicate sectors zero_sector))) }
+        ensures history { IfOk result (λ device. history_of device
+            ≡ at_rest (image_of (replicate sectors zero_sector))) }
         ensures calls { IfOk result (λ device. calls_of device ≡ []) }
         ensures failures { IfOk result (λ device. failures_of device ≡ 0) }
         ensures memory { OnErr result (result ≡ Err DiskFault.Memory) }
@@ -42,7 +47,8 @@ impl MemDevice {
     pub fn with_sectors(alloc: Global, sectors: Vec<[u8; SECTOR]>) -> Result<MemDevice, DiskFault>
         requires { vec_len sectors < 2 ^ 32 }
         ensures size { IfOk result (λ device. size_of device ≡ vec_len sectors) }
-        ensures history { IfOk result (λ device. history_of device ≡ at_rest (image_of sectors.items)) }
+        ensures history { IfOk result (λ device. history_of device
+            ≡ at_rest (image_of sectors.items)) }
         ensures calls { IfOk result (λ device. calls_of device ≡ []) }
         ensures failures { IfOk result (λ device. failures_of device ≡ 0) }
         ensures memory { OnErr result (result ≡ Err DiskFault.Memory) }
@@ -61,6 +67,29 @@ impl MemDevice {
         ensures { result.now ≡ calls_of self.now }
     {
         &self.calls
+    }
+
+    /// What is fixed, sector 0 first.
+    pub(crate) fn fixed_sectors(&self, alloc: Global) -> Result<Vec<[u8; SECTOR]>, DiskFault>
+        ensures size { IfOk result (λ rows. vec_len rows ≡ size_of self.now) }
+        ensures few { size_of self.now < 2 ^ 32 }
+        ensures fixed { IfOk result (λ rows. (n : ℕ) → image_of rows.items n
+            ≡ (history_of self.now).now.fixed n) }
+        ensures memory { OnErr result (result ≡ Err DiskFault.Memory) }
+    {
+        let mut rows = copied(alloc, &self.first)?;
+        replay(&mut rows, &self.calls[..synced_count(&self.calls)]);
+        Ok(rows)
+    }
+
+    /// The calls since the last sync.
+    pub(crate) fn since_sync(&self) -> &[Call]
+        ensures unsynced { (n : ℕ) → reverse (written_to n (history_of self.now).now.unsynced)
+            ≡ written_by n result.now }
+        ensures within { (n : ℕ) → size_of self.now ≤ n
+            → written_to n (history_of self.now).now.unsynced ≡ [] }
+    {
+        &self.calls[synced_count(&self.calls)..]
     }
 
     /// Counts a failure; the count stays at `u64::MAX`.
@@ -94,7 +123,16 @@ impl Device for MemDevice {
         self.failures
     }
 
-    fn read(&mut self, n: u32, content: &mut [u8; SECTOR]) -> Result<(), DiskFault> {
+    /// Every sector that is there is read.
+    fn read(&mut self, n: u32, content: &mut [u8; SECTOR]) -> Result<(), DiskFault>
+        ensures ok { OnOk result (content.new ≡ seen (history_of self.old).now n) }
+        ensures range { IsErrOf result DiskFault.Range ↔ (size_of self.old ≤ n) }
+        ensures untouched { IsErrOf result DiskFault.Range → content.new ≡ content.old }
+        ensures history { history_of self.new ≡ history_of self.old }
+        ensures size { size_of self.new ≡ size_of self.old }
+        ensures cause { HasCause (failures_of self.old) (failures_of self.new) result }
+        ensures answered { n < size_of self.old → IsOk result }
+    {
         let place = n as usize;
         if place >= self.sectors.len() {
             return Err(DiskFault::Range);
@@ -103,7 +141,15 @@ impl Device for MemDevice {
         Ok(())
     }
 
-    fn write(&mut self, n: u32, content: &[u8; SECTOR]) -> Result<(), DiskFault> {
+    /// A write that failed, for want of memory for its record, did not land.
+    fn write(&mut self, n: u32, content: &[u8; SECTOR]) -> Result<(), DiskFault>
+        ensures ok { OnOk result (history_of self.new
+            ≡ wrote (record { target = n; content = content.now }) (history_of self.old)) }
+        ensures err { OnErr result (history_of self.new ≡ history_of self.old) }
+        ensures range { IsErrOf result DiskFault.Range ↔ (size_of self.old ≤ n) }
+        ensures size { size_of self.new ≡ size_of self.old }
+        ensures cause { HasCause (failures_of self.old) (failures_of self.new) result }
+    {
         let place = n as usize;
         if place >= self.sectors.len() {
             return Err(DiskFault::Range);

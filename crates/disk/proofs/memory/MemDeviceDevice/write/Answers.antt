@@ -13,9 +13,9 @@ invariant_of-self-2 c =
     let inside : c.args.n < length self.sectors.items = omega (arith, self.sectors.ok) in
     let told = recorded_write_is_told (vec_len self.sectors) self.sectors.items self.first.items self.calls.items _ c.args.n c.args.content.now inside below
     (pushed _ _ _ _ _ c.push.ensures.items c.is_err.ensures.negation c.if-is_err.false) (record { told = self.told; within = self.within }) in
-    record { few = self.few; told = told.told; within = told.within }
+    record { few = self.few; same_size = self.same_size; told = told.told; within = told.within }
 
 pub returns-clause-ok : goal.returns-clause-ok
-returns-clause-ok c _ =
+returns-clause-ok c =
     recorded _ _ _ (Write (record { target = c.args.n; content = c.args.content.now }))
     (pushed _ _ _ _ _ c.push.ensures.items c.is_err.ensures.negation c.if-is_err.false)
