@@ -5,6 +5,7 @@ pub mod Fronts
 pub mod GateBytes
 pub mod GateWords
 pub mod Images
+pub mod Joins
 pub mod Journals
 pub mod Lists
 pub mod Moments

@@ -31,9 +31,10 @@ pub(crate) fn recover<D: Device>(device: &mut D, named: &mut Vec<u32>) -> Result
     if !gate::decode(&sector, sectors, named) {
         return Err(JournalFault::Damaged);
     }
-    if !named.is_empty() {
-        commit::copy_home(device, named)?;
-        named.clear();
+    if named.is_empty() {
+        return Ok(());
     }
+    commit::copy_home(device, named)?;
+    named.clear();
     Ok(())
 }

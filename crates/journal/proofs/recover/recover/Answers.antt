@@ -32,8 +32,8 @@ returns-in_err-copy_home-clause-moments g c = λ k.
         (gated_after (g.D.Device.history c.args.device.now) (g.D.Device.history c.sync.new.self) (g.D.Device.history c.read.new.self)
           c.read.new.content c.decode.new.named.items c.in_ok-read.ensures.history (c.in_ok-sync.ensures.ok k) (c.in_ok-read.ensures.ok k) found.gate_is))
 
-pub returns-in_ok-copy_home-clause-moments : goal.returns-in_ok-copy_home-clause-moments
-returns-in_ok-copy_home-clause-moments g c = λ k.
+pub returns-clause-moments : goal.returns-clause-moments
+returns-clause-moments g c = λ k.
     let s0 : ℕ = g.D.Device.size c.args.device.now in
     let same_size : g.D.Device.size c.read.new.self ≡ s0 = c.in_ok-read.ensures.size ∙ c.in_ok-sync.ensures.size in
     let sectors : s0 ≡ c.sectors-sectors.result = sym (c.sectors-sectors.ensures ∙ c.in_ok-sync.ensures.size) in
