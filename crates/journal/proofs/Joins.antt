@@ -1,10 +1,10 @@
 -- For the layer above: calls one after the other, and every map that a stop leaves since a call's start.
 use Rattle.std.proofs.Common.{◌≡◌, ◌≤◌, ◌<◌, ◌⊎◌, ◌+◌, ◌-◌, ℕ, suc, zero, List, [], ◌∷◌, ◌++◌, length, take, drop, refl, sym, ap, ◌∙◌, subst, inl, inr, ⊎_elim, arith}
-use Rattle.std.proofs.lemmas.List.{length-drop, length-append, take-append-le}
+use Rattle.std.proofs.lemmas.List.{length-drop, length-append, take-append-le, take-append-drop}
 use Rattle.disk.specs.declared.update.Update.{Update}
 use Rattle.disk.specs.Moments.{Image, Moment, History, AddsOnly, Left, LeftWithin, LeftSince, moment, applied}
 use Rattle.journal.specs.Settled.{AreSame, Settles}
-use Rattle.journal.specs.Log.{Log, applied_all, StandsForFront, AddsFronts, IsSettled, Moved}
+use Rattle.journal.specs.Log.{Log, applied_all, contents, StandsForFront, AddsFronts, IsSettled, Moved}
 use Rattle.journal.proofs.Moments.{AddsOnly-weaken, AddsOnly-join}
 use Rattle.journal.proofs.Fronts.{applied_keeps, same_back, settles_same}
 
@@ -75,3 +75,22 @@ calls_join all old mid new e moved first next =
     AddsOnly-join (StandsForFront old.size old.base all) old.history mid.history new.history first
     (AddsOnly-weaken (StandsForFront mid.size mid.base mid.list) (StandsForFront old.size old.base all) mid.history new.history
       (λ image front. fronts_from all old mid image e moved front) next)
+
+applied_all-append : (a b : List (List Update)) (base : Image) → applied_all (a ++ b) base ≡ applied_all b (applied_all a base)
+applied_all-append [] b base = refl
+applied_all-append (us ∷ a) b base = applied_all-append a b (applied us base)
+
+-- what reads give after a call that moved the list's first transactions into the base
+pub moved_contents : (all : List (List Update)) (old mid : Log) → Moved all old mid → AreSame old.size (applied_all all old.base) (contents mid)
+moved_contents all old mid moved n k =
+    ap (λ (xs : List (List Update)). applied_all xs old.base n) (sym (take-append-drop moved.count all))
+    ∙ ap (λ (f : Image). f n) (applied_all-append (take moved.count all) (drop moved.count all) old.base)
+    ∙ all_keeps old.size (drop moved.count all) (applied_all (take moved.count all) old.base) mid.base moved.base n k
+    ∙ ap (λ (xs : List (List Update)). applied_all xs mid.base n) (sym moved.list)
+
+-- moments with fronts of a list are moments with fronts of a longer one
+pub fronts_of_longer : (old new : Log) (more : List (List Update)) → AddsFronts old new
+    → AddsOnly (StandsForFront old.size old.base (old.list ++ more)) old.history new.history
+fronts_of_longer old new more adds =
+    AddsOnly-weaken (StandsForFront old.size old.base old.list) (StandsForFront old.size old.base (old.list ++ more)) old.history new.history
+    (λ image front. fronts_longer old.size old.base old.list more image front) adds
