@@ -77,7 +77,7 @@ moved_push old mid new us m base list = record {
   count = m.count;
   within = omega (arith, m.within, length_push old.list us);
   base = λ n k. ap (λ (xs : List (List Update)). applied_all xs old.base n) (take_front old.list us m.count m.within) ∙ m.base n k
-    ∙ ap (λ f. f n) (sym base);
+      ∙ ap (λ f. f n) (sym base);
   list = list ∙ ap (λ (xs : List (List Update)). xs ++ us ∷ []) m.list ∙ sym (drop_front old.list us m.count m.within);
 }
 

@@ -32,7 +32,7 @@ module _ (size : ℕ) (us : List Update) (h : History) (few : length us ≤ 96) 
   gate_moments h1 h2 w f v =
       AddsOnly-join (λ image. Settles size image (seen h.now) ⊎ Settles size image (applied us (seen h.now))) h h1 h2 (payload_moments h1 w)
       (AddsOnly-weaken (LeftWith (gate_update (targets us) ∷ []) h1.now) (λ image. Settles size image (seen h.now) ⊎ Settles size image (applied us (seen h.now))) h1 h2
-        (λ image l. gate_stage size us (seen h.now) few fit image gated.gate_is (between_after (placed 2 us) (gate_update (targets us) ∷ []) h h1 image f l)) v)
+      (λ image l. gate_stage size us (seen h.now) few fit image gated.gate_is (between_after (placed 2 us) (gate_update (targets us) ∷ []) h h1 image f l)) v)
 
   pub recorded : (h1 h2 : History) → IsFixedAs (placed 2 us) h h1 → IsFixedAs (gate_update (targets us) ∷ []) h1 h2 → IsRecorded size us h h2
   recorded h1 h2 f q =
@@ -43,8 +43,8 @@ module _ (size : ℕ) (us : List Update) (h : History) (few : length us ≤ 96) 
           gate_is = ap (λ (image : Image). image 1) last ∙ put_same (seen h1.now) (gate_update (targets us)) 1 refl;
         };
         same = through_payload size us (seen h.now) few fit (seen h2.now) (λ n ne.
-          ap (λ (image : Image). image n) last ∙ put_other (seen h1.now) (gate_update (targets us)) n ne
-          ∙ ap (λ (image : Image). image n) (seen_fixed (placed 2 us) h h1 f));
+            ap (λ (image : Image). image n) last ∙ put_other (seen h1.now) (gate_update (targets us)) n ne
+            ∙ ap (λ (image : Image). image n) (seen_fixed (placed 2 us) h h1 f));
       }
 
 module _ (size : ℕ) (to : List ℕ) (h : History) (few : length to ≤ 96) (fit : AreTargets size to) (gated : IsGated to h) where
@@ -58,7 +58,7 @@ module _ (size : ℕ) (to : List ℕ) (h : History) (few : length to ≤ 96) (fi
   closing_moments h1 h2 w f v =
       AddsOnly-join (λ image. Settles size image (through to (seen h.now))) h h1 h2 (homes_moments h1 w)
       (AddsOnly-weaken (LeftWith (gate_update [] ∷ []) h1.now) (λ image. Settles size image (through to (seen h.now))) h1 h2
-        (λ image l. closing_stage size to (seen h.now) few fit gated.gate_is image (between_after (copies (seen h.now) 2 to) (gate_update [] ∷ []) h h1 image f l)) v)
+      (λ image l. closing_stage size to (seen h.now) few fit gated.gate_is image (between_after (copies (seen h.now) 2 to) (gate_update [] ∷ []) h h1 image f l)) v)
 
   pub copied_home : (h1 h2 : History) → IsFixedAs (copies (seen h.now) 2 to) h h1 → IsFixedAs (gate_update [] ∷ []) h1 h2 → IsCopiedHome size to h h2
   copied_home h1 h2 f q =
@@ -69,9 +69,9 @@ module _ (size : ℕ) (to : List ℕ) (h : History) (few : length to ≤ 96) (fi
           gate_is = ap (λ (image : Image). image 1) last ∙ put_same (seen h1.now) (gate_update []) 1 refl;
         };
         same = λ n k. sym (
-          ap (λ (image : Image). image n) last ∙ put_other (seen h1.now) (gate_update []) n (λ e. kept_not_1 size n k (sym e))
-          ∙ ap (λ (image : Image). image n) (seen_fixed (copies (seen h.now) 2 to) h h1 f)
-          ∙ homes_done size to (seen h.now) few fit gated.gate_is n);
+            ap (λ (image : Image). image n) last ∙ put_other (seen h1.now) (gate_update []) n (λ e. kept_not_1 size n k (sym e))
+            ∙ ap (λ (image : Image). image n) (seen_fixed (copies (seen h.now) 2 to) h h1 f)
+            ∙ homes_done size to (seen h.now) few fit gated.gate_is n);
       }
 
 -- the gate's phase, where the bytes written are a gate's

@@ -33,9 +33,9 @@ range_applied : (f : ℕ → Update) (a k n : ℕ) (F : Image) → ((m : ℕ) �
 range_applied f a zero n F t l h = absurd (omega arith)
 range_applied f a (suc k) n F t l h = ⊎_elim
     (λ (e : a ≡ n). applied_out (map f (range_with_len (a + 1) k)) (put F (f a)) n (range_out f (a + 1) k n t (omega arith))
-      ∙ put_same F (f a) n (t a ∙ e) ∙ ap (λ (m : ℕ). (f m).content) e)
+    ∙ put_same F (f a) n (t a ∙ e) ∙ ap (λ (m : ℕ). (f m).content) e)
     (λ (e : a ≡ n → ⊥). range_applied f (a + 1) k n (put F (f a)) t
-      (⊎_elim (λ (q : a ≡ n). absurd (e q)) (λ (q : a ≡ n → ⊥). omega arith) (cases_eq a n)) (omega arith))
+    (⊎_elim (λ (q : a ≡ n). absurd (e q)) (λ (q : a ≡ n → ⊥). omega arith) (cases_eq a n)) (omega arith))
     (cases_eq a n)
 
 -- updates change a sector by its content alone
@@ -58,11 +58,11 @@ settles_formatted size sector0 updates image large fit e rest =
       fit = no_targets size;
       gate_is = rest 1 (omega arith) (omega arith) ∙ applied_out updates (λ _. zero_sector) 1 (low_out size (targets updates) 1 (Fit-of size (targets updates) fit) (omega arith));
       same = λ n k. ⊎_elim
-        (λ (q : n ≡ 0). applied_out updates base n (low_out size (targets updates) n (Fit-of size (targets updates) fit) (omega arith))
+          (λ (q : n ≡ 0). applied_out updates base n (low_out size (targets updates) n (Fit-of size (targets updates) fit) (omega arith))
           ∙ if_same n 0 sector0 zero_sector q ∙ sym e ∙ ap image (sym q))
-        (λ (q : n ≡ 0 → ⊥). applied_at updates base (λ _. zero_sector) n (if_other n 0 sector0 zero_sector q)
+          (λ (q : n ≡ 0 → ⊥). applied_at updates base (λ _. zero_sector) n (if_other n 0 sector0 zero_sector q)
           ∙ sym (rest n (⊎_elim (λ (z : n ≡ 0). absurd (q z)) (λ (z : 98 ≤ n). omega arith) k.0) k.1))
-        (cases_eq n 0);
+          (cases_eq n 0);
     }
 
 abbrev pub zero_update : Update
@@ -73,27 +73,27 @@ module _ (size : ℕ) (sector0 : List ℕ) (updates : List Update) (h : History)
   erased_moments h1 w = record {
     later = w.later;
     added = λ t image l left. ⊎_elim
-      (λ (q : LeftSince h t image). inl q)
-      (λ (q : LeftWith (zero_update ∷ []) h.now image). ⊎_elim
+        (λ (q : LeftSince h t image). inl q)
+        (λ (q : LeftWith (zero_update ∷ []) h.now image). ⊎_elim
         (λ (m : MayHold h.now 0 (image 0)). inl (inl (λ n. ⊎_elim
-          (λ (r : MayHold h.now n (image n)). r)
-          (λ (r : ((0 ≡ n) × (zero_sector ≡ image n)) ⊎ ⊥). ⊎_elim
-            (λ (s : (0 ≡ n) × (zero_sector ≡ image n)). let P : ℕ → Type 0 = λ k. MayHold h.now k (image k) in subst P s.0 m)
-            (λ (s : ⊥). absurd s) r)
-          (q n))))
+        (λ (r : MayHold h.now n (image n)). r)
+        (λ (r : ((0 ≡ n) × (zero_sector ≡ image n)) ⊎ ⊥). ⊎_elim
+        (λ (s : (0 ≡ n) × (zero_sector ≡ image n)). let P : ℕ → Type 0 = λ k. MayHold h.now k (image k) in subst P s.0 m)
+        (λ (s : ⊥). absurd s) r)
+        (q n))))
         (λ (m : ((0 ≡ 0) × (zero_sector ≡ image 0)) ⊎ ⊥). ⊎_elim
-          (λ (s : (0 ≡ 0) × (zero_sector ≡ image 0)). inr (inl (sym s.1))) (λ (s : ⊥). absurd s) m)
+        (λ (s : (0 ≡ 0) × (zero_sector ≡ image 0)). inr (inl (sym s.1))) (λ (s : ⊥). absurd s) m)
         (q 0))
-      (w.added t image l left);
+        (w.added t image l left);
   }
 
   fresh_moments : (h1 h2 : History) → IsFixedAs (zero_update ∷ []) h h1 → AddsUpdates (fresh size updates) h1 h2 → AddsFormats size sector0 updates h1 h2
   fresh_moments h1 h2 f w =
       AddsOnly-weaken (LeftWith (fresh size updates) h1.now) (λ image. (image 0 ≡ zero_sector) ⊎ Settles size image (formatted sector0 updates)) h1 h2
       (λ image l. inl (between_out (put (seen h.now) zero_update) (fresh size updates) image 0
-        (between_after (zero_update ∷ []) (fresh size updates) h h1 image f l)
-        (range_out (fresh_at updates) 1 (size - 1) 0 (λ m. refl) (omega arith))
-        ∙ put_same (seen h.now) zero_update 0 refl)) w
+      (between_after (zero_update ∷ []) (fresh size updates) h h1 image f l)
+      (range_out (fresh_at updates) 1 (size - 1) 0 (λ m. refl) (omega arith))
+      ∙ put_same (seen h.now) zero_update 0 refl)) w
 
   fresh_seen : (h1 h2 : History) → IsFixedAs (fresh size updates) h1 h2 → (n : ℕ) → 1 ≤ n → n < size → seen h2.now n ≡ applied updates (λ _. zero_sector) n
   fresh_seen h1 h2 f n l u =
@@ -113,12 +113,12 @@ module _ (size : ℕ) (sector0 : List ℕ) (updates : List Update) (h : History)
       let u : Update = record { target = 0; content = sector0 } in
       AddsOnly-weaken (LeftWith (u ∷ []) h2.now) (λ image. (image 0 ≡ zero_sector) ⊎ Settles size image (formatted sector0 updates)) h2 h3
       (λ image l.
-        let one = between_one (seen h2.now) u image (between_of (u ∷ []) h2.now image f.unsynced l) in
-        ⊎_elim
-        (λ (q : image 0 ≡ seen h2.now 0). inl (q ∙ fresh_zero h1 h2 e f))
-        (λ (q : image 0 ≡ sector0). inr (settles_formatted size sector0 updates image large fit q
-          (λ n l u. one.1 n (λ z. omega arith) ∙ fresh_seen h1 h2 f n l u)))
-        one.0) w
+      let one = between_one (seen h2.now) u image (between_of (u ∷ []) h2.now image f.unsynced l) in
+      ⊎_elim
+      (λ (q : image 0 ≡ seen h2.now 0). inl (q ∙ fresh_zero h1 h2 e f))
+      (λ (q : image 0 ≡ sector0). inr (settles_formatted size sector0 updates image large fit q
+      (λ n l u. one.1 n (λ z. omega arith) ∙ fresh_seen h1 h2 f n l u)))
+      one.0) w
 
   pub format_erased : (h1 : History) → AddsUpdates (zero_update ∷ []) h h1 → AddsFormats size sector0 updates h h1
   format_erased h1 w = erased_moments h1 w
@@ -140,12 +140,12 @@ module _ (size : ℕ) (sector0 : List ℕ) (updates : List Update) (h : History)
   format_done h1 h2 h3 f x image left =
       let u : Update = record { target = 0; content = sector0 } in
       let same : (n : ℕ) → image n ≡ put (seen h2.now) u n = λ n. ⊎_elim
-        (λ (q : image n ≡ h3.now.fixed n). q ∙ ap (λ (k : Image). k n) x.fixed)
-        (λ (q : Among h3.now.unsynced n (image n)).
-          let Q : List Update → Type 0 = λ unsynced. Among unsynced n (image n) in absurd (subst Q x.unsynced q))
-        (left n) in
+      (λ (q : image n ≡ h3.now.fixed n). q ∙ ap (λ (k : Image). k n) x.fixed)
+      (λ (q : Among h3.now.unsynced n (image n)).
+      let Q : List Update → Type 0 = λ unsynced. Among unsynced n (image n) in absurd (subst Q x.unsynced q))
+      (left n) in
       settles_formatted size sector0 updates image large fit (same 0 ∙ put_same (seen h2.now) u 0 refl)
-        (λ n l b. same n ∙ put_other (seen h2.now) u n (λ z. omega arith) ∙ fresh_seen h1 h2 f n l b)
+      (λ n l b. same n ∙ put_other (seen h2.now) u n (λ z. omega arith) ∙ fresh_seen h1 h2 f n l b)
 
 -- sector 0's zeros, as they are written
 pub erased_at : (bytes : List ℕ) (h h1 : History) → bytes ≡ zero_sector

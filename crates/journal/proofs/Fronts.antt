@@ -50,17 +50,17 @@ pub open_next : (size : ℕ) (us : List Update) (base base1 : Image) (h h1 h2 : 
 open_next size us base base1 h h1 h2 e w v =
     AddsOnly-join (λ image. Settles size image base ⊎ Settles size image (applied us base)) h h1 h2 w
     (AddsOnly-weaken (λ image. Settles size image base1 ⊎ Settles size image (applied us base1)) (λ image. Settles size image base ⊎ Settles size image (applied us base)) h1 h2
-      (λ image s. ⊎_elim
-        (λ (q : Settles size image base1). inl (settles_same size image base1 base (same_back size base base1 e) q))
-        (λ (q : Settles size image (applied us base1)).
-          inr (settles_same size image (applied us base1) (applied us base) (applied_keeps size us base1 base (same_back size base base1 e)) q)) s) v)
+    (λ image s. ⊎_elim
+    (λ (q : Settles size image base1). inl (settles_same size image base1 base (same_back size base base1 e) q))
+    (λ (q : Settles size image (applied us base1)).
+    inr (settles_same size image (applied us base1) (applied us base) (applied_keeps size us base1 base (same_back size base base1 e)) q)) s) v)
 
 pub close_last : (size : ℕ) (us : List Update) (base base2 : Image) (h h2 h3 : History) → AreSame size (applied us base) base2
     → AddsEither size us base h h2 → AddsOnly (λ image. Settles size image base2) h2 h3 → AddsEither size us base h h3
 close_last size us base base2 h h2 h3 e w v =
     AddsOnly-join (λ image. Settles size image base ⊎ Settles size image (applied us base)) h h2 h3 w
     (AddsOnly-weaken (λ image. Settles size image base2) (λ image. Settles size image base ⊎ Settles size image (applied us base)) h2 h3
-      (λ image s. inr (settles_same size image base2 (applied us base) (same_back size (applied us base) base2 e) s)) v)
+    (λ image s. inr (settles_same size image base2 (applied us base) (same_back size (applied us base) base2 e) s)) v)
 
 pub applied_all-push : (list : List (List Update)) (us : List Update) (base : Image) → applied_all (list ++ us ∷ []) base ≡ applied us (applied_all list base)
 applied_all-push [] us base = refl
@@ -89,20 +89,20 @@ module _ (size : ℕ) (base0 base1 : Image) (all : List (List Update)) (count : 
       let q = first_of_rest all count us rest split in
       AddsOnly-join (StandsForFront size base0 all) h0 h1 h2 w
       (AddsOnly-weaken (λ image. Settles size image base1 ⊎ Settles size image (applied us base1)) (StandsForFront size base0 all) h1 h2
-        (λ image s. ⊎_elim
-          (λ (r : Settles size image base1). record {
-            count = count;
-            within = omega (arith, q.0);
-            settles = settles_same size image base1 (applied_all (take count all) base0) (same_back size (applied_all (take count all) base0) base1 same) r;
-          })
-          (λ (r : Settles size image (applied us base1)). record {
-            count = suc count;
-            within = omega (arith, q.0);
-            settles = settles_same size image (applied us base1) (applied_all (take (suc count) all) base0)
-              (λ n k. sym (applied_keeps size us (applied_all (take count all) base0) base1 same n k)
-                ∙ ap (λ (image : Image). image n) (sym (applied_all-push (take count all) us base0))
-                ∙ ap (λ (list : List (List Update)). applied_all list base0 n) (sym q.2)) r;
-          }) s) v)
+      (λ image s. ⊎_elim
+      (λ (r : Settles size image base1). record {
+        count = count;
+        within = omega (arith, q.0);
+        settles = settles_same size image base1 (applied_all (take count all) base0) (same_back size (applied_all (take count all) base0) base1 same) r;
+      })
+      (λ (r : Settles size image (applied us base1)). record {
+        count = suc count;
+        within = omega (arith, q.0);
+        settles = settles_same size image (applied us base1) (applied_all (take (suc count) all) base0)
+            (λ n k. sym (applied_keeps size us (applied_all (take count all) base0) base1 same n k)
+            ∙ ap (λ (image : Image). image n) (sym (applied_all-push (take count all) us base0))
+            ∙ ap (λ (list : List (List Update)). applied_all list base0 n) (sym q.2)) r;
+      }) s) v)
 
   pub step_same : (base2 : Image) → AreSame size (applied us base1) base2 → AreSame size (applied_all (take (suc count) all) base0) base2
   step_same base2 e n k =
@@ -121,12 +121,12 @@ pub settled_of : (size : ℕ) (to : List ℕ) (h : History) → length to ≤ 96
     → (image : Image) → Left h.now image → Settles size image (through to (seen h.now))
 settled_of size to h few fit gated image left =
     gated_stage size to (seen h.now) few fit gated.gate_is image (λ n.
-      let P : List Update → Type 0 = λ unsynced. image n ≡ newest unsynced h.now.fixed n in
-      subst P (sym gated.rests) (⊎_elim
-        (λ (e : image n ≡ h.now.fixed n). e)
-        (λ (a : Among h.now.unsynced n (image n)).
-          let Q : List Update → Type 0 = λ unsynced. Among unsynced n (image n) in absurd (subst Q gated.rests a))
-        (left n)))
+    let P : List Update → Type 0 = λ unsynced. image n ≡ newest unsynced h.now.fixed n in
+    subst P (sym gated.rests) (⊎_elim
+    (λ (e : image n ≡ h.now.fixed n). e)
+    (λ (a : Among h.now.unsynced n (image n)).
+    let Q : List Update → Type 0 = λ unsynced. Among unsynced n (image n) in absurd (subst Q gated.rests a))
+    (left n)))
 
 -- the three steps of a commit, each with the size that it was called at
 module _ (size size1 size2 : ℕ) (us : List Update) (base base1 base2 : Image) (h h1 h2 : History) (same_size1 : size1 ≡ size) (same_size2 : size2 ≡ size1)
@@ -158,7 +158,7 @@ pub flush_moments : (old a : Log) (us : List Update) (rest : List (List Update))
 flush_moments old a us rest h2 e moved split w v =
     let P : ℕ → Type 0 = λ size. AddsEither size us a.base a.history h2 in
     step_moments old.size old.base a.base old.list moved.count us rest moved.base (sym split ∙ moved.list)
-      old.history a.history h2 w (subst P e v)
+    old.history a.history h2 w (subst P e v)
 
 pub flush_moved : (old a b : Log) (us : List Update) (rest : List (List Update)) → a.size ≡ old.size → Moved old.list old a → a.list ≡ us ∷ rest
     → AreSame a.size (applied us a.base) b.base → b.list ≡ rest → Moved old.list old b

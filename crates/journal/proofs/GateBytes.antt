@@ -22,7 +22,7 @@ pub words_written : (a0 a1 a2 a3 b0 b1 b2 b3 : ℕ) (s s1 w2 d all : List ℕ) (
     → w2 ≡ b0 ∷ b1 ∷ b2 ∷ b3 ∷ drop 4 (take (length s1 - 4) (drop 4 s1))
     → d ≡ all
     → put_mid 8 (8 + 4 * n - 8) (put_mid 4 (length s1 - 4) s1 w2) d
-      ≡ a0 ∷ a1 ∷ a2 ∷ a3 ∷ b0 ∷ b1 ∷ b2 ∷ b3 ∷ (all ++ drop (4 * suc (suc n)) s)
+    ≡ a0 ∷ a1 ∷ a2 ∷ a3 ∷ b0 ∷ b1 ∷ b2 ∷ b3 ∷ (all ++ drop (4 * suc (suc n)) s)
 words_written a0 a1 a2 a3 b0 b1 b2 b3 s s1 w2 d all n long e1 e2 e3 =
     let rest : List ℕ = drop 4 s in
     let l1 : length rest ≤ length s1 - 4 = omega (arith, ap length e1) in
@@ -31,13 +31,13 @@ words_written a0 a1 a2 a3 b0 b1 b2 b3 s s1 w2 d all n long e1 e2 e3 =
     let w : w2 ≡ b0 ∷ b1 ∷ b2 ∷ b3 ∷ drop 4 rest = e2 ∙ ap (λ (xs : List ℕ). b0 ∷ b1 ∷ b2 ∷ b3 ∷ drop 4 xs) t1 in
     let past : drop (length s1 - 4) (drop 4 s1) ≡ [] = ap (λ (xs : List ℕ). drop (length s1 - 4) xs) d1 ∙ drop_past rest (length s1 - 4) l1 in
     let both : put_mid 4 (length s1 - 4) s1 w2 ≡ a0 ∷ a1 ∷ a2 ∷ a3 ∷ b0 ∷ b1 ∷ b2 ∷ b3 ∷ drop 4 rest =
-      ap (λ (xs : List ℕ). take 4 s1 ++ (w2 ++ xs)) past
-      ∙ ap (λ (xs : List ℕ). take 4 s1 ++ xs) (append-nil w2 ∙ w)
-      ∙ ap (λ (xs : List ℕ). take 4 xs ++ (b0 ∷ b1 ∷ b2 ∷ b3 ∷ drop 4 rest)) e1 in
+    ap (λ (xs : List ℕ). take 4 s1 ++ (w2 ++ xs)) past
+    ∙ ap (λ (xs : List ℕ). take 4 s1 ++ xs) (append-nil w2 ∙ w)
+    ∙ ap (λ (xs : List ℕ). take 4 xs ++ (b0 ∷ b1 ∷ b2 ∷ b3 ∷ drop 4 rest)) e1 in
     let eight : drop 4 rest ≡ drop 8 s = drop-drop 4 4 s in
     ap (λ (xs : List ℕ). put_mid 8 (8 + 4 * n - 8) xs d) (both ∙ ap (λ (xs : List ℕ). a0 ∷ a1 ∷ a2 ∷ a3 ∷ b0 ∷ b1 ∷ b2 ∷ b3 ∷ xs) eight)
     ∙ ap (λ (xs : List ℕ). a0 ∷ a1 ∷ a2 ∷ a3 ∷ b0 ∷ b1 ∷ b2 ∷ b3 ∷ (d ++ xs))
-      (drop-drop (8 + 4 * n - 8) 8 s ∙ ap (λ (k : ℕ). drop k s) (omega arith))
+    (drop-drop (8 + 4 * n - 8) 8 s ∙ ap (λ (k : ℕ). drop k s) (omega arith))
     ∙ ap (λ (xs : List ℕ). a0 ∷ a1 ∷ a2 ∷ a3 ∷ b0 ∷ b1 ∷ b2 ∷ b3 ∷ (xs ++ drop (4 * suc (suc n)) s)) e3
 
 -- an open gate's words, written over zeros

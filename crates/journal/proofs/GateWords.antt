@@ -112,7 +112,7 @@ pub words_in_gate : (to : List ℕ) → length to ≤ 96 → ((k : ℕ) → k < 
 words_in_gate to few fits =
     let f : ℕ → ℕ = λ i. big_number 4 (drop (8 + 4 * i) (gate to)) in
     ap (λ (n : ℕ). map f (range_with_len 0 n)) (count_in to few) ∙ map_range f to 0 (λ i l.
-      ap (λ (n : ℕ). big_number 4 (drop n (gate to))) (let q : 8 + 4 * (0 + i) ≡ 4 * suc (suc i) = omega arith in q) ∙ target_in to i l (fits i l))
+    ap (λ (n : ℕ). big_number 4 (drop n (gate to))) (let q : 8 + 4 * (0 + i) ≡ 4 * suc (suc i) = omega arith in q) ∙ target_in to i l (fits i l))
 
 -- below the device's end, which is below 2^32
 pub words_fit : (size : ℕ) (to : List ℕ) → size < 2 ^ 32 → AreTargets size to → (k : ℕ) → k < length to → get_or to k 0 < 2 ^ 32

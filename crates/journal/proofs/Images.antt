@@ -48,12 +48,12 @@ pub home_cases : (to : List ℕ) (place n : ℕ)
 home_cases [] place n = inl (tt, refl)
 home_cases (t ∷ ts) place n = ⊎_elim
     (λ (e : n ≡ t). inr (
-      let h = home_same t ts place n e in (omega (arith, h), omega (arith, h))))
+    let h = home_same t ts place n e in (omega (arith, h), omega (arith, h))))
     (λ (e : n ≡ t → ⊥).
-      let h = home_other t ts place n e in ⊎_elim
-      (λ (w : Out ts n × (home ts (place + 1) n ≡ n)). inl (((λ q. e (sym q)), w.0), h ∙ w.1))
-      (λ (w : (place + 1 ≤ home ts (place + 1) n) × (home ts (place + 1) n < place + 1 + length ts)). inr (omega (arith, h), omega (arith, h)))
-      (home_cases ts (place + 1) n))
+    let h = home_other t ts place n e in ⊎_elim
+    (λ (w : Out ts n × (home ts (place + 1) n ≡ n)). inl (((λ q. e (sym q)), w.0), h ∙ w.1))
+    (λ (w : (place + 1 ≤ home ts (place + 1) n) × (home ts (place + 1) n < place + 1 + length ts)). inr (omega (arith, h), omega (arith, h)))
+    (home_cases ts (place + 1) n))
     (cases_eq n t)
 
 pub low_out : (size : ℕ) (to : List ℕ) (n : ℕ) → Fit size to → n < 98 → Out to n
@@ -87,12 +87,12 @@ pub applied_home : (size : ℕ) (us : List Update) (F G : Image) (place n : ℕ)
 applied_home size [] F G place n fit holds e = e
 applied_home size (u ∷ us) F G place n fit holds e = ⊎_elim
     (λ (q : n ≡ u.target).
-      ap G (home_same u.target (targets us) place n q) ∙ holds.0
-      ∙ sym (put_same F u n (sym q))
-      ∙ sym (applied_out us (put F u) n (rw q fit.2)))
+    ap G (home_same u.target (targets us) place n q) ∙ holds.0
+    ∙ sym (put_same F u n (sym q))
+    ∙ sym (applied_out us (put F u) n (rw q fit.2)))
     (λ (q : n ≡ u.target → ⊥).
-      ap G (home_other u.target (targets us) place n q)
-      ∙ applied_home size us (put F u) G (place + 1) n fit.3 holds.1 (e ∙ sym (put_other F u n (λ r. q (sym r)))))
+    ap G (home_other u.target (targets us) place n q)
+    ∙ applied_home size us (put F u) G (place + 1) n fit.3 holds.1 (e ∙ sym (put_other F u n (λ r. q (sym r)))))
     (cases_eq n u.target)
 
 pub placed_out_below : (us : List Update) (place n : ℕ) → n < place → Out (targets (placed place us)) n
@@ -106,10 +106,11 @@ placed_out_above (u ∷ us) place n l = ((λ e. omega arith), placed_out_above u
 pub applied_placed : (us : List Update) (F : Image) (place : ℕ) → HoldsFrom (applied (placed place us) F) place us
 applied_placed [] F place = tt
 applied_placed (u ∷ us) F place =
-    let first : Update = record { target = place; content = u.content } in
-    ( applied_out (placed (place + 1) us) (put F first) place (placed_out_below us (place + 1) place (omega arith))
-      ∙ put_same F first place refl
-    , applied_placed us (put F first) (place + 1))
+    let first : Update = record { target = place; content = u.content } in (
+      applied_out (placed (place + 1) us) (put F first) place (placed_out_below us (place + 1) place (omega arith))
+          ∙ put_same F first place refl,
+      applied_placed us (put F first) (place + 1),
+    )
 
 pub targets_copies : (F : Image) (place : ℕ) (to : List ℕ) → targets (copies F place to) ≡ to
 targets_copies F place [] = refl

@@ -19,8 +19,8 @@ pub since_start : (old new : Log) → IsSettled old → AddsFronts old new → (
     → StandsForFront old.size old.base old.list image
 since_start old new settled adds image left = ⊎_elim
     (λ (w : LeftSince old.history (moment old.history) image). ⊎_elim
-      (λ (q : Left old.history.now image). record { count = 0; within = omega arith; settles = settled image q })
-      (λ (q : LeftWithin old.history.past (moment old.history) image). absurd (none_within old.history.past (moment old.history) image (omega arith) q)) w)
+    (λ (q : Left old.history.now image). record { count = 0; within = omega arith; settles = settled image q })
+    (λ (q : LeftWithin old.history.past (moment old.history) image). absurd (none_within old.history.past (moment old.history) image (omega arith) q)) w)
     (λ (w : StandsForFront old.size old.base old.list image). w)
     (adds.added (moment old.history) image (omega arith) left)
 
@@ -33,9 +33,9 @@ applied_all-front : (all : List (List Update)) (k c : ℕ) (base : Image)
 applied_all-front all zero c base = ap (λ (n : ℕ). applied_all (take n all) base) (let q : c ≡ 0 + c = omega arith in q)
 applied_all-front [] (suc k) c base = take_none c base ∙ sym (take_none (suc k + c) base)
   where
-  take_none : (n : ℕ) (image : Image) → applied_all (take n []) image ≡ image
-  take_none zero image = refl
-  take_none (suc n) image = refl
+    take_none : (n : ℕ) (image : Image) → applied_all (take n []) image ≡ image
+    take_none zero image = refl
+    take_none (suc n) image = refl
 applied_all-front (us ∷ all) (suc k) c base =
     applied_all-front all k c (applied us base)
     ∙ ap (λ (n : ℕ). applied_all (take n (us ∷ all)) base) (let q : suc (k + c) ≡ suc k + c = omega arith in q)
@@ -50,10 +50,10 @@ fronts_from all old mid image e moved front =
       count = moved.count + front.count;
       within = omega (arith, moved.within, front.within, ap (λ (xs : List (List Update)). length xs) moved.list, length-drop moved.count all);
       settles = settles_same old.size image (applied_all (take front.count mid.list) mid.base) (applied_all (take (moved.count + front.count) all) old.base)
-        (λ n k. ap (λ (xs : List (List Update)). applied_all xs mid.base n) split
+          (λ n k. ap (λ (xs : List (List Update)). applied_all xs mid.base n) split
           ∙ sym (all_keeps old.size (take front.count (drop moved.count all)) (applied_all (take moved.count all) old.base) mid.base moved.base n k)
           ∙ ap (λ (f : Image). f n) (applied_all-front all moved.count front.count old.base))
-        (subst P e front.settles);
+          (subst P e front.settles);
     }
 
 -- a list's fronts, with more transactions behind it
@@ -74,7 +74,7 @@ pub calls_join : (all : List (List Update)) (old mid new : Log) → mid.size ≡
 calls_join all old mid new e moved first next =
     AddsOnly-join (StandsForFront old.size old.base all) old.history mid.history new.history first
     (AddsOnly-weaken (StandsForFront mid.size mid.base mid.list) (StandsForFront old.size old.base all) mid.history new.history
-      (λ image front. fronts_from all old mid image e moved front) next)
+    (λ image front. fronts_from all old mid image e moved front) next)
 
 applied_all-append : (a b : List (List Update)) (base : Image) → applied_all (a ++ b) base ≡ applied_all b (applied_all a base)
 applied_all-append [] b base = refl

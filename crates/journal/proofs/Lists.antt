@@ -92,7 +92,7 @@ gathered_push list us =
 pub front_over : (a b : List (List Update)) → 96 < length (gathered [] (sectors_of a)) → 96 < length (gathered [] (sectors_of (a ++ b)))
 front_over a b l =
     let e : gathered [] (sectors_of (a ++ b)) ≡ gathered (gathered [] (sectors_of a)) (sectors_of b) =
-      ap (λ (xs : List ℕ). gathered [] xs) (sectors_of-append a b) ∙ gathered-append [] (sectors_of a) (sectors_of b) in
+    ap (λ (xs : List ℕ). gathered [] xs) (sectors_of-append a b) ∙ gathered-append [] (sectors_of a) (sectors_of b) in
     omega (arith, ap (λ (xs : List ℕ). length xs) e, gathered_grows (gathered [] (sectors_of a)) (sectors_of b))
 
 is_true_of : (r : Bool) → (r ≡ false → ⊥) → IsTrue r
@@ -115,8 +115,12 @@ module _ (seen : List ℕ) (us : List Update) (i : ℕ) (all : List ℕ) (l : i 
   pub gather_full : list_any (λ old. old == (get_or us i no_update).target) seen ≡ false → 96 ≤ length seen → 96 < length all
   gather_full e full =
       let more : List ℕ = seen ++ (get_or us i no_update).target ∷ [] in
-      omega (arith, ap (λ (xs : List ℕ). length xs) (gather_new e), gathered_grows more (targets (drop (i + 1) us)),
-        length-append seen ((get_or us i no_update).target ∷ []))
+      omega (
+        arith,
+        ap (λ (xs : List ℕ). length xs) (gather_new e),
+        gathered_grows more (targets (drop (i + 1) us)),
+        length-append seen ((get_or us i no_update).target ∷ []),
+      )
 
 -- one turn of gathering a list's sectors
 pub fits_more : (list : List (List Update)) (i : ℕ) (us : List Update) (seen next : List ℕ) → take (i + 1) list ≡ take i list ++ us ∷ []
@@ -130,7 +134,7 @@ pub fits_over : (list : List (List Update)) (i : ℕ) (us last : List Update) (s
 fits_over list i us last seen more e over fit =
     let next : gathered seen (targets us) ≡ gathered [] (sectors_of (take (i + 1) list)) = fits_more list i us seen (gathered seen (targets us)) more e refl in
     let whole : take (i + 1) list ++ (drop (i + 1) list ++ last ∷ []) ≡ list ++ last ∷ [] =
-      sym (append_assoc (take (i + 1) list) (drop (i + 1) list) (last ∷ [])) ∙ ap (λ (xs : List (List Update)). xs ++ last ∷ []) (take-append-drop (i + 1) list) in
+    sym (append_assoc (take (i + 1) list) (drop (i + 1) list) (last ∷ [])) ∙ ap (λ (xs : List (List Update)). xs ++ last ∷ []) (take-append-drop (i + 1) list) in
     let grown = front_over (take (i + 1) list) (drop (i + 1) list ++ last ∷ []) (omega (arith, over, ap (λ (xs : List ℕ). length xs) next)) in
     omega (arith, grown, fit, ap (λ (xs : List (List Update)). length (gathered [] (sectors_of xs))) whole)
 
@@ -145,6 +149,7 @@ pub fits_all : (list : List (List Update)) (i : ℕ) (last : List Update) (seen 
     → (r ≡ false → 96 < length (gathered seen (targets last))) → IsTrue r ↔ FitTogether (list ++ last ∷ [])
 fits_all list i last seen next r l e whole over =
     let all : gathered seen (targets last) ≡ gathered [] (sectors_of (list ++ last ∷ [])) =
-      ap (λ (xs : List ℕ). gathered xs (targets last)) (e ∙ ap (λ (xs : List (List Update)). gathered [] (sectors_of xs)) (take_all list i l)) ∙ sym (gathered_push list last) in
-    ( (λ t. let q = whole t in omega (arith, q.1, ap (λ (xs : List ℕ). length xs) q.0, ap (λ (xs : List ℕ). length xs) all))
-    , (λ fit. is_true_of r (λ f. let q = over f in omega (arith, q, fit, ap (λ (xs : List ℕ). length xs) all))) )
+    ap (λ (xs : List ℕ). gathered xs (targets last)) (e ∙ ap (λ (xs : List (List Update)). gathered [] (sectors_of xs)) (take_all list i l)) ∙ sym (gathered_push list last) in (
+      (λ t. let q = whole t in omega (arith, q.1, ap (λ (xs : List ℕ). length xs) q.0, ap (λ (xs : List ℕ). length xs) all)),
+      (λ fit. is_true_of r (λ f. let q = over f in omega (arith, q, fit, ap (λ (xs : List ℕ). length xs) all))),
+    )

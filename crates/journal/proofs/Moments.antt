@@ -18,15 +18,15 @@ pub AddsOnly-weaken : (P Q : Image → Type 0) (old new : History) → ((image :
 AddsOnly-weaken P Q old new f a = record {
   later = a.later;
   added = λ t image l left. ⊎_elim
-    (λ (w : LeftSince old t image). inl w) (λ (p : P image). inr (f image p)) (a.added t image l left);
+      (λ (w : LeftSince old t image). inl w) (λ (p : P image). inr (f image p)) (a.added t image l left);
 }
 
 pub AddsOnly-join : (P : Image → Type 0) (a b c : History) → AddsOnly P a b → AddsOnly P b c → AddsOnly P a c
 AddsOnly-join P a b c first second = record {
   later = omega (arith, first.later, second.later);
   added = λ t image l left. ⊎_elim
-    (λ (w : LeftSince b t image). first.added t image l w) (λ (p : P image). inr p)
-    (second.added t image (omega (arith, first.later)) left);
+      (λ (w : LeftSince b t image). first.added t image l w) (λ (p : P image). inr p)
+      (second.added t image (omega (arith, first.later)) left);
 }
 
 -- one more write
@@ -34,16 +34,16 @@ pub AddsOnly-wrote : (u : Update) (h : History) → AddsOnly (LeftWith (u ∷ []
 AddsOnly-wrote u h = record {
   later = omega arith;
   added = λ t image l left. ⊎_elim
-    (λ (w : Left (wrote u h).now image). inr (λ n. ⊎_elim
+      (λ (w : Left (wrote u h).now image). inr (λ n. ⊎_elim
       (λ (e : image n ≡ h.now.fixed n). inl (inl e))
       (λ (a : ((u.target ≡ n) × (u.content ≡ image n)) ⊎ Among h.now.unsynced n (image n)). ⊎_elim
-        (λ (q : (u.target ≡ n) × (u.content ≡ image n)). inr (inl q))
-        (λ (q : Among h.now.unsynced n (image n)). inl (inr q)) a)
+      (λ (q : (u.target ≡ n) × (u.content ≡ image n)). inr (inl q))
+      (λ (q : Among h.now.unsynced n (image n)). inl (inr q)) a)
       (w n)))
-    (λ (w : ((t ≤ length h.past) × Left h.now image) ⊎ LeftWithin h.past t image). ⊎_elim
+      (λ (w : ((t ≤ length h.past) × Left h.now image) ⊎ LeftWithin h.past t image). ⊎_elim
       (λ (q : (t ≤ length h.past) × Left h.now image). inl (inl q.1))
       (λ (q : LeftWithin h.past t image). inl (inr q)) w)
-    left;
+      left;
 }
 
 -- what a crash may leave with more updates
@@ -51,16 +51,16 @@ LeftWith-first : (u : Update) (us : List Update) (m : Moment) (image : Image) �
 LeftWith-first u us m image w n = ⊎_elim
     (λ (q : MayHold m n (image n)). inl q)
     (λ (q : ((u.target ≡ n) × (u.content ≡ image n)) ⊎ ⊥). ⊎_elim
-      (λ (e : (u.target ≡ n) × (u.content ≡ image n)). inr (inl e)) (λ (e : ⊥). absurd e) q)
+    (λ (e : (u.target ≡ n) × (u.content ≡ image n)). inr (inl e)) (λ (e : ⊥). absurd e) q)
     (w n)
 
 LeftWith-rest : (u : Update) (us : List Update) (h : History) (image : Image) → LeftWith us (wrote u h).now image → LeftWith (u ∷ us) h.now image
 LeftWith-rest u us h image w n = ⊎_elim
     (λ (q : MayHold (wrote u h).now n (image n)). ⊎_elim
-      (λ (e : image n ≡ h.now.fixed n). inl (inl e))
-      (λ (a : ((u.target ≡ n) × (u.content ≡ image n)) ⊎ Among h.now.unsynced n (image n)). ⊎_elim
-        (λ (e : (u.target ≡ n) × (u.content ≡ image n)). inr (inl e))
-        (λ (e : Among h.now.unsynced n (image n)). inl (inr e)) a) q)
+    (λ (e : image n ≡ h.now.fixed n). inl (inl e))
+    (λ (a : ((u.target ≡ n) × (u.content ≡ image n)) ⊎ Among h.now.unsynced n (image n)). ⊎_elim
+    (λ (e : (u.target ≡ n) × (u.content ≡ image n)). inr (inl e))
+    (λ (e : Among h.now.unsynced n (image n)). inl (inr e)) a) q)
     (λ (q : Among us n (image n)). inr (inr q))
     (w n)
 
@@ -77,12 +77,12 @@ seen-may_hold [] fixed n = inl refl
 seen-may_hold (u ∷ us) fixed n = ⊎_elim
     (λ (e : u.target ≡ n). inr (inl (e, sym (put_same (newest us fixed) u n e))))
     (λ (e : u.target ≡ n → ⊥).
-      let q = put_other (newest us fixed) u n e in
-      let P : List ℕ → Type 0 = λ content. (content ≡ fixed n) ⊎ Among (u ∷ us) n content in
-      subst P (sym q) (⊎_elim
-        (λ (w : newest us fixed n ≡ fixed n). inl w)
-        (λ (w : Among us n (newest us fixed n)). inr (inr w))
-        (seen-may_hold us fixed n)))
+    let q = put_other (newest us fixed) u n e in
+    let P : List ℕ → Type 0 = λ content. (content ≡ fixed n) ⊎ Among (u ∷ us) n content in
+    subst P (sym q) (⊎_elim
+    (λ (w : newest us fixed n ≡ fixed n). inl w)
+    (λ (w : Among us n (newest us fixed n)). inr (inr w))
+    (seen-may_hold us fixed n)))
     (cases_eq u.target n)
 
 -- a sync adds no map
@@ -90,15 +90,15 @@ pub AddsOnly-synced : (P : Image → Type 0) (h : History) → AddsOnly P h (syn
 AddsOnly-synced P h = record {
   later = omega arith;
   added = λ t image l left. inl (⊎_elim
-    (λ (w : Left (synced h).now image). inl (λ n. ⊎_elim
+      (λ (w : Left (synced h).now image). inl (λ n. ⊎_elim
       (λ (e : image n ≡ seen h.now n).
-        let Q : List ℕ → Type 0 = λ content. MayHold h.now n content in
-        subst Q (sym e) (seen-may_hold h.now.unsynced h.now.fixed n))
+      let Q : List ℕ → Type 0 = λ content. MayHold h.now n content in
+      subst Q (sym e) (seen-may_hold h.now.unsynced h.now.fixed n))
       (λ (e : ⊥). absurd e) (w n)))
-    (λ (w : ((t ≤ length h.past) × Left h.now image) ⊎ LeftWithin h.past t image). ⊎_elim
+      (λ (w : ((t ≤ length h.past) × Left h.now image) ⊎ LeftWithin h.past t image). ⊎_elim
       (λ (q : (t ≤ length h.past) × Left h.now image). inl q.1)
       (λ (q : LeftWithin h.past t image). inr q) w)
-    left);
+      left);
 }
 
 pub seen-wrote_all : (us : List Update) (h : History) → seen (wrote_all us h).now ≡ applied us (seen h.now)
@@ -114,10 +114,10 @@ pub between_of : (us : List Update) (m : Moment) (image : Image) → m.unsynced 
 between_of us m image e w n =
     let P : List Update → Type 0 = λ unsynced. (image n ≡ newest unsynced m.fixed n) ⊎ Among us n (image n) in
     subst P (sym e) (⊎_elim
-      (λ (q : MayHold m n (image n)). ⊎_elim
-        (λ (r : image n ≡ m.fixed n). inl r)
-        (λ (r : Among m.unsynced n (image n)).
-          let Q : List Update → Type 0 = λ unsynced. Among unsynced n (image n) in
-          absurd (subst Q e r)) q)
-      (λ (q : Among us n (image n)). inr q)
-      (w n))
+    (λ (q : MayHold m n (image n)). ⊎_elim
+    (λ (r : image n ≡ m.fixed n). inl r)
+    (λ (r : Among m.unsynced n (image n)).
+    let Q : List Update → Type 0 = λ unsynced. Among unsynced n (image n) in
+    absurd (subst Q e r)) q)
+    (λ (q : Among us n (image n)). inr q)
+    (w n))

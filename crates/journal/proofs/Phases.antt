@@ -26,11 +26,11 @@ front_moments all i h h1 e =
     let front : List Update = take i all in
     let back : List Update = drop i all in
     let widen : (image : Image) → LeftWith front h.now image → LeftWith all h.now image = λ image w n. ⊎_elim
-      (λ (q : MayHold h.now n (image n)). inl q)
-      (λ (q : Among front n (image n)).
-        let Q : List Update → Type 0 = λ us. Among us n (image n) in
-        inr (subst Q (take-append-drop i all) (Among-front front back n (image n) q)))
-      (w n) in
+    (λ (q : MayHold h.now n (image n)). inl q)
+    (λ (q : Among front n (image n)).
+    let Q : List Update → Type 0 = λ us. Among us n (image n) in
+    inr (subst Q (take-append-drop i all) (Among-front front back n (image n) q)))
+    (w n) in
     subst P (sym e) (AddsOnly-weaken (LeftWith front h.now) (LeftWith all h.now) h (wrote_all front h) widen (AddsOnly-wrote_all front h))
 
 -- one more write
@@ -99,9 +99,9 @@ pub counted_since : (before mid after : ℕ) → before ≤ mid → IsCounted mi
 counted_since before mid after l c = ⊎_elim
     (λ (q : mid < after). inl (omega arith))
     (λ (q : (mid ≡ 2 ^ 64 - 1) × (after ≡ mid)). ⊎_elim
-      (λ (s : before < mid). inl (omega (arith, q.1)))
-      (λ (s : mid ≤ before). let same : before ≡ mid = omega (arith, l, s) in inr (same ∙ q.0, q.1 ∙ sym same))
-      (cases_lt before mid)) c
+    (λ (s : before < mid). inl (omega (arith, q.1)))
+    (λ (s : mid ≤ before). let same : before ≡ mid = omega (arith, l, s) in inr (same ∙ q.0, q.1 ∙ sym same))
+    (cases_lt before mid)) c
 
 -- what stands at an index past a list's end
 abbrev pub no_update : Update
@@ -126,7 +126,7 @@ payload_stays size to i h h1 fit few l e =
     let all : List Update = copies (seen h.now) 2 to in
     let out : Out to (2 + i) = low_out size to (2 + i) (Fit-of size to fit) (omega arith) in
     let out_all : Out (targets all) (2 + i) =
-      let P : List ℕ → Type 0 = λ ts. Out ts (2 + i) in subst P (sym (targets_copies (seen h.now) 2 to)) out in
+    let P : List ℕ → Type 0 = λ ts. Out ts (2 + i) in subst P (sym (targets_copies (seen h.now) 2 to)) out in
     ap (λ (k : History). seen k.now (2 + i)) e
     ∙ ap (λ (image : Image). image (2 + i)) (seen-wrote_all (take i all) h)
     ∙ applied_out (take i all) (seen h.now) (2 + i) (Out-front all i (2 + i) out_all)
@@ -139,4 +139,4 @@ home_at size to i h h1 content fit few l e read =
     let u : Update = record { target = get_or to i 0; content = content } in
     get_or-copies (seen h.now) 2 to i u l
     ∙ ap (λ (bytes : List ℕ). let r : Update = record { target = get_or to i 0; content = bytes } in r)
-      (sym (payload_stays size to i h h1 fit few l e) ∙ sym read)
+    (sym (payload_stays size to i h h1 fit few l e) ∙ sym read)

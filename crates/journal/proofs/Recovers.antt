@@ -34,11 +34,11 @@ recover_moments size h h2 h3 to e small few fit gated w =
     let same : seen h2.now ≡ seen h.now = ap (λ (k : History). seen k.now) e in
     AddsOnly-join P h h2 h3 first
     (AddsOnly-weaken (λ image. Settles size image (through to (seen h2.now))) P h2 h3
-      (λ image s settled t.
-        let Q : Image → Type 0 = λ seen_image. Settles size seen_image settled in
-        settles_same size image (through to (seen h2.now)) settled
-          (settles_once size (seen h2.now) (through to (seen h2.now)) settled small
-            (gated_stage size to (seen h2.now) few fit gated.gate_is (seen h2.now) (λ n. refl)) (subst Q (sym same) t)) s) w)
+    (λ image s settled t.
+    let Q : Image → Type 0 = λ seen_image. Settles size seen_image settled in
+    settles_same size image (through to (seen h2.now)) settled
+    (settles_once size (seen h2.now) (through to (seen h2.now)) settled small
+    (gated_stage size to (seen h2.now) few fit gated.gate_is (seen h2.now) (λ n. refl)) (subst Q (sym same) t)) s) w)
 
 pub keeps_shown_at : (old new : ℕ) (xs ys : List ℕ) (h h1 : History) → new ≡ old → xs ≡ ys → (IsGated xs h → KeepsShown new xs h h1) → IsGated ys h → KeepsShown old ys h h1
 keeps_shown_at old new xs ys h h1 e q f gated =

@@ -20,11 +20,12 @@ AreTargets-rest size t ts a = record {
 
 pub Fit-of : (size : ℕ) (to : List ℕ) → AreTargets size to → Fit size to
 Fit-of size [] a = tt
-Fit-of size (t ∷ ts) a =
-    ( a.from_98 0 0 (omega arith)
-    , a.on_device 0 0 (omega arith)
-    , Out-of t ts (λ j l. a.apart 0 (suc j) 0 (omega arith) (omega arith))
-    , Fit-of size ts (AreTargets-rest size t ts a))
+Fit-of size (t ∷ ts) a = (
+  a.from_98 0 0 (omega arith),
+  a.on_device 0 0 (omega arith),
+  Out-of t ts (λ j l. a.apart 0 (suc j) 0 (omega arith) (omega arith)),
+  Fit-of size ts (AreTargets-rest size t ts a),
+)
 
 pub no_targets : (size : ℕ) → AreTargets size []
 no_targets size = record {
@@ -55,13 +56,14 @@ kept_out_of_payload size n us few k = ⊎_elim
 -- only the sector of one update differs
 pub between_one : (F : Image) (u : Update) (image : Image) → Between F (u ∷ []) image
     → ((image u.target ≡ F u.target) ⊎ (image u.target ≡ u.content)) × ((n : ℕ) → (u.target ≡ n → ⊥) → image n ≡ F n)
-between_one F u image b =
-    ( ⊎_elim
-        (λ (e : image u.target ≡ F u.target). inl e)
-        (λ (a : ((u.target ≡ u.target) × (u.content ≡ image u.target)) ⊎ ⊥). ⊎_elim
-          (λ (q : (u.target ≡ u.target) × (u.content ≡ image u.target)). inr (sym q.1)) (λ (q : ⊥). absurd q) a)
-        (b u.target)
-    , λ n ne. between_out F (u ∷ []) image n b (ne, tt))
+between_one F u image b = (
+  ⊎_elim
+      (λ (e : image u.target ≡ F u.target). inl e)
+      (λ (a : ((u.target ≡ u.target) × (u.content ≡ image u.target)) ⊎ ⊥). ⊎_elim
+      (λ (q : (u.target ≡ u.target) × (u.content ≡ image u.target)). inr (sym q.1)) (λ (q : ⊥). absurd q) a)
+      (b u.target),
+  λ n ne. between_out F (u ∷ []) image n b (ne, tt),
+)
 
 -- the gate of a sector-1 update
 abbrev pub gate_update : List ℕ → Update
@@ -88,7 +90,7 @@ module _ (size : ℕ) (us : List Update) (F : Image) (few : length us ≤ 96) (f
       → AreSame size (applied us F) (through (targets us) image)
   through_payload image rest n k =
       sym (applied_home size us F (applied (placed 2 us) F) 2 n (Fit-of size (targets us) fit) (applied_placed us F 2)
-        (applied_out (placed 2 us) F n (kept_out_of_payload size n us few k)))
+      (applied_out (placed 2 us) F n (kept_out_of_payload size n us few k)))
       ∙ sym (rest (home (targets us) 2 n) (λ e. home_not_1 size n (targets us) k (sym e)))
 
   -- within the gate's phase an image is as before, or with the whole transaction
@@ -151,7 +153,7 @@ module _ (size : ℕ) (to : List ℕ) (F : Image) (few : length to ≤ 96) (fit 
   closing_stage image b =
       let one = between_one (applied (copies F 2 to) F) (gate_update []) image b in
       let same_1 : applied (copies F 2 to) F 1 ≡ F 1 =
-        applied_out (copies F 2 to) F 1 (copies_out 1 (low_out size to 1 (Fit-of size to fit) (omega arith))) in
+      applied_out (copies F 2 to) F 1 (copies_out 1 (low_out size to 1 (Fit-of size to fit) (omega arith))) in
       ⊎_elim
       (λ (e : image 1 ≡ applied (copies F 2 to) F 1). record {
         to = to;
@@ -159,7 +161,7 @@ module _ (size : ℕ) (to : List ℕ) (F : Image) (few : length to ≤ 96) (fit 
         fit = fit;
         gate_is = e ∙ same_1 ∙ open_for;
         same = λ n k. sym (one.1 (home to 2 n) (λ q. home_not_1 size n to k (sym q))
-          ∙ applied_out (copies F 2 to) F (home to 2 n) (copies_out (home to 2 n) (home_out size to n (Fit-of size to fit) few)));
+            ∙ applied_out (copies F 2 to) F (home to 2 n) (copies_out (home to 2 n) (home_out size to n (Fit-of size to fit) few)));
       })
       (λ (e : image 1 ≡ gate []). record {
         to = [];

@@ -36,7 +36,7 @@ module _ (size : ℕ) (to : List ℕ) (F : Image) (content : List ℕ) (few : le
 
   pub superblock_stage : (image : Image) → F 1 ≡ gate to
       → (let u : Update = record { target = 0; content = content } in
-        Between F (u ∷ []) image → Settles size image (through to F) ⊎ Settles size image (put (through to F) u))
+      Between F (u ∷ []) image → Settles size image (through to F) ⊎ Settles size image (put (through to F) u))
   superblock_stage image open_for b =
       let u : Update = record { target = 0; content = content } in
       let one = between_one F u image b in
@@ -44,18 +44,24 @@ module _ (size : ℕ) (to : List ℕ) (F : Image) (content : List ℕ) (few : le
       let rest : (n : ℕ) → (n ≡ 0 → ⊥) → image (home to 2 n) ≡ F (home to 2 n) = λ n q. one.1 (home to 2 n) (home_not_0 to n q) in
       ⊎_elim
       (λ (e : image 0 ≡ F 0). inl (record {
-        to = to; few = few; fit = fit; gate_is = named;
+        to = to;
+        few = few;
+        fit = fit;
+        gate_is = named;
         same = λ n k. ⊎_elim
-          (λ (q : n ≡ 0). ap F (home_0 n q) ∙ sym e ∙ sym (ap image (home_0 n q)))
-          (λ (q : n ≡ 0 → ⊥). sym (rest n q))
-          (cases_eq n 0);
+            (λ (q : n ≡ 0). ap F (home_0 n q) ∙ sym e ∙ sym (ap image (home_0 n q)))
+            (λ (q : n ≡ 0 → ⊥). sym (rest n q))
+            (cases_eq n 0);
       }))
       (λ (e : image 0 ≡ content). inr (record {
-        to = to; few = few; fit = fit; gate_is = named;
+        to = to;
+        few = few;
+        fit = fit;
+        gate_is = named;
         same = λ n k. ⊎_elim
-          (λ (q : n ≡ 0). put_same (through to F) u n (sym q) ∙ sym e ∙ sym (ap image (home_0 n q)))
-          (λ (q : n ≡ 0 → ⊥). put_other (through to F) u n (λ r. q (sym r)) ∙ sym (rest n q))
-          (cases_eq n 0);
+            (λ (q : n ≡ 0). put_same (through to F) u n (sym q) ∙ sym e ∙ sym (ap image (home_0 n q)))
+            (λ (q : n ≡ 0 → ⊥). put_other (through to F) u n (λ r. q (sym r)) ∙ sym (rest n q))
+            (cases_eq n 0);
       }))
       one.0
 

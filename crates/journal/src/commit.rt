@@ -5,13 +5,16 @@ ghost use Rattle.journal.specs.Layout.{AreTargets, targets};
 ghost use Rattle.journal.specs.Phase.{IsGated, FailsCounted};
 ghost use Rattle.journal.specs.Commit.{Records, IsRecorded, KeepsShown, IsCopiedHome};
 
-use crate::gate;
 use crate::layout::GATE;
-use crate::phase;
+use crate::{gate, phase};
 use disk::{Device, DiskFault, Update};
 
 /// Writes the payload and then opens the gate for its targets, which was closed.
-pub(crate) fn record<D: Device>(device: &mut D, to: &[u32], updates: &[Update]) -> Result<(), DiskFault>
+pub(crate) fn record<D: Device>(
+    device: &mut D,
+    to: &[u32],
+    updates: &[Update],
+) -> Result<(), DiskFault>
     requires named { to.now ≡ targets updates.now }
     requires few { length updates.now ≤ 96 }
     requires fit { AreTargets (D.size device.old) (targets updates.now) }

@@ -47,7 +47,11 @@ impl<D: Device> Journal<D> {
     /// # Errors
     ///
     /// [`JournalFault::Fault`] where the device failed.
-    pub fn format(device: &mut D, sector0: &[u8; SECTOR], updates: &[Update]) -> Result<(), JournalFault>
+    pub fn format(
+        device: &mut D,
+        sector0: &[u8; SECTOR],
+        updates: &[Update],
+    ) -> Result<(), JournalFault>
         requires large { 256 ≤ D.size device.old }
         requires fit { AreTargets (D.size device.old) (targets updates.now) }
         ensures moments { D.keeps_word

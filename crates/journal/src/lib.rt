@@ -10,5 +10,5 @@ mod list;
 mod phase;
 mod recover;
 
-pub use journal::Journal;
 pub use fault::{JournalFault, MountFault};
+pub use journal::Journal;

@@ -23,7 +23,11 @@ pub(crate) fn newest(list: &VecDeque<Vec<Update>>, n: u32) -> Option<[u8; SECTOR
 }
 
 /// The newest content that the updates give sector `n`, or else what was found before.
-pub(crate) fn newer(updates: &[Update], n: u32, before: Option<[u8; SECTOR]>) -> Option<[u8; SECTOR]>
+pub(crate) fn newer(
+    updates: &[Update],
+    n: u32,
+    before: Option<[u8; SECTOR]>,
+) -> Option<[u8; SECTOR]>
     ensures { (image base : Image) → image n ≡ unwrap_or before (base n) → applied updates.now image n ≡ unwrap_or result (base n) }
 {
     let mut found = before;

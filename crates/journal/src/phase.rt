@@ -48,7 +48,11 @@ pub(crate) fn write_homes<D: Device>(device: &mut D, targets: &[u32]) -> Result<
 }
 
 /// Writes one sector: the gate or the superblock.
-pub(crate) fn write_sector<D: Device>(device: &mut D, n: u32, content: &[u8; SECTOR]) -> Result<(), DiskFault>
+pub(crate) fn write_sector<D: Device>(
+    device: &mut D,
+    n: u32,
+    content: &[u8; SECTOR],
+) -> Result<(), DiskFault>
     requires { n < D.size device.old }
     ensures moments { D.keeps_word
         → AddsUpdates ((record { target = n; content = content.now }) ∷ []) (D.history device.old) (D.history device.new) }

@@ -16,14 +16,14 @@ returns-in_err-flush-clause-moments g c = λ k.
     let old : Log = log_of c.args.journal.now in
     let mid : Log = log_of c.apply.new.self in
     calls_join (old.list ++ c.args.updates.now ∷ []) old mid (log_of c.flush.new.self) c.in_ok-apply.ensures.size (c.in_ok-apply.ensures.moved k)
-      (fronts_of_longer old mid (c.args.updates.now ∷ []) (c.in_ok-apply.ensures.moments k)) (c.in_err-flush.ensures.moments k)
+    (fronts_of_longer old mid (c.args.updates.now ∷ []) (c.in_ok-apply.ensures.moments k)) (c.in_err-flush.ensures.moments k)
 
 pub returns-clause-moments : goal.returns-clause-moments
 returns-clause-moments g c = λ k.
     let old : Log = log_of c.args.journal.now in
     let mid : Log = log_of c.apply.new.self in
     calls_join (old.list ++ c.args.updates.now ∷ []) old mid (log_of c.flush.new.self) c.in_ok-apply.ensures.size (c.in_ok-apply.ensures.moved k)
-      (fronts_of_longer old mid (c.args.updates.now ∷ []) (c.in_ok-apply.ensures.moments k)) (c.in_ok-flush.ensures.moments k)
+    (fronts_of_longer old mid (c.args.updates.now ∷ []) (c.in_ok-apply.ensures.moments k)) (c.in_ok-flush.ensures.moments k)
 
 pub returns-clause-ok : goal.returns-clause-ok
 returns-clause-ok g c = λ k n kept.

@@ -9,7 +9,7 @@ pub returns-then-not-read_words-clause-missing : goal.returns-then-not-read_word
 returns-then-not-read_words-clause-missing c = λ f to names.
     let many = c.if-not-read_words.ensures.many refl in
     let count : big_number 4 (drop 4 c.args.sector.now) ≡ length to =
-      ap (λ (xs : List ℕ). big_number 4 (drop 4 xs)) names.gate_is ∙ count_in to names.few in
+    ap (λ (xs : List ℕ). big_number 4 (drop 4 xs)) names.gate_is ∙ count_in to names.few in
     omega (arith, many, count, names.few)
 
 pub returns-then-are_targets-clause-missing : goal.returns-then-are_targets-clause-missing
@@ -18,9 +18,9 @@ returns-then-are_targets-clause-missing c = λ f to names.
     let read = c.if-not-read_words.ensures.named refl in
     let same : c.read_words.new.named.items ≡ to = read.1 ∙ names_one c.args.sectors c.args.sector.now to small names in
     let encoded : c.encode.result ≡ c.args.sector.now =
-      c.encode.ensures ∙ ap (λ (xs : List ℕ). gate xs) (c.deref-then-are_targets.ensures.value ∙ same) ∙ sym names.gate_is in
+    c.encode.ensures ∙ ap (λ (xs : List ℕ). gate xs) (c.deref-then-are_targets.ensures.value ∙ same) ∙ sym names.gate_is in
     let equal : c.eq.result ≡ true = c.eq.ensures
-      ∙ pointwise_same c.as_slice.result.now c.as_slice-then-are_targets.result.now (c.as_slice.ensures ∙ encoded ∙ sym c.as_slice-then-are_targets.ensures) in
+    ∙ pointwise_same c.as_slice.result.now c.as_slice-then-are_targets.result.now (c.as_slice.ensures ∙ encoded ∙ sym c.as_slice-then-are_targets.ensures) in
     let never : true ≡ false = sym equal ∙ f in cc
 
 pub returns-else-are_targets-clause-missing : goal.returns-else-are_targets-clause-missing

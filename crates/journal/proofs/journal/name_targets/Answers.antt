@@ -8,12 +8,17 @@ use Rattle.journal.proofs.journal.name_targets.Goals as goal
 
 pub push_reserved-requires : goal.push_reserved-requires
 push_reserved-requires c =
-    omega (arith, c.loop-update.named.ok.0, ap (λ (xs : List ℕ). length xs) c.loop-update.invariant.items,
-      length-targets (take c.loop-update.update-index c.args.updates.now), length-take c.loop-update.update-index c.args.updates.now)
+    omega (
+      arith,
+      c.loop-update.named.ok.0,
+      ap (λ (xs : List ℕ). length xs) c.loop-update.invariant.items,
+      length-targets (take c.loop-update.update-index c.args.updates.now),
+      length-take c.loop-update.update-index c.args.updates.now,
+    )
 
 pub loop-update-preserved : goal.loop-update-preserved
 loop-update-preserved c = record {
   items = c.push_reserved.ensures.items ∙ ap (λ (xs : List ℕ). xs ++ (get_or c.args.updates.now c.loop-update.update-index (record { target = 0; content = [] })).target ∷ []) c.loop-update.invariant.items
-    ∙ sym (targets_more c.args.updates.now c.loop-update.update-index (record { target = 0; content = [] }) (omega arith));
+      ∙ sym (targets_more c.args.updates.now c.loop-update.update-index (record { target = 0; content = [] }) (omega arith));
   capacity = c.push_reserved.ensures.capacity ∙ c.loop-update.invariant.capacity;
 }

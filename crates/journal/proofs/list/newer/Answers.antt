@@ -6,9 +6,9 @@ use Rattle.journal.proofs.list.newer.Goals.{then-update-n, else-update-n}
 
 pub loop-update-preserved : goal.loop-update-preserved
 loop-update-preserved c = λ image base e. elim c.if-update-n.branch [
-    then-update-n w ↦ newer_same c.args.updates.now c.loop-update.update-index c.args.n image (omega arith) w.if-update-n.true
+  | then-update-n w ↦ newer_same c.args.updates.now c.loop-update.update-index c.args.n image (omega arith) w.if-update-n.true
       ∙ ap (λ (found : Option (List ℕ)). unwrap_or found (base c.args.n)) (sym w.found-is)
   | else-update-n w ↦ newer_other c.args.updates.now c.loop-update.update-index c.args.n image (omega arith) w.if-update-n.false
       ∙ c.loop-update.invariant image base e
       ∙ ap (λ (found : Option (List ℕ)). unwrap_or found (base c.args.n)) (sym w.found-is)
-  ]
+]

@@ -33,8 +33,8 @@ pub returns-in_err-write-clause-moments : goal.returns-in_err-write-clause-momen
 returns-in_err-write-clause-moments g c = λ k.
     let a = (goal.at.returns-in_err-write-clause-moments g c).After-write in
     write_failed (fresh (g.D.Device.size c.args.device.now) c.args.updates.now) (c.loop-n.n - 1) _ (g.D.Device.history c.args.device.now)
-      (g.D.Device.history c.loop-n.device) (g.D.Device.history c.write.new.self) (within g a) (written g a)
-      (c.loop-n.invariant.wrote k) (c.in_err-write.ensures.err k)
+    (g.D.Device.history c.loop-n.device) (g.D.Device.history c.write.new.self) (within g a) (written g a)
+    (c.loop-n.invariant.wrote k) (c.in_err-write.ensures.err k)
 
 pub loop-n-preserved : goal.loop-n-preserved
 loop-n-preserved g c =
@@ -42,9 +42,9 @@ loop-n-preserved g c =
     let all : List Update = fresh (g.D.Device.size c.args.device.now) c.args.updates.now in
     record {
       wrote = λ k. wrote_more all (c.loop-n.n - 1) _ (g.D.Device.history c.args.device.now)
-        (g.D.Device.history c.loop-n.device) (g.D.Device.history c.write.new.self) (within g a) (written g a)
-        (c.loop-n.invariant.wrote k) (c.in_ok-write.ensures.ok k)
-        ∙ ap (λ (i : ℕ). wrote_all (take i all) (g.D.Device.history c.args.device.now)) (let q : c.loop-n.n - 1 + 1 ≡ c.loop-n.n + 1 - 1 = omega arith in q);
+          (g.D.Device.history c.loop-n.device) (g.D.Device.history c.write.new.self) (within g a) (written g a)
+          (c.loop-n.invariant.wrote k) (c.in_ok-write.ensures.ok k)
+          ∙ ap (λ (i : ℕ). wrote_all (take i all) (g.D.Device.history c.args.device.now)) (let q : c.loop-n.n - 1 + 1 ≡ c.loop-n.n + 1 - 1 = omega arith in q);
       size = c.in_ok-write.ensures.size ∙ c.loop-n.invariant.size;
       later = omega (arith, c.in_ok-write.ensures.cause.later);
     }
@@ -52,16 +52,16 @@ loop-n-preserved g c =
 pub returns-in_err-sync-clause-moments : goal.returns-in_err-sync-clause-moments
 returns-in_err-sync-clause-moments g c = λ k.
     left_alone (fresh (g.D.Device.size c.args.device.now) c.args.updates.now) (c.loop-n.n - 1) (g.D.Device.history c.args.device.now)
-      (g.D.Device.history c.loop-n.device) (g.D.Device.history c.sync.new.self) (c.loop-n.invariant.wrote k) (c.in_err-sync.ensures.err k)
+    (g.D.Device.history c.loop-n.device) (g.D.Device.history c.sync.new.self) (c.loop-n.invariant.wrote k) (c.in_err-sync.ensures.err k)
 
 pub returns-clause-moments : goal.returns-clause-moments
 returns-clause-moments g c = λ k.
     synced_moments (fresh (g.D.Device.size c.args.device.now) c.args.updates.now) (c.loop-n.n - 1) (g.D.Device.history c.args.device.now)
-      (g.D.Device.history c.loop-n.device) (g.D.Device.history c.sync.new.self) (c.loop-n.invariant.wrote k) (c.in_ok-sync.ensures.ok k)
+    (g.D.Device.history c.loop-n.device) (g.D.Device.history c.sync.new.self) (c.loop-n.invariant.wrote k) (c.in_ok-sync.ensures.ok k)
 
 pub returns-clause-ok : goal.returns-clause-ok
 returns-clause-ok g c = λ k.
     let size_is : c.sectors-n-end.result ≡ g.D.Device.size c.args.device.now = c.sectors-n-end.ensures in
     synced_fixes (fresh (g.D.Device.size c.args.device.now) c.args.updates.now) (c.loop-n.n - 1) (g.D.Device.history c.args.device.now)
-      (g.D.Device.history c.loop-n.device) (g.D.Device.history c.sync.new.self)
-      (omega (arith, length-fresh (g.D.Device.size c.args.device.now) c.args.updates.now, size_is)) (c.loop-n.invariant.wrote k) (c.in_ok-sync.ensures.ok k)
+    (g.D.Device.history c.loop-n.device) (g.D.Device.history c.sync.new.self)
+    (omega (arith, length-fresh (g.D.Device.size c.args.device.now) c.args.updates.now, size_is)) (c.loop-n.invariant.wrote k) (c.in_ok-sync.ensures.ok k)

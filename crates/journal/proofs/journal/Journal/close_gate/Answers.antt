@@ -28,8 +28,8 @@ pub returns-then-is_err-clause-moments : goal.returns-then-is_err-clause-moments
 unfolding log_of
 returns-then-is_err-clause-moments g c = λ k.
     shown_at (g.D.Device.size c.args.self.now.device) c.deref.result.now c.args.self.now.gate_targets.items
-      (g.D.Device.history c.args.self.now.device) (g.D.Device.history c.copy_home.new.device) c.deref.ensures.value
-      (c.copy_home.ensures.moments k) (gated g (goal.at.returns-then-is_err-clause-moments g c).After-is_err k)
+    (g.D.Device.history c.args.self.now.device) (g.D.Device.history c.copy_home.new.device) c.deref.ensures.value
+    (c.copy_home.ensures.moments k) (gated g (goal.at.returns-then-is_err-clause-moments g c).After-is_err k)
 
 pub invariant_of-self-2-clause-rests : goal.invariant_of-self-2-clause-rests
 invariant_of-self-2-clause-rests g c = λ k up.
@@ -49,8 +49,8 @@ pub returns-clause-moments : goal.returns-clause-moments
 unfolding log_of
 returns-clause-moments g c = λ k.
     shown_at (g.D.Device.size c.args.self.now.device) c.deref.result.now c.args.self.now.gate_targets.items
-      (g.D.Device.history c.args.self.now.device) (g.D.Device.history c.copy_home.new.device) c.deref.ensures.value
-      (c.copy_home.ensures.moments k) (gated g (goal.at.returns-clause-moments g c).After-is_err k)
+    (g.D.Device.history c.args.self.now.device) (g.D.Device.history c.copy_home.new.device) c.deref.ensures.value
+    (c.copy_home.ensures.moments k) (gated g (goal.at.returns-clause-moments g c).After-is_err k)
 
 pub returns-clause-same : goal.returns-clause-same
 unfolding log_of

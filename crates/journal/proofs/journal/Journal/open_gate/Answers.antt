@@ -14,7 +14,7 @@ gated : (g : Over) (c : After-is_err g) → g.D.Device.keeps_word → IsGated []
 unfolding log_of
 gated g c k = gated_at c.args.self.now.gate_targets.items [] (g.D.Device.history c.args.self.now.device) c.requires.closed
     (gated_of c.args.self.now.gate_targets.items (g.D.Device.history c.args.self.now.device)
-      (c.args.self.now.rests k c.requires.up) (c.args.self.now.gate_is k c.requires.up))
+    (c.args.self.now.rests k c.requires.up) (c.args.self.now.gate_is k c.requires.up))
 
 done : (g : Over) (c : After-is_err g) → c.is_err.result ≡ false → g.D.Device.keeps_word
     → IsRecorded (g.D.Device.size c.args.self.now.device) c.args.updates.now (g.D.Device.history c.args.self.now.device) (g.D.Device.history c.record.new.device)
@@ -45,8 +45,8 @@ pub returns-then-is_err-clause-moments : goal.returns-then-is_err-clause-moments
 unfolding log_of
 returns-then-is_err-clause-moments g c = λ k.
     either_at (g.D.Device.size c.args.self.now.device) c.args.updates.now c.args.self.now.gate_targets.items
-      (g.D.Device.history c.args.self.now.device) (g.D.Device.history c.record.new.device) c.requires.closed
-      (c.record.ensures.moments k (gated g (goal.at.returns-then-is_err-clause-moments g c).After-is_err k))
+    (g.D.Device.history c.args.self.now.device) (g.D.Device.history c.record.new.device) c.requires.closed
+    (c.record.ensures.moments k (gated g (goal.at.returns-then-is_err-clause-moments g c).After-is_err k))
 
 pub invariant_of-self-2-clause-few : goal.invariant_of-self-2-clause-few
 invariant_of-self-2-clause-few g c = omega (arith, ap (λ (xs : List ℕ). length xs) c.name_targets.ensures.items, length-targets c.args.updates.now)
@@ -72,8 +72,8 @@ pub returns-clause-moments : goal.returns-clause-moments
 unfolding log_of
 returns-clause-moments g c = λ k.
     either_at (g.D.Device.size c.args.self.now.device) c.args.updates.now c.args.self.now.gate_targets.items
-      (g.D.Device.history c.args.self.now.device) (g.D.Device.history c.record.new.device) c.requires.closed
-      (c.record.ensures.moments k (gated g (goal.at.returns-clause-moments g c).After-is_err k))
+    (g.D.Device.history c.args.self.now.device) (g.D.Device.history c.record.new.device) c.requires.closed
+    (c.record.ensures.moments k (gated g (goal.at.returns-clause-moments g c).After-is_err k))
 
 pub returns-clause-same : goal.returns-clause-same
 unfolding log_of

@@ -16,7 +16,7 @@ gated g c k = gated_of c.args.self.now.gate_targets.items (g.D.Device.history c.
 
 fixed : (g : Over) (c : After-is_err g) → c.is_err.result ≡ false → g.D.Device.keeps_word
     → (let u : Update = record { target = 0; content = c.args.content.now } in
-      IsFixedAs (u ∷ []) (g.D.Device.history c.args.self.now.device) (g.D.Device.history c.write_sector.new.device))
+    IsFixedAs (u ∷ []) (g.D.Device.history c.args.self.now.device) (g.D.Device.history c.write_sector.new.device))
 fixed g c e k = on_ok c.write_sector.result (sym c.is_err.ensures.value ∙ e) (c.write_sector.ensures.ok k)
 
 pub invariant_of-self-clause-listed : goal.invariant_of-self-clause-listed
@@ -27,8 +27,8 @@ pub returns-then-is_err-clause-moments : goal.returns-then-is_err-clause-moments
 unfolding log_of
 returns-then-is_err-clause-moments g c = λ k.
     superblock_moments (g.D.Device.size c.args.self.now.device) c.args.self.now.gate_targets.items c.args.content.now
-      (g.D.Device.history c.args.self.now.device) (g.D.Device.history c.write_sector.new.device) c.args.self.now.few c.args.self.now.fit
-      (gated g (goal.at.returns-then-is_err-clause-moments g c).After-is_err k) (c.write_sector.ensures.moments k)
+    (g.D.Device.history c.args.self.now.device) (g.D.Device.history c.write_sector.new.device) c.args.self.now.few c.args.self.now.fit
+    (gated g (goal.at.returns-then-is_err-clause-moments g c).After-is_err k) (c.write_sector.ensures.moments k)
 
 pub invariant_of-self-2-clause-listed : goal.invariant_of-self-2-clause-listed
 invariant_of-self-2-clause-listed g c = λ i.
@@ -44,20 +44,20 @@ invariant_of-self-2-clause-gate_is g c = λ k up.
     let a = (goal.at.invariant_of-self-2-clause-gate_is g c).After-is_err in
     let f = fixed g a c.if-is_err.false k in
     let d = superblock_gated (g.D.Device.size c.args.self.now.device) c.args.self.now.gate_targets.items c.args.content.now
-      (g.D.Device.history c.args.self.now.device) (g.D.Device.history c.write_sector.new.device) c.args.self.now.few c.args.self.now.fit (gated g a k) f in
+    (g.D.Device.history c.args.self.now.device) (g.D.Device.history c.write_sector.new.device) c.args.self.now.few c.args.self.now.fit (gated g a k) f in
     d.gate_is
 
 pub returns-clause-moments : goal.returns-clause-moments
 unfolding log_of
 returns-clause-moments g c = λ k.
     superblock_moments (g.D.Device.size c.args.self.now.device) c.args.self.now.gate_targets.items c.args.content.now
-      (g.D.Device.history c.args.self.now.device) (g.D.Device.history c.write_sector.new.device) c.args.self.now.few c.args.self.now.fit
-      (gated g (goal.at.returns-clause-moments g c).After-is_err k) (c.write_sector.ensures.moments k)
+    (g.D.Device.history c.args.self.now.device) (g.D.Device.history c.write_sector.new.device) c.args.self.now.few c.args.self.now.fit
+    (gated g (goal.at.returns-clause-moments g c).After-is_err k) (c.write_sector.ensures.moments k)
 
 pub returns-clause-ok : goal.returns-clause-ok
 unfolding log_of
 returns-clause-ok g c = λ k.
     let a = (goal.at.returns-clause-ok g c).After-is_err in
     superblock_base (g.D.Device.size c.args.self.now.device) c.args.self.now.gate_targets.items c.args.content.now
-      (g.D.Device.history c.args.self.now.device) (g.D.Device.history c.write_sector.new.device) c.args.self.now.few c.args.self.now.fit
-      (gated g a k) (fixed g a c.if-is_err.false k)
+    (g.D.Device.history c.args.self.now.device) (g.D.Device.history c.write_sector.new.device) c.args.self.now.few c.args.self.now.fit
+    (gated g a k) (fixed g a c.if-is_err.false k)

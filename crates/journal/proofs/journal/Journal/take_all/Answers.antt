@@ -17,7 +17,7 @@ invariant_of-self-clause-short g c =
 pub invariant_of-self-clause-listed : goal.invariant_of-self-clause-listed
 invariant_of-self-clause-listed g c =
     each_of_rest (λ us. AreTargets (g.D.Device.size c.loop-updates.self.device) (targets us)) c.loop-updates.self.list.items c.pop_front.new.self.items
-      c.pop_front.ensures.rest c.loop-updates.self.listed
+    c.pop_front.ensures.rest c.loop-updates.self.listed
 
 pub commit-requires-clause-few : goal.commit-requires-clause-few
 commit-requires-clause-few g c =
@@ -37,7 +37,7 @@ unfolding log_of
 returns-in_err-commit-clause-moments g c = λ k.
     let e = popped c.loop-updates.self.list.items c.pop_front.new.self.items c.in-Some.updates c.deref.result.now c.in-Some.ensures.items c.deref.ensures.value in
     flush_moments (log_of c.args.self.now) (log_of c.loop-updates.self) c.deref.result.now (transactions c.pop_front.new.self.items) (log_of c.commit.new.self).history
-      c.loop-updates.invariant.size (c.loop-updates.invariant.moved k) e (c.loop-updates.invariant.moments k) (c.in_err-commit.ensures.moments k)
+    c.loop-updates.invariant.size (c.loop-updates.invariant.moved k) e (c.loop-updates.invariant.moments k) (c.in_err-commit.ensures.moments k)
 
 pub loop-updates-preserved : goal.loop-updates-preserved
 unfolding log_of failures_of
@@ -49,7 +49,7 @@ loop-updates-preserved g c =
       size = c.in_ok-commit.ensures.size ∙ c.loop-updates.invariant.size;
       later = omega (arith, c.in_ok-commit.ensures.failures.later);
       moments = λ k. flush_moments (log_of c.args.self.now) (log_of c.loop-updates.self) c.deref.result.now (transactions c.pop_front.new.self.items) (log_of c.commit.new.self).history
-        c.loop-updates.invariant.size (c.loop-updates.invariant.moved k) e (c.loop-updates.invariant.moments k) (c.in_ok-commit.ensures.moments k);
+          c.loop-updates.invariant.size (c.loop-updates.invariant.moved k) e (c.loop-updates.invariant.moments k) (c.in_ok-commit.ensures.moments k);
       moved = λ k. flush_moved (log_of c.args.self.now) (log_of c.loop-updates.self) (log_of c.commit.new.self) c.deref.result.now (transactions c.pop_front.new.self.items)
-        c.loop-updates.invariant.size (c.loop-updates.invariant.moved k) e (c.in_ok-commit.ensures.same k) c.in_ok-commit.ensures.list;
+          c.loop-updates.invariant.size (c.loop-updates.invariant.moved k) e (c.in_ok-commit.ensures.same k) c.in_ok-commit.ensures.list;
     }
