@@ -1,0 +1,131 @@
+-- A gate sector has one list of targets: its words give them back.
+use Rattle.std.proofs.Common.{◌≡◌, ◌≢◌, ◌≤◌, ◌<◌, ◌⊎◌, ◌+◌, ◌-◌, ◌*◌, ◌^◌, ◌||◌, ◌==◌, ℕ, suc, zero, Bool, true, false, List, [], ◌∷◌, ◌++◌, length, take, drop, map, get_or, replicate, flat_map, refl, sym, ap, ◌∙◌, subst, inl, inr, ⊎_elim, arith, IsTrue, add-one, eqb, eq-eqb, ◌&&◌}
+use lib.Pointwise.{pointwise}
+use Rattle.std.specs.List.{range_with_len, list_any}
+use Rattle.std.proofs.lemmas.Bool.{eqb-false}
+use Rattle.std.proofs.lemmas.List.{drop-drop, take_more, get_or_default}
+use Rattle.byteorder.specs.Endian.{big_bytes, big_number}
+use Rattle.byteorder.specs.Numbers.{big_number-reads_back}
+use Rattle.disk.specs.Calls.{zero_sector}
+use Rattle.journal.specs.Layout.{AreTargets, NamesTargets, gate, gate_words, words, words_in}
+use Rattle.journal.proofs.Images.{Out, Fit}
+use Rattle.journal.proofs.Stages.{Fit-of}
+
+Out-at : (ts : List ℕ) (n j d : ℕ) → Out ts n → j < length ts → get_or ts j d ≡ n → ⊥
+Out-at [] n j d o l e = absurd (omega arith)
+Out-at (t ∷ ts) n zero d o l e = o.0 e
+Out-at (t ∷ ts) n (suc j) d o l e = Out-at ts n j d o.1 (omega arith) e
+
+from_98_of : (size : ℕ) (to : List ℕ) → Fit size to → (k d : ℕ) → k < length to → 98 ≤ get_or to k d
+from_98_of size [] f k d l = absurd (omega arith)
+from_98_of size (t ∷ ts) f zero d l = f.0
+from_98_of size (t ∷ ts) f (suc k) d l = from_98_of size ts f.3 k d (omega arith)
+
+on_device_of : (size : ℕ) (to : List ℕ) → Fit size to → (k d : ℕ) → k < length to → get_or to k d < size
+on_device_of size [] f k d l = absurd (omega arith)
+on_device_of size (t ∷ ts) f zero d l = f.1
+on_device_of size (t ∷ ts) f (suc k) d l = on_device_of size ts f.3 k d (omega arith)
+
+apart_of : (size : ℕ) (to : List ℕ) → Fit size to → (i j d : ℕ) → i < j → j < length to → get_or to i d ≡ get_or to j d → ⊥
+apart_of size [] f i j d l h e = omega arith
+apart_of size (t ∷ ts) f i zero d l h e = omega arith
+apart_of size (t ∷ ts) f zero (suc j) d l h e = Out-at ts t j d f.2 (omega arith) (sym e)
+apart_of size (t ∷ ts) f (suc i) (suc j) d l h e = apart_of size ts f.3 i j d (omega arith) (omega arith) e
+
+AreTargets-of : (size : ℕ) (to : List ℕ) → Fit size to → AreTargets size to
+AreTargets-of size to f = record { from_98 = from_98_of size to f; on_device = on_device_of size to f; apart = apart_of size to f }
+
+Out-push : (ts : List ℕ) (t n : ℕ) → Out ts n → (t ≡ n → ⊥) → Out (ts ++ t ∷ []) n
+Out-push [] t n o e = (e, tt)
+Out-push (s ∷ ts) t n o e = (o.0, Out-push ts t n o.1 e)
+
+Fit-push : (size : ℕ) (ts : List ℕ) (t : ℕ) → Fit size ts → 98 ≤ t → t < size → Out ts t → Fit size (ts ++ t ∷ [])
+Fit-push size [] t f l h o = (l, h, tt, tt)
+Fit-push size (s ∷ ts) t f l h o = (f.0, f.1, Out-push ts t s f.2 (λ e. o.0 (sym e)), Fit-push size ts t f.3 l h o.1)
+
+or_none : (a b : Bool) → (a || b) ≡ false → (a ≡ false) × (b ≡ false)
+or_none false b e = (refl, e)
+or_none true b e = absurd (let q : true ≡ false = e in cc)
+
+Out-any : (ts : List ℕ) (n : ℕ) → list_any (λ t. t == n) ts ≡ false → Out ts n
+Out-any [] n e = tt
+Out-any (t ∷ ts) n e =
+    let q = or_none (t == n) (list_any (λ t. t == n) ts) e in
+    (eqb-false t n q.0, Out-any ts n q.1)
+
+-- one more target
+pub AreTargets-more : (size : ℕ) (to : List ℕ) (i t : ℕ) → i < length to → get_or to i 0 ≡ t → AreTargets size (take i to) → 98 ≤ t → t < size
+    → list_any (λ s. s == t) (take i to) ≡ false → AreTargets size (take (i + 1) to)
+AreTargets-more size to i t l at a from below none =
+    let more : take (i + 1) to ≡ take i to ++ t ∷ [] = take_more to i 0 l ∙ ap (λ (s : ℕ). take i to ++ s ∷ []) at in
+    let P : List ℕ → Type 0 = λ xs. AreTargets size xs in
+    subst P (sym more) (AreTargets-of size (take i to ++ t ∷ []) (Fit-push size (take i to) t (Fit-of size (take i to) a) from below (Out-any (take i to) t none)))
+
+range_push : (a n : ℕ) → range_with_len a (suc n) ≡ range_with_len a n ++ (a + n) ∷ []
+range_push a zero = ap (λ (x : ℕ). x ∷ []) (omega arith)
+range_push a (suc n) = ap (λ xs. a ∷ xs) (range_push (a + 1) n ∙ ap (λ (x : ℕ). range_with_len (a + 1) n ++ x ∷ []) (omega arith))
+
+map_push : (f : ℕ → ℕ) (xs : List ℕ) (x : ℕ) → map f (xs ++ x ∷ []) ≡ map f xs ++ f x ∷ []
+map_push f [] x = refl
+map_push f (y ∷ xs) x = ap (λ ys. f y ∷ ys) (map_push f xs x)
+
+-- one more word
+pub words_more : (f : ℕ → ℕ) (i : ℕ) → map f (range_with_len 0 (i + 1)) ≡ map f (range_with_len 0 i) ++ f i ∷ []
+words_more f i =
+    ap (λ (n : ℕ). map f (range_with_len 0 n)) (let q : i + 1 ≡ suc i = omega arith in q) ∙ ap (λ (xs : List ℕ). map f xs) (range_push 0 i)
+    ∙ map_push f (range_with_len 0 i) (0 + i) ∙ ap (λ (x : ℕ). map f (range_with_len 0 i) ++ f x ∷ []) (let q : 0 + i ≡ i = omega arith in q)
+
+map_range : (f : ℕ → ℕ) (to : List ℕ) (a : ℕ) → ((i : ℕ) → i < length to → f (a + i) ≡ get_or to i 0) → map f (range_with_len a (length to)) ≡ to
+map_range f [] a e = refl
+map_range f (t ∷ ts) a e =
+    ap (λ (x : ℕ). x ∷ map f (range_with_len (a + 1) (length ts))) (ap f (let q : a ≡ a + 0 = omega arith in q) ∙ e 0 (omega arith))
+    ∙ ap (λ (xs : List ℕ). t ∷ xs) (map_range f ts (a + 1) (λ i l. ap f (let q : a + 1 + i ≡ a + suc i = omega arith in q) ∙ e (suc i) (omega arith)))
+
+drop_words : (to rest : List ℕ) (i : ℕ) → i < length to → drop (4 * i) (words to ++ rest) ≡ big_bytes 4 (get_or to i 0) ++ (words (drop (suc i) to) ++ rest)
+drop_words [] rest i l = absurd (omega arith)
+drop_words (t ∷ ts) rest zero l = refl
+drop_words (t ∷ ts) rest (suc i) l =
+    ap (λ (n : ℕ). drop n (words (t ∷ ts) ++ rest)) (let q : 4 * suc i ≡ 4 + 4 * i = omega arith in q)
+    ∙ sym (drop-drop (4 * i) 4 (words (t ∷ ts) ++ rest))
+    ∙ drop_words ts rest i (omega arith)
+
+word_at : (to rest : List ℕ) (i : ℕ) → i < length to → get_or to i 0 < 2 ^ 32 → big_number 4 (drop (4 * i) (words to ++ rest)) ≡ get_or to i 0
+word_at to rest i l fits =
+    ap (λ (xs : List ℕ). big_number 4 xs) (drop_words to rest i l)
+    ∙ big_number-reads_back 4 (get_or to i 0) (words (drop (suc i) to) ++ rest) fits
+
+-- how many targets a gate sector's words tell of
+pub count_in : (to : List ℕ) → length to ≤ 96 → big_number 4 (drop 4 (gate to)) ≡ length to
+unfolding gate zero_sector
+count_in [] few = refl
+count_in (t ∷ ts) few =
+    word_at (gate_words (t ∷ ts)) (replicate (4096 - 4 * length (gate_words (t ∷ ts))) 0) 1 (omega arith) (omega arith)
+
+target_in : (to : List ℕ) (i : ℕ) → i < length to → get_or to i 0 < 2 ^ 32 → big_number 4 (drop (4 * suc (suc i)) (gate to)) ≡ get_or to i 0
+unfolding gate
+target_in [] i l fits = absurd (omega arith)
+target_in (t ∷ ts) i l fits =
+    word_at (gate_words (t ∷ ts)) (replicate (4096 - 4 * length (gate_words (t ∷ ts))) 0) (suc (suc i)) (omega arith) fits
+
+-- a gate sector's words give back its targets
+pub words_in_gate : (to : List ℕ) → length to ≤ 96 → ((k : ℕ) → k < length to → get_or to k 0 < 2 ^ 32) → words_in (gate to) ≡ to
+words_in_gate to few fits =
+    let f : ℕ → ℕ = λ i. big_number 4 (drop (8 + 4 * i) (gate to)) in
+    ap (λ (n : ℕ). map f (range_with_len 0 n)) (count_in to few) ∙ map_range f to 0 (λ i l.
+    ap (λ (n : ℕ). big_number 4 (drop n (gate to))) (let q : 8 + 4 * (0 + i) ≡ 4 * suc (suc i) = omega arith in q) ∙ target_in to i l (fits i l))
+
+-- below the device's end, which is below 2^32
+pub words_fit : (size : ℕ) (to : List ℕ) → size < 2 ^ 32 → AreTargets size to → (k : ℕ) → k < length to → get_or to k 0 < 2 ^ 32
+words_fit size to small fit k l = omega (arith, fit.on_device k 0 l)
+
+-- a gate sector names one list of targets
+pub names_one : (size : ℕ) (sector to : List ℕ) → size < 2 ^ 32 → NamesTargets size sector to → words_in sector ≡ to
+names_one size sector to small names =
+    ap (λ (xs : List ℕ). words_in xs) names.gate_is ∙ words_in_gate to names.few (words_fit size to small names.fit)
+
+pointwise_all : (xs : List ℕ) → pointwise eqb xs xs ≡ true
+pointwise_all [] = refl
+pointwise_all (x ∷ xs) = ap (λ (b : Bool). b && pointwise eqb xs xs) (eq-eqb x x refl) ∙ pointwise_all xs
+
+pub pointwise_same : (xs ys : List ℕ) → xs ≡ ys → pointwise eqb xs ys ≡ true
+pointwise_same xs ys e = let P : List ℕ → Type 0 = λ zs. pointwise eqb xs zs ≡ true in subst P e (pointwise_all xs)

@@ -1,0 +1,15 @@
+pub mod Answerings
+pub mod Commits
+pub mod Formats
+pub mod Fronts
+pub mod GateBytes
+pub mod GateWords
+pub mod Images
+pub mod Joins
+pub mod Journals
+pub mod Lists
+pub mod Moments
+pub mod Phases
+pub mod Recovers
+pub mod Stages
+pub mod Superblocks

@@ -1,0 +1,142 @@
+-- Phases: how one ends, and what a failure within it leaves.
+use Rattle.std.proofs.Common.{◌≡◌, ◌≤◌, ◌<◌, ◌⊎◌, ◌+◌, ◌-◌, ◌^◌, ℕ, suc, zero, List, [], ◌∷◌, ◌++◌, length, get_or, take, drop, refl, sym, ap, ◌∙◌, subst, inl, inr, ⊎_elim, arith, Ok, Err, Result, IsErrOf, add-one}
+use Rattle.std.proofs.lemmas.List.{take_more, take-append-drop}
+use Rattle.std.proofs.lemmas.Bool.{cases_lt}
+use Rattle.disk.specs.declared.update.Update.{Update}
+use Rattle.disk.specs.declared.fault.DiskFault.{DiskFault}
+use Rattle.disk.specs.declared.fault.DiskFault.TheVariants.{Range, Fault, Memory, Open}
+use Rattle.disk.specs.Moments.{Image, Moment, History, MayHold, Among, AddsOnly, wrote, synced, seen, applied}
+use Rattle.disk.specs.Cause.{IsCounted, HasCause}
+use Rattle.journal.specs.Layout.{AreTargets, placed, copies, targets}
+use Rattle.journal.specs.Phase.{LeftWith, AddsUpdates, IsFixedAs, FailsCounted}
+use Rattle.journal.proofs.Images.{Out, low_out, applied_out, targets_copies}
+use Rattle.journal.proofs.Stages.{Fit-of}
+use Rattle.journal.proofs.Moments.{wrote_all, AddsOnly-same, AddsOnly-weaken, AddsOnly-join, AddsOnly-wrote_all, AddsOnly-synced, seen-wrote_all, wrote_all-push}
+
+Among-front : (a b : List Update) (n : ℕ) (content : List ℕ) → Among a n content → Among (a ++ b) n content
+Among-front [] b n content w = absurd w
+Among-front (u ∷ a) b n content w = ⊎_elim
+    (λ (q : (u.target ≡ n) × (u.content ≡ content)). inl q)
+    (λ (q : Among a n content). inr (Among-front a b n content q)) w
+
+-- the first i of a phase's writes
+pub front_moments : (all : List Update) (i : ℕ) (h h1 : History) → h1 ≡ wrote_all (take i all) h → AddsUpdates all h h1
+front_moments all i h h1 e =
+    let P : History → Type 0 = λ k. AddsOnly (LeftWith all h.now) h k in
+    let front : List Update = take i all in
+    let back : List Update = drop i all in
+    let widen : (image : Image) → LeftWith front h.now image → LeftWith all h.now image = λ image w n. ⊎_elim
+    (λ (q : MayHold h.now n (image n)). inl q)
+    (λ (q : Among front n (image n)).
+    let Q : List Update → Type 0 = λ us. Among us n (image n) in
+    inr (subst Q (take-append-drop i all) (Among-front front back n (image n) q)))
+    (w n) in
+    subst P (sym e) (AddsOnly-weaken (LeftWith front h.now) (LeftWith all h.now) h (wrote_all front h) widen (AddsOnly-wrote_all front h))
+
+-- one more write
+pub wrote_more : (all : List Update) (i : ℕ) (u : Update) (h h1 h2 : History) → i < length all → get_or all i u ≡ u
+    → h1 ≡ wrote_all (take i all) h → h2 ≡ wrote u h1 → h2 ≡ wrote_all (take (i + 1) all) h
+wrote_more all i u h h1 h2 l at e q =
+    let more : take (i + 1) all ≡ take i all ++ u ∷ [] = take_more all i u l ∙ ap (λ v. take i all ++ v ∷ []) at in
+    q ∙ ap (wrote u) e ∙ sym (wrote_all-push (take i all) u h) ∙ ap (λ us. wrote_all us h) (sym more)
+
+pub write_failed : (all : List Update) (i : ℕ) (u : Update) (h h1 h2 : History) → i < length all → get_or all i u ≡ u
+    → h1 ≡ wrote_all (take i all) h → (h2 ≡ h1) ⊎ (h2 ≡ wrote u h1) → AddsUpdates all h h2
+write_failed all i u h h1 h2 l at e q = ⊎_elim
+    (λ (s : h2 ≡ h1). front_moments all i h h2 (s ∙ e))
+    (λ (s : h2 ≡ wrote u h1). front_moments all (i + 1) h h2 (wrote_more all i u h h1 h2 l at e s)) q
+
+pub left_alone : (all : List Update) (i : ℕ) (h h1 h2 : History) → h1 ≡ wrote_all (take i all) h → h2 ≡ h1 → AddsUpdates all h h2
+left_alone all i h h1 h2 e q = front_moments all i h h2 (q ∙ e)
+
+pub take_past : (i : ℕ) (all : List Update) → length all ≤ i → take i all ≡ all
+take_past zero [] l = refl
+take_past zero (u ∷ all) l = absurd (omega arith)
+take_past (suc i) [] l = refl
+take_past (suc i) (u ∷ all) l = ap (λ us. u ∷ us) (take_past i all (omega arith))
+
+pub synced_moments : (all : List Update) (i : ℕ) (h h1 h2 : History) → h1 ≡ wrote_all (take i all) h → h2 ≡ synced h1 → AddsUpdates all h h2
+synced_moments all i h h1 h2 e q =
+    let P : History → Type 0 = λ k. AddsOnly (LeftWith all h.now) h k in
+    subst P (sym q) (AddsOnly-join (LeftWith all h.now) h h1 (synced h1) (front_moments all i h h1 e) (AddsOnly-synced (LeftWith all h.now) h1))
+
+pub synced_fixes : (all : List Update) (i : ℕ) (h h1 h2 : History) → length all ≤ i → h1 ≡ wrote_all (take i all) h → h2 ≡ synced h1
+    → IsFixedAs all h h2
+synced_fixes all i h h1 h2 l e q =
+    let whole : h1 ≡ wrote_all all h = e ∙ ap (λ us. wrote_all us h) (take_past i all l) in
+    record {
+      fixed = ap (λ (k : History). k.now.fixed) q ∙ ap (λ (k : History). seen k.now) whole ∙ seen-wrote_all all h;
+      unsynced = ap (λ (k : History). k.now.unsynced) q;
+    }
+
+pub length-placed : (place : ℕ) (us : List Update) → length (placed place us) ≡ length us
+length-placed place [] = refl
+length-placed place (u ∷ us) = ap suc (length-placed (place + 1) us)
+
+pub get_or-placed : (place : ℕ) (us : List Update) (i : ℕ) (d u : Update) → i < length us
+    → get_or (placed place us) i d ≡ record { target = place + i; content = (get_or us i u).content }
+get_or-placed place [] i d u l = absurd (omega arith)
+get_or-placed place (v ∷ us) zero d u l =
+    ap (λ (t : ℕ). let r : Update = record { target = t; content = v.content } in r) (omega arith)
+get_or-placed place (v ∷ us) (suc i) d u l =
+    get_or-placed (place + 1) us i d u (omega arith)
+    ∙ ap (λ (t : ℕ). let r : Update = record { target = t; content = (get_or us i u).content } in r) (omega arith)
+
+pub length-copies : (image : Image) (place : ℕ) (to : List ℕ) → length (copies image place to) ≡ length to
+length-copies image place [] = refl
+length-copies image place (t ∷ ts) = ap suc (length-copies image (place + 1) ts)
+
+pub get_or-copies : (image : Image) (place : ℕ) (to : List ℕ) (i : ℕ) (d : Update) → i < length to
+    → get_or (copies image place to) i d ≡ record { target = get_or to i 0; content = image (place + i) }
+get_or-copies image place [] i d l = absurd (omega arith)
+get_or-copies image place (t ∷ ts) zero d l =
+    ap (λ (p : ℕ). let r : Update = record { target = t; content = image p } in r) (omega arith)
+get_or-copies image place (t ∷ ts) (suc i) d l =
+    get_or-copies image (place + 1) ts i d (omega arith)
+    ∙ ap (λ (p : ℕ). let r : Update = record { target = get_or ts i 0; content = image p } in r) (omega arith)
+
+pub counted_since : (before mid after : ℕ) → before ≤ mid → IsCounted mid after → IsCounted before after
+counted_since before mid after l c = ⊎_elim
+    (λ (q : mid < after). inl (omega arith))
+    (λ (q : (mid ≡ 2 ^ 64 - 1) × (after ≡ mid)). ⊎_elim
+    (λ (s : before < mid). inl (omega (arith, q.1)))
+    (λ (s : mid ≤ before). let same : before ≡ mid = omega (arith, l, s) in inr (same ∙ q.0, q.1 ∙ sym same))
+    (cases_lt before mid)) c
+
+-- what stands at an index past a list's end
+abbrev pub no_update : Update
+no_update = record { target = 0; content = [] }
+
+-- the payload's write at an index
+pub payload_at : (us : List Update) (i : ℕ) → i < length us
+    → (let u : Update = record { target = 2 + i; content = (get_or us i no_update).content } in get_or (placed 2 us) i u ≡ u)
+payload_at us i l =
+    let u : Update = record { target = 2 + i; content = (get_or us i no_update).content } in
+    get_or-placed 2 us i u no_update l
+
+Out-front : (us : List Update) (i n : ℕ) → Out (targets us) n → Out (targets (take i us)) n
+Out-front us zero n o = tt
+Out-front [] (suc i) n o = tt
+Out-front (u ∷ us) (suc i) n o = (o.0, Out-front us i n o.1)
+
+-- while the homes are written, the payload reads as at the start
+pub payload_stays : (size : ℕ) (to : List ℕ) (i : ℕ) (h h1 : History) → AreTargets size to → length to ≤ 96 → i < length to
+    → h1 ≡ wrote_all (take i (copies (seen h.now) 2 to)) h → seen h1.now (2 + i) ≡ seen h.now (2 + i)
+payload_stays size to i h h1 fit few l e =
+    let all : List Update = copies (seen h.now) 2 to in
+    let out : Out to (2 + i) = low_out size to (2 + i) (Fit-of size to fit) (omega arith) in
+    let out_all : Out (targets all) (2 + i) =
+    let P : List ℕ → Type 0 = λ ts. Out ts (2 + i) in subst P (sym (targets_copies (seen h.now) 2 to)) out in
+    ap (λ (k : History). seen k.now (2 + i)) e
+    ∙ ap (λ (image : Image). image (2 + i)) (seen-wrote_all (take i all) h)
+    ∙ applied_out (take i all) (seen h.now) (2 + i) (Out-front all i (2 + i) out_all)
+
+-- the homes' write at an index
+pub home_at : (size : ℕ) (to : List ℕ) (i : ℕ) (h h1 : History) (content : List ℕ) → AreTargets size to → length to ≤ 96 → i < length to
+    → h1 ≡ wrote_all (take i (copies (seen h.now) 2 to)) h → content ≡ seen h1.now (2 + i)
+    → (let u : Update = record { target = get_or to i 0; content = content } in get_or (copies (seen h.now) 2 to) i u ≡ u)
+home_at size to i h h1 content fit few l e read =
+    let u : Update = record { target = get_or to i 0; content = content } in
+    get_or-copies (seen h.now) 2 to i u l
+    ∙ ap (λ (bytes : List ℕ). let r : Update = record { target = get_or to i 0; content = bytes } in r)
+    (sym (payload_stays size to i h h1 fit few l e) ∙ sym read)

@@ -1,0 +1,60 @@
+-- Recovery: an image settles to one image, and a mount keeps what it settles to.
+use Rattle.std.proofs.Common.{◌≡◌, ◌≤◌, ◌<◌, ◌^◌, ◌⊎◌, ℕ, List, [], ◌∷◌, length, refl, sym, ap, ◌∙◌, subst, inl, inr, arith, Err, IsErrOf}
+use Rattle.disk.specs.Moments.{Image, History, AddsOnly, seen, synced}
+use Rattle.disk.specs.Cause.{IsCounted}
+use Rattle.journal.specs.declared.fault.JournalFault.{JournalFault}
+use Rattle.journal.specs.declared.fault.JournalFault.TheVariants as faults
+use Rattle.journal.specs.Layout.{AreTargets, NamesTargets, gate, through, words_in}
+use Rattle.journal.specs.Settled.{AreSame, Settles, SettlesAs}
+use Rattle.journal.specs.Phase.{IsGated}
+use Rattle.journal.specs.Commit.{KeepsShown}
+use Rattle.journal.specs.Recover.{FaultsCounted}
+use Rattle.journal.proofs.GateWords.{names_one}
+use Rattle.journal.proofs.Stages.{gated_stage}
+use Rattle.journal.proofs.Moments.{AddsOnly-weaken, AddsOnly-join, AddsOnly-synced}
+use Rattle.journal.proofs.Fronts.{settles_same}
+
+-- an image settles to one image
+pub settles_once : (size : ℕ) (image a b : Image) → size < 2 ^ 32 → Settles size image a → Settles size image b → AreSame size a b
+settles_once size image a b small s t n k =
+    let named_s : NamesTargets size (image 1) s.to = record { few = s.few; fit = s.fit; gate_is = s.gate_is } in
+    let named_t : NamesTargets size (image 1) t.to = record { few = t.few; fit = t.fit; gate_is = t.gate_is } in
+    let same : s.to ≡ t.to = sym (names_one size (image 1) s.to small named_s) ∙ names_one size (image 1) t.to small named_t in
+    s.same n k ∙ ap (λ (to : List ℕ). through to image n) same ∙ sym (t.same n k)
+
+pub synced_moments : (P : Image → Type 0) (h h1 h2 : History) → h2 ≡ h1 → h1 ≡ synced h → AddsOnly P h h2
+synced_moments P h h1 h2 q e = let Q : History → Type 0 = λ k. AddsOnly P h k in subst Q (sym (q ∙ e)) (AddsOnly-synced P h)
+
+-- copying home keeps what the image settled to
+pub recover_moments : (size : ℕ) (h h2 h3 : History) (to : List ℕ) → h2 ≡ synced h → size < 2 ^ 32 → length to ≤ 96 → AreTargets size to → IsGated to h2
+    → KeepsShown size to h2 h3 → AddsOnly (SettlesAs size (seen h.now)) h h3
+recover_moments size h h2 h3 to e small few fit gated w =
+    let P : Image → Type 0 = λ image. SettlesAs size (seen h.now) image in
+    let first : AddsOnly P h h2 = synced_moments P h h2 h2 refl e in
+    let same : seen h2.now ≡ seen h.now = ap (λ (k : History). seen k.now) e in
+    AddsOnly-join P h h2 h3 first
+    (AddsOnly-weaken (λ image. Settles size image (through to (seen h2.now))) P h2 h3
+    (λ image s settled t.
+    let Q : Image → Type 0 = λ seen_image. Settles size seen_image settled in
+    settles_same size image (through to (seen h2.now)) settled
+    (settles_once size (seen h2.now) (through to (seen h2.now)) settled small
+    (gated_stage size to (seen h2.now) few fit gated.gate_is (seen h2.now) (λ n. refl)) (subst Q (sym same) t)) s) w)
+
+pub keeps_shown_at : (old new : ℕ) (xs ys : List ℕ) (h h1 : History) → new ≡ old → xs ≡ ys → (IsGated xs h → KeepsShown new xs h h1) → IsGated ys h → KeepsShown old ys h h1
+keeps_shown_at old new xs ys h h1 e q f gated =
+    let P : List ℕ → Type 0 = λ to. IsGated to h → KeepsShown new to h h1 in
+    let Q : ℕ → Type 0 = λ size. KeepsShown size ys h h1 in
+    subst Q e (subst P q f gated)
+
+pub gated_after : (h h1 h2 : History) (sector to : List ℕ) → h2 ≡ h1 → h1 ≡ synced h → sector ≡ seen h1.now 1 → sector ≡ gate to → IsGated to h2
+gated_after h h1 h2 sector to q e read names = record {
+  rests = ap (λ (k : History). k.now.unsynced) (q ∙ e);
+  gate_is = ap (λ (k : History). seen k.now 1) q ∙ sym read ∙ names;
+}
+
+pub damaged_counted : {T : Type 0} (before after : ℕ) → before ≤ after → FaultsCounted {T = T} before after (Err faults.Damaged)
+damaged_counted before after l = record {
+  later = l;
+  counted = λ e. absurd (let q : faults.Damaged ≡ faults.Fault = cc in cc);
+  only = inr refl;
+}

@@ -1,0 +1,88 @@
+-- Sector 0, written by itself beside whatever the gate shows.
+use Rattle.std.proofs.Common.{◌≡◌, ◌≤◌, ◌<◌, ◌⊎◌, ◌+◌, ℕ, List, [], ◌∷◌, length, refl, sym, ap, ◌∙◌, subst, inl, inr, ⊎_elim, arith}
+use Rattle.std.proofs.lemmas.Bool.{cases_eq}
+use Rattle.disk.specs.declared.update.Update.{Update}
+use Rattle.disk.specs.Moments.{Image, History, seen, put, applied}
+use Rattle.journal.specs.Layout.{AreTargets, gate, home, through}
+use Rattle.journal.specs.Settled.{IsKept, AreSame, Settles}
+use Rattle.journal.specs.Phase.{LeftWith, AddsUpdates, IsFixedAs, IsGated}
+use Rattle.journal.specs.Commit.{AddsEither}
+use Rattle.journal.proofs.Images.{Out, Between, put_same, put_other, home_cases, home_other, low_out}
+use Rattle.journal.proofs.Stages.{Fit-of, between_one}
+use Rattle.journal.proofs.Moments.{AddsOnly-weaken, between_of}
+use Rattle.journal.proofs.Commits.{seen_fixed}
+
+home_of_out : (to : List ℕ) (place n : ℕ) → Out to n → home to place n ≡ n
+home_of_out [] place n o = refl
+home_of_out (t ∷ ts) place n o = home_other t ts place n (λ e. o.0 (sym e)) ∙ home_of_out ts (place + 1) n o.1
+
+home_not_0 : (to : List ℕ) (n : ℕ) → (n ≡ 0 → ⊥) → 0 ≡ home to 2 n → ⊥
+home_not_0 to n ne e = ⊎_elim
+    (λ (w : Out to n × (home to 2 n ≡ n)). ne (sym w.1 ∙ sym e))
+    (λ (w : (2 ≤ home to 2 n) × (home to 2 n < 2 + length to)). omega (arith, w.0, e))
+    (home_cases to 2 n)
+
+module _ (size : ℕ) (to : List ℕ) (F : Image) (content : List ℕ) (few : length to ≤ 96) (fit : AreTargets size to) where
+  home_0 : (n : ℕ) → n ≡ 0 → home to 2 n ≡ 0
+  home_0 n e = home_of_out to 2 n (low_out size to n (Fit-of size to fit) (omega arith)) ∙ e
+
+  pub superblock_same : (n : ℕ) → (let u : Update = record { target = 0; content = content } in put (through to F) u n ≡ through to (put F u) n)
+  superblock_same n =
+      let u : Update = record { target = 0; content = content } in
+      ⊎_elim
+      (λ (q : n ≡ 0). put_same (through to F) u n (sym q) ∙ sym (ap (put F u) (home_0 n q) ∙ put_same F u 0 refl))
+      (λ (q : n ≡ 0 → ⊥). put_other (through to F) u n (λ e. q (sym e)) ∙ sym (put_other F u (home to 2 n) (home_not_0 to n q)))
+      (cases_eq n 0)
+
+  pub superblock_stage : (image : Image) → F 1 ≡ gate to
+      → (let u : Update = record { target = 0; content = content } in
+      Between F (u ∷ []) image → Settles size image (through to F) ⊎ Settles size image (put (through to F) u))
+  superblock_stage image open_for b =
+      let u : Update = record { target = 0; content = content } in
+      let one = between_one F u image b in
+      let named : image 1 ≡ gate to = one.1 1 (λ e. omega arith) ∙ open_for in
+      let rest : (n : ℕ) → (n ≡ 0 → ⊥) → image (home to 2 n) ≡ F (home to 2 n) = λ n q. one.1 (home to 2 n) (home_not_0 to n q) in
+      ⊎_elim
+      (λ (e : image 0 ≡ F 0). inl (record {
+        to = to;
+        few = few;
+        fit = fit;
+        gate_is = named;
+        same = λ n k. ⊎_elim
+            (λ (q : n ≡ 0). ap F (home_0 n q) ∙ sym e ∙ sym (ap image (home_0 n q)))
+            (λ (q : n ≡ 0 → ⊥). sym (rest n q))
+            (cases_eq n 0);
+      }))
+      (λ (e : image 0 ≡ content). inr (record {
+        to = to;
+        few = few;
+        fit = fit;
+        gate_is = named;
+        same = λ n k. ⊎_elim
+            (λ (q : n ≡ 0). put_same (through to F) u n (sym q) ∙ sym e ∙ sym (ap image (home_0 n q)))
+            (λ (q : n ≡ 0 → ⊥). put_other (through to F) u n (λ r. q (sym r)) ∙ sym (rest n q))
+            (cases_eq n 0);
+      }))
+      one.0
+
+module _ (size : ℕ) (to : List ℕ) (content : List ℕ) (h h1 : History) (few : length to ≤ 96) (fit : AreTargets size to) (gated : IsGated to h) where
+  pub superblock_moments : (let u : Update = record { target = 0; content = content } in
+      AddsUpdates (u ∷ []) h h1 → AddsEither size (u ∷ []) (through to (seen h.now)) h h1)
+  superblock_moments w =
+      let u : Update = record { target = 0; content = content } in
+      AddsOnly-weaken (LeftWith (u ∷ []) h.now) (λ image. Settles size image (through to (seen h.now)) ⊎ Settles size image (applied (u ∷ []) (through to (seen h.now)))) h h1
+      (λ image l. superblock_stage size to (seen h.now) content few fit image gated.gate_is (between_of (u ∷ []) h.now image gated.rests l)) w
+
+  pub superblock_gated : (let u : Update = record { target = 0; content = content } in IsFixedAs (u ∷ []) h h1 → IsGated to h1)
+  superblock_gated f =
+      let u : Update = record { target = 0; content = content } in
+      record {
+        rests = f.unsynced;
+        gate_is = ap (λ (image : Image). image 1) (seen_fixed (u ∷ []) h h1 f) ∙ put_other (seen h.now) u 1 (λ e. omega arith) ∙ gated.gate_is;
+      }
+
+  pub superblock_base : (let u : Update = record { target = 0; content = content } in
+      IsFixedAs (u ∷ []) h h1 → AreSame size (put (through to (seen h.now)) u) (through to (seen h1.now)))
+  superblock_base f n k =
+      let u : Update = record { target = 0; content = content } in
+      superblock_same size to (seen h.now) content few fit n ∙ ap (λ (image : Image). through to image n) (sym (seen_fixed (u ∷ []) h h1 f))

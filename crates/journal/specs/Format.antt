@@ -1,0 +1,24 @@
+-- What a format writes.
+use Rattle.std.specs.Prelude.{◌≡◌, ◌⊎◌, ◌==◌, ◌-◌, ℕ, List, map, if◌then◌else◌}
+use Rattle.std.specs.List.{range_with_len}
+use Rattle.disk.specs.declared.update.Update.{Update}
+use Rattle.disk.specs.Moments.{Image, History, AddsOnly, Left, applied}
+use Rattle.disk.specs.Calls.{zero_sector}
+use Rattle.journal.specs.Settled.{Settles}
+
+-- zeros, with this sector 0 and these updates
+abbrev pub formatted : List ℕ → List Update → Image
+formatted sector0 updates = applied updates (λ n. if n == 0 then sector0 else zero_sector)
+
+-- zeros with the updates, at every sector but 0, by rising number
+abbrev pub fresh : ℕ → List Update → List Update
+fresh size updates = map (λ n. let update : Update = record { target = n; content = applied updates (λ _. zero_sector) n } in update) (range_with_len 1 (size - 1))
+
+-- at every moment since, a map left is one left before, or has a sector 0 of zeros, or is formatted
+abbrev pub AddsFormats : ℕ → List ℕ → List Update → History → History → Type 0
+AddsFormats size sector0 updates old new =
+    AddsOnly (λ image. (image 0 ≡ zero_sector) ⊎ Settles size image (formatted sector0 updates)) old new
+
+-- every map that a crash leaves now is formatted
+abbrev pub IsFormatted : ℕ → List ℕ → List Update → History → Type 0
+IsFormatted size sector0 updates new = (image : Image) → Left new.now image → Settles size image (formatted sector0 updates)

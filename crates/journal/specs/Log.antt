@@ -1,0 +1,56 @@
+-- What a journal is to its caller: a base, an ordered list of transactions that a stop may still take
+-- away from its end, and the moments of its device.
+use Rattle.std.specs.Prelude.{◌≡◌, ◌≤◌, ◌⊎◌, ◌↔◌, ℕ, Bool, true, false, List, [], ◌∷◌, ◌++◌, length, take, drop, Result, IsErrOf}
+use Rattle.disk.specs.declared.update.Update.{Update}
+use Rattle.disk.specs.Moments.{Image, History, Left, AddsOnly, applied}
+use Rattle.disk.specs.Cause.{IsCounted}
+use Rattle.journal.specs.declared.fault.JournalFault.{JournalFault}
+use Rattle.journal.specs.declared.fault.JournalFault.TheVariants as faults
+use Rattle.journal.specs.Settled.{AreSame, Settles}
+
+pub record Log : Type 0 where
+  pub base : Image
+  pub list : List (List Update)
+  pub is_down : Bool
+  pub size : ℕ
+  pub history : History
+
+-- an image with transactions applied, the first of the list first
+abbrev pub applied_all : List (List Update) → Image → Image
+applied_all [] image = image
+applied_all (updates ∷ list) image = applied_all list (applied updates image)
+
+-- what reads give
+abbrev pub contents : Log → Image
+contents log = applied_all log.list log.base
+
+-- an image settles to a base with a front of a list of transactions
+pub record StandsForFront (size : ℕ) (base : Image) (list : List (List Update)) (image : Image) : Type 0 where
+  pub count : ℕ
+  pub within : count ≤ length list
+  pub settles : Settles size image (applied_all (take count list) base)
+
+-- at every moment since, a map left is one left before, or the old base with a front of the old list
+abbrev pub AddsFronts : Log → Log → Type 0
+AddsFronts old new = AddsOnly (StandsForFront old.size old.base old.list) old.history new.history
+
+-- what a crash leaves now settles to the base: none of the list is lost that ever went into it
+abbrev pub IsSettled : Log → Type 0
+IsSettled log = (image : Image) → Left log.history.now image → Settles log.size image log.base
+
+-- of all these transactions the first ones went into the base, and the list is the rest
+pub record Moved (all : List (List Update)) (old new : Log) : Type 0 where
+  pub count : ℕ
+  pub within : count ≤ length all
+  pub base : AreSame old.size (applied_all (take count all) old.base) new.base
+  pub list : new.list ≡ drop count all
+
+-- how a call answers by its device: Down exactly where the journal was down, and then nothing happens;
+-- Fault only where the device counted a failure, and then the journal is down; else it is not
+pub record Answers {T : Type 0} (old new : Log) (before after : ℕ) (result : Result T JournalFault) : Type 0 where
+  pub down : IsErrOf result faults.Down ↔ (old.is_down ≡ true)
+  pub untouched : IsErrOf result faults.Down → (new ≡ old) × (after ≡ before)
+  pub later : before ≤ after
+  pub counted : IsErrOf result faults.Fault → IsCounted before after
+  pub goes_down : IsErrOf result faults.Fault → new.is_down ≡ true
+  pub stays_up : old.is_down ≡ false → (IsErrOf result faults.Fault → ⊥) → new.is_down ≡ false

@@ -1,0 +1,29 @@
+-- What one phase does to a device: it writes some sectors, and then syncs.
+use Rattle.std.specs.Prelude.{◌≡◌, ◌≤◌, ◌⊎◌, ℕ, List, [], ◌∷◌, Result, OnErr}
+use Rattle.disk.specs.declared.update.Update.{Update}
+use Rattle.disk.specs.Moments.{Image, Moment, History, MayHold, Among, AddsOnly, applied, seen}
+use Rattle.disk.specs.Cause.{IsCounted}
+use Rattle.journal.specs.Layout.{gate}
+
+-- each sector is as a crash at this moment may leave it, or as an update leaves it
+abbrev pub LeftWith : List Update → Moment → Image → Type 0
+LeftWith updates m image = (n : ℕ) → MayHold m n (image n) ⊎ Among updates n (image n)
+
+-- all is fixed, with the updates applied to what a read gave before
+pub record IsFixedAs (updates : List Update) (old new : History) : Type 0 where
+  pub fixed : new.now.fixed ≡ applied updates (seen old.now)
+  pub unsynced : new.now.unsynced ≡ []
+
+-- at every moment since, a map left is one left before, but for sectors with an update's content
+abbrev pub AddsUpdates : List Update → History → History → Type 0
+AddsUpdates updates old new = AddsOnly (LeftWith updates old.now) old new
+
+-- a failure is one that the device counted
+pub record FailsCounted {T E : Type 0} (before after : ℕ) (result : Result T E) : Type 0 where
+  pub later : before ≤ after
+  pub counted : OnErr result (IsCounted before after)
+
+-- all is fixed, and the gate is open for these targets
+pub record IsGated (to : List ℕ) (h : History) : Type 0 where
+  pub rests : h.now.unsynced ≡ []
+  pub gate_is : seen h.now 1 ≡ gate to

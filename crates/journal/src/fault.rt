@@ -1,0 +1,54 @@
+ghost use Rattle.std.specs.Prelude.{◌≡◌};
+
+use disk::DiskFault;
+use std::alloc::AllocError;
+use thiserror::Error;
+
+/// Why the journal did not do what it was asked.
+#[derive(Debug, Drop, Error)]
+pub enum JournalFault {
+    /// The device failed. The journal is down from then on.
+    #[error("the device failed")]
+    Fault,
+    /// The gate sector has no form that a journal writes.
+    #[error("the gate has no form")]
+    Damaged,
+    /// A transaction of more than 48 sectors. Nothing changed.
+    #[error("more than 48 sectors in a transaction")]
+    TooMany,
+    /// No memory. Nothing changed.
+    #[error("out of memory")]
+    Memory,
+    /// The device failed in an earlier call.
+    #[error("down since the device failed")]
+    Down,
+}
+
+impl From<DiskFault> for JournalFault {
+    ghost use Rattle.journal.specs.declared.fault.JournalFault.TheVariants.{Fault};
+
+    ghost from_gives = { λ _ fault. fault ≡ Fault };
+
+    fn from(_: DiskFault) -> JournalFault {
+        JournalFault::Fault
+    }
+}
+
+impl From<AllocError> for JournalFault {
+    ghost use Rattle.journal.specs.declared.fault.JournalFault.TheVariants.{Memory};
+
+    ghost from_gives = { λ _ fault. fault ≡ Memory };
+
+    fn from(_: AllocError) -> JournalFault {
+        JournalFault::Memory
+    }
+}
+
+/// A mount that was refused, with the device as it is now.
+#[derive(Drop)]
+pub struct MountFault<D> {
+    /// The device.
+    pub device: D,
+    /// Why it was refused: `Fault`, `Damaged` or `Memory`.
+    pub fault: JournalFault,
+}

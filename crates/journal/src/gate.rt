@@ -1,0 +1,100 @@
+//! The gate sector: zeros where it is closed, and else 1, the number of targets, and the targets.
+
+ghost use Rattle.std.specs.Prelude.{◌≡◌, ◌≤◌, ◌<◌, ◌*◌, ◌↔◌, ℕ, List, [], ◌++◌, length, drop, false, IsTrue, vec_capacity};
+ghost use Rattle.byteorder.specs.Endian.{big_number};
+ghost use Rattle.journal.specs.Layout.{AreTargets, NamesTargets, gate, home, words, gate_words, words_in};
+
+use crate::layout::{FIRST_TARGET, PAYLOAD, PAYLOAD_SECTORS};
+use byteorder::{BigEndian, ByteOrder};
+use disk::SECTOR;
+
+/// The first word of an open gate.
+const OPEN: u32 = 1;
+
+/// The gate sector for these targets; for none it is closed.
+pub(crate) fn encode(targets: &[u32]) -> [u8; SECTOR]
+    requires { length targets.now ≤ 96 }
+    ensures { result ≡ gate targets.now }
+{
+    let mut sector = closed();
+    if !targets.is_empty() {
+        write_words(targets, &mut sector);
+    }
+    sector
+}
+
+/// The sector of a closed gate: zeros.
+#[tactic(auto, unfolding(crate::specs::Layout::gate, disk::specs::Calls::zero_sector))]
+pub(crate) fn closed() -> [u8; SECTOR]
+    ensures { result ≡ gate [] }
+{
+    [0; SECTOR]
+}
+
+/// Writes an open gate's words to the front of a sector.
+fn write_words(targets: &[u32], sector: &mut [u8])
+    requires few { length targets.now ≤ 96 }
+    requires long { length sector.old ≡ 4096 }
+    ensures { sector.new ≡ words (gate_words targets.now) ++ drop (4 * length (gate_words targets.now)) sector.old }
+{
+    BigEndian::write_u32(sector, OPEN);
+    BigEndian::write_u32(&mut sector[4..], targets.len() as u32);
+    BigEndian::write_u32_into(targets, &mut sector[8..8 + 4 * targets.len()]);
+}
+
+/// Whether a gate sector has a form: then `targets` holds what it names.
+pub(crate) fn decode(sector: &[u8; SECTOR], sectors: u32, named: &mut Vec<u32>) -> bool
+    requires { 96 ≤ vec_capacity named.old }
+    ensures found { IsTrue result → NamesTargets sectors sector.now named.new.items }
+    ensures missing { result ≡ false → (to : List ℕ) → NamesTargets sectors sector.now to → ⊥ }
+    ensures capacity { vec_capacity named.new ≡ vec_capacity named.old }
+{
+    if !read_words(sector, named) {
+        return false;
+    }
+    are_targets(named, sectors) && encode(named).as_slice() == sector.as_slice()
+}
+
+/// Reads a gate sector's words; false where they tell of more targets than a gate has.
+fn read_words(sector: &[u8], named: &mut Vec<u32>) -> bool
+    requires room { 96 ≤ vec_capacity named.old }
+    requires long { length sector.now ≡ 4096 }
+    ensures many { result ≡ false → 96 < big_number 4 (drop 4 sector.now) }
+    ensures named { IsTrue result → (length named.new.items ≤ 96) × (named.new.items ≡ words_in sector.now) }
+    ensures capacity { vec_capacity named.new ≡ vec_capacity named.old }
+{
+    named.clear();
+    let count = BigEndian::read_u32(&sector[4..]) as usize;
+    if count > PAYLOAD_SECTORS {
+        return false;
+    }
+    for i in 0..count {
+        named.push_reserved(BigEndian::read_u32(&sector[8 + 4 * i..]));
+    }
+    true
+}
+
+/// Whether a transaction may write these sectors: all from 98 on, on the device, and different.
+fn are_targets(to: &[u32], sectors: u32) -> bool
+    ensures { IsTrue result ↔ AreTargets sectors to.now }
+{
+    for (i, target) in to.iter().enumerate() {
+        if *target < FIRST_TARGET || *target >= sectors || to[..i].contains(target) {
+            return false;
+        }
+    }
+    true
+}
+
+/// Where sector `n` stands while the gate is open for these targets.
+pub(crate) fn place_of(to: &[u32], n: u32) -> u32
+    requires { length to.now ≤ 96 }
+    ensures { result ≡ home to.now 2 n }
+{
+    for (i, target) in to.iter().enumerate() {
+        if *target == n {
+            return PAYLOAD + i as u32;
+        }
+    }
+    n
+}

@@ -1,0 +1,14 @@
+//! A journal of transactions on a device, which a crash cannot split.
+#![tactic(auto)]
+
+mod commit;
+mod fault;
+mod gate;
+mod journal;
+mod layout;
+mod list;
+mod phase;
+mod recover;
+
+pub use fault::{JournalFault, MountFault};
+pub use journal::Journal;

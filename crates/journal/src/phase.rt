@@ -1,0 +1,85 @@
+//! The phases of a flush. Each writes its sectors one after the other, and then syncs.
+
+ghost use Rattle.std.specs.Prelude.{OnOk, ◌≡◌, ◌≤◌, ◌<◌, ◌+◌, [], ◌∷◌, length};
+ghost use Rattle.disk.specs.Moments.{seen};
+ghost use Rattle.journal.specs.Layout.{AreTargets, placed, copies};
+ghost use Rattle.journal.specs.Format.{fresh};
+ghost use Rattle.journal.specs.Phase.{AddsUpdates, IsFixedAs, FailsCounted};
+
+use crate::layout::{self, PAYLOAD};
+use crate::list;
+use disk::{Device, DiskFault, SECTOR, Update};
+
+/// Writes the updates' contents to the payload, one after the other.
+pub(crate) fn write_payload<D: Device>(device: &mut D, updates: &[Update]) -> Result<(), DiskFault>
+    requires few { length updates.now ≤ 96 }
+    requires large { 98 ≤ D.size device.old }
+    ensures moments { D.keeps_word → AddsUpdates (placed 2 updates.now) (D.history device.old) (D.history device.new) }
+    ensures ok { D.keeps_word → OnOk result (IsFixedAs (placed 2 updates.now) (D.history device.old) (D.history device.new)) }
+    ensures size { D.size device.new ≡ D.size device.old }
+    ensures failures { FailsCounted (D.failed device.old) (D.failed device.new) result }
+{
+    for (i, update) in updates.iter().enumerate() {
+        device.write(PAYLOAD + i as u32, &update.content)?;
+    }
+    device.sync()?;
+    Ok(())
+}
+
+/// Copies the payload to its targets.
+pub(crate) fn write_homes<D: Device>(device: &mut D, targets: &[u32]) -> Result<(), DiskFault>
+    requires few { length targets.now ≤ 96 }
+    requires fit { AreTargets (D.size device.old) targets.now }
+    requires large { 98 ≤ D.size device.old }
+    ensures moments { D.keeps_word
+        → AddsUpdates (copies (seen (D.history device.old).now) 2 targets.now) (D.history device.old) (D.history device.new) }
+    ensures ok { D.keeps_word → OnOk result
+        (IsFixedAs (copies (seen (D.history device.old).now) 2 targets.now) (D.history device.old) (D.history device.new)) }
+    ensures size { D.size device.new ≡ D.size device.old }
+    ensures failures { FailsCounted (D.failed device.old) (D.failed device.new) result }
+{
+    let mut content = [0; SECTOR];
+    for (i, target) in targets.iter().enumerate() {
+        device.read(PAYLOAD + i as u32, &mut content)?;
+        device.write(*target, &content)?;
+    }
+    device.sync()?;
+    Ok(())
+}
+
+/// Writes one sector: the gate or the superblock.
+pub(crate) fn write_sector<D: Device>(
+    device: &mut D,
+    n: u32,
+    content: &[u8; SECTOR],
+) -> Result<(), DiskFault>
+    requires { n < D.size device.old }
+    ensures moments { D.keeps_word
+        → AddsUpdates ((record { target = n; content = content.now }) ∷ []) (D.history device.old) (D.history device.new) }
+    ensures ok { D.keeps_word → OnOk result
+        (IsFixedAs ((record { target = n; content = content.now }) ∷ []) (D.history device.old) (D.history device.new)) }
+    ensures size { D.size device.new ≡ D.size device.old }
+    ensures failures { FailsCounted (D.failed device.old) (D.failed device.new) result }
+{
+    device.write(n, content)?;
+    device.sync()?;
+    Ok(())
+}
+
+/// Writes every sector but sector 0: what the updates say, and zeros elsewhere.
+pub(crate) fn write_fresh<D: Device>(device: &mut D, updates: &[Update]) -> Result<(), DiskFault>
+    requires { 256 ≤ D.size device.old }
+    ensures moments { D.keeps_word
+        → AddsUpdates (fresh (D.size device.old) updates.now) (D.history device.old) (D.history device.new) }
+    ensures ok { D.keeps_word → OnOk result
+        (IsFixedAs (fresh (D.size device.old) updates.now) (D.history device.old) (D.history device.new)) }
+    ensures size { D.size device.new ≡ D.size device.old }
+    ensures failures { FailsCounted (D.failed device.old) (D.failed device.new) result }
+{
+    for n in 1..device.sectors() {
+        let content = list::newer(updates, n, None).unwrap_or(layout::zeros());
+        device.write(n, &content)?;
+    }
+    device.sync()?;
+    Ok(())
+}
