@@ -2,13 +2,12 @@
 
 use crate::command::command;
 use std::alloc::AllocError;
-use std::fs;
 use std::fs::File;
-use std::io;
 use std::io::{ErrorKind, Write};
 use std::process::Abort;
 use std::rt::Files;
 use std::test::Fail;
+use std::{fs, io};
 
 /// What a run of the program left.
 #[derive(Debug, PartialEq, Eq, Drop)]
@@ -51,13 +50,48 @@ fn a_script_runs_on_a_volume_in_memory(rt: HostRuntime) {
 
 #[test]
 fn a_file_is_formatted_and_runs(rt: HostRuntime) -> Result<(), Fail> {
-    expect_run(&rt, &["format", "runs.img", "256", "16"], "", 0, "formatted\n", "");
+    expect_run(
+        &rt,
+        &["format", "runs.img", "256", "16"],
+        "",
+        0,
+        "formatted\n",
+        "",
+    );
     assert_eq!(rt; fs::read(&rt, "runs.img")?.len(), 1048576);
     fs::write(&rt, "runs.txt", "A hello 7 7\n")?;
-    expect_run(&rt, &["run", "runs.img", "runs.txt"], "", 0, "A client 4294967297 1\n", "");
-    expect_run(&rt, &["run", "runs.img", "runs.txt"], "", 0, "A client 8589934593 1\n", "");
-    expect_run(&rt, &["format", "runs.img", "256", "16"], "", 0, "formatted\n", "");
-    expect_run(&rt, &["run", "runs.img", "runs.txt"], "", 0, "A client 4294967297 1\n", "");
+    expect_run(
+        &rt,
+        &["run", "runs.img", "runs.txt"],
+        "",
+        0,
+        "A client 4294967297 1\n",
+        "",
+    );
+    expect_run(
+        &rt,
+        &["run", "runs.img", "runs.txt"],
+        "",
+        0,
+        "A client 8589934593 1\n",
+        "",
+    );
+    expect_run(
+        &rt,
+        &["format", "runs.img", "256", "16"],
+        "",
+        0,
+        "formatted\n",
+        "",
+    );
+    expect_run(
+        &rt,
+        &["run", "runs.img", "runs.txt"],
+        "",
+        0,
+        "A client 4294967297 1\n",
+        "",
+    );
     fs::remove_file(&rt, "runs.txt")?;
     fs::remove_file(&rt, "runs.img")?;
     Ok(())
@@ -97,11 +131,32 @@ fn words_of_no_form_are_a_usage_fault(rt: HostRuntime) {
 
 #[test]
 fn a_size_that_no_volume_has_leaves_the_file_alone(rt: HostRuntime) -> Result<(), Fail> {
-    expect_run(&rt, &["format", "size.img", "256", "93"], "", 1, "", "refused: Size\n");
-    expect_run(&rt, &["format", "size.img", "1000", "257"], "", 1, "", "refused: Size\n");
+    expect_run(
+        &rt,
+        &["format", "size.img", "256", "93"],
+        "",
+        1,
+        "",
+        "refused: Size\n",
+    );
+    expect_run(
+        &rt,
+        &["format", "size.img", "1000", "257"],
+        "",
+        1,
+        "",
+        "refused: Size\n",
+    );
     assert!(rt; fs::read(&rt, "size.img").is_err());
     fs::write(&rt, "size.img", "kept")?;
-    expect_run(&rt, &["format", "size.img", "256", "93"], "", 1, "", "refused: Size\n");
+    expect_run(
+        &rt,
+        &["format", "size.img", "256", "93"],
+        "",
+        1,
+        "",
+        "refused: Size\n",
+    );
     assert_eq!(rt; fs::read(&rt, "size.img")?.as_slice(), b"kept".as_slice());
     fs::remove_file(&rt, "size.img")?;
     Ok(())
@@ -110,11 +165,32 @@ fn a_size_that_no_volume_has_leaves_the_file_alone(rt: HostRuntime) -> Result<()
 #[test]
 fn files_that_cannot_be_opened_are_told(rt: HostRuntime) -> Result<(), Fail> {
     fs::write(&rt, "open.txt", "A hello 7 7\n")?;
-    expect_run(&rt, &["run", "missing.img", "open.txt"], "", 1, "", "refused: Open\n");
-    expect_run(&rt, &["run", "open.txt", "missing.txt"], "", 1, "", "refused: Open\n");
+    expect_run(
+        &rt,
+        &["run", "missing.img", "open.txt"],
+        "",
+        1,
+        "",
+        "refused: Open\n",
+    );
+    expect_run(
+        &rt,
+        &["run", "open.txt", "missing.txt"],
+        "",
+        1,
+        "",
+        "refused: Open\n",
+    );
     expect_run(&rt, &["run", ".", "open.txt"], "", 1, "", "refused: Open\n");
     expect_run(&rt, &["run", "open.txt", "."], "", 1, "", "refused: Open\n");
-    expect_run(&rt, &["format", ".", "256", "16"], "", 1, "", "refused: Open\n");
+    expect_run(
+        &rt,
+        &["format", ".", "256", "16"],
+        "",
+        1,
+        "",
+        "refused: Open\n",
+    );
     fs::remove_file(&rt, "open.txt")?;
     Ok(())
 }
@@ -139,11 +215,32 @@ fn lines_of_no_form_stop_the_script(rt: HostRuntime) -> Result<(), Fail> {
     for line in lines {
         expect_run(&rt, &[], line, 1, "", "refused: Script\n");
     }
-    expect_run(&rt, &["format", "lines.img", "256", "16"], "", 0, "formatted\n", "");
+    expect_run(
+        &rt,
+        &["format", "lines.img", "256", "16"],
+        "",
+        0,
+        "formatted\n",
+        "",
+    );
     fs::write(&rt, "lines.txt", b"A hello 7 7\n\xff\n".as_slice())?;
-    expect_run(&rt, &["run", "lines.img", "lines.txt"], "", 1, "", "refused: Script\n");
+    expect_run(
+        &rt,
+        &["run", "lines.img", "lines.txt"],
+        "",
+        1,
+        "",
+        "refused: Script\n",
+    );
     fs::write(&rt, "lines.txt", "A hello 7 7\nB\nC hello 7 7\n")?;
-    expect_run(&rt, &["run", "lines.img", "lines.txt"], "", 1, "A client 4294967297 1\n", "refused: Script\n");
+    expect_run(
+        &rt,
+        &["run", "lines.img", "lines.txt"],
+        "",
+        1,
+        "A client 4294967297 1\n",
+        "refused: Script\n",
+    );
     fs::remove_file(&rt, "lines.txt")?;
     fs::remove_file(&rt, "lines.img")?;
     Ok(())
@@ -152,7 +249,14 @@ fn lines_of_no_form_stop_the_script(rt: HostRuntime) -> Result<(), Fail> {
 #[test]
 fn what_the_server_refuses_is_told(rt: HostRuntime) -> Result<(), Fail> {
     let twice = "A hello 7 7\nA hello 7 7\n";
-    expect_run(&rt, &[], twice, 1, "A client 4294967297 1\n", "refused: Status\n");
+    expect_run(
+        &rt,
+        &[],
+        twice,
+        1,
+        "A client 4294967297 1\n",
+        "refused: Status\n",
+    );
     let mut many = String::new(rt.alloc());
     for name in 'A'..='Q' {
         many.push(name)?;
@@ -173,7 +277,14 @@ fn what_the_server_refuses_is_told(rt: HostRuntime) -> Result<(), Fail> {
 #[test]
 fn what_is_no_sound_volume_stays_as_it_was(rt: HostRuntime) -> Result<(), Fail> {
     fs::write(&rt, "sound.txt", "A hello 7 7\n")?;
-    expect_run(&rt, &["format", "sound.img", "256", "16"], "", 0, "formatted\n", "");
+    expect_run(
+        &rt,
+        &["format", "sound.img", "256", "16"],
+        "",
+        0,
+        "formatted\n",
+        "",
+    );
     let volume = fs::read(&rt, "sound.img")?;
     // The place of a byte, what is put there, and the refusal.
     let faults = [
@@ -198,12 +309,30 @@ fn what_is_no_sound_volume_stays_as_it_was(rt: HostRuntime) -> Result<(), Fail> 
         *at = 255;
     }
     fs::write(&rt, "sound.img", worn.as_slice())?;
-    expect_run(&rt, &["run", "sound.img", "sound.txt"], "", 1, "", "refused: Worn\n");
+    expect_run(
+        &rt,
+        &["run", "sound.img", "sound.txt"],
+        "",
+        1,
+        "",
+        "refused: Worn\n",
+    );
     assert!(rt; fs::read(&rt, "sound.img")?.as_slice() == worn.as_slice());
     fs::remove_file(&rt, "sound.img")?;
     for short in [0usize, 100, 4096, 5000] {
-        fs::write(&rt, "sound.img", volume.as_slice().get(..short).ok_or("a short volume")?)?;
-        expect_run(&rt, &["run", "sound.img", "sound.txt"], "", 1, "", "refused: NotVolume\n");
+        fs::write(
+            &rt,
+            "sound.img",
+            volume.as_slice().get(..short).ok_or("a short volume")?,
+        )?;
+        expect_run(
+            &rt,
+            &["run", "sound.img", "sound.txt"],
+            "",
+            1,
+            "",
+            "refused: NotVolume\n",
+        );
         assert_eq!(rt; fs::read(&rt, "sound.img")?.len(), short);
         fs::remove_file(&rt, "sound.img")?;
     }

@@ -22,8 +22,8 @@ mod superblock;
 mod turn;
 
 pub use fault::{FormatFault, MountFault, ServerFault};
-pub use superblock::is_volume_size;
 pub use server::{Server, Unmounted};
+pub use superblock::is_volume_size;
 pub use turn::Turn;
 
 #[cfg(test)]
