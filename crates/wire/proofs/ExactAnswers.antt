@@ -10,7 +10,7 @@ use Rattle.xdr.specs.Union.{made}
 use Rattle.xdr.proofs.Steps.{bind_ok, chosen, ok_is, IsBytes-behind}
 use Rattle.xdr.proofs.Numbers.{int_takes, int_again, int_exact, hyper_exact}
 use Rattle.xdr.proofs.Sequences.{void_exact, then_exact, of_exact, one_spelling}
-use Rattle.xdr.proofs.Tests.{boolean_exact, always_exact}
+use Rattle.xdr.proofs.Passing.{boolean_exact, always_exact}
 use Rattle.xdr.proofs.Arrays.{chain_exact, trimmed_exact}
 use Rattle.xdr.proofs.Unions.{TakesOne, TakesBy, AgainBy, on_takes, no_other_takes, union_exact, made_again}
 use Rattle.model.specs.declared.status.Status.{Status}

@@ -12,7 +12,7 @@ use Rattle.wire.specs.ArgumentView.{argument_view}
 use Rattle.xdr.specs.Union.{on, no_other, any_other, other_below}
 use Rattle.xdr.proofs.Numbers.{int_exact, hyper_exact}
 use Rattle.xdr.proofs.Sequences.{void_exact, then_exact, of_exact, one_spelling}
-use Rattle.xdr.proofs.Tests.{boolean_exact, below_exact, always_exact}
+use Rattle.xdr.proofs.Passing.{boolean_exact, below_exact, always_exact}
 use Rattle.xdr.proofs.Arrays.{array_exact, optional_exact, bitmap_exact}
 use Rattle.xdr.proofs.Unions.{TakesBy, AgainBy, on_takes, no_other_takes, any_other_takes, other_below_takes, union_exact, made_again}
 use Rattle.model.specs.Operation.{Attributes, NewDirectory, OtherType, NoCreate, Unchecked, Guarded, Claim, ByName, ByHandle, OtherClaim, Opening, Opens, Exclusive, Argument}

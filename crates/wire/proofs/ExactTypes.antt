@@ -6,7 +6,7 @@ use Rattle.xdr.specs.Union.{on, no_other}
 use Rattle.xdr.specs.Laws.{Exact}
 use Rattle.xdr.proofs.Numbers.{int_exact, hyper_exact}
 use Rattle.xdr.proofs.Sequences.{void_exact, then_exact, of_exact}
-use Rattle.xdr.proofs.Tests.{boolean_exact}
+use Rattle.xdr.proofs.Passing.{boolean_exact}
 use Rattle.xdr.proofs.Opaques.{fixed_exact, opaque_exact}
 use Rattle.xdr.proofs.Arrays.{array_exact, optional_exact, bitmap_exact}
 use Rattle.xdr.proofs.Unions.{TakesBy, AgainBy, on_takes, no_other_takes, union_exact, made_again}

@@ -12,7 +12,7 @@ use Rattle.xdr.specs.Forms.{each_at, elements, elements_at, array, one_at_most, 
 use Rattle.xdr.specs.Laws.{IsBytes, Exact}
 use Rattle.xdr.proofs.Steps.{bind_ok, guard_ok, pass_ok, chosen, ok_is, IsBytes-behind}
 use Rattle.xdr.proofs.Numbers.{int_takes, int_again, int_exact, length-number_32}
-use Rattle.xdr.proofs.Tests.{only_exact, boolean_takes, boolean_again}
+use Rattle.xdr.proofs.Passing.{only_exact, boolean_takes, boolean_again}
 
 -- what a list of elements takes from bytes
 pub record TakesEach {V : Type 0} (g : Grammar V) (bytes : List ℕ) (vs : List V) (text rest : List ℕ) : Type 0 where

@@ -1,7 +1,7 @@
 pub mod Steps
 pub mod Numbers
 pub mod Sequences
-pub mod Tests
+pub mod Passing
 pub mod Opaques
 pub mod Arrays
 pub mod Unions

@@ -1,6 +1,6 @@
 use Rattle.xdr.specs.Forms.{boolean}
 use Rattle.xdr.proofs.Sequences.{one_spelling}
-use Rattle.xdr.proofs.Tests.{boolean_exact}
+use Rattle.xdr.proofs.Passing.{boolean_exact}
 use Rattle.xdr.proofs.laws.booleans_are_exact.Goals as goal
 
 pub returns-clause-exact : goal.returns-clause-exact

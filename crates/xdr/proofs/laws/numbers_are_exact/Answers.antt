@@ -1,7 +1,7 @@
 use Rattle.xdr.specs.Grammar.{unsigned_int, unsigned_hyper}
 use Rattle.xdr.proofs.Numbers.{int_exact, hyper_exact}
 use Rattle.xdr.proofs.Sequences.{one_spelling}
-use Rattle.xdr.proofs.Tests.{below_exact}
+use Rattle.xdr.proofs.Passing.{below_exact}
 use Rattle.xdr.proofs.laws.numbers_are_exact.Goals as goal
 
 pub returns-clause-int : goal.returns-clause-int
