@@ -12,3 +12,6 @@ mod recover;
 
 pub use fault::{JournalFault, MountFault};
 pub use journal::Journal;
+
+#[cfg(test)]
+mod tests;
