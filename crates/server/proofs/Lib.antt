@@ -6,3 +6,4 @@ pub mod MountPhases
 pub mod SuperblockLemmas
 pub mod Lengths
 pub mod Receiving
+pub mod CountLaws

@@ -1,6 +1,6 @@
 -- The first sector of a volume: bytes 0 to 7 the magic, then version, sectors, nodes and restart
 -- count, four bytes each and big-endian, and zeros.
-use Rattle.std.specs.Prelude.{◌==◌, ◌&&◌, ◌+◌, ◌-◌, ◌^◌, ℕ, Bool, not, List, [], ◌∷◌, ◌++◌, take, drop, replicate, nat_eq, nat_le, if◌then◌else◌}
+use Rattle.std.specs.Prelude.{◌≡◌, ◌<◌, ◌==◌, ◌&&◌, ◌+◌, ◌-◌, ◌^◌, length, ℕ, Bool, not, List, [], ◌∷◌, ◌++◌, take, drop, replicate, nat_eq, nat_le, if◌then◌else◌}
 use Rattle.std.specs.List.{starts_with, list_all}
 use Rattle.byteorder.specs.Endian.{big_bytes, big_number}
 use Rattle.server.specs.declared.superblock.Verdict.{Verdict}
@@ -52,3 +52,8 @@ verdict sectors sector =
 -- the sector with its count raised by one
 unfoldable pub raised : List ℕ → List ℕ
 raised sector = take 20 sector ++ big_bytes 4 (count_in sector + 1) ++ drop 24 sector
+
+-- A raised count is one more, and the volume can be mounted again until the count is full.
+pub record CountsUp : Type 0 where
+  pub one_more : (sector : List ℕ) → length sector ≡ 4096 → count_in sector < last_count → count_in (raised sector) ≡ count_in sector + 1
+  pub again : (sectors : ℕ) (sector : List ℕ) → length sector ≡ 4096 → verdict sectors sector ≡ Sound → count_in sector + 1 < last_count → verdict sectors (raised sector) ≡ Sound

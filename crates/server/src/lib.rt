@@ -10,6 +10,7 @@ mod exchange;
 mod fault;
 mod format;
 mod header;
+pub mod laws;
 mod mount;
 mod outcome;
 mod receive;
