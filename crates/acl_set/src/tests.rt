@@ -1,5 +1,6 @@
 use super::*;
 use bitflags::Flags;
+use std::alloc::Global;
 use std::test::Fail;
 
 fn entry(kind: AceKind, who: Who, mask: u32, flags: u32) -> Ace {
@@ -77,62 +78,51 @@ fn inheritance(rt: HostRuntime) -> Result<(), Fail> {
     Ok(())
 }
 
+// An entry: allowed or denied, to whom, its mask, its flags.
+type Row = (AceKind, Who, u32, u32);
+
+fn entries(alloc: Global, rows: &[Row]) -> Result<Vec<Ace>, Fail> {
+    let mut entries = Vec::new(alloc);
+    for (kind, who, mask, flags) in rows {
+        entries.push(entry(*kind, *who, *mask, *flags))?;
+    }
+    Ok(entries)
+}
+
+const GIVEN: [Row; 1] = [(AceKind::Deny, Who::User(7), 0x2, 0)];
+
+const INHERITED: [Row; 2] = [
+    (AceKind::Allow, Who::User(5), 0x1, 0),
+    (AceKind::Allow, Who::Everyone, 0x1, 0),
+];
+
+const OF_MODE_400: [Row; 3] = [
+    (AceKind::Allow, Who::Owner, 0x01, 0),
+    (AceKind::Deny, Who::Owner, 0x26, 0),
+    (AceKind::Deny, Who::Group, 0x27, 0),
+];
+
+// Whether nothing is given, the mode 400, a list; and the new file's list.
+const CREATIONS: [(bool, bool, bool, &[Row]); 5] = [
+    (true, false, false, &[]),
+    (false, false, false, &INHERITED),
+    (false, true, false, &OF_MODE_400),
+    (false, false, true, &GIVEN),
+    (false, true, true, &GIVEN),
+];
+
 #[test]
 fn creation(rt: HostRuntime) -> Result<(), Fail> {
-    let given_list = [entry(AceKind::Deny, Who::User(7), 0x2, 0)];
-    let of_mode = [
-        entry(AceKind::Allow, Who::Owner, 0x01, 0),
-        entry(AceKind::Deny, Who::Owner, 0x26, 0),
-        entry(AceKind::Deny, Who::Group, 0x27, 0),
-    ];
-    let cases: [(Given, &[Ace]); 5] = [
-        (
-            Given {
-                empty: true,
-                mode: None,
-                acl: None,
-            },
-            &[],
-        ),
-        (
-            Given {
-                empty: false,
-                mode: None,
-                acl: None,
-            },
-            &[
-                entry(AceKind::Allow, Who::User(5), 0x1, 0),
-                entry(AceKind::Allow, Who::Everyone, 0x1, 0),
-            ],
-        ),
-        (
-            Given {
-                empty: false,
-                mode: Some(0o400),
-                acl: None,
-            },
-            &of_mode,
-        ),
-        (
-            Given {
-                empty: false,
-                mode: None,
-                acl: Some(&given_list),
-            },
-            &given_list,
-        ),
-        (
-            Given {
-                empty: false,
-                mode: Some(0o400),
-                acl: Some(&given_list),
-            },
-            &given_list,
-        ),
-    ];
-    for (given, want) in cases {
+    let given_list = entries(rt.alloc(), &GIVEN)?;
+    for (empty, has_mode, has_list, want) in CREATIONS {
+        let given = Given {
+            empty,
+            mode: has_mode.then_some(0o400),
+            acl: has_list.then_some(given_list.as_slice()),
+        };
         let list = at_creation(rt.alloc(), &parent(), NodeKind::File, &given)?;
-        assert_eq!(rt; list.as_slice(), want);
+        let want = entries(rt.alloc(), want)?;
+        assert_eq!(rt; list.as_slice(), want.as_slice());
     }
     Ok(())
 }

@@ -5,17 +5,17 @@ use Rattle.std.proofs.lemmas.Bool.{cases_eq, cases_lt}
 use Rattle.std.proofs.lemmas.List.{length-set, length-take, length-map, length_push, get_or-set_same, get_or-set_other, get_or-take, get_or-map, get_or_default, get_or_append_left, get_or_push, take-map, map-set}
 use Rattle.sector.specs.Written.{each_at, each_push}
 use Rattle.directory.specs.declared.entry.Entry.{Entry}
-use Rattle.directory.specs.Records.{Record, record_of, record_from, without_place, AreApart, IsRecord, IsDirectory}
+use Rattle.directory.specs.Records.{Record, record_of, record_from, without_place, name_of, ApartBy, AreApart, IsRecord, IsDirectory}
 
-each_set : (xs : List Record) (p : ℕ) (x : Record) → AllByRecursion IsRecord xs → IsRecord x → AllByRecursion IsRecord (set xs p x)
-each_set [] p x all is = tt
-each_set (y ∷ xs) zero x all is = (is, all.1)
-each_set (y ∷ xs) (suc p) x all is = (all.0, each_set xs p x all.1 is)
+pub each_set : (P : Record → Type 0) (xs : List Record) (p : ℕ) (x : Record) → AllByRecursion P xs → P x → AllByRecursion P (set xs p x)
+each_set P [] p x all is = tt
+each_set P (y ∷ xs) zero x all is = (is, all.1)
+each_set P (y ∷ xs) (suc p) x all is = (all.0, each_set P xs p x all.1 is)
 
-each_take : (n : ℕ) (xs : List Record) → AllByRecursion IsRecord xs → AllByRecursion IsRecord (take n xs)
-each_take zero xs all = tt
-each_take (suc n) [] all = tt
-each_take (suc n) (x ∷ xs) all = (all.0, each_take n xs all.1)
+pub each_take : (P : Record → Type 0) (n : ℕ) (xs : List Record) → AllByRecursion P xs → AllByRecursion P (take n xs)
+each_take P zero xs all = tt
+each_take P (suc n) [] all = tt
+each_take P (suc n) (x ∷ xs) all = (all.0, each_take P n xs all.1)
 
 -- the same names at the same places
 apart_same : (xs ys : List Record) → length ys ≡ length xs → ((i : ℕ) (d : Record) → i < length xs → (get_or ys i d).1.name ≡ (get_or xs i d).1.name) → AreApart xs → AreApart ys
@@ -32,7 +32,7 @@ set_name xs p new h same i d lt =
 pub IsDirectory-set : (xs : List Record) (p : ℕ) (new : Record) → IsDirectory xs → p < length xs → ((d : Record) → (get_or xs p d).1.name ≡ new.1.name) → IsRecord new → IsDirectory (set xs p new)
 IsDirectory-set xs p new kept h same is = record {
   few = omega (arith, length-set xs p new, kept.few);
-  each = each_set xs p new kept.each is;
+  each = each_set IsRecord xs p new kept.each is;
   apart = apart_same xs (set xs p new) (length-set xs p new) (set_name xs p new h same) kept.apart;
 }
 
@@ -51,35 +51,34 @@ IsDirectory-push xs new kept room fresh is = record {
 }
 
 -- the last record, and what stands at a place once it moved
-module _ (xs : List Record) (p : ℕ) (kept : IsDirectory xs) (h : p < length xs) (last : Record) (is : last ≡ get_or xs (length xs - 1) last) where
-  moved_at : (i : ℕ) (d : Record) → i < length xs - 1 → (i ≢ p) → get_or (take (length xs - 1) (set xs p last)) i d ≡ get_or xs i d
+module _ (xs : List Record) (p : ℕ) (h : p < length xs) (last : Record) (is : last ≡ get_or xs (length xs - 1) last) where
+  pub moved_at : (i : ℕ) (d : Record) → i < length xs - 1 → (i ≢ p) → get_or (take (length xs - 1) (set xs p last)) i d ≡ get_or xs i d
   moved_at i d lt apart = get_or-take (length xs - 1) (set xs p last) i d lt ∙ get_or-set_other xs p i last d apart
 
-  moved_here : (i : ℕ) (d : Record) → i < length xs - 1 → i ≡ p → get_or (take (length xs - 1) (set xs p last)) i d ≡ get_or xs (length xs - 1) d
+  pub moved_here : (i : ℕ) (d : Record) → i < length xs - 1 → i ≡ p → get_or (take (length xs - 1) (set xs p last)) i d ≡ get_or xs (length xs - 1) d
   moved_here i d lt e =
       get_or-take (length xs - 1) (set xs p last) i d lt ∙ ap (λ (k : ℕ). get_or (set xs p last) k d) e ∙ get_or-set_same xs p last d h ∙ is
       ∙ get_or_default xs (length xs - 1) last d (omega arith)
 
-  moved_apart : AreApart (take (length xs - 1) (set xs p last))
-  moved_apart i j d lt within =
+  pub moved_apart : {K : Type 0} (key_of : Record → K) → ApartBy key_of xs → ApartBy key_of (take (length xs - 1) (set xs p last))
+  moved_apart key_of distinct i j d lt within =
       let end : j < length xs - 1 = omega (arith, length-take (length xs - 1) (set xs p last), length-set xs p last) in
-      let name = λ (r : Record). r.1.name in
       elim (cases_eq i p) [
         | inl here ↦
             let other : j ≢ p = omega arith in
-            λ e. kept.apart j (length xs - 1) d end (omega arith) (sym (ap name (sym (moved_here i d (omega arith) here)) ∙ e ∙ ap name (moved_at j d end other)))
+            λ e. distinct j (length xs - 1) d end (omega arith) (sym (ap key_of (sym (moved_here i d (omega arith) here)) ∙ e ∙ ap key_of (moved_at j d end other)))
         | inr apart ↦
             elim (cases_eq j p) [
-              | inl here ↦ λ e. kept.apart i (length xs - 1) d (omega arith) (omega arith) (ap name (sym (moved_at i d (omega arith) apart)) ∙ e ∙ ap name (moved_here j d end here))
-              | inr other ↦ λ e. kept.apart i j d lt (omega arith) (ap name (sym (moved_at i d (omega arith) apart)) ∙ e ∙ ap name (moved_at j d end other))
+              | inl here ↦ λ e. distinct i (length xs - 1) d (omega arith) (omega arith) (ap key_of (sym (moved_at i d (omega arith) apart)) ∙ e ∙ ap key_of (moved_here j d end here))
+              | inr other ↦ λ e. distinct i j d lt (omega arith) (ap key_of (sym (moved_at i d (omega arith) apart)) ∙ e ∙ ap key_of (moved_at j d end other))
             ]
       ]
 
-  IsDirectory-moved : IsDirectory (take (length xs - 1) (set xs p last))
-  IsDirectory-moved = record {
+  IsDirectory-moved : IsDirectory xs → IsDirectory (take (length xs - 1) (set xs p last))
+  IsDirectory-moved kept = record {
     few = omega (arith, length-take (length xs - 1) (set xs p last), length-set xs p last, kept.few);
-    each = each_take (length xs - 1) (set xs p last) (each_set xs p last kept.each (rw is (each_at IsRecord xs (length xs - 1) last kept.each (omega arith))));
-    apart = moved_apart;
+    each = each_take IsRecord (length xs - 1) (set xs p last) (each_set IsRecord xs p last kept.each (rw is (each_at IsRecord xs (length xs - 1) last kept.each (omega arith))));
+    apart = moved_apart name_of kept.apart;
   }
 
 nameless : Record
@@ -90,7 +89,7 @@ unfolding nameless
 IsDirectory-remove (x ∷ xs) p kept h =
     let ys = x ∷ xs in
     let last = get_or ys (length ys - 1) nameless in
-    IsDirectory-moved ys p kept h last (get_or_default ys (length ys - 1) nameless last (omega arith))
+    IsDirectory-moved ys p h last (get_or_default ys (length ys - 1) nameless last (omega arith)) kept
 IsDirectory-remove [] p kept h = absurd (omega arith)
 
 -- the records of entries from which one was taken

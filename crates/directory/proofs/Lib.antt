@@ -2,3 +2,9 @@ pub mod Places
 pub mod Kept
 pub mod Changes
 pub mod Sector
+pub mod ByStamp
+pub mod PagingLaw
+pub mod Apart
+pub mod MapLaws
+pub mod RecordMaps
+pub mod NamedByStamp

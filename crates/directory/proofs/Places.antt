@@ -73,7 +73,7 @@ with_record-push (x ∷ xs) new h = push_step (is_named new.1.name x) x new xs (
 
 -- ---- a name that stands nowhere
 
-bytes_eq-same : (a : List ℕ) → bytes_eq a a ≡ true
+pub bytes_eq-same : (a : List ℕ) → bytes_eq a a ≡ true
 bytes_eq-same [] = refl
 bytes_eq-same (x ∷ a) = let front : eqb x x ≡ true = eq-eqb x x refl in rw (front, bytes_eq-same a) refl
 

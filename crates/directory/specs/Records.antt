@@ -31,9 +31,24 @@ abbrev pub with_record : List Record → Record → List Record
 with_record [] new = new ∷ []
 with_record (entry ∷ rest) new = if is_named new.1.name entry then new ∷ rest else entry ∷ with_record rest new
 
--- no two records have one name
+-- no two records have one name, or one stamp
+
+abbrev pub ApartBy : {K : Type 0} → (key_of : Record → K) → List Record → Type 0
+ApartBy key_of names = (i j : ℕ) (d : Record) → i < j → j < length names → key_of (slice_index_or names i d) ≢ key_of (slice_index_or names j d)
+
+abbrev pub name_of : Record → List ℕ
+name_of entry = entry.1.name
+
+abbrev pub stamp_of : Record → ℕ
+stamp_of entry = entry.0
+
 abbrev pub AreApart : List Record → Type 0
-AreApart names = (i j : ℕ) (d : Record) → i < j → j < length names → (slice_index_or names i d).1.name ≢ (slice_index_or names j d).1.name
+AreApart names = ApartBy name_of names
+
+-- stamps are above 0 and apart
+pub record AreStamped (names : List Record) : Type 0 where
+  pub above : AllByRecursion (λ entry. 0 < entry.0) names
+  pub apart : ApartBy stamp_of names
 
 -- the records without the one at a place, into which the last one moves
 abbrev pub without_place : List Record → ℕ → List Record

@@ -3,12 +3,16 @@
 
 mod entry;
 mod fault;
+mod listing;
 mod names;
+mod paging;
 mod sectors;
 
 pub use entry::Entry;
 pub use fault::{DirectoryFault, RecordsFault};
+pub use listing::ListAfter;
 pub use names::Names;
+pub use paging::every_paging;
 pub use sectors::{RECORDS, read_records};
 
 #[cfg(test)]

@@ -1,12 +1,17 @@
 //! The names of a directory.
 
-ghost use Rattle.std.specs.Prelude.{◌≡◌, ◌≢◌, ◌<◌, ◌≤◌, ◌+◌, ℕ, List, [], Option, Some, None, length, map, take, drop, option_map, slice_get, slice_set, IsErrOf, IfOk, IfSome, IfNone, OnOk, OnErr};
+ghost use Rattle.std.specs.Prelude.{◌≡◌, ◌≢◌, ◌<◌, ◌≤◌, ◌+◌, ℕ, List, [], Option, Some, None, length, map, take, drop, option_map, slice_get, slice_set, IsErrOf, IsTrue, ◌↔◌, IfOk, IfSome, IfNone, OnOk, OnErr};
+ghost use Rattle.std.specs.List.{AllByRecursion};
 ghost use Rattle.model.specs.Tree.{entry_of};
 ghost use Rattle.directory.specs.Spelling.{directory_sector};
-ghost use Rattle.directory.specs.Records.{record_of, record_from, place_of, with_record, without_place, IsDirectory};
+ghost use Rattle.directory.specs.Records.{record_of, record_from, place_of, with_record, without_place, AreApart, AreStamped, IsRecord, IsDirectory};
+ghost use Rattle.directory.specs.Listing.{by_stamp, after, without_entry};
+ghost use Rattle.model.specs.Keyed.{at, with};
+ghost use Rattle.directory.specs.Rest.{rest_of};
 
 use crate::entry::Entry;
 use crate::fault::DirectoryFault;
+use crate::listing::ListAfter;
 use crate::sectors::{self, RECORDS};
 use std::alloc::Global;
 use std::marker::Model;
@@ -47,6 +52,29 @@ impl Names {
         }
     }
 
+    /// The names of these records, which stand in one order in both.
+    ///
+    /// None exactly where they are no directory's: more than 1,024, two of one name, or a name without bytes or of more than 255.
+    pub fn from_entries(alloc: Global, entries: Vec<Entry>) -> Option<Names>
+        ensures some { IfSome result (λ names. names ≡ map record_of entries.items) }
+        ensures none { IfNone result (¬ IsDirectory (map record_of entries.items)) }
+    {
+        if entries.len() > Names::MOST || !are_records(&entries) || !are_apart(&entries) {
+            return None;
+        }
+        Some(Names { alloc, entries })
+    }
+
+    /// The names whose stamps are above this one, by rising stamp: what READDIR gives behind a cookie. Takes no memory.
+    pub fn list_after(&self, stamp: u64) -> ListAfter<'_>
+        ensures { rest_of result ≡ after stamp (by_stamp self.entry.now) }
+    {
+        ListAfter {
+            entries: &self.entries,
+            cookie: stamp,
+        }
+    }
+
     /// How many names there are.
     pub fn count(&self) -> usize
         ensures count { result ≡ length self.now }
@@ -57,7 +85,9 @@ impl Names {
 
     /// The name's stamp and the number of its node.
     pub fn get(&self, name: &[u8]) -> Option<(u64, u64)>
-        ensures { option_map (λ found. record_from found.0 name.now found.1) result ≡ entry_of name.now self.now }
+        ensures found { option_map (λ found. record_from found.0 name.now found.1) result ≡ entry_of name.now self.now }
+        ensures by_stamp { AreStamped self.now
+            → option_map (λ found. record_from found.0 name.now found.1) result ≡ entry_of name.now (by_stamp self.now) }
     {
         let place = place_in(&self.entries, name);
         let entry = self.entries.get(place)?;
@@ -76,6 +106,12 @@ impl Names {
         ensures place { IfOk result (λ place. place ≡ place_of name.now self.old) }
         ensures full { IsErrOf result DirectoryFault.Full → (place_of name.now self.old ≡ length self.old) × (length self.old ≡ 1024) }
         ensures err { OnErr result (self.new ≡ self.old) }
+
+        // The map from names, and the map by stamp.
+        ensures found { OnOk result (entry_of name.now self.new ≡ Some (record_from stamp name.now number)) }
+        ensures others { OnOk result ((other : List ℕ) → other ≢ name.now → entry_of other self.new ≡ entry_of other self.old) }
+        ensures by_stamp { OnOk result (AreStamped self.old → 0 < stamp → at stamp self.old ≡ None
+            → by_stamp self.new ≡ with (without_entry (by_stamp self.old) (entry_of name.now self.old)) stamp (record { name = name.now; number = number })) }
     {
         let place = place_in(&self.entries, name);
         if place < self.entries.len() {
@@ -111,6 +147,11 @@ impl Names {
         ensures removed { IfSome result (λ place. self.new ≡ without_place self.old place) }
         ensures absent { IfNone result (place_of name.now self.old ≡ length self.old) }
         ensures unchanged { IfNone result (self.new ≡ self.old) }
+
+        // The map from names, and the map by stamp.
+        ensures gone { entry_of name.now self.new ≡ None }
+        ensures others { (other : List ℕ) → other ≢ name.now → entry_of other self.new ≡ entry_of other self.old }
+        ensures by_stamp { AreStamped self.old → by_stamp self.new ≡ without_entry (by_stamp self.old) (entry_of name.now self.old) }
     {
         let place = place_in(&self.entries, name);
         if place >= self.entries.len() {
@@ -119,6 +160,39 @@ impl Names {
         self.entries.swap_remove(place);
         Some(place)
     }
+}
+
+// Whether each name has 1 to 255 bytes.
+fn are_records(entries: &[Entry]) -> bool
+    ensures { IsTrue result ↔ AllByRecursion IsRecord (map record_of entries.now) }
+{
+    for entry in entries {
+        if !is_record(entry) {
+            return false;
+        }
+    }
+    true
+}
+
+fn is_record(entry: &Entry) -> bool
+    ensures { IsTrue result ↔ IsRecord (record_of entry.now) }
+{
+    // Read, so that their range is known.
+    let _stamp = entry.stamp;
+    let _number = entry.number;
+    !entry.name.is_empty() && entry.name.len() <= 255
+}
+
+// Whether no two entries have one name.
+fn are_apart(entries: &[Entry]) -> bool
+    ensures { IsTrue result ↔ AreApart (map record_of entries.now) }
+{
+    for (i, entry) in entries.iter().enumerate() {
+        if place_in(entries, &entry.name) != i {
+            return false;
+        }
+    }
+    true
 }
 
 /// Where a name stands: behind the last entry where none has it.

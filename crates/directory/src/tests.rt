@@ -1,4 +1,5 @@
 use super::*;
+use std::alloc::Global;
 use std::test::Fail;
 
 /// "a" with stamp 0x1_0000_0001 and number 2, "bc" with stamp 0x1_0000_0003 and number 5.
@@ -87,5 +88,66 @@ fn full_at_the_1025th(rt: HostRuntime) -> Result<(), Fail> {
     assert_eq!(rt; names.put(b"new", 2000, 7), Err(DirectoryFault::Full));
     assert_eq!(rt; names.count(), 1024);
     assert_eq!(rt; names.put(&[0, 5], 2000, 8)?, 5);
+    Ok(())
+}
+
+fn entry(alloc: Global, name: &[u8], stamp: u64) -> Result<Entry, Fail> {
+    Ok(Entry {
+        name: Vec::from_slice(alloc, name)?,
+        stamp,
+        number: 102,
+    })
+}
+
+fn stamps(alloc: Global, names: &Names, cookie: u64) -> Result<Vec<u64>, Fail> {
+    let mut stamps = Vec::new(alloc);
+    for entry in names.list_after(cookie) {
+        stamps.push(entry.stamp)?;
+    }
+    Ok(stamps)
+}
+
+/// By rising stamp, whatever the order of the records is and becomes.
+#[test]
+fn lists_behind_a_cookie(rt: HostRuntime) -> Result<(), Fail> {
+    let mut names = Names::new(rt.alloc());
+    for (name, stamp) in [(b"a", 5), (b"b", 3), (b"c", 9)] {
+        names.put(name, stamp, 7)?;
+    }
+    assert_eq!(rt;
+        stamps(rt.alloc(), &names, 0)?.as_slice(),
+        [3, 5, 9].as_slice()
+    );
+    assert_eq!(rt;
+        stamps(rt.alloc(), &names, 3)?.as_slice(),
+        [5, 9].as_slice()
+    );
+    assert_eq!(rt; names.remove(b"a"), Some(0));
+    names.put(b"d", 12, 7)?;
+    assert_eq!(rt;
+        stamps(rt.alloc(), &names, 3)?.as_slice(),
+        [9, 12].as_slice()
+    );
+    assert!(rt; stamps(rt.alloc(), &names, 12)?.is_empty());
+    Ok(())
+}
+
+#[test]
+fn names_of_records(rt: HostRuntime) -> Result<(), Fail> {
+    for (second, there) in [(b"b".as_slice(), true), (b"a", false), (b"", false)] {
+        let mut entries = Vec::new(rt.alloc());
+        entries.push(entry(rt.alloc(), b"a", 2)?)?;
+        entries.push(entry(rt.alloc(), second, 1)?)?;
+        let names = Names::from_entries(rt.alloc(), entries);
+        assert_eq!(rt; names.is_some(), there);
+        if let Some(names) = names {
+            assert_eq!(rt; names.get(b"a"), Some((2, 102)));
+            assert_eq!(rt;
+                stamps(rt.alloc(), &names, 0)?.as_slice(),
+                [1, 2].as_slice()
+            );
+        }
+    }
+    every_paging();
     Ok(())
 }

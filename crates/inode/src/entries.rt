@@ -58,8 +58,8 @@ fn who_from(byte: u8, id: u32) -> Option<Who>
     }
 }
 
-/// Writes an entry from place `at` on.
-pub(crate) fn put_ace(sector: &mut [u8; 4096], at: usize, ace: Ace)
+/// Writes the 16 bytes of an entry from place `at` on.
+pub fn put_ace(sector: &mut [u8; 4096], at: usize, ace: Ace)
     requires within { at + 16 ≤ 4096 }
     requires ace { IsAce ace }
     ensures front { take (at + 16) sector.new ≡ take at sector.old ++ ace_bytes ace }
@@ -73,8 +73,8 @@ pub(crate) fn put_ace(sector: &mut [u8; 4096], at: usize, ace: Ace)
     put_zeros(sector, at + 12, 4);
 }
 
-/// The entry that would stand at place `at`; none where no entry does.
-pub(crate) fn ace_at(sector: &[u8; 4096], at: usize) -> Option<Ace>
+/// The entry that would stand at place `at`, whatever stands in the bytes that an entry has zero; none where no entry does.
+pub fn ace_at(sector: &[u8; 4096], at: usize) -> Option<Ace>
     requires { at + 16 ≤ 4096 }
     ensures fits { IfSome result IsAce }
     ensures only { (ace : Ace) (rest : List ℕ) → IsAce ace → drop at sector.now ≡ ace_bytes ace ++ rest → result ≡ Some ace }

@@ -7,6 +7,7 @@ mod node;
 mod reading;
 mod writing;
 
+pub use entries::{ace_at, put_ace};
 pub use fault::InodeFault;
 pub use node::{Form, Inode};
 pub use reading::from_sector;

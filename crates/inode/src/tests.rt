@@ -63,29 +63,30 @@ fn writes_the_layout(rt: HostRuntime) -> Result<(), Fail> {
     Ok(())
 }
 
-/// Magic, kind, counts, each place that has to be zero, an entry's type, who, flags and number.
+/// Magic, kind, counts, each place that has to be zero, an entry's type, who, flags and number: the byte of a place.
+const CHANGES: [(usize, u8); 17] = [
+    (0, b'M'),
+    (4, 0),
+    (4, 3),
+    (5, 41),
+    (6, 0x12),
+    (51, 0),
+    (55, 1),
+    (84, 1),
+    (127, 1),
+    (128, 2),
+    (129, 5),
+    (130, 16),
+    (131, 1),
+    (139, 1),
+    (143, 1),
+    (160, 1),
+    (4095, 1),
+];
+
 #[test]
 fn refuses_what_no_inode_spells(rt: HostRuntime) -> Result<(), Fail> {
-    let changes = [
-        (0, b'M'),
-        (4, 0),
-        (4, 3),
-        (5, 41),
-        (6, 0x12),
-        (51, 0),
-        (55, 1),
-        (84, 1),
-        (127, 1),
-        (128, 2),
-        (129, 5),
-        (130, 16),
-        (131, 1),
-        (139, 1),
-        (143, 1),
-        (160, 1),
-        (4095, 1),
-    ];
-    for (place, byte) in changes {
+    for (place, byte) in CHANGES {
         let mut sector = vector();
         let Some(at) = sector.get_mut(place) else {
             return Err("no such byte".into());

@@ -1,0 +1,30 @@
+-- Names that stand apart.
+use Rattle.std.proofs.Common.{ℕ, zero, suc, Bool, true, false, List, [], ◌∷◌, ◌≡◌, ◌≢◌, ◌<◌, ◌≤◌, ◌+◌, ◌∙◌, cond, bytes_eq, length, get_or, refl, sym, ap, arith}
+use Rattle.directory.specs.Records.{Record, is_named, place_of, AreApart}
+use Rattle.directory.proofs.Places.{named_there, bytes_eq-same}
+
+-- a name stands where a record has it, or before
+place_of-before : (name : List ℕ) (xs : List Record) (i : ℕ) (d : Record) → i < length xs → (get_or xs i d).1.name ≡ name → place_of name xs ≤ i
+place_of-before name [] i d within named = absurd (omega arith)
+place_of-before name (x ∷ xs) zero d within named =
+    let hit : is_named name x ≡ true = ap (bytes_eq name) named ∙ bytes_eq-same name in
+    rw hit (omega arith)
+place_of-before name (x ∷ xs) (suc i) d within named = step (is_named name x) (place_of-before name xs i d (omega arith) named)
+  where
+    step : (b : Bool) → place_of name xs ≤ i → cond b 0 (place_of name xs + 1) ≤ suc i
+    step true low = omega arith
+    step false low = omega arith
+
+-- where each name stands at its own place, no two are the same
+pub apart_places : (xs : List Record) → ((k : ℕ) (d : Record) → k < length xs → place_of (get_or xs k d).1.name xs ≡ k) → AreApart xs
+apart_places xs own i j d before within = λ same.
+    let one : i ≡ j = sym (own i d (omega arith)) ∙ (ap (λ n. place_of n xs) same ∙ own j d within) in
+    omega arith
+
+-- one that stands at another place is there twice
+pub not_apart : (xs : List Record) (i : ℕ) (d : Record) → i < length xs → place_of (get_or xs i d).1.name xs ≢ i → AreApart xs → ⊥
+not_apart xs i d within elsewhere apart =
+    let name = (get_or xs i d).1.name in
+    let low : place_of name xs ≤ i = place_of-before name xs i d within refl in
+    let before : place_of name xs < i = omega (arith, elsewhere) in
+    apart (place_of name xs) i d before within (named_there name xs d (omega arith))

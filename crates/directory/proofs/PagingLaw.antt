@@ -1,0 +1,139 @@
+-- What the calls of a listing show.
+use Rattle.std.proofs.Common.{ℕ, Bool, true, false, zero, suc, List, [], ◌∷◌, ◌++◌, ◌≡◌, ◌<◌, ◌≤◌, ◌==◌, ◌∙◌, Option, Some, None, inl, inr, length, get_or, refl, sym, ap, subst, arith}
+use Rattle.std.proofs.lemmas.Bool.{cases_lt}
+use Rattle.std.proofs.lemmas.List.{append-nil}
+use Rattle.std.specs.List.{AllByRecursion}
+use Rattle.model.specs.Keyed.{Keyed, at, here_or, IsAbove}
+use Rattle.model.specs.Tree.{DirEntry}
+use Rattle.model.proofs.KeyedLaws.{at-below, at-rest, some≢none}
+use Rattle.directory.specs.Records.{Record}
+use Rattle.directory.specs.Listing.{by_stamp, after, behind, last_cookie, Page, IsListing, all_shown, EveryPaging}
+use Rattle.directory.proofs.ByStamp.{IsRising, rising_above, rising_by_stamp, after_all, keeps, drops}
+
+-- What is behind a cookie is above it, and has what the map has there
+
+after_above : (cookie : ℕ) (entries : Keyed DirEntry) → IsRising entries → IsAbove cookie (after cookie entries)
+after_above cookie [] rising = tt
+after_above cookie (entry ∷ rest) rising = elim (cases_lt cookie entry.0) [
+  | inl above ↦
+      subst (IsAbove cookie) (sym (keeps cookie entry rest above ∙ ap (λ l. entry ∷ l) (after_all cookie entry.0 rest (omega arith) rising)))
+      (above, rising)
+  | inr below ↦
+      subst (IsAbove cookie) (sym (drops cookie entry rest below)) (after_above cookie rest (rising_above rest entry.0 rising))
+]
+
+at_after : (cookie key : ℕ) (entries : Keyed DirEntry) → cookie < key → at key (after cookie entries) ≡ at key entries
+at_after cookie key [] above = refl
+at_after cookie key (entry ∷ rest) above = elim (cases_lt cookie entry.0) [
+  | inl kept ↦
+      ap (at key) (keeps cookie entry rest kept) ∙ ap (λ o. here_or (key == entry.0) entry.1 o) (at_after cookie key rest above)
+  | inr dropped ↦
+      ap (at key) (drops cookie entry rest dropped)
+      ∙ (at_after cookie key rest above ∙ sym (at-rest entry.0 key entry.1 rest (omega arith)))
+]
+
+-- Entries behind one another
+
+last_high : (cookie : ℕ) (entries : Keyed DirEntry) → IsAbove cookie entries → cookie ≤ last_cookie cookie entries
+last_high cookie [] above = omega arith
+last_high cookie (entry ∷ rest) above = omega (arith, last_high entry.0 rest above.1, above.0)
+
+above_append : (cookie : ℕ) (front rest : Keyed DirEntry) → IsAbove cookie front → IsAbove (last_cookie cookie front) rest → IsAbove cookie (front ++ rest)
+above_append cookie [] rest above behind = behind
+above_append cookie (entry ∷ front) rest above behind = (above.0, above_append entry.0 front rest above.1 behind)
+
+above_front : (cookie : ℕ) (front rest : Keyed DirEntry) → IsAbove cookie (front ++ rest) → IsAbove cookie front
+above_front cookie [] rest above = tt
+above_front cookie (entry ∷ front) rest above = (above.0, above_front entry.0 front rest above.1)
+
+above_back : (cookie : ℕ) (front rest : Keyed DirEntry) → IsAbove cookie (front ++ rest) → IsAbove (last_cookie cookie front) rest
+above_back cookie [] rest above = above
+above_back cookie (entry ∷ front) rest above = above_back entry.0 front rest above.1
+
+at_front : (key : ℕ) (value : DirEntry) (front rest : Keyed DirEntry) → at key front ≡ Some value → at key (front ++ rest) ≡ Some value
+at_front key value [] rest is = absurd (some≢none value (sym is))
+at_front key value (first ∷ front) rest is = step (key == first.0) is (λ others. at_front key value front rest others)
+  where
+    step : (is_here : Bool) → here_or is_here first.1 (at key front) ≡ Some value → (at key front ≡ Some value → at key (front ++ rest) ≡ Some value)
+        → here_or is_here first.1 (at key (front ++ rest)) ≡ Some value
+    step true is others = is
+    step false is others = others is
+
+at_back : (key : ℕ) (front rest : Keyed DirEntry) → at key front ≡ None → at key (front ++ rest) ≡ at key rest
+at_back key [] rest none = refl
+at_back key (first ∷ front) rest none = step (key == first.0) none (λ others. at_back key front rest others)
+  where
+    step : (is_here : Bool) → here_or is_here first.1 (at key front) ≡ None → (at key front ≡ None → at key (front ++ rest) ≡ at key rest)
+        → here_or is_here first.1 (at key (front ++ rest)) ≡ at key rest
+    step true none others = absurd (some≢none first.1 none)
+    step false none others = others none
+
+-- the last of rising keys is the greatest
+at_past : (cookie key : ℕ) (entries : Keyed DirEntry) → IsAbove cookie entries → last_cookie cookie entries < key → at key entries ≡ None
+at_past cookie key [] above past = refl
+at_past cookie key (entry ∷ rest) above past =
+    let high : entry.0 ≤ last_cookie entry.0 rest = last_high entry.0 rest above.1 in
+    at-rest entry.0 key entry.1 rest (omega arith) ∙ at_past entry.0 key rest above.1 past
+
+-- an entry of the whole that is not behind the front's last is in the front
+in_front : (cookie key : ℕ) (value : DirEntry) (front rest : Keyed DirEntry) → IsAbove cookie (front ++ rest) → key ≤ last_cookie cookie front
+    → at key (front ++ rest) ≡ Some value → at key front ≡ Some value
+in_front cookie key value front rest above low is = step (at key front) refl
+  where
+    step : (found : Option DirEntry) → at key front ≡ found → at key front ≡ Some value
+    step None none = absurd (some≢none value (sym is ∙ (at_back key front rest none ∙ at-below rest (last_cookie cookie front) key (above_back cookie front rest above) low)))
+    step (Some other) there = there ∙ (sym (at_front key other front rest there) ∙ is)
+
+-- Listings
+
+rising_pages : (cookie : ℕ) (pages : List Page) → IsListing cookie pages → IsAbove cookie (all_shown pages)
+rising_pages cookie [] listing = absurd listing
+rising_pages cookie (page ∷ []) listing =
+    subst (IsAbove cookie) (listing ∙ sym (append-nil page.shown)) (after_above cookie (by_stamp page.records) (rising_by_stamp page.records))
+rising_pages cookie (page ∷ next ∷ rest) listing =
+    let whole = subst (IsAbove cookie) listing.0.1 (after_above cookie (by_stamp page.records) (rising_by_stamp page.records)) in
+    above_append cookie page.shown (all_shown (next ∷ rest)) (above_front cookie page.shown listing.0.0 whole)
+    (rising_pages (last_cookie cookie page.shown) (next ∷ rest) listing.1)
+
+shown_pages : (cookie : ℕ) (pages : List Page) → IsListing cookie pages → (stamp : ℕ) (entry : DirEntry) → cookie < stamp
+    → AllByRecursion (λ page. at stamp (by_stamp page.records) ≡ Some entry) pages → at stamp (all_shown pages) ≡ Some entry
+shown_pages cookie [] listing stamp entry above there = absurd listing
+shown_pages cookie (page ∷ []) listing stamp entry above there =
+    ap (at stamp) (append-nil page.shown ∙ sym listing) ∙ (at_after cookie stamp (by_stamp page.records) above ∙ there.0)
+shown_pages cookie (page ∷ next ∷ rest) listing stamp entry above there =
+    let whole = subst (IsAbove cookie) listing.0.1 (after_above cookie (by_stamp page.records) (rising_by_stamp page.records)) in
+    let others = all_shown (next ∷ rest) in
+    elim (cases_lt (last_cookie cookie page.shown) stamp) [
+      | inl past ↦
+          at_back stamp page.shown others (at_past cookie stamp page.shown (above_front cookie page.shown listing.0.0 whole) past)
+          ∙ shown_pages (last_cookie cookie page.shown) (next ∷ rest) listing.1 stamp entry past there.1
+      | inr within ↦
+          at_front stamp entry page.shown others
+          (in_front cookie stamp entry page.shown listing.0.0 whole within
+          (ap (at stamp) (sym listing.0.1) ∙ (at_after cookie stamp (by_stamp page.records) above ∙ there.0)))
+    ]
+
+-- rising keys differ
+
+above_index : (least : ℕ) (entries : Keyed DirEntry) (i : ℕ) (d : Record) → IsAbove least entries → i < length entries → least < (get_or entries i d).0
+above_index least [] i d above within = absurd (omega arith)
+above_index least (entry ∷ rest) zero d above within = above.0
+above_index least (entry ∷ rest) (suc i) d above within =
+    let further : entry.0 < (get_or rest i d).0 = above_index entry.0 rest i d above.1 (omega arith) in omega (arith, further, above.0)
+
+rising_index : (least : ℕ) (entries : Keyed DirEntry) (i j : ℕ) (d : Record) → IsAbove least entries → i < j → j < length entries
+    → (get_or entries i d).0 < (get_or entries j d).0
+rising_index least [] i j d above before within = absurd (omega arith)
+rising_index least (entry ∷ rest) i zero d above before within = absurd (omega arith)
+rising_index least (entry ∷ rest) zero (suc j) d above before within = above_index entry.0 rest j d above.1 (omega arith)
+rising_index least (entry ∷ rest) (suc i) (suc j) d above before within = rising_index entry.0 rest i j d above.1 (omega arith) (omega arith)
+
+pub every_paging_lem : EveryPaging
+every_paging_lem pages listing = record {
+  rising = rising_pages 0 pages listing;
+  not_twice = λ i j d before within same.
+      let rise : (get_or (all_shown pages) i d).0 < (get_or (all_shown pages) j d).0 = rising_index 0 (all_shown pages) i j d (rising_pages 0 pages listing) before within in
+      let one : (get_or (all_shown pages) i d).0 ≡ (get_or (all_shown pages) j d).0 = ap (λ (r : Record). r.0) same in
+      omega arith;
+  shown = λ stamp entry above there. shown_pages 0 pages listing stamp entry above there;
+}
