@@ -2,12 +2,12 @@
 //! payload or of a phase.
 #![tactic(auto)]
 
-ghost use Rattle.std.specs.Prelude.{◌≡◌, ◌∷◌, ◌++◌, [], OnOk};
+ghost use Rattle.std.specs.Prelude.{◌≡◌, ◌<◌, ◌⊎◌, ◌∷◌, ◌++◌, [], length, OnOk, IfErr, IsErrOf};
 ghost use Rattle.disk.specs.Moments.{AddsOnly, applied};
 ghost use Rattle.journal.specs.Layout.{AreTargets, targets};
 ghost use Rattle.journal.specs.Settled.{AreSame};
-ghost use Rattle.journal.specs.Log.{StandsForFront, applied_all};
-ghost use Rattle.journal.specs.Journal.{log_of};
+ghost use Rattle.journal.specs.Log.{Answers, IsSettled, StandsForFront, applied_all};
+ghost use Rattle.journal.specs.Journal.{log_of, failures_of};
 
 use disk::{Device, Update};
 use journal::{Journal, JournalFault};
@@ -25,6 +25,14 @@ pub fn keep<D: Device>(journal: &mut Journal<D>, updates: &[Update]) -> Result<(
         (log_of journal.old).history (log_of journal.new).history }
     ensures ok { D.keeps_word → OnOk result (AreSame (log_of journal.old).size
         (applied_all ((log_of journal.old).list ++ updates.now ∷ []) (log_of journal.old).base) (log_of journal.new).base) }
+    ensures list { OnOk result ((log_of journal.new).list ≡ []) }
+    ensures settled { D.keeps_word → OnOk result (IsSettled (log_of journal.new)) }
+    ensures size { (log_of journal.new).size ≡ (log_of journal.old).size }
+    ensures too_many { IsErrOf result JournalFault.TooMany → 48 < length updates.now }
+    ensures unchanged { IfErr result (λ fault. ((fault ≡ JournalFault.TooMany) ⊎ (fault ≡ JournalFault.Memory))
+        → log_of journal.new ≡ log_of journal.old) }
+    ensures not_damaged { IsErrOf result JournalFault.Damaged → ⊥ }
+    ensures answers { Answers (log_of journal.old) (log_of journal.new) (failures_of journal.old) (failures_of journal.new) result }
 {
     journal.apply(updates)?;
     journal.flush()?;

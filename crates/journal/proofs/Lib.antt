@@ -9,8 +9,8 @@ pub mod Joins
 pub mod Journals
 pub mod Lists
 pub mod Moments
-pub mod Pairs
 pub mod Phases
 pub mod Recovers
 pub mod Stages
 pub mod Superblocks
+pub mod First

@@ -75,7 +75,7 @@ fn read_words(sector: &[u8], named: &mut Vec<u32>) -> bool
 }
 
 /// Whether a transaction may write these sectors: all from 98 on, on the device, and different.
-fn are_targets(to: &[u32], sectors: u32) -> bool
+pub(crate) fn are_targets(to: &[u32], sectors: u32) -> bool
     ensures { IsTrue result ↔ AreTargets sectors to.now }
 {
     for (i, target) in to.iter().enumerate() {

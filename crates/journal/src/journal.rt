@@ -116,6 +116,15 @@ impl<D: Device> Journal<D> {
         }
     }
 
+    /// The device, as it is now. What was applied and not flushed is lost.
+    pub fn into_device(self) -> D
+        ensures history { D.history result ≡ (log_of self).history }
+        ensures size { D.size result ≡ (log_of self).size }
+        ensures failures { D.failed result ≡ failures_of self }
+    {
+        self.device
+    }
+
     /// The newest content of sector `n`, whether it went into the base yet or not. What is read of
     /// the journal's own sectors, 1 to 97, says nothing.
     ///
@@ -343,7 +352,7 @@ impl<D: Device> Journal<D> {
 }
 
 /// Puts the updates' targets in place of what `named` held.
-fn name_targets(named: &mut Vec<u32>, updates: &[Update])
+pub(crate) fn name_targets(named: &mut Vec<u32>, updates: &[Update])
     requires { length updates.now ≤ vec_capacity named.old }
     ensures items { named.new.items ≡ targets updates.now }
     ensures capacity { vec_capacity named.new ≡ vec_capacity named.old }

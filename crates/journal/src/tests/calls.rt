@@ -1,0 +1,62 @@
+//! Each call once, and its refusals.
+
+use super::held::Held;
+use super::work::updates;
+use super::{SECTORS, filled};
+use crate::JournalFault;
+use disk::{CrashDevice, MemDevice, Stop};
+use std::test::Fail;
+
+#[test]
+fn a_superblock_is_kept(rt: HostRuntime) -> Result<(), Fail> {
+    let mut held = Held::mount(rt.alloc(), MemDevice::new(rt.alloc(), SECTORS)?)?;
+    assert_eq!(rt; held.byte_at(0)?, 0);
+    held.superblock(&filled(2))?;
+    assert_eq!(rt; held.byte_at(0)?, 2);
+    held.flush()?;
+    assert_eq!(rt; held.byte_at(0)?, 2);
+    Ok(())
+}
+
+#[test]
+fn a_journal_stays_down(rt: HostRuntime) -> Result<(), Fail> {
+    let device = MemDevice::new(rt.alloc(), SECTORS)?;
+    let mut held = Held::mount(rt.alloc(), CrashDevice::new(device, Stop::Before(1)))?;
+    let listed = updates(rt.alloc(), &[98], 1)?;
+    assert!(rt; matches!(held.superblock(&filled(2)), Err(JournalFault::Fault)));
+    assert!(rt; matches!(held.superblock(&filled(2)), Err(JournalFault::Down)));
+    assert!(rt; matches!(held.flush(), Err(JournalFault::Down)));
+    assert!(rt; matches!(held.byte_at(0), Err(JournalFault::Down)));
+    assert!(rt; matches!(held.apply(rt.alloc(), &listed), Err(JournalFault::Down)));
+    Ok(())
+}
+
+#[test]
+fn transactions_are_read_and_flushed(rt: HostRuntime) -> Result<(), Fail> {
+    let mut held = Held::mount(rt.alloc(), MemDevice::new(rt.alloc(), SECTORS)?)?;
+    held.apply(rt.alloc(), &updates(rt.alloc(), &[200, 201], 1)?)?;
+    held.apply(rt.alloc(), &updates(rt.alloc(), &[202, 201], 2)?)?;
+    for _ in 0..2 {
+        assert_eq!(rt; held.byte_at(200)?, 1);
+        assert_eq!(rt; held.byte_at(201)?, 2);
+        assert_eq!(rt; held.byte_at(202)?, 2);
+        held.flush()?;
+    }
+    Ok(())
+}
+
+#[test]
+fn a_transaction_has_48_sectors_at_most(rt: HostRuntime) -> Result<(), Fail> {
+    let mut held = Held::mount(rt.alloc(), MemDevice::new(rt.alloc(), SECTORS)?)?;
+    let mut targets = Vec::new(rt.alloc());
+    for target in 98..146 {
+        targets.push(target)?;
+    }
+    held.apply(rt.alloc(), &updates(rt.alloc(), &targets, 1)?)?;
+    targets.push(146)?;
+    let refused = held.apply(rt.alloc(), &updates(rt.alloc(), &targets, 2)?);
+    assert!(rt; matches!(refused, Err(JournalFault::TooMany)));
+    assert_eq!(rt; held.byte_at(98)?, 1);
+    assert_eq!(rt; held.byte_at(146)?, 0);
+    Ok(())
+}

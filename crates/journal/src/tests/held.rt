@@ -1,0 +1,75 @@
+//! A journal on a device of 256 sectors, whose calls test what the journal asks of its caller.
+
+ghost use Rattle.std.specs.Prelude.{◌≡◌};
+ghost use Rattle.journal.specs.Journal.{log_of};
+
+use super::{SECTORS, filled};
+use crate::journal::name_targets;
+use crate::{Journal, JournalFault, gate};
+use disk::{Device, SECTOR, Update};
+use std::alloc::Global;
+
+#[derive(Drop)]
+pub(super) struct Held<D: Device> {
+    journal: Journal<D>,
+    ghost size_is: { (log_of journal).size ≡ 256 },
+}
+
+impl<D: Device> Held<D> {
+    /// Mounts; a device of another size is refused as damaged.
+    pub(super) fn mount(alloc: Global, device: D) -> Result<Held<D>, JournalFault> {
+        if device.sectors() != SECTORS {
+            return Err(JournalFault::Damaged);
+        }
+        match Journal::mount(alloc, device) {
+            Ok(journal) => Ok(Held { journal }),
+            Err(refused) => Err(refused.fault),
+        }
+    }
+
+    /// The byte that the sector is filled with, or 255.
+    pub(super) fn byte_at(&mut self, n: u32) -> Result<u8, JournalFault> {
+        if n >= SECTORS {
+            return Ok(255);
+        }
+        let content = self.journal.read(n)?;
+        if content == filled(content[0]) {
+            Ok(content[0])
+        } else {
+            Ok(255)
+        }
+    }
+
+    /// Applies; updates that are no transaction are refused as too many.
+    pub(super) fn apply(&mut self, alloc: Global, updates: &[Update]) -> Result<(), JournalFault> {
+        let mut to = Vec::with_capacity(alloc, updates.len())?;
+        name_targets(&mut to, updates);
+        if !gate::are_targets(&to, SECTORS) {
+            return Err(JournalFault::TooMany);
+        }
+        self.journal.apply(updates)
+    }
+
+    pub(super) fn flush(&mut self) -> Result<(), JournalFault> {
+        self.journal.flush()
+    }
+
+    pub(super) fn superblock(&mut self, content: &[u8; SECTOR]) -> Result<(), JournalFault> {
+        self.journal.superblock(content)
+    }
+}
+
+/// Formats a device of 256 sectors.
+pub(super) fn format<D: Device>(
+    alloc: Global,
+    device: &mut D,
+    sector0: &[u8; SECTOR],
+    updates: &[Update],
+) -> Result<(), JournalFault> {
+    let mut to = Vec::with_capacity(alloc, updates.len())?;
+    name_targets(&mut to, updates);
+    if device.sectors() != SECTORS || !gate::are_targets(&to, SECTORS) {
+        return Err(JournalFault::TooMany);
+    }
+    Journal::format(device, sector0, updates)
+}
