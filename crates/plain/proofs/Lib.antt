@@ -1,1 +1,7 @@
+pub mod Creating
+pub mod Moving
+pub mod Putting
+pub mod Refusing
+pub mod Sizes
 pub mod Stages
+pub mod Values

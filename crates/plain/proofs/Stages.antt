@@ -16,22 +16,8 @@ use Rattle.model.specs.Operation.{Argument}
 use Rattle.model.specs.Refusal.{Refusals, first_refusal, refused_or}
 use Rattle.model.specs.Step.{State, current, is_name_there, refusals, change_refusals, effect, does, refused, answered, moved_to, unless_refused}
 use Rattle.model.specs.Tree.{Tree, Node, DirEntry, is_directory_at, is_directory_node, is_directory, names_of, names_of_node, entry_of}
+use Rattle.plain.proofs.Refusing.{or_else, first-append}
 use Rattle.plain.specs.Step.{IsState}
-
--- the first of two answers
-or_else : Option Status → Option Status → Option Status
-or_else None second = second
-or_else (Some first) second = Some first
-
-first-append : (front rest : Refusals) → first_refusal (front ++ rest) ≡ or_else (first_refusal front) (first_refusal rest)
-unfolding or_else
-first-append [] rest = refl
-first-append (test ∷ front) rest = head test.0 test.1 (first_refusal front) (first_refusal rest) (first-append front rest)
-  where
-    head : (test : Bool) (reason : Status) (front rest : Option Status) {whole : Option Status} → whole ≡ or_else front rest
-        → refused_or test reason whole ≡ or_else (refused_or test reason front) rest
-    head true reason front rest same = refl
-    head false reason front rest same = same
 
 -- LOOKUP's tests
 lookup_refusal : (limits : Limits) (state : State) (name : List ℕ) (after : Tree)
@@ -112,26 +98,22 @@ module _ (limits : Limits) (tree : Tree) (cred : Cred) (number : ℕ) (name : Li
     module _ (directory : is_directory node.content ≡ true) where
       pub bad_name : (reason : Status) → first_refusal (name_refusals limits name) ≡ Some reason
           → does limits state now (Argument.Lookup name) ≡ refused state (Argument.Lookup name) reason
-      unfolding or_else
       bad_name reason bad = does_is limits state now name (Some reason) (tests_at (Some node) there ∙ rw (directory, bad) refl)
 
       module _ (good : first_refusal (name_refusals limits name) ≡ None) where
         pub not_granted : granted_on (Some node) cred execute ≡ false
             → does limits state now (Argument.Lookup name) ≡ refused state (Argument.Lookup name) status.Access
-        unfolding or_else
         not_granted denied = does_is limits state now name (Some status.Access)
             (tests_at (Some node) there ∙ rw (directory, good, denied) refl)
 
         pub no_entry : granted_on (Some node) cred execute ≡ true → entry_of name (names_of node.content) ≡ None
             → does limits state now (Argument.Lookup name) ≡ refused state (Argument.Lookup name) status.NoEnt
-        unfolding or_else
         no_entry allowed none = does_is limits state now name (Some status.NoEnt)
             (tests_at (Some node) there ∙ rw (directory, good, allowed, none) refl)
 
         pub found : granted_on (Some node) cred execute ≡ true → (entry : ℕ × DirEntry)
             → entry_of name (names_of node.content) ≡ Some entry
             → does limits state now (Argument.Lookup name) ≡ answered (moved_to state entry.1.number) Answer.Lookup
-        unfolding or_else
         found allowed entry some = does_is limits state now name None
             (tests_at (Some node) there ∙ rw (directory, good, allowed, some) refl)
             ∙ (effect_at node there ∙ ap (λ (o : Option (ℕ × DirEntry)). answered (moved_to state (number_of_entry o)) Answer.Lookup) some)

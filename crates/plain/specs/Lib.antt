@@ -1,2 +1,4 @@
+pub mod Given
+pub mod Put
 pub mod Step
 pub mod View

@@ -2,10 +2,16 @@
 //! the layers above it until a faster one stands.
 #![tactic(auto)]
 
+pub mod attributes;
 pub mod charge;
+pub mod copy;
 pub mod fresh;
+pub mod handles;
 pub mod lookup;
+pub mod make_dir;
 pub mod names;
+pub mod put;
+pub mod refusal;
 pub mod stamp;
 #[cfg(test)]
 mod tests;

@@ -1,13 +1,14 @@
 //! Stamps and filehandles.
 
-ghost use Rattle.std.specs.Prelude.{◌≡◌, ◌<◌, ◌+◌, ◌^◌, Some, None, Ok, Err, length, IsTrue, IsFalse, MatchOption, MatchResult};
+ghost use Rattle.std.specs.Prelude.{◌≡◌, ◌<◌, ◌+◌, ◌^◌, Some, None, Ok, Err, length, IsTrue, IsFalse, IfSome, MatchOption, MatchResult};
 ghost use Rattle.model.specs.Stamp.{next_stamp, is_stamp_left, filehandle_of, is_filehandle, number_of};
 
 use model::status::Status;
 
 /// The stamp of the next change in a run that had so many: none where the run had 2^32 - 1.
 pub fn next_stamp(run: u32, changes: u32) -> Option<u64>
-    ensures { MatchOption result (IsFalse (is_stamp_left changes)) (λ stamp. (stamp ≡ next_stamp run changes) × IsTrue (is_stamp_left changes)) }
+    ensures left { MatchOption result (IsFalse (is_stamp_left changes)) (λ stamp. (stamp ≡ next_stamp run changes) × IsTrue (is_stamp_left changes)) }
+    ensures fits { IfSome result (λ stamp. stamp < 2 ^ 64) }
 {
     let n = changes.checked_add(1)?;
     Some(u64::from(run) * 0x1_0000_0000 + u64::from(n))

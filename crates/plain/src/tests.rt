@@ -1,7 +1,12 @@
+use crate::attributes::{
+    Attributes, SETTABLE_AT_CREATION, SUPPORTED, attributes_of, check_attributes, has_one_outside,
+    mode_in, read_values, trimmed,
+};
+use crate::handles::without_current;
 use crate::names::{check_name, entry_named};
 use crate::stamp::{filehandle_of, next_stamp, number_of};
 use crate::tree::{Content, DirEntry, Node, Tree};
-use acl_eval::{Ace, AceFlags, AceKind, Acl, Cred, Gids, Mask, Who};
+use acl_eval::{Ace, AceFlags, AceKind, Acl, Cred, Gids, Mask, NodeKind, Who};
 use bitflags::Flags;
 use model::limits::Limits;
 use model::status::Status;
@@ -165,5 +170,70 @@ fn a_fresh_tree_has_a_root(rt: HostRuntime) -> Result<(), Fail> {
             .is_some_and(|root| root.change == 1 && root.charge() == 0)
     );
     assert_eq!(rt; fresh.nodes.len(), 1);
+    Ok(())
+}
+
+#[test]
+fn attributes_by_rising_number(rt: HostRuntime) -> Result<(), Fail> {
+    let bitmap = [0x8000_0001, 2, 0];
+    let attributes = attributes_of(rt.alloc(), &bitmap)?;
+    assert_eq!(rt; attributes.as_slice(), [0, 31, 33].as_slice());
+    assert_eq!(rt; trimmed(&bitmap), [0x8000_0001, 2].as_slice());
+    assert!(rt; trimmed(&[0, 0]).is_empty());
+    assert!(rt; !has_one_outside(&SUPPORTED, &attributes));
+    assert!(rt; has_one_outside(&SETTABLE_AT_CREATION, &attributes));
+    Ok(())
+}
+
+#[test]
+fn values_are_exactly_those(rt: HostRuntime) -> Result<(), Fail> {
+    let read = read_values(rt.alloc(), &SETTABLE_AT_CREATION, b"\0\0\x01\xED")?;
+    assert!(rt; read.is_some_and(|values| mode_in(&values) == Some(0o755)));
+    assert!(rt; read_values(rt.alloc(), &SETTABLE_AT_CREATION, b"\0\0\x01\xED\0")?.is_none());
+    assert!(rt; read_values(rt.alloc(), &[], b"")?.is_some_and(|values| values.is_empty()));
+    Ok(())
+}
+
+#[test]
+fn attributes_are_checked(rt: HostRuntime) -> Result<(), Fail> {
+    let given = Attributes {
+        bitmap: &[0, 2],
+        values: b"\0\0\x01\xED",
+    };
+    let set = check_attributes(
+        rt.alloc(),
+        &Limits::of_volume(256, 16),
+        NodeKind::Directory,
+        &SETTABLE_AT_CREATION,
+        given,
+    )?;
+    assert!(rt; set.mode == Some(0o755) && !set.is_empty);
+    Ok(())
+}
+
+#[test]
+fn handles_move(rt: HostRuntime) -> Result<(), Fail> {
+    let tree = tree(rt.alloc(), 0)?;
+    assert_eq!(rt; tree.put_root(), 1);
+    assert!(rt; tree.put_handle(b"\0\0\0\0\0\0\0\x03") == Ok(3));
+    assert!(rt; tree.put_handle(b"\0\0\0\0\0\0\0\x09") == Err(Status::Stale));
+    assert!(rt; tree.put_handle(b"\x03") == Err(Status::BadHandle));
+    assert!(rt; tree.handle(3) == Ok([0, 0, 0, 0, 0, 0, 0, 3]));
+    assert!(rt; tree.handle(9) == Err(Status::Stale));
+    assert!(rt; tree.make_other(3) == Status::BadType && tree.make_other(9) == Status::Stale);
+    assert!(rt; without_current() == Status::NoFileHandle);
+    Ok(())
+}
+
+#[test]
+fn a_copy_has_all_nodes(rt: HostRuntime) -> Result<(), Fail> {
+    let copy = tree(rt.alloc(), 10)?.try_clone(rt.alloc())?;
+    assert_eq!(rt; copy.nodes.len(), 3);
+    assert!(rt; copy.has(3) && !copy.has(4));
+    assert!(rt;
+        copy.node(2).is_some_and(
+            |file| matches!(&file.content, Content::File(bytes) if bytes.len() == 10)
+        )
+    );
     Ok(())
 }

@@ -11,25 +11,25 @@ use Rattle.plain.proofs.tree.Tree.lookup.Goals as goal
 pub returns-in_default : goal.returns-in_default
 returns-in_default c state now is =
     no_node c.args.limits.now (tree_of c.args.self.now) c.args.cred.now c.args.directory c.args.name.now state now is
-    (sym c.node.ensures ∙ ap (λ r. option_map node_of (option_copied r)) c.in_default.is)
+    (sym c.node.ensures.found ∙ ap (λ r. option_map node_of (option_copied r)) c.in_default.is)
 
 pub returns-in_default-content : goal.returns-in_default-content
 returns-in_default-content c state now is =
     no_directory c.args.limits.now (tree_of c.args.self.now) c.args.cred.now c.args.directory c.args.name.now state now is
-    (node_of c.in-Some.node.now) (sym c.node.ensures ∙ ap (λ r. option_map node_of (option_copied r)) c.in-Some.is)
+    (node_of c.in-Some.node.now) (sym c.node.ensures.found ∙ ap (λ r. option_map node_of (option_copied r)) c.in-Some.is)
     (ap (λ content. is_directory (content_of content)) c.in_default-content.is)
 
 pub returns-in_err-check_name : goal.returns-in_err-check_name
 returns-in_err-check_name c state now is =
     let p = err_from_is_err_and c.from_residual.result c.from_residual.ensures.1 in
     rw (p.1, p.2) (bad_name c.args.limits.now (tree_of c.args.self.now) c.args.cred.now c.args.directory c.args.name.now state now is
-    (node_of c.in-Some.node.now) (sym c.node.ensures ∙ ap (λ r. option_map node_of (option_copied r)) c.in-Some.is)
+    (node_of c.in-Some.node.now) (sym c.node.ensures.found ∙ ap (λ r. option_map node_of (option_copied r)) c.in-Some.is)
     (ap (λ content. is_directory (content_of content)) c.in-Directory.is) c.in_err-check_name.field-0.0 c.in_err-check_name.ensures.refused)
 
 pub returns-then-not-granted : goal.returns-then-not-granted
 returns-then-not-granted c state now is =
     not_granted c.args.limits.now (tree_of c.args.self.now) c.args.cred.now c.args.directory c.args.name.now state now is
-    (node_of c.in-Some.node.now) (sym c.node.ensures ∙ ap (λ r. option_map node_of (option_copied r)) c.in-Some.is)
+    (node_of c.in-Some.node.now) (sym c.node.ensures.found ∙ ap (λ r. option_map node_of (option_copied r)) c.in-Some.is)
     (ap (λ content. is_directory (content_of content)) c.in-Directory.is) c.in_ok-check_name.ensures.allowed
     (ap (λ acl. granted acl c.in-Some.node.now.owner c.in-Some.node.now.group c.args.cred.now execute) (sym c.as_slice.ensures)
     ∙ (sym c.granted.ensures ∙ c.if-not-granted.true))
@@ -37,7 +37,7 @@ returns-then-not-granted c state now is =
 pub returns-in_default-entry_named : goal.returns-in_default-entry_named
 returns-in_default-entry_named c state now is =
     no_entry c.args.limits.now (tree_of c.args.self.now) c.args.cred.now c.args.directory c.args.name.now state now is
-    (node_of c.in-Some.node.now) (sym c.node.ensures ∙ ap (λ r. option_map node_of (option_copied r)) c.in-Some.is)
+    (node_of c.in-Some.node.now) (sym c.node.ensures.found ∙ ap (λ r. option_map node_of (option_copied r)) c.in-Some.is)
     (ap (λ content. is_directory (content_of content)) c.in-Directory.is) c.in_ok-check_name.ensures.allowed
     (ap (λ acl. granted acl c.in-Some.node.now.owner c.in-Some.node.now.group c.args.cred.now execute) (sym c.as_slice.ensures)
     ∙ (sym c.granted.ensures ∙ c.if-not-granted.false))
@@ -48,7 +48,7 @@ returns-in_default-entry_named c state now is =
 pub returns : goal.returns
 returns c state now is =
     found c.args.limits.now (tree_of c.args.self.now) c.args.cred.now c.args.directory c.args.name.now state now is
-    (node_of c.in-Some.node.now) (sym c.node.ensures ∙ ap (λ r. option_map node_of (option_copied r)) c.in-Some.is)
+    (node_of c.in-Some.node.now) (sym c.node.ensures.found ∙ ap (λ r. option_map node_of (option_copied r)) c.in-Some.is)
     (ap (λ content. is_directory (content_of content)) c.in-Directory.is) c.in_ok-check_name.ensures.allowed
     (ap (λ acl. granted acl c.in-Some.node.now.owner c.in-Some.node.now.group c.args.cred.now execute) (sym c.as_slice.ensures)
     ∙ (sym c.granted.ensures ∙ c.if-not-granted.false))

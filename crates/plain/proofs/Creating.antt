@@ -1,0 +1,169 @@
+-- CREATE's tests, one after the other, and what it does.
+use Rattle.std.proofs.Common.{ℕ, Bool, true, false, List, [], ◌∷◌, ◌++◌, ◌≡◌, ◌&&◌, ◌||◌, ◌+◌, ◌∙◌, not, refl, sym, ap, is_some}
+use Rattle.std.specs.Prelude.{Option, Some, None, IsTrue}
+use Rattle.model.specs.declared.acl.Cred.{Cred}
+use Rattle.model.specs.declared.limits.Limits.{Limits}
+use Rattle.model.specs.declared.node.NodeKind.TheVariants as kind
+use Rattle.model.specs.declared.status.Status.{Status}
+use Rattle.model.specs.declared.status.Status.TheVariants as status
+use Rattle.model.specs.Acl.{append_data}
+use Rattle.model.specs.Answer.{Answer}
+use Rattle.model.specs.Attribute.{attribute_refusals, settable_at_creation, is_empty, mode_given, trimmed}
+use Rattle.model.specs.Charge.{fits}
+use Rattle.model.specs.Context.{has_current, at_node}
+use Rattle.model.specs.Directory.{change_of, new_directory, with_child}
+use Rattle.model.specs.Keyed.{at}
+use Rattle.model.specs.Name.{name_refusals}
+use Rattle.model.specs.Need.{permitted, granted_on}
+use Rattle.model.specs.Operation.{Argument, Attributes, NewDirectory}
+use Rattle.model.specs.Refusal.{Refusals, first_refusal, refused_or}
+use Rattle.model.specs.Stamp.{next_stamp, is_stamp_left}
+use Rattle.model.specs.Step.{State, current, stamp_of, refusals, change_refusals, effect, does, refused, answered, made, create, unless_refused}
+use Rattle.model.specs.Tree.{Tree, Node, is_directory, names_of, entry_of}
+use Rattle.plain.specs.Put.{put_child, empty_directory}
+use Rattle.plain.specs.Step.{IsState, new_directory_refusals}
+use Rattle.plain.proofs.Refusing.{or_else, first-append}
+use Rattle.plain.proofs.Sizes.{child_put, fits_put_child}
+
+module _ (limits : Limits) (tree : Tree) (cred : Cred) (number : ℕ) (name : List ℕ) (given : Attributes) (node : Node)
+    (there : at number tree ≡ Some node) (directory : is_directory node.content ≡ true) where
+  abbrev tests : Refusals
+  tests = new_directory_refusals limits tree cred number name given
+
+  tests_are : first_refusal tests
+      ≡ or_else (or_else (first_refusal (name_refusals limits name)) (first_refusal (attribute_refusals limits kind.Directory settable_at_creation given)))
+      (refused_or (not (granted_on (Some node) cred append_data)) status.Access
+      (refused_or (is_some (entry_of name (names_of node.content))) status.Exist None))
+  tests_are =
+      let late : Refusals = (not (granted_on (Some node) cred append_data), status.Access)
+      ∷ (is_some (entry_of name (names_of node.content)), status.Exist) ∷ [] in
+      rw (there, directory)
+      (first-append (name_refusals limits name ++ attribute_refusals limits kind.Directory settable_at_creation given) late
+      ∙ ap (λ (o : Option Status). or_else o (first_refusal late))
+      (first-append (name_refusals limits name) (attribute_refusals limits kind.Directory settable_at_creation given)))
+
+  pub bad_name : (reason : Status) → first_refusal (name_refusals limits name) ≡ Some reason → first_refusal tests ≡ Some reason
+  bad_name reason bad = tests_are ∙ rw bad refl
+
+  module _ (good : first_refusal (name_refusals limits name) ≡ None) where
+    pub bad_attributes : (reason : Status) → first_refusal (attribute_refusals limits kind.Directory settable_at_creation given) ≡ Some reason
+        → first_refusal tests ≡ Some reason
+    bad_attributes reason bad = tests_are ∙ rw (good, bad) refl
+
+    module _ (set : first_refusal (attribute_refusals limits kind.Directory settable_at_creation given) ≡ None) where
+      pub denied : granted_on (Some node) cred append_data ≡ false → first_refusal tests ≡ Some status.Access
+      denied refused = tests_are ∙ rw (good, set, refused) refl
+
+      pub stands_already : granted_on (Some node) cred append_data ≡ true → is_some (entry_of name (names_of node.content)) ≡ true
+          → first_refusal tests ≡ Some status.Exist
+      stands_already allowed taken = tests_are ∙ rw (good, set, allowed, taken) refl
+
+      pub may_be_made : granted_on (Some node) cred append_data ≡ true → is_some (entry_of name (names_of node.content)) ≡ false
+          → first_refusal tests ≡ None
+      may_be_made allowed free = tests_are ∙ rw (good, set, allowed, free) refl
+
+-- In a state
+
+alone : (b : Bool) → ((b || false) && true) ≡ b
+alone true = refl
+alone false = refl
+
+abbrev create_of : (name : List ℕ) → Attributes → Argument
+create_of name given = Argument.Create (NewDirectory name given)
+
+module _ (limits : Limits) (state : State) (now : ℕ) (name : List ℕ) (given : Attributes) (has : IsTrue (has_current state.context)) where
+  abbrev own_tests : Refusals
+  own_tests = new_directory_refusals limits state.tree state.context.cred (current state) name given
+
+  permitted_is : permitted state.tree state.context (create_of name given) ≡ granted_on (at (current state) state.tree) state.context.cred append_data
+  unfolding permitted
+  permitted_is = alone (granted_on (at (current state) state.tree) state.context.cred append_data)
+
+  own_first : first_refusal (refusals limits state (create_of name given)) ≡ first_refusal own_tests
+  unfolding refusals
+  own_first = rw (has, permitted_is) refl
+
+  does_is : (o : Option Status)
+      → or_else (first_refusal own_tests) (first_refusal (change_refusals limits state (create_of name given) (made state now name given).tree)) ≡ o
+      → does limits state now (create_of name given) ≡ unless_refused state (create_of name given) o (create state now (NewDirectory name given))
+  unfolding does effect
+  does_is o same =
+      let after = (made state now name given).tree in
+      ap (λ (p : Option Status). unless_refused state (create_of name given) p (create state now (NewDirectory name given)))
+      (first-append (refusals limits state (create_of name given)) (change_refusals limits state (create_of name given) after)
+      ∙ (ap (λ (p : Option Status). or_else p (first_refusal (change_refusals limits state (create_of name given) after))) own_first ∙ same))
+
+  pub refused_early : (reason : Status) → first_refusal own_tests ≡ Some reason → does limits state now (create_of name given) ≡ refused state (create_of name given) reason
+  refused_early reason early = does_is (Some reason) (rw early refl)
+
+  module _ (passed : first_refusal own_tests ≡ None) where
+    pub no_room : fits limits (made state now name given).tree ≡ false → does limits state now (create_of name given) ≡ refused state (create_of name given) status.NoSpc
+    no_room full = does_is (Some status.NoSpc) (rw (passed, full) refl)
+
+    module _ (room : fits limits (made state now name given).tree ≡ true) where
+      pub no_stamp : is_stamp_left state.changes ≡ false → does limits state now (create_of name given) ≡ refused state (create_of name given) status.ServerFault
+      no_stamp none = does_is (Some status.ServerFault) (rw (passed, room, none) refl)
+
+      pub done : is_stamp_left state.changes ≡ true → does limits state now (create_of name given) ≡ create state now (NewDirectory name given)
+      done left = does_is None (rw (passed, room, left) refl)
+
+-- In each state of these parameters
+
+module _ (limits : Limits) (tree : Tree) (cred : Cred) (number : ℕ) (name : List ℕ) (given : Attributes) (run changes now : ℕ)
+    (state : State) (is : IsState tree cred number state) (run_is : state.context.run ≡ run) (changes_is : state.changes ≡ changes) where
+  abbrev stamp : ℕ
+  stamp = next_stamp run changes
+
+  tests_same : first_refusal (new_directory_refusals limits state.tree state.context.cred (current state) name given)
+      ≡ first_refusal (new_directory_refusals limits tree cred number name given)
+  tests_same = rw (is.tree_is, is.cred_is, is.current_is) refl
+
+  pub early_refusal : (reason : Status) → first_refusal (new_directory_refusals limits tree cred number name given) ≡ Some reason
+      → does limits state now (create_of name given) ≡ refused state (create_of name given) reason
+  early_refusal reason early = refused_early limits state now name given is.has_current reason (tests_same ∙ early)
+
+  module _ (parent : Node) (there : at number tree ≡ Some parent)
+      (passed : first_refusal (new_directory_refusals limits tree cred number name given) ≡ None)
+      (child : Node) (kept : ℕ) (child_is : child ≡ empty_directory cred parent.acl (is_empty given.bitmap) (mode_given given) kept now) where
+    abbrev after : Tree
+    after = put_child tree number parent name child stamp kept now
+
+    abbrev wanted : Tree
+    wanted = with_child tree number name (new_directory cred parent.acl given stamp now) stamp now
+
+    made_is : (made state now name given).tree ≡ wanted
+    made_is = rw (is.tree_is, is.cred_is, is.current_is, run_is, changes_is, there) refl
+
+    fits_is : fits limits (made state now name given).tree ≡ fits limits after
+    fits_is =
+        let new = new_directory cred parent.acl given stamp now in
+        ap (fits limits) (made_is ∙ sym (child_put tree number parent name new stamp now there))
+        ∙ fits_put_child limits tree number parent name new child stamp stamp kept now (sym (ap (λ (node : Node). node.content) child_is))
+
+    pub full : fits limits after ≡ false → does limits state now (create_of name given) ≡ refused state (create_of name given) status.NoSpc
+    full no_fit = no_room limits state now name given is.has_current (tests_same ∙ passed) (fits_is ∙ no_fit)
+
+    pub used_up : fits limits after ≡ true → is_stamp_left changes ≡ false
+        → does limits state now (create_of name given) ≡ refused state (create_of name given) status.ServerFault
+    used_up fit none = no_stamp limits state now name given is.has_current (tests_same ∙ passed) (fits_is ∙ fit) (ap is_stamp_left changes_is ∙ none)
+
+    pub is_made : fits limits after ≡ true → is_stamp_left changes ≡ true → kept ≡ stamp → (new_tree : Tree) (new_number : ℕ)
+        → new_tree ≡ after → new_number ≡ stamp
+        → does limits state now (create_of name given) ≡ answered
+        (record { tree = new_tree; changes = state.changes + 1; opens = state.opens; context = at_node state.context new_number })
+        (Answer.Create (record { change = record { is_atomic = true; before = parent.change; after = new_number }; was_set = trimmed given.bitmap }))
+    is_made fit left whole new_tree new_number tree_is number_is =
+        let shape = λ (t : Tree) (before n : ℕ). answered
+        (record { tree = t; changes = state.changes + 1; opens = state.opens; context = at_node state.context n })
+        (Answer.Create (record { change = record { is_atomic = true; before = before; after = n }; was_set = trimmed given.bitmap })) in
+        let new = new_directory cred parent.acl given stamp now in
+        let child_same : child ≡ new = child_is ∙ ap (λ n. empty_directory cred parent.acl (is_empty given.bitmap) (mode_given given) n now) whole in
+        let tree_same : (made state now name given).tree ≡ new_tree =
+        made_is ∙ (sym (child_put tree number parent name new stamp now there)
+        ∙ (ap (λ node. put_child tree number parent name node stamp stamp now) (sym child_same)
+        ∙ (ap (λ n. put_child tree number parent name child stamp n now) (sym whole) ∙ sym tree_is))) in
+        let before_same : change_of (at (current state) state.tree) ≡ parent.change = rw (is.tree_is, is.current_is, there) refl in
+        let number_same : stamp_of state ≡ new_number = rw (run_is, changes_is) (sym number_is) in
+        done limits state now name given is.has_current (tests_same ∙ passed) (fits_is ∙ fit) (ap is_stamp_left changes_is ∙ left)
+        ∙ (ap (λ t. shape t (change_of (at (current state) state.tree)) (stamp_of state)) tree_same
+        ∙ (ap (λ b. shape new_tree b (stamp_of state)) before_same ∙ ap (shape new_tree parent.change) number_same))
