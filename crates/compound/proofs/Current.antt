@@ -1,0 +1,27 @@
+-- The current filehandle in each world.
+use Rattle.std.proofs.Common.{◌≡◌, ℕ, true, false, refl}
+use Rattle.model.specs.Answer.{Answer, Outcome}
+use Rattle.model.specs.Context.{has_current, at_node}
+use Rattle.model.specs.Need.{permitted}
+use Rattle.model.specs.Operation.{Argument, NewDirectory, OtherType, operation_of}
+use Rattle.model.specs.Step.{does, refusals, effect}
+use Rattle.model.specs.Tree.{root}
+use Rattle.model.specs.World.{World, InProgress, Gives, run}
+use Rattle.model.specs.declared.status.Status.TheVariants as status
+use Rattle.compound.specs.Runs.{takes_current}
+
+pub ran_root : (world : World) (request : InProgress) (now : ℕ)
+    → run world request now Argument.PutRootFh ≡ Gives (Outcome.Done Answer.PutRootFh) world (record request { context = at_node request.context root })
+unfolding run does refusals permitted effect
+ran_root world request now = refl
+
+pub wants_current : (world : World) (request : InProgress) (now : ℕ) (operation : Argument) → has_current request.context ≡ false
+    → takes_current operation ≡ true
+    → run world request now operation ≡ Gives (Outcome.Refused (operation_of operation) status.NoFileHandle) world request
+unfolding run does refusals permitted effect
+wants_current world request now (Argument.Create (NewDirectory name given)) none takes = rw none refl
+wants_current world request now (Argument.Create (OtherType type_number)) none takes = rw none refl
+wants_current world request now Argument.GetFh none takes = rw none refl
+wants_current world request now (Argument.Lookup name) none takes = rw none refl
+wants_current world request now (Argument.ReclaimComplete true) none takes = rw none refl
+wants_current world request now operation none takes = absurd cc

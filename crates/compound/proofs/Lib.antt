@@ -1,0 +1,5 @@
+pub mod Current
+pub mod Replies
+pub mod Rests
+pub mod Sequencing
+pub mod Tables

@@ -1,0 +1,29 @@
+use Rattle.std.proofs.Common.{◌≡◌, ℕ, ◌-◌, List, Result, false, not, ◌&&◌, length, drop, ap, sym, subst, ◌∙◌, arith}
+use Rattle.model.specs.Rpc.{is_empty}
+use Rattle.model.specs.Served.{looks_no_further}
+use Rattle.model.specs.World.{is_last}
+use Rattle.xdr.specs.Grammar.{◌>>=◌}
+use Rattle.xdr.specs.declared.refusal.Refusal.{Refusal}
+use Rattle.model.specs.WireArguments.{arguments_at}
+use Rattle.wire.specs.ArgumentView.{argument_view}
+use Rattle.compound.specs.Views.{in_progress_of}
+use Rattle.compound.proofs.Rests.{rest_short, drop_rest, by_read}
+use Rattle.compound.proofs.running.Running.read_next.Goals as goal
+
+pub overflow_sub-position : goal.overflow_sub-position
+unfolding in_progress_of
+overflow_sub-position c =
+    let short = rest_short c.args.self.now.operations.items c.args.self.now.position _ c.read_numbered.new.r (sym c.requires ∙ c.in-Ok.ensures.accepts.1) in
+    omega (arith, short)
+
+pub returns-clause-ok : goal.returns-clause-ok
+unfolding in_progress_of
+returns-clause-ok c = λ bytes e.
+    let behind = drop_rest c.args.self.now.operations.items c.args.self.now.position _ c.read_numbered.new.r (sym c.requires ∙ c.in-Ok.ensures.accepts.1) in
+    let whole : c.len.result ≡ length c.args.self.now.operations.items = omega arith in
+    by_read (in_progress_of c.args.self.now) c.args.number (arguments_at c.args.number bytes) (argument_view c.in-Ok.argument) c.read_numbered.new.r _
+    (sym (ap (λ (r : Result (ℕ × List ℕ) Refusal). r >>= λ n. arguments_at n.0 n.1) e) ∙ c.in-Ok.ensures.reads)
+    (subst (λ (r : List ℕ). (is_last (in_progress_of c.args.self.now) && (not (looks_no_further (argument_view c.in-Ok.argument)) && not (is_empty r))) ≡ false)
+    c.rest.ensures (sym c.has_too_much.ensures ∙ c.if-has_too_much.false))
+    (ap (λ (n : ℕ). drop (n - c.len-2.result) c.args.self.now.operations.items) whole
+    ∙ (ap (λ (n : ℕ). drop (length c.args.self.now.operations.items - n) c.args.self.now.operations.items) c.len-2.ensures ∙ behind))

@@ -1,0 +1,52 @@
+//! What the server keeps of a COMPOUND that has begun.
+
+ghost use Rattle.std.specs.Prelude.{◌≡◌, ◌≤◌, [], length};
+
+use model::acl::Cred;
+use std::alloc::Global;
+use xdr::Writer;
+
+/// The bytes for which each COMPOUND has memory from its begin on: those of the longest reply.
+pub const REPLY_BUFFER: usize = 16_384;
+
+/// A slot of a session.
+#[derive(Clone, Copy, Debug, PartialEq, Eq)]
+pub struct SlotId {
+    pub session: [u8; 16],
+    pub slot: u32,
+}
+
+/// A COMPOUND of which an operation runs next.
+#[derive(Drop)]
+pub struct Running {
+    pub(crate) alloc: Global,
+    pub(crate) xid: u32,
+    pub(crate) tag: Vec<u8>,
+    /// How many operations it has.
+    pub(crate) count: u32,
+    /// The bytes of all operations, and where those of the next one begin.
+    pub(crate) operations: Vec<u8>,
+    pub(crate) position: usize,
+    /// How many operations have their results.
+    pub(crate) answered: u32,
+    pub(crate) results: Writer,
+    /// Memory for the whole result.
+    pub(crate) whole: Writer,
+    pub(crate) cred: Cred,
+    /// The client of the session, 0 before SEQUENCE.
+    pub(crate) client: u64,
+    /// The restart count of the server.
+    pub(crate) run: u32,
+    /// The numbers of the nodes that the current and the saved filehandle name.
+    pub(crate) current: Option<u64>,
+    pub(crate) saved: Option<u64>,
+    /// The slot that runs it.
+    pub(crate) slot: Option<SlotId>,
+    ghost short: { length tag.items ≤ 255 },
+    ghost more: { answered ≤ count },
+    ghost within: { position ≤ length operations.items },
+    ghost few: { length results.bytes ≤ 16384 },
+    ghost room: { 16384 ≤ results.capacity },
+    ghost fresh: { whole.bytes ≡ [] },
+    ghost whole_room: { 16384 ≤ whole.capacity },
+}

@@ -1,0 +1,122 @@
+use crate::{Next, Running, Sequenced};
+use model::acl::{Cred, Gids};
+use model::status::Status;
+use rpc::{Compound, Tag};
+use session::Table;
+use std::alloc::{AllocError, Global};
+use std::test::*;
+use wire::{Channel, CreateSessionArguments, ExchangeIdArguments, Outcome, SequenceArguments};
+
+// COMPOUNDs of so many operations: their words, and the number and status under which the first one is refused
+const REFUSED: [(u32, &[u32], u32, Status); 7] = [
+    (1, &[], 10044, Status::BadXdr),
+    (1, &[2], 10044, Status::OpIllegal),
+    (1, &[59], 10044, Status::OpIllegal),
+    (2, &[24], 24, Status::OpNotInSession),
+    (2, &[42], 42, Status::NotOnlyOp),
+    (1, &[53, 0], 53, Status::BadXdr),
+    (1, &[57, 0, 1, 0], 57, Status::BadXdr),
+];
+
+const FIRST: u64 = 4_294_967_297;
+
+const CHANNEL: Channel = Channel {
+    header_pad_size: 0,
+    max_request_size: 16_384,
+    max_response_size: 16_384,
+    max_response_size_cached: 16_384,
+    max_operations: 16,
+    max_requests: 8,
+    rdma_ird: None,
+};
+
+// the session that CREATE_SESSION makes first
+const SESSION: [u8; 16] = [0, 0, 0, 1, 0, 0, 0, 1, 0, 0, 0, 0, 0, 0, 0, 1];
+
+const SEQUENCE: SequenceArguments = SequenceArguments {
+    session: SESSION,
+    sequence: 1,
+    slot: 0,
+    highest_slot: 0,
+    cache_this: false,
+};
+
+fn bytes_of(alloc: Global, words: &[u32]) -> Result<Vec<u8>, AllocError> {
+    let mut bytes = Vec::new(alloc);
+    for word in words {
+        bytes.extend_from_slice(&word.to_be_bytes())?;
+    }
+    Ok(bytes)
+}
+
+fn running(alloc: Global, count: u32, words: &[u32]) -> Result<Running, Fail> {
+    let operations = bytes_of(alloc, words)?;
+    let cred = Cred {
+        uid: 7,
+        gid: 7,
+        gids: Gids::new(alloc),
+    };
+    let compound = Compound {
+        tag: Tag { bytes: b"t" },
+        count,
+        operations: &operations,
+    };
+    Ok(Running::begin(alloc, 1, 1, cred, &compound)?)
+}
+
+// a table with one client and its session
+fn table_of(alloc: Global) -> Result<Table, Fail> {
+    let mut table = Table::new(alloc, 1);
+    let first = running(alloc, 1, &[])?;
+    let hello = ExchangeIdArguments {
+        verifier: [1; 8],
+        owner: b"A",
+        flags: 0,
+        implementation: None,
+    };
+    first.exchange_id(&mut table, &hello)?;
+    let session = CreateSessionArguments {
+        client: FIRST,
+        sequence: 1,
+        flags: 0,
+        fore: CHANNEL,
+        back: CHANNEL,
+        callback_program: 0,
+        security: Vec::new(alloc),
+    };
+    first.create_session(&mut table, &session)?;
+    Ok(table)
+}
+
+#[test]
+fn first_operations_are_tested_in_order(rt: HostRuntime) -> Result<(), Fail> {
+    for (count, words, number, wanted) in REFUSED {
+        let begun = running(rt.alloc(), count, words)?;
+        match begun.next_operation(rt.alloc())? {
+            Next::Refuses { operation, status } => {
+                assert_eq!(rt; operation, number);
+                assert_eq!(rt; status, wanted);
+            }
+            Next::Reads { .. } => return Err("it runs".into()),
+        }
+    }
+    Ok(())
+}
+
+#[test]
+fn sequence_runs_once(rt: HostRuntime) -> Result<(), Fail> {
+    let mut table = table_of(rt.alloc())?;
+    let mut begun = running(rt.alloc(), 2, &[])?;
+    assert!(rt; begun.current_node() == Err(Status::NoFileHandle));
+    match begun.sequence(&mut table, &SEQUENCE)? {
+        Sequenced::Gives(Outcome::Done(_)) => {}
+        _ => return Err("it does not run".into()),
+    }
+    match begun.sequence(&mut table, &SEQUENCE)? {
+        Sequenced::Gives(Outcome::Refused { status, .. }) => assert_eq!(rt; status, Status::Delay),
+        _ => return Err("it runs twice".into()),
+    }
+    let _root = begun.put_root();
+    assert!(rt; begun.current_node() == Ok(1));
+    Ok(())
+}

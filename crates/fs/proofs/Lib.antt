@@ -1,0 +1,10 @@
+pub mod SuperblockLaws
+pub mod StandLaws
+pub mod ImageLaws
+pub mod NextLaws
+pub mod ReadLaws
+pub mod ToldLaws
+pub mod MountLaws
+pub mod FirstLaws
+pub mod FoundLaws
+pub mod FormatLaws

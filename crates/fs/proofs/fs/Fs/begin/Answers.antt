@@ -1,0 +1,46 @@
+use Rattle.std.proofs.Common.{ℕ, ◌≡◌, ◌+◌, ◌∙◌, length, ap, sym, subst, arith}
+use Rattle.std.proofs.Math.Logic.{∥∥₁_map}
+use Rattle.std.specs.Prelude.{IsTrue}
+use Rattle.journal.specs.Journal.{log_of}
+use Rattle.model.specs.declared.limits.Limits.{Limits}
+use Rattle.model.specs.Limits.{limits_of}
+use Rattle.model.specs.Stamp.{stamp, next_stamp}
+use Rattle.plain.specs.View.{tree_of}
+use Rattle.fs.specs.FileSystems.{fs_of}
+use Rattle.fs.specs.Stands.{Stands}
+use Rattle.fs.specs.Superblock.{is_size}
+use Rattle.fs.proofs.StandLaws.{before-later, holds_base}
+use Rattle.fs.proofs.fs.Fs.begin.Goals as goal
+
+pub invariant_of-result : goal.invariant_of-result
+invariant_of-result g c =
+    let found = c.args.found in
+    let log = log_of c.start.new.journal in
+    let nodes : c.of_volume-limits.result.nodes ≡ found.nodes = ap (λ (l : Limits). l.nodes) c.of_volume-limits.ensures in
+    let size : found.sectors ≡ log.size = c.requires.size ∙ sym c.start.ensures.same_size in
+    record {
+      counted = omega arith;
+      sized = subst (λ (n : ℕ). IsTrue (is_size n c.of_volume-limits.result.nodes)) size (subst (λ (n : ℕ). IsTrue (is_size found.sectors n)) (sym nodes) c.requires.sized);
+      limited = c.of_volume-limits.ensures ∙ (ap (λ (n : ℕ). limits_of n found.nodes) size ∙ ap (λ (n : ℕ). limits_of log.size n) (sym nodes));
+      up = λ e. c.in-Ok.ensures.still_up;
+      listed = λ e. ap length c.start.ensures.list;
+      serves = ∥∥₁_map c.in-Ok.ensures.sound (λ s. record {
+        well_formed = s.well_formed;
+        before = before-later (stamp (found.run + 1) 0) (next_stamp (found.run + 1) 0) (tree_of c.in-Ok.tree) (omega arith) s.before;
+        plain = s.plain;
+        settled = λ k up. c.in-Ok.ensures.settled k;
+        stands = λ k up. subst (λ (n : ℕ). ∥ Stands n c.of_volume-limits.result.nodes log.base (found.run + 1) (tree_of c.in-Ok.tree) ∥₁) size
+            (subst (λ (n : ℕ). ∥ Stands found.sectors n log.base (found.run + 1) (tree_of c.in-Ok.tree) ∥₁) (sym nodes) (c.in-Ok.ensures.stands k));
+      });
+    }
+
+pub returns-in-Ok-clause-holds : goal.returns-in-Ok-clause-holds
+unfolding fs_of
+returns-in-Ok-clause-holds g c = λ k.
+    let found = c.args.found in
+    let log = log_of c.start.new.journal in
+    let nodes : c.of_volume-limits.result.nodes ≡ found.nodes = ap (λ (l : Limits). l.nodes) c.of_volume-limits.ensures in
+    let size : found.sectors ≡ log.size = c.requires.size ∙ sym c.start.ensures.same_size in
+    holds_base log c.of_volume-limits.result.nodes (found.run + 1) (tree_of c.in-Ok.tree) (c.in-Ok.ensures.settled k)
+    (subst (λ (n : ℕ). ∥ Stands n c.of_volume-limits.result.nodes log.base (found.run + 1) (tree_of c.in-Ok.tree) ∥₁) size
+    (subst (λ (n : ℕ). ∥ Stands found.sectors n log.base (found.run + 1) (tree_of c.in-Ok.tree) ∥₁) (sym nodes) (c.in-Ok.ensures.stands k)))

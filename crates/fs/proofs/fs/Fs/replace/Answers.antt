@@ -1,0 +1,107 @@
+-- By the words of the journal and of the volume alone.
+use Rattle.std.proofs.Common.{ℕ, List, [], ◌∷◌, ◌++◌, ap, sym, subst, ◌∙◌, rules, refl, length}
+use Rattle.std.proofs.Math.Logic.{∥∥₁_map, ∥∥₁_elim, ∥∥₁_prop}
+use Rattle.std.specs.Prelude.{IsTrue}
+use Rattle.disk.specs.declared.update.Update.{Update}
+use Rattle.disk.specs.Moments.{AddsOnly}
+use Rattle.journal.specs.Journal.{log_of, failures_of}
+use Rattle.journal.specs.Layout.{AreTargets, targets}
+use Rattle.journal.specs.Log.{StandsForFront, applied_all}
+use Rattle.journal.specs.Settled.{AreSame}
+use Rattle.model.specs.Limits.{limits_of}
+use Rattle.plain.specs.View.{tree_of}
+use Rattle.fs.specs.FileSystems.{fs_of, fs_failures}
+use Rattle.fs.specs.Superblock.{is_size}
+use Rattle.fs.proofs.ImageLaws.{image_targets, image_length}
+use Rattle.fs.proofs.StandLaws.{size-least, records_plain, keep_moments, next_serving, holds_base, fault_counted}
+use Rattle.fs.proofs.fs.Fs.replace.Goals as goal
+
+pub updates_of-requires : goal.updates_of-requires
+unfolding fs_of
+updates_of-requires g c =
+    records_plain (log_of c.args.self.now.journal) c.args.self.now.limits c.args.self.now.run c.args.self.now.changes
+    (tree_of c.args.self.now.tree) (tree_of c.args.tree) c.args.self.now.sized c.args.self.now.limited c.requires.counted c.requires.next
+
+pub keep-requires : goal.keep-requires
+keep-requires g c =
+    subst (λ (us : List Update). AreTargets (log_of c.args.self.now.journal).size (targets us))
+    (sym (c.deref.ensures.value ∙ c.in_ok-updates.ensures.image))
+    (image_targets (log_of c.args.self.now.journal).size (tree_of c.args.tree) (size-least (log_of c.args.self.now.journal).size c.args.self.now.limits.nodes c.args.self.now.sized))
+
+pub invariant_of-self-in-Err : goal.invariant_of-self-in-Err
+invariant_of-self-in-Err g c = record {
+  counted = c.args.self.now.counted;
+  sized = subst (λ (n : ℕ). IsTrue (is_size n c.args.self.now.limits.nodes)) (sym c.keep.ensures.size) c.args.self.now.sized;
+  limited = c.args.self.now.limited ∙ ap (λ (n : ℕ). limits_of n c.args.self.now.limits.nodes) (sym c.keep.ensures.size);
+  up = λ e. absurd (cc);
+  listed = λ e. absurd (cc);
+  serves = ∥∥₁_map c.args.self.now.serves (λ s. record {
+    well_formed = s.well_formed;
+    before = s.before;
+    plain = s.plain;
+    settled = λ k e. absurd (cc);
+    stands = λ k e. absurd (cc);
+  });
+}
+
+pub returns-in-Err : goal.returns-in-Err
+unfolding fs_of fs_failures
+returns-in-Err g c = record {
+  moments = λ k.
+      keep_moments (log_of c.args.self.now.journal) c.args.self.now.limits c.args.self.now.run c.args.self.now.changes
+      (tree_of c.args.self.now.tree) (tree_of c.args.tree) c.args.self.now.sized c.args.self.now.limited c.requires.counted
+      c.in_ok-updates.ensures.fit c.requires.next (c.args.self.now.listed c.requires.up)
+      (∥∥₁_elim c.args.self.now.serves ∥∥₁_prop (λ s. s.stands k c.requires.up)) (log_of c.keep.new.journal).history
+      (subst (λ (us : List Update). AddsOnly (StandsForFront (log_of c.args.self.now.journal).size (log_of c.args.self.now.journal).base
+      ((log_of c.args.self.now.journal).list ++ us ∷ [])) (log_of c.args.self.now.journal).history (log_of c.keep.new.journal).history)
+      (c.deref.ensures.value ∙ c.in_ok-updates.ensures.image) (c.keep.ensures.moments k));
+  ok = search rules;
+  holds = search rules;
+  refused = search rules;
+  memory = search rules;
+  device = search rules;
+  cause = λ is. fault_counted (log_of c.args.self.now.journal) (log_of c.keep.new.journal) (fs_failures c.args.self.now) (failures_of c.keep.new.journal)
+      (length c.deref.result.now) c.keep.result c.in-Err.field-0 c.in-Err.is c.keep.ensures.answers (c.args.self.now.up c.requires.up) c.keep.ensures.too_many
+      (ap length (c.deref.ensures.value ∙ c.in_ok-updates.ensures.image) ∙ image_length (tree_of c.args.tree)) c.keep.ensures.not_damaged (search rules);
+  only = search rules;
+  later = search rules;
+}
+
+pub invariant_of-self-2 : goal.invariant_of-self-2
+unfolding fs_of
+invariant_of-self-2 g c = record {
+  counted = c.requires.counted;
+  sized = subst (λ (n : ℕ). IsTrue (is_size n c.args.self.now.limits.nodes)) (sym c.keep.ensures.size) c.args.self.now.sized;
+  limited = c.args.self.now.limited ∙ ap (λ (n : ℕ). limits_of n c.args.self.now.limits.nodes) (sym c.keep.ensures.size);
+  up = λ e. search rules;
+  listed = λ e. ap length c.in-Ok.ensures.list;
+  serves = next_serving (log_of c.args.self.now.journal) c.args.self.now.limits c.args.self.now.run c.args.self.now.changes
+      (tree_of c.args.self.now.tree) (tree_of c.args.tree) c.args.self.now.sized c.args.self.now.limited c.requires.counted
+      g.D.Device.keeps_word (log_of c.keep.new.journal) c.keep.ensures.size c.in_ok-updates.ensures.fit
+      (c.args.self.now.listed c.requires.up) c.in-Ok.ensures.settled
+      (λ k. subst (λ (us : List Update). AreSame (log_of c.args.self.now.journal).size (applied_all ((log_of c.args.self.now.journal).list ++ us ∷ [])
+      (log_of c.args.self.now.journal).base) (log_of c.keep.new.journal).base) (c.deref.ensures.value ∙ c.in_ok-updates.ensures.image) (c.in-Ok.ensures.ok k))
+      c.requires.next c.args.self.now.is_down c.requires.up c.args.self.now.serves;
+}
+
+pub returns-clause-moments : goal.returns-clause-moments
+unfolding fs_of
+returns-clause-moments g c = λ k.
+    keep_moments (log_of c.args.self.now.journal) c.args.self.now.limits c.args.self.now.run c.args.self.now.changes
+    (tree_of c.args.self.now.tree) (tree_of c.args.tree) c.args.self.now.sized c.args.self.now.limited c.requires.counted
+    c.in_ok-updates.ensures.fit c.requires.next (c.args.self.now.listed c.requires.up)
+    (∥∥₁_elim c.args.self.now.serves ∥∥₁_prop (λ s. s.stands k c.requires.up)) (log_of c.keep.new.journal).history
+    (subst (λ (us : List Update). AddsOnly (StandsForFront (log_of c.args.self.now.journal).size (log_of c.args.self.now.journal).base
+    ((log_of c.args.self.now.journal).list ++ us ∷ [])) (log_of c.args.self.now.journal).history (log_of c.keep.new.journal).history)
+    (c.deref.ensures.value ∙ c.in_ok-updates.ensures.image) (c.keep.ensures.moments k))
+
+pub returns-clause-holds : goal.returns-clause-holds
+unfolding fs_of
+returns-clause-holds g c = λ k. holds_base (log_of c.keep.new.journal) c.args.self.now.limits.nodes c.args.self.now.run (tree_of c.args.tree) (c.in-Ok.ensures.settled k)
+    (∥∥₁_elim (next_serving (log_of c.args.self.now.journal) c.args.self.now.limits c.args.self.now.run c.args.self.now.changes
+    (tree_of c.args.self.now.tree) (tree_of c.args.tree) c.args.self.now.sized c.args.self.now.limited c.requires.counted
+    g.D.Device.keeps_word (log_of c.keep.new.journal) c.keep.ensures.size c.in_ok-updates.ensures.fit
+    (c.args.self.now.listed c.requires.up) c.in-Ok.ensures.settled
+    (λ k. subst (λ (us : List Update). AreSame (log_of c.args.self.now.journal).size (applied_all ((log_of c.args.self.now.journal).list ++ us ∷ [])
+    (log_of c.args.self.now.journal).base) (log_of c.keep.new.journal).base) (c.deref.ensures.value ∙ c.in_ok-updates.ensures.image) (c.in-Ok.ensures.ok k))
+    c.requires.next c.args.self.now.is_down c.requires.up c.args.self.now.serves) ∥∥₁_prop (λ s. s.stands k refl))

@@ -1,0 +1,21 @@
+-- What contracts see of a file system in memory.
+use Rattle.journal.specs.Journal.{log_of, failures_of}
+use Rattle.plain.specs.View.{tree_of}
+use Rattle.fs.specs.declared.fs.Fs.{Fs}
+use Rattle.fs.specs.FileSystem.{FileSystem}
+use Rattle.std.specs.Prelude.{ℕ}
+
+unfoldable pub fs_of : {D : _} {g : _} → Fs D g → FileSystem
+fs_of fs = record {
+  limits = fs.limits;
+  run = fs.run;
+  tree = tree_of fs.tree;
+  changes = fs.changes;
+  is_down = fs.is_down;
+  sectors = (log_of fs.journal).size;
+  history = (log_of fs.journal).history;
+}
+
+-- how often its device has failed
+unfoldable pub fs_failures : {D : _} {g : _} → Fs D g → ℕ
+fs_failures fs = failures_of fs.journal

@@ -1,0 +1,256 @@
+//! The file system: a tree in memory, and its image behind the journal of a device.
+
+ghost use Rattle.std.specs.Prelude.{◌≡◌, ◌<◌, ◌^◌, false, length, IsTrue};
+ghost use Rattle.journal.specs.Journal.{log_of};
+ghost use Rattle.model.specs.Limits.{limits_of};
+ghost use Rattle.plain.specs.View.{tree_of};
+ghost use Rattle.fs.specs.Superblock.{is_size};
+ghost use Rattle.fs.specs.FileSystem.{IsServing};
+
+use crate::created::Created;
+use crate::fault::{FsFault, MountFault};
+use crate::mount::{Superblock, find, start};
+use crate::superblock::Verdict;
+use acl_eval::Cred;
+use disk::Device;
+use durable::keep;
+use image::updates_of;
+use journal::{Journal, JournalFault};
+use model::limits::Limits;
+use model::step::every_step;
+use plain::make_dir::NewDirectory;
+use plain::put::Moment;
+use plain::tree::Tree;
+use std::alloc::Global;
+
+/// A mounted file system.
+#[derive(Drop)]
+pub struct Fs<D: Device> {
+    alloc: Global,
+    journal: Journal<D>,
+    limits: Limits,
+    run: u32,
+    changes: u32,
+    tree: Tree,
+    is_down: bool,
+    ghost counted: { changes < 2 ^ 32 },
+    ghost sized: { IsTrue (is_size (log_of journal).size limits.nodes) },
+    ghost limited: { limits ≡ limits_of (log_of journal).size limits.nodes },
+    ghost up: { is_down ≡ false → (log_of journal).is_down ≡ false },
+    ghost listed: { is_down ≡ false → length (log_of journal).list ≡ 0 },
+    ghost serves: { ∥ IsServing D.keeps_word (log_of journal) limits run changes (tree_of tree) is_down ∥₁ },
+}
+
+/// A device that was not mounted, and why.
+#[derive(Drop)]
+pub struct Unmounted<D: Device> {
+    pub fault: MountFault,
+    /// The device, given back.
+    pub device: D,
+}
+
+#[tactic(auto, unfolding(crate::specs::FileSystems::fs_of, crate::specs::FileSystems::fs_failures))]
+impl<D: Device> Fs<D> {
+    ghost use Rattle.std.specs.Prelude.{◌≡◌, ◌≤◌, ◌⊎◌, ◌+◌, ◌<◌, ◌^◌, [], true, false, ℕ, length, OnOk, OnErr, IfOk, IfErr, IsErrOf, IsTrue};
+    ghost use Rattle.disk.specs.Cause.{IsCounted};
+    ghost use Rattle.model.specs.Step.{State, does};
+    ghost use Rattle.plain.specs.Given.{given_of};
+    ghost use Rattle.plain.specs.View.{tree_of};
+    ghost use Rattle.fs.specs.Operations.{IsOn, LooksUp, MakesDir, new_directory};
+    ghost use Rattle.disk.specs.Moments.{AddsOnly, seen};
+    ghost use Rattle.journal.specs.Journal.{log_of, failures_of};
+    ghost use Rattle.model.specs.Tree.{Tree as NumberedTree};
+    ghost use Rattle.fs.specs.FileSystem.{AddsTrees, Holds, IsNew, IsNext};
+    ghost use Rattle.fs.specs.Stands.{IsBase, Stands, StandsFor};
+    ghost use Rattle.fs.specs.Superblock.{is_size, superblock, verdict};
+    ghost use Rattle.fs.specs.FileSystems.{fs_of, fs_failures};
+
+    /// Mounts the volume: finds it by its first sector, copies home what an open gate shows, reads the tree, and raises the
+    /// restart count. Every map that a stop leaves from then on has the new count, which is this file system's run.
+    ///
+    /// # Errors
+    ///
+    /// The device comes back with the reason. NotVolume, then Worn, by the first sector, and then nothing was written; then
+    /// Damaged exactly where no tree stands; Device where the device failed, and Memory.
+    pub fn mount(alloc: Global, device: D) -> Result<Fs<D>, Unmounted<D>>
+        ensures new { IfOk result (λ fs. IsNew (D.size device) (fs_of fs)) }
+        ensures moments { D.keeps_word → IfOk result (λ fs. (nodes run : ℕ) (tree : NumberedTree) → IsBase (D.size device) nodes run tree (seen (D.history device).now)
+            → AddsOnly (λ image. StandsFor (D.size device) nodes run tree image ⊎ StandsFor (D.size device) nodes (run + 1) tree image) (D.history device) (fs_of fs).history) }
+        ensures found { D.keeps_word → IfOk result (λ fs. (run : ℕ) → (fs_of fs).run ≡ run + 1
+            → StandsFor (D.size device) (fs_of fs).limits.nodes run (fs_of fs).tree (seen (D.history device).now)) }
+        ensures holds { D.keeps_word → IfOk result (λ fs. Holds (fs_of fs)) }
+        ensures moments_refused { D.keeps_word → IfErr result (λ refused. (nodes run : ℕ) (tree : NumberedTree) → IsBase (D.size device) nodes run tree (seen (D.history device).now)
+            → AddsOnly (λ image. StandsFor (D.size device) nodes run tree image ⊎ StandsFor (D.size device) nodes (run + 1) tree image) (D.history device) (D.history refused.device)) }
+        ensures not_volume { D.keeps_word → IfErr result (λ refused. refused.fault ≡ MountFault.NotVolume
+            → (verdict (D.size device) (seen (D.history device).now 0) ≡ Verdict.NotVolume) × (D.history refused.device ≡ D.history device)) }
+        ensures worn { D.keeps_word → IfErr result (λ refused. refused.fault ≡ MountFault.Worn
+            → (verdict (D.size device) (seen (D.history device).now 0) ≡ Verdict.Worn) × (D.history refused.device ≡ D.history device)) }
+        ensures damaged { D.keeps_word → IfErr result (λ refused. refused.fault ≡ MountFault.Damaged
+            → (nodes run : ℕ) (tree : NumberedTree) → IsBase (D.size device) nodes run tree (seen (D.history device).now) → ⊥) }
+        ensures cause { IfErr result (λ refused. refused.fault ≡ MountFault.Device → IsCounted (D.failed device) (D.failed refused.device)) }
+    {
+        let mut device = device;
+        let found = match find(&mut device) {
+            Ok(found) => found,
+            Err(fault) => return Err(Unmounted { fault, device }),
+        };
+        match Journal::mount(alloc, device) {
+            Ok(journal) => Fs::begin(alloc, journal, found),
+            Err(refused) => Err(Unmounted {
+                fault: refused.fault.into(),
+                device: refused.device,
+            }),
+        }
+    }
+
+    /// Begins a run on a journal whose list is empty.
+    fn begin(alloc: Global, journal: Journal<D>, found: Superblock) -> Result<Fs<D>, Unmounted<D>>
+        requires size { found.sectors ≡ (log_of journal).size }
+        requires sized { IsTrue (is_size found.sectors found.nodes) }
+        requires counted { found.run + 1 < 2 ^ 32 }
+        requires up { (log_of journal).is_down ≡ false }
+        requires listed { (log_of journal).list ≡ [] }
+        requires first { D.keeps_word → (log_of journal).base 0 ≡ superblock found.sectors found.nodes found.run }
+        ensures new { IfOk result (λ fs. IsNew (log_of journal).size (fs_of fs)) }
+        ensures run { IfOk result (λ fs. (fs_of fs).run ≡ found.run + 1) }
+        ensures nodes { IfOk result (λ fs. (fs_of fs).limits.nodes ≡ found.nodes) }
+        ensures moments { D.keeps_word → IfOk result (λ fs. (tree : NumberedTree) → Stands found.sectors found.nodes (log_of journal).base found.run tree
+            → AddsOnly (λ image. StandsFor found.sectors found.nodes found.run tree image ⊎ StandsFor found.sectors found.nodes (found.run + 1) tree image) (log_of journal).history (fs_of fs).history) }
+        ensures found { D.keeps_word → IfOk result (λ fs. ∥ Stands found.sectors found.nodes (log_of journal).base found.run (fs_of fs).tree ∥₁) }
+        ensures holds { D.keeps_word → IfOk result (λ fs. Holds (fs_of fs)) }
+        ensures moments_refused { D.keeps_word → IfErr result (λ refused. (tree : NumberedTree) → Stands found.sectors found.nodes (log_of journal).base found.run tree
+            → AddsOnly (λ image. StandsFor found.sectors found.nodes found.run tree image ⊎ StandsFor found.sectors found.nodes (found.run + 1) tree image) (log_of journal).history (D.history refused.device)) }
+        ensures damaged { D.keeps_word → IfErr result (λ refused. refused.fault ≡ MountFault.Damaged
+            → (tree : NumberedTree) → Stands found.sectors found.nodes (log_of journal).base found.run tree → ⊥) }
+        ensures cause { IfErr result (λ refused. refused.fault ≡ MountFault.Device → IsCounted (failures_of journal) (D.failed refused.device)) }
+        ensures only { IfErr result (λ refused. (refused.fault ≡ MountFault.Device) ⊎ ((refused.fault ≡ MountFault.Damaged) ⊎ (refused.fault ≡ MountFault.Memory))) }
+    {
+        let mut journal = journal;
+        let limits = Limits::of_volume(found.sectors as usize, found.nodes as usize);
+        match start(alloc, &mut journal, found, &limits) {
+            Ok(tree) => Ok(Fs {
+                alloc,
+                journal,
+                limits,
+                run: found.run + 1,
+                changes: 0,
+                tree,
+                is_down: false,
+            }),
+            Err(fault) => Err(Unmounted {
+                fault,
+                device: journal.into_device(),
+            }),
+        }
+    }
+
+    /// The run of this mount: the restart count that it wrote.
+    pub fn restart_count(&self) -> u32
+        ensures { result ≡ (fs_of self.now).run }
+    {
+        self.run
+    }
+
+    /// LOOKUP (RFC 8881, section 18.13) in the directory of this number: the number of the node that the name leads to.
+    pub fn lookup(&self, cred: &Cred, directory: u64, name: &[u8]) -> Result<u64, FsFault>
+        ensures step { (state : State) (now : ℕ) → IsOn (fs_of self.now) cred.now directory state → LooksUp (fs_of self.now) state now name.now result }
+        ensures down { (fs_of self.now).is_down ≡ true → IsErrOf result FsFault.Down }
+    {
+        if self.is_down {
+            return Err(FsFault::Down);
+        }
+        Ok(self.tree.lookup(&self.limits, cred, directory, name)?)
+    }
+
+    /// CREATE of a directory (RFC 8881, section 18.4), by this caller at this moment, in nanoseconds since 1970. It is kept on
+    /// the device before the answer; `has_room` says whether the reply has room for that.
+    pub fn make_dir(
+        &mut self,
+        cred: &Cred,
+        now: u64,
+        asked: NewDirectory,
+        has_room: bool,
+    ) -> Result<Created, FsFault>
+        requires { length asked.attributes.bitmap.now ≤ 8 }
+        ensures step { (state : State) → IsOn (fs_of self.old) cred.now asked.entry.parent state
+            → MakesDir (fs_of self.old) (fs_of self.new) state now asked.entry.name.now (given_of asked.entry.attributes) result }
+        ensures moments { D.keeps_word → (state : State) → IsOn (fs_of self.old) cred.now asked.entry.parent state
+            → AddsTrees (fs_of self.old) (does (fs_of self.old).limits state now (new_directory asked.entry.name.now (given_of asked.entry.attributes))).state.tree (fs_of self.new).history }
+        ensures holds { D.keeps_word → OnOk result (Holds (fs_of self.new)) }
+        ensures ok { OnOk result (fs_of self.new ≡ record (fs_of self.old) {
+          tree = (fs_of self.new).tree;
+          changes = (fs_of self.old).changes + 1;
+          history = (fs_of self.new).history;
+        }) }
+        ensures refused { OnErr result (fs_of self.new ≡ record (fs_of self.old) {
+          is_down = (fs_of self.new).is_down;
+          history = (fs_of self.new).history;
+        }) }
+        ensures unchanged { IfErr result (λ fault. (fault ≡ FsFault.Device → ⊥) → fs_of self.new ≡ fs_of self.old) }
+        ensures room { OnOk result (has_room ≡ true) }
+        ensures no_room { IsErrOf result FsFault.NoRoom → has_room ≡ false }
+        ensures down { (fs_of self.old).is_down ≡ true → IsErrOf result FsFault.Down }
+        ensures goes_down { IsErrOf result FsFault.Device → (fs_of self.new).is_down ≡ true }
+        ensures cause { IsErrOf result FsFault.Device → IsCounted (fs_failures self.old) (fs_failures self.new) }
+        ensures later { fs_failures self.old ≤ fs_failures self.new }
+    {
+        if self.is_down {
+            return Err(FsFault::Down);
+        }
+        let moment = Moment {
+            run: self.run,
+            changes: self.changes,
+            now,
+        };
+        let made = self
+            .tree
+            .make_dir(self.alloc, &self.limits, cred, moment, asked)?;
+        if !has_room {
+            return Err(FsFault::NoRoom);
+        }
+        every_step();
+        self.replace(made.tree)?;
+        Ok(Created {
+            number: made.number,
+            before: made.before,
+        })
+    }
+
+    /// Keeps a tree on the device, which is the file system's from then on.
+    fn replace(&mut self, tree: Tree) -> Result<(), FsFault>
+        requires up { (fs_of self.old).is_down ≡ false }
+        requires next { ∥ IsNext (fs_of self.old).limits (fs_of self.old).run (fs_of self.old).changes (tree_of tree) ∥₁ }
+        requires counted { (fs_of self.old).changes + 1 < 2 ^ 32 }
+        ensures moments { D.keeps_word → AddsTrees (fs_of self.old) (tree_of tree) (fs_of self.new).history }
+        ensures ok { OnOk result (fs_of self.new ≡ record (fs_of self.old) {
+          tree = tree_of tree;
+          changes = (fs_of self.old).changes + 1;
+          history = (fs_of self.new).history;
+        }) }
+        ensures holds { D.keeps_word → OnOk result (Holds (fs_of self.new)) }
+        ensures refused { OnErr result (fs_of self.new ≡ record (fs_of self.old) {
+          is_down = (fs_of self.new).is_down;
+          history = (fs_of self.new).history;
+        }) }
+        ensures memory { IsErrOf result FsFault.Memory → fs_of self.new ≡ fs_of self.old }
+        ensures device { IsErrOf result FsFault.Device → (fs_of self.new).is_down ≡ true }
+        ensures cause { IsErrOf result FsFault.Device → IsCounted (fs_failures self.old) (fs_failures self.new) }
+        ensures only { IfErr result (λ fault. (fault ≡ FsFault.Memory) ⊎ (fault ≡ FsFault.Device)) }
+        ensures later { fs_failures self.old ≤ fs_failures self.new }
+    {
+        let updates = updates_of(self.alloc, &tree)?;
+        self.is_down = true;
+        match keep(&mut self.journal, &updates) {
+            Ok(()) => {}
+            Err(JournalFault::Memory) => {
+                self.is_down = false;
+                return Err(FsFault::Memory);
+            }
+            Err(_) => return Err(FsFault::Device),
+        }
+        self.changes += 1;
+        self.tree = tree;
+        self.is_down = false;
+        Ok(())
+    }
+}

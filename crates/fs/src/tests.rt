@@ -1,0 +1,93 @@
+ghost use Rattle.std.specs.Prelude.{◌≤◌, length};
+
+use crate::{Created, Fs, FsFault, MountFault};
+use acl_eval::{Cred, Gids};
+use disk::MemDevice;
+use model::status::Status;
+use plain::attributes::Attributes;
+use plain::make_dir::NewDirectory;
+use std::alloc::{AllocGlobal, Global};
+use std::process::Abort;
+use std::test::Fail;
+
+const FIRST: u64 = 0x1_0000_0001;
+
+// The attribute mode, 755.
+const MODE: [u32; 2] = [0, 2];
+
+const MODE_755: [u8; 4] = [0, 0, 1, 0xED];
+
+fn caller(alloc: Global) -> Cred {
+    Cred {
+        uid: 7,
+        gid: 7,
+        gids: Gids::new(alloc),
+    }
+}
+
+fn named(name: &[u8]) -> NewDirectory
+    ensures { length result.attributes.bitmap.now ≤ 8 }
+{
+    NewDirectory {
+        parent: 1,
+        name,
+        attributes: Attributes {
+            bitmap: &MODE,
+            values: &MODE_755,
+        },
+    }
+}
+
+fn make_directories<R: AllocGlobal + Abort>(rt: &R, device: &mut MemDevice) -> Result<(), Fail> {
+    let alloc = rt.alloc();
+    let cred = caller(alloc);
+    let Ok(mut fs) = Fs::mount(alloc, device) else {
+        return Err("not mounted".into());
+    };
+    let made = fs.make_dir(&cred, 5, named(b"a"), true)?;
+    assert_eq!(rt;
+        made,
+        Created {
+            number: FIRST,
+            before: 1
+        }
+    );
+    let again = fs.make_dir(&cred, 5, named(b"a"), true);
+    assert_eq!(rt; again, Err(FsFault::Status(Status::Exist)));
+    let without_room = fs.make_dir(&cred, 5, named(b"b"), false);
+    assert_eq!(rt; without_room, Err(FsFault::NoRoom));
+    Ok(())
+}
+
+fn look_up_directories<R: AllocGlobal + Abort>(rt: &R, device: &mut MemDevice) -> Result<(), Fail> {
+    let alloc = rt.alloc();
+    let cred = caller(alloc);
+    let Ok(fs) = Fs::mount(alloc, device) else {
+        return Err("not mounted".into());
+    };
+    assert_eq!(rt; fs.restart_count(), 2);
+    assert_eq!(rt; fs.lookup(&cred, 1, b"a"), Ok(FIRST));
+    assert_eq!(rt;
+        fs.lookup(&cred, 1, b"b"),
+        Err(FsFault::Status(Status::NoEnt))
+    );
+    Ok(())
+}
+
+#[test]
+fn directories_are_there_after_a_mount(rt: HostRuntime) -> Result<(), Fail> {
+    let mut device = MemDevice::new(rt.alloc(), 256)?;
+    Fs::format(rt.alloc(), &mut device, 16)?;
+    make_directories(&rt, &mut device)?;
+    look_up_directories(&rt, &mut device)
+}
+
+#[test]
+fn a_device_without_a_volume_is_none(rt: HostRuntime) -> Result<(), Fail> {
+    let device = MemDevice::new(rt.alloc(), 256)?;
+    let Err(refused) = Fs::mount(rt.alloc(), device) else {
+        return Err("mounted".into());
+    };
+    assert_eq!(rt; refused.fault, MountFault::NotVolume);
+    Ok(())
+}

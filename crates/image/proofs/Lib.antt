@@ -1,0 +1,10 @@
+pub mod AllLaws
+pub mod Mapped
+pub mod ReadFields
+pub mod ReadImages
+pub mod ReadSectors
+pub mod StampPlaces
+pub mod TreeLaws
+pub mod WrittenRecords
+pub mod PlainLaws
+pub mod OneImage

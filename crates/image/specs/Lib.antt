@@ -1,0 +1,5 @@
+pub mod Imaged
+pub mod RecordSpelling
+pub mod RecordViews
+pub mod Stamps
+pub mod TreeRecords

@@ -1,0 +1,94 @@
+-- What a piece makes of a connection.
+use Rattle.std.proofs.Common.{◌≡◌, ℕ, Bool, true, false, cond, List, [], ◌++◌, length, Some, None, refl, ap, sym, ◌∙◌}
+use Rattle.model.specs.Record.{Front, Partial, Refused, Whole, front, front_from}
+use Rattle.model.specs.Rpc.{read_call, is_call_read}
+use Rattle.model.specs.World.{Waiting, Closed, arrived, arrives_at, taken_of, taken_at}
+use Rattle.rpc.specs.declared.fault.RecordFault.{RecordFault}
+use Rattle.rpc.specs.declared.fault.RecordFault.TheVariants as faults
+use Rattle.rpc.specs.declared.receive.Progress.TheVariants as progress
+use Rattle.rpc.specs.Assembly.{record_limits, Assembly, Gathers, Holds, Refuses, connection_of, fault_in, fault_at, is_partial, is_lasting, IsRefused, Refusal, Receives}
+
+pub nothing_yet : is_partial (front record_limits []) ≡ true
+unfolding front_from
+nothing_yet = refl
+
+partial_in : (f : Front) → is_partial f ≡ true → f ≡ Partial
+partial_in Partial is = refl
+partial_in (Refused fault) is = absurd cc
+partial_in (Whole request rest) is = absurd cc
+
+pub partial : (bytes : List ℕ) → is_partial (front record_limits bytes) ≡ true → front record_limits bytes ≡ Partial
+partial bytes is = partial_in (front record_limits bytes) is
+
+pub is_still_partial : (bytes : List ℕ) → front record_limits bytes ≡ Partial → is_partial (front record_limits bytes) ≡ true
+is_still_partial bytes is = ap is_partial is
+
+-- The bytes that are taken
+
+pub more_taken : (old : Assembly) (bytes piece new : List ℕ) → old ≡ Gathers bytes → Receives bytes piece progress.More new → taken_at record_limits piece (connection_of old) ≡ Some (length piece)
+unfolding taken_at
+more_taken old bytes piece new is r =
+    ap (λ (a : Assembly). taken_at record_limits piece (connection_of a)) is
+    ∙ ap (λ (f : Front). taken_of piece f (arrived (bytes ++ piece) f)) r.0
+
+pub whole_taken : (old : Assembly) (bytes piece new : List ℕ) (n : ℕ) → old ≡ Gathers bytes → Receives bytes piece (progress.Whole n) new → taken_at record_limits piece (connection_of old) ≡ Some n
+unfolding taken_at
+whole_taken old bytes piece new n is r =
+    ap (λ (a : Assembly). taken_at record_limits piece (connection_of a)) is
+    ∙ ap (λ (f : Front). taken_of piece f (arrived (bytes ++ piece) f)) r.1
+    ∙ ap (λ (b : Bool). taken_of piece (Whole new r.0) (cond b (Waiting new) Closed)) r.3
+    ∙ ap Some (sym r.2)
+
+pub none_taken : (old : Assembly) (request piece : List ℕ) → old ≡ Holds request → taken_at record_limits piece (connection_of old) ≡ Some 0
+unfolding taken_at
+none_taken old request piece is = ap (λ (a : Assembly). taken_at record_limits piece (connection_of a)) is
+
+-- Refusals
+
+closes_by : (b : Bool) (request : List ℕ) (fault : RecordFault) → cond b None (Some faults.NotACall) ≡ Some fault → cond b (Waiting request) Closed ≡ Closed
+closes_by true request fault is = absurd cc
+closes_by false request fault is = refl
+
+closes : (all : List ℕ) (f : Front) (fault : RecordFault) → fault_in f ≡ Some fault → arrived all f ≡ Closed
+closes all Partial fault is = absurd cc
+closes all (Refused why) fault is = refl
+closes all (Whole request rest) fault is = closes_by (is_call_read (read_call request)) request fault is
+
+none_by : (piece : List ℕ) (f : Front) → taken_of piece f Closed ≡ None
+none_by piece Partial = refl
+none_by piece (Refused why) = refl
+none_by piece (Whole request rest) = refl
+
+refused_by : (old : Assembly) (bytes piece : List ℕ) (fault : RecordFault) → old ≡ Gathers bytes → fault_in (front record_limits (bytes ++ piece)) ≡ Some fault → IsRefused piece old (Refuses fault) fault
+unfolding taken_at
+refused_by old bytes piece fault is why =
+    let shut : arrived (bytes ++ piece) (front record_limits (bytes ++ piece)) ≡ Closed = closes (bytes ++ piece) (front record_limits (bytes ++ piece)) fault why in
+    record {
+      reason = ap (fault_at piece) is ∙ why;
+      lasts = refl;
+      none_taken = ap (λ (a : Assembly). taken_at record_limits piece (connection_of a)) is
+          ∙ ap (taken_of piece (front record_limits (bytes ++ piece))) shut
+          ∙ none_by piece (front record_limits (bytes ++ piece));
+      closes = ap (λ (a : Assembly). arrives_at record_limits piece (connection_of a)) is ∙ shut;
+    }
+
+refused_before : (old : Assembly) (piece : List ℕ) (fault : RecordFault) → old ≡ Refuses fault → IsRefused piece old (Refuses fault) fault
+unfolding taken_at
+refused_before old piece fault is = record {
+  reason = ap (fault_at piece) is;
+  lasts = refl;
+  none_taken = ap (λ (a : Assembly). taken_at record_limits piece (connection_of a)) is;
+  closes = ap (λ (a : Assembly). arrives_at record_limits piece (connection_of a)) is;
+}
+
+lasting : (piece : List ℕ) (old new : Assembly) (fault : RecordFault) → is_lasting fault ≡ true → IsRefused piece old new fault → Refusal piece old new fault
+lasting piece old new faults.RecordTooBig lasts is = is
+lasting piece old new faults.TooManyFragments lasts is = is
+lasting piece old new faults.NotACall lasts is = is
+lasting piece old new faults.Memory lasts is = absurd cc
+
+pub refusal_now : (old : Assembly) (bytes piece new : List ℕ) (fault : RecordFault) → old ≡ Gathers bytes → Receives bytes piece (progress.Refused fault) new → Refusal piece old (Refuses fault) fault
+refusal_now old bytes piece new fault is r = lasting piece old (Refuses fault) fault r.1 (refused_by old bytes piece fault is r.0)
+
+pub refusal_before : (old : Assembly) (piece : List ℕ) (fault : RecordFault) → old ≡ Refuses fault → is_lasting fault ≡ true → Refusal piece old (Refuses fault) fault
+refusal_before old piece fault is lasts = lasting piece old (Refuses fault) fault lasts (refused_before old piece fault is)

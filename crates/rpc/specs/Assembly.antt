@@ -1,0 +1,116 @@
+-- What an assembler keeps of a connection's next record (RFC 5531, section 11), and what a piece of the stream makes of it.
+use Rattle.std.specs.Prelude.{◌≡◌, ℕ, ◌+◌, ◌-◌, ◌≤◌, ◌<◌, Bool, true, false, List, [], ◌++◌, length, take, drop, Option, Some, None, if◌then◌else◌}
+use Rattle.model.specs.Record as spec
+use Rattle.model.specs.Record.{RecordLimits, Gathered, Front, Partial, Refused, Whole, front, fragment}
+use Rattle.model.specs.Rpc.{read_call, is_call_read}
+use Rattle.model.specs.World.{Connection, Quiet, Waiting, Closed, arrives_at, taken_at}
+use Rattle.rpc.specs.declared.fault.RecordFault.{RecordFault}
+use Rattle.rpc.specs.declared.fault.RecordFault.TheVariants as faults
+use Rattle.rpc.specs.declared.fragment.Fragment.{Fragment}
+use Rattle.rpc.specs.declared.fragment.Fragment.TheVariants as found
+use Rattle.rpc.specs.declared.scan.Scan.{Scan}
+use Rattle.rpc.specs.declared.scan.Scan.TheVariants as scans
+use Rattle.rpc.specs.declared.receive.Progress.{Progress}
+use Rattle.rpc.specs.declared.receive.Progress.TheVariants as progress
+use Rattle.rpc.specs.declared.state.State.{State}
+use Rattle.rpc.specs.declared.state.State.TheVariants as states
+
+-- a record has at most 16,384 bytes and 64 fragments
+abbrev pub record_limits : RecordLimits
+record_limits = record { bytes = 16384; fragments = 64 }
+
+pub data Assembly : Type 0 where
+  -- what has come of the next record, headers included
+  Gathers : (bytes : List ℕ) → Assembly
+  -- a whole record that holds a call, its fragments joined
+  Holds : (request : List ℕ) → Assembly
+  -- refused for good
+  Refuses : RecordFault → Assembly
+
+abbrev pub assembly_of : State → Assembly
+assembly_of (states.Gathers bytes) = Gathers bytes.items
+assembly_of (states.Holds request) = Holds request.items
+assembly_of (states.Refuses fault) = Refuses fault
+
+-- the connection that an assembler stands for
+abbrev pub connection_of : Assembly → Connection
+connection_of (Gathers bytes) = Quiet bytes
+connection_of (Holds request) = Waiting request
+connection_of (Refuses fault) = Closed
+
+-- Refusals
+
+abbrev pub fault_of : spec.RecordFault → RecordFault
+fault_of spec.RecordTooBig = faults.RecordTooBig
+fault_of spec.TooManyFragments = faults.TooManyFragments
+
+-- why the bytes that have come are refused: by a header, or as a whole record that is no call
+abbrev pub fault_in : Front → Option RecordFault
+fault_in Partial = None
+fault_in (Refused fault) = Some (fault_of fault)
+fault_in (Whole request rest) = if is_call_read (read_call request) then None else Some faults.NotACall
+
+-- why a piece is refused, now or before
+abbrev pub fault_at : (piece : List ℕ) → Assembly → Option RecordFault
+fault_at piece (Gathers bytes) = fault_in (front record_limits (bytes ++ piece))
+fault_at piece (Holds request) = None
+fault_at piece (Refuses fault) = Some fault
+
+-- the piece is refused for good, for this reason
+pub record IsRefused (piece : List ℕ) (old new : Assembly) (fault : RecordFault) : Type 0 where
+  pub reason : fault_at piece old ≡ Some fault
+  pub lasts : new ≡ Refuses fault
+  pub none_taken : taken_at record_limits piece (connection_of old) ≡ None
+  pub closes : arrives_at record_limits piece (connection_of old) ≡ Closed
+
+-- where memory runs out nothing changes
+abbrev pub Refusal : (piece : List ℕ) → (old new : Assembly) → RecordFault → Type 0
+Refusal piece old new faults.RecordTooBig = IsRefused piece old new faults.RecordTooBig
+Refusal piece old new faults.TooManyFragments = IsRefused piece old new faults.TooManyFragments
+Refusal piece old new faults.NotACall = IsRefused piece old new faults.NotACall
+Refusal piece old new faults.Memory = new ≡ old
+
+-- no more has come than a part of a record, a whole one holds a call, and what lasts is no want of memory
+abbrev pub is_partial : Front → Bool
+is_partial Partial = true
+is_partial (Refused fault) = false
+is_partial (Whole request rest) = false
+
+abbrev pub is_lasting : RecordFault → Bool
+is_lasting faults.RecordTooBig = true
+is_lasting faults.TooManyFragments = true
+is_lasting faults.NotACall = true
+is_lasting faults.Memory = false
+
+abbrev pub is_sound : Assembly → Bool
+is_sound (Gathers bytes) = is_partial (front record_limits bytes)
+is_sound (Holds request) = is_call_read (read_call request)
+is_sound (Refuses fault) = is_lasting fault
+
+-- Steps
+
+-- what stands at the front of the bytes, by its size
+abbrev pub Finds : Gathered → List ℕ → Fragment → Type 0
+Finds gathered bytes found.Waits = fragment record_limits gathered bytes ≡ spec.Waits
+Finds gathered bytes found.TooBig = (4 ≤ length bytes) × (fragment record_limits gathered bytes ≡ spec.Refuses spec.RecordTooBig)
+Finds gathered bytes found.TooMany = (4 ≤ length bytes) × (fragment record_limits gathered bytes ≡ spec.Refuses spec.TooManyFragments)
+Finds gathered bytes (found.Brings size is_last) =
+    (4 + size ≤ length bytes) × (length gathered.bytes + size ≤ 16384) × (gathered.fragments < 64)
+    × (fragment record_limits gathered bytes ≡ spec.Brings (take size (drop 4 bytes)) is_last (drop size (drop 4 bytes)))
+
+-- where the record at the front of the bytes ends
+abbrev pub scan_of : List ℕ → Front → Scan
+scan_of bytes Partial = scans.Partial
+scan_of bytes (Refused fault) = scans.Refused (fault_of fault)
+scan_of bytes (Whole request rest) = scans.Whole (length bytes - length rest)
+
+-- the bytes are one whole record
+abbrev pub IsWhole : List ℕ → Type 0
+IsWhole bytes = (request : List ℕ) × (front record_limits bytes ≡ Whole request [])
+
+-- what a piece makes of the bytes before
+abbrev pub Receives : (old piece : List ℕ) → Progress → (new : List ℕ) → Type 0
+Receives old piece progress.More new = (front record_limits (old ++ piece) ≡ Partial) × (new ≡ old ++ piece)
+Receives old piece (progress.Whole n) new =
+    (rest : List ℕ) × (front record_limits (old ++ piece) ≡ Whole new rest) × (n ≡ length piece - length rest) × (is_call_read (read_call new) ≡ true)
+Receives old piece (progress.Refused fault) new = (fault_in (front record_limits (old ++ piece)) ≡ Some fault) × (is_lasting fault ≡ true)

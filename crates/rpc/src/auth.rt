@@ -1,0 +1,38 @@
+//! The caller, as AUTH_SYS tells it (RFC 5531, appendix A).
+
+ghost use Rattle.std.specs.Prelude.{◌≡◌, Some, None, MatchOption, MatchResult, IfOk};
+ghost use Rattle.model.specs.Rpc.{cred_of, cred_by};
+ghost use Rattle.model.specs.WireTypes.{system_credential};
+ghost use Rattle.rpc.specs.Views.{auth_sys_cred};
+
+use model::acl::{Cred, Gids};
+use std::alloc::{AllocError, Global};
+use wire::SystemCredential;
+use xdr::Reader;
+
+/// The credential of AUTH_SYS, where the body is exactly its form: a stamp, a machine name of at most 255 bytes, a uid,
+/// a gid, and at most 16 further gids.
+pub fn read_auth_sys(body: &[u8]) -> Option<SystemCredential<'_>>
+    ensures { MatchOption result (cred_of body.now ≡ None) (λ found. cred_of body.now ≡ Some (auth_sys_cred found)) }
+{
+    let mut at = Reader::new(body);
+    match SystemCredential::read(&mut at) {
+        Ok(found) if at.is_empty() => Some(found),
+        _ => None,
+    }
+}
+
+/// The caller that the credential tells.
+pub fn cred_from(alloc: Global, found: &SystemCredential<'_>) -> Result<Cred, AllocError>
+    ensures { IfOk result (λ cred. cred ≡ auth_sys_cred found.now) }
+{
+    let mut gids = Gids::new(alloc);
+    for gid in found.gids.as_slice() {
+        gids.push(*gid)?;
+    }
+    Ok(Cred {
+        uid: found.uid,
+        gid: found.gid,
+        gids,
+    })
+}

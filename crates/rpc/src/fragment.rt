@@ -1,0 +1,116 @@
+//! Fragments of a record (RFC 5531, section 11): a header, whose top bit says that it is the last one and whose other
+//! bits are its size, and so many bytes.
+
+ghost use Rattle.std.specs.Prelude.{◌≡◌, ℕ, ◌+◌, ◌<◌, ◌≤◌, ◌^◌, ◌++◌, length, take, drop, slice_index};
+ghost use Rattle.std.specs.Int.{w32, from_be_bytes};
+ghost use Rattle.model.specs.Record.{Gathered};
+ghost use Rattle.rpc.specs.Assembly.{Finds};
+
+/// Bytes of a header.
+pub const HEADER_BYTES: usize = 4;
+/// The mark of a record's last fragment.
+const LAST_FRAGMENT: u32 = 1 << 31;
+/// The most bytes and fragments of a record.
+const MOST_BYTES: usize = 16384;
+
+const MOST_FRAGMENTS: usize = 64;
+
+/// A place in a record, between two fragments.
+#[derive(Clone, Copy)]
+pub struct Place {
+    /// Where the next header begins.
+    pub at: usize,
+    /// The bytes of the fragments before, and their number.
+    pub size: usize,
+    pub fragments: usize,
+}
+
+impl Place {
+    /// Where a record begins.
+    pub const START: Place = Place {
+        at: 0,
+        size: 0,
+        fragments: 0,
+    };
+
+    /// Behind a fragment of so many bytes.
+    pub fn behind(self, size: usize) -> Place
+        requires end { self.at + 4 + size < 2 ^ 64 }
+        requires bytes { self.size + size ≤ 16384 }
+        requires fragments { self.fragments < 64 }
+        ensures at { result.at ≡ self.at + 4 + size }
+        ensures size { result.size ≡ self.size + size }
+        ensures fragments { result.fragments ≡ self.fragments + 1 }
+    {
+        Place {
+            at: self.at + HEADER_BYTES + size,
+            size: self.size + size,
+            fragments: self.fragments + 1,
+        }
+    }
+}
+
+/// What stands at a place.
+#[derive(Clone, Copy)]
+pub enum Fragment {
+    /// No whole fragment.
+    Waits,
+    /// A header that brings the record above its limit.
+    TooBig,
+    /// A header behind as many fragments as a record may have.
+    TooMany,
+    /// A whole fragment.
+    Brings { size: usize, is_last: bool },
+}
+
+/// What stands at a place in the bytes of `old` and `piece`, one behind the other. A header is refused as soon as it is
+/// there.
+pub fn fragment_at(old: &[u8], piece: &[u8], place: Place) -> Fragment
+    requires within { place.at ≤ length old.now + length piece.now }
+    requires small { place.size ≤ 16384 }
+    ensures { (gathered : Gathered) → length gathered.bytes ≡ place.size → gathered.fragments ≡ place.fragments → Finds gathered (drop place.at (old.now ++ piece.now)) result }
+{
+    let left = old.len() + piece.len() - place.at;
+    if left < HEADER_BYTES {
+        return Fragment::Waits;
+    }
+    let header = header_at(old, piece, place.at);
+    let size = (header % LAST_FRAGMENT) as usize;
+    if place.size + size > MOST_BYTES {
+        return Fragment::TooBig;
+    }
+    if place.fragments >= MOST_FRAGMENTS {
+        return Fragment::TooMany;
+    }
+    if left - HEADER_BYTES < size {
+        return Fragment::Waits;
+    }
+    Fragment::Brings {
+        size,
+        is_last: header >= LAST_FRAGMENT,
+    }
+}
+
+/// The number in the four bytes from `at` on.
+fn header_at(old: &[u8], piece: &[u8], at: usize) -> u32
+    requires { at + 4 ≤ length old.now + length piece.now }
+    ensures { result ≡ from_be_bytes w32 (take 4 (drop at (old.now ++ piece.now))) }
+{
+    u32::from_be_bytes([
+        byte_at(old, piece, at),
+        byte_at(old, piece, at + 1),
+        byte_at(old, piece, at + 2),
+        byte_at(old, piece, at + 3),
+    ])
+}
+
+fn byte_at(old: &[u8], piece: &[u8], i: usize) -> u8
+    requires { i < length old.now + length piece.now }
+    ensures { result ≡ slice_index (old.now ++ piece.now) i }
+{
+    if i < old.len() {
+        old[i]
+    } else {
+        piece[i - old.len()]
+    }
+}

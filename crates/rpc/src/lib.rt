@@ -1,0 +1,30 @@
+//! Calls over TCP (RFC 5531): the records of a stream, a call and the tests that it has to pass, and the replies.
+#![tactic(auto)]
+
+mod assembler;
+mod auth;
+mod call;
+mod fault;
+mod fragment;
+mod join;
+mod receive;
+mod reply;
+mod request;
+mod scan;
+mod state;
+mod tag;
+
+pub use assembler::Assembler;
+pub use auth::read_auth_sys;
+pub use call::{Call, CallRead, read_call};
+pub use fault::RecordFault;
+pub use reply::{
+    AuthStat, CompoundResult, Reply, write_compound_head, write_frame_header, write_reply,
+    write_success,
+};
+pub use request::{Compound, Request};
+pub use tag::Tag;
+pub use wire::SystemCredential as AuthSys;
+
+#[cfg(test)]
+mod tests;

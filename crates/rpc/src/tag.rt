@@ -1,0 +1,10 @@
+//! The tag of a COMPOUND (RFC 8881, section 16.2).
+
+ghost use Rattle.std.specs.Prelude.{◌≤◌, length};
+
+/// A text of at most 255 bytes, which the reply repeats. Any bytes are taken.
+#[derive(Clone, Copy, Debug)]
+pub struct Tag<'a> {
+    pub bytes: &'a [u8],
+    ghost short: { length bytes.now ≤ 255 },
+}

@@ -1,0 +1,10 @@
+pub mod Adding
+pub mod Beginning
+pub mod Creating
+pub mod Ending
+pub mod Exchanging
+pub mod Kept
+pub mod Lists
+pub mod Opening
+pub mod Serials
+pub mod States

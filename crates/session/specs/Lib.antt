@@ -1,0 +1,5 @@
+pub mod Calls
+pub mod Limits
+pub mod Rooms
+pub mod Slots
+pub mod Views

@@ -1,0 +1,72 @@
+-- What a new record or session finds where others give way to it.
+use Rattle.std.specs.Prelude.{◌==◌, ◌≡◌, ℕ, ◌+◌, ◌-◌, ◌^◌, Bool, true, false, not, ◌&&◌, ◌||◌, nat_le, List, [], ◌∷◌, ◌++◌, length, map, filter, Option, None, Some, Result, Ok, Err}
+use Rattle.model.specs.declared.status.Status.TheVariants as status
+use Rattle.model.specs.Operation.{ExchangeIdArguments, CreateSessionArguments}
+use Rattle.model.specs.Refusal.{Refusals}
+use Rattle.std.specs.List.{list_any}
+use Rattle.model.specs.Session as model
+use Rattle.model.specs.Session.{is_client, is_unconfirmed_of, is_replaced_by, is_of_clients, without, client_number, is_running, is_too_small, has_only, session_flags, replaced_by, is_full_of_sessions}
+use Rattle.session.specs.Limits.{served}
+use Rattle.session.specs.Views.{clients_of, roll_of}
+use Rattle.session.specs.declared.clients.Clients.{Clients}
+use Rattle.session.specs.declared.fault.Refusal.{Refusal}
+use Rattle.session.specs.declared.fault.Refusal.TheVariants as refusal
+
+abbrev pub is_dropped : Option ℕ → model.Client → Bool
+is_dropped None client = false
+is_dropped (Some number) client = is_client number client
+
+-- the record stays where a new one of the owner id is made, and the confirmed record `dropped` goes
+abbrev pub stays : List ℕ → Option ℕ → model.Client → Bool
+stays owner dropped client = not (is_unconfirmed_of owner client) && not (is_dropped dropped client)
+
+abbrev pub records_staying : List ℕ → Option ℕ → List model.Client → List model.Client
+records_staying owner dropped clients = filter (stays owner dropped) clients
+
+-- no place or no serial is left
+abbrev pub is_full_beside : List model.Client → ℕ → Bool
+is_full_beside staying serial = nat_le 64 (length staying) || nat_le (2 ^ 32 - 1) serial
+
+abbrev pub record_of : ℕ → ExchangeIdArguments → ℕ → model.Client
+record_of uid arguments number = record {
+  number = number;
+  owner = arguments.owner;
+  verifier = arguments.verifier;
+  principal = uid;
+  is_confirmed = false;
+  has_reclaimed = false;
+  sequence = 1;
+  kept = None;
+}
+
+-- a new record: its number, or why there is none, and the records behind it
+abbrev pub Adds : ℕ → ExchangeIdArguments → Option ℕ → Clients → Clients → Result ℕ Refusal → Type 0
+Adds uid arguments dropped old new (Ok number) =
+    (is_full_beside (records_staying arguments.owner dropped (clients_of old)) old.serial ≡ false)
+    × (number ≡ client_number old.run (old.serial + 1))
+    × (roll_of new ≡ (old.run, old.serial + 1, records_staying arguments.owner dropped (clients_of old) ++ record_of uid arguments number ∷ []))
+Adds uid arguments dropped old new (Err (refusal.Status reason)) =
+    (is_full_beside (records_staying arguments.owner dropped (clients_of old)) old.serial ≡ true) × (reason ≡ status.Delay) × (roll_of new ≡ roll_of old)
+Adds uid arguments dropped old new (Err refusal.Memory) =
+    (is_full_beside (records_staying arguments.owner dropped (clients_of old)) old.serial ≡ false) × (roll_of new ≡ roll_of old)
+
+-- the numbers of the clients that a session of `client` ends
+abbrev pub ended_by : model.Client → List model.Client → List ℕ
+ended_by client clients = map (λ other. other.number) (filter (is_replaced_by client) clients)
+
+abbrev pub reclaimed : model.Client → model.Client
+reclaimed known = record known { has_reclaimed = true }
+
+-- why CREATE_SESSION is refused where the record's next number is `next`: by its arguments, and then for want of room
+abbrev pub argument_refusals : ℕ → CreateSessionArguments → Refusals
+argument_refusals next arguments =
+    (not (arguments.sequence == next), status.SeqMisordered)
+    ∷ (not (has_only session_flags arguments.flags), status.Inval)
+    ∷ (is_too_small served arguments.fore, status.TooSmall)
+    ∷ []
+
+abbrev pub room_refusals : model.Client → model.Table → Refusals
+room_refusals client table =
+    (list_any (λ session. is_of_clients (replaced_by client table) session && is_running session) table.sessions, status.Delay)
+    ∷ (is_full_of_sessions served client table, status.Delay)
+    ∷ []

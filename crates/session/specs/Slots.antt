@@ -1,0 +1,42 @@
+-- What the code's slots stand for.
+use Rattle.std.specs.Prelude.{ℕ, List, Option, None, Some, Result, Ok, Err}
+use Rattle.model.specs.Session as model
+use Rattle.model.specs.declared.status.Status.{Status}
+use Rattle.session.specs.declared.slot.SlotState.{SlotState}
+use Rattle.session.specs.declared.slot.SlotState.TheVariants as slot_state
+use Rattle.session.specs.declared.slot.Slot.{Slot}
+use Rattle.session.specs.declared.slot.Next.{Next}
+use Rattle.session.specs.declared.slot.Next.TheVariants as next
+
+abbrev pub state_of : SlotState → model.SlotState
+state_of slot_state.Free = model.Free
+state_of (slot_state.Running room) = model.Running
+state_of (slot_state.Kept reply) = model.Kept reply
+
+abbrev pub slot_of : Slot → model.Slot
+slot_of slot = record { last = slot.last; uid = slot.uid; state = state_of slot.state }
+
+-- the slot once it runs this number
+abbrev pub running_slot : ℕ → ℕ → model.Slot
+running_slot number uid = record { last = number; uid = uid; state = model.Running }
+
+-- the reply that it keeps
+abbrev pub kept_reply : model.SlotState → Option (List ℕ)
+kept_reply model.Free = None
+kept_reply model.Running = None
+kept_reply (model.Kept reply) = Some reply
+
+-- The slot once the reply to what ran is kept. One that runs nothing stays.
+abbrev pub with_reply : List ℕ → model.Slot → model.SlotState → model.Slot
+with_reply reply slot model.Free = slot
+with_reply reply slot model.Running = record slot { state = model.Kept reply }
+with_reply reply slot (model.Kept before) = slot
+
+abbrev pub kept_slot : List ℕ → model.Slot → model.Slot
+kept_slot reply slot = with_reply reply slot slot.state
+
+-- what a slot does with a request, without the reply
+abbrev pub next_of : model.Begun → Result Next Status
+next_of (model.Refuses status) = Err status
+next_of (model.Replays reply) = Ok next.Replays
+next_of model.Runs = Ok next.Runs

@@ -1,0 +1,91 @@
+-- What the code's client records, sessions and tables stand for.
+use Rattle.std.specs.Prelude.{ℕ, Bool, List, map, Option, None, Some, ◌==◌}
+use Rattle.std.specs.List.{find, list_any}
+use Rattle.std.specs.Option.{option_map}
+use Rattle.model.specs.Session as model
+use Rattle.model.specs.Session.{is_session, slot_at, is_running_state}
+use Rattle.wire.specs.AnswerViews.{create_session_view}
+use Rattle.session.specs.Slots.{slot_of, kept_slot, kept_reply}
+use Rattle.session.specs.declared.client.Client.{Client}
+use Rattle.session.specs.declared.clients.Clients.{Clients}
+use Rattle.session.specs.declared.session.Session.{Session}
+use Rattle.session.specs.declared.sessions.Sessions.{Sessions}
+use Rattle.session.specs.declared.table.Table.{Table}
+
+abbrev pub client_of : Client → model.Client
+client_of client = record {
+  number = client.number;
+  owner = client.owner.items;
+  verifier = client.verifier;
+  principal = client.principal;
+  is_confirmed = client.is_confirmed;
+  has_reclaimed = client.has_reclaimed;
+  sequence = client.sequence;
+  kept = option_map create_session_view client.kept;
+}
+
+abbrev pub session_of : Session → model.Session
+session_of session = record {
+  client = session.client;
+  serial = session.serial;
+  max_operations = session.max_operations;
+  slots = map slot_of session.slots.items;
+}
+
+abbrev pub clients_of : Clients → List model.Client
+clients_of clients = map client_of clients.list.items
+
+abbrev pub sessions_of : Sessions → List model.Session
+sessions_of sessions = map session_of sessions.list.items
+
+-- the run, the serial that was given last, and the records
+abbrev pub roll_of : Clients → ℕ × ℕ × List model.Client
+roll_of clients = (clients.run, clients.serial, clients_of clients)
+
+-- the serial that was given last, and the sessions
+abbrev pub book_of : Sessions → ℕ × List model.Session
+book_of sessions = (sessions.serial, sessions_of sessions)
+
+abbrev pub table_by : ℕ × ℕ × List model.Client → ℕ × List model.Session → model.Table
+table_by roll book = record { run = roll.0; client_serial = roll.1; session_serial = book.0; clients = roll.2; sessions = book.1 }
+
+unfoldable pub table_of : Table → model.Table
+table_of table = table_by (roll_of table.clients) (book_of table.sessions)
+
+-- the clients of a list
+abbrev pub among : List ℕ → ℕ → Bool
+among numbers number = list_any (λ known. known == number) numbers
+
+-- the session once the reply to what the slot ran is kept
+abbrev pub kept_session : ℕ → List ℕ → model.Session → model.Session
+kept_session place reply session = model.with_slot place (kept_slot reply (slot_at session place)) session
+
+-- the state of the slot; none of no session is free
+abbrev pub state_in : ℕ → Option model.Session → model.SlotState
+state_in place None = model.Free
+state_in place (Some session) = (slot_at session place).state
+
+unfoldable pub slot_state : List ℕ → ℕ → model.Table → model.SlotState
+slot_state id place table = state_in place (find (is_session id) table.sessions)
+
+-- the reply that the slot keeps
+abbrev pub reply_at : ℕ → model.Session → Option (List ℕ)
+reply_at place session = kept_reply (slot_at session place).state
+
+abbrev pub reply_in : ℕ → Option model.Session → Option (List ℕ)
+reply_in place found = kept_reply (state_in place found)
+
+unfoldable pub reply_kept : List ℕ → ℕ → model.Table → Option (List ℕ)
+reply_kept id place table = reply_in place (find (is_session id) table.sessions)
+
+-- whether the slot runs a request
+abbrev pub runs_in : ℕ → Option model.Session → Bool
+runs_in place found = is_running_state (state_in place found)
+
+unfoldable pub slot_runs : List ℕ → ℕ → model.Table → Bool
+slot_runs id place table = runs_in place (find (is_session id) table.sessions)
+
+-- the table that a new record is made beside, where the record `dropped` goes
+abbrev pub cleared_of : Option ℕ → model.Table → model.Table
+cleared_of None table = table
+cleared_of (Some number) table = model.without_client number table

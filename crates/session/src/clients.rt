@@ -1,0 +1,171 @@
+//! The client records of a run.
+
+ghost use Rattle.std.specs.Prelude.{◌<◌, ◌≤◌, ◌+◌, ◌*◌, ◌^◌, All};
+ghost use Rattle.std.specs.List.{AllPairs};
+
+use crate::client::Client;
+use crate::fault::Refusal;
+use crate::limits::CLIENTS;
+use model::status::Status;
+use std::alloc::{AllocError, Global};
+use wire::{CreateSessionAnswer, ExchangeIdArguments};
+
+/// The records in the order in which they were made, and the serial that was given last.
+#[derive(Drop)]
+pub struct Clients {
+    pub run: u32,
+    pub serial: u32,
+    pub list: Vec<Client>,
+    ghost rising: { AllPairs (λ earlier later. earlier.number < later.number) list.items },
+    ghost made: { All (λ client. client.number ≤ run * 2 ^ 32 + serial) list.items },
+}
+
+impl Clients {
+    ghost use Rattle.std.specs.Prelude.{◌≡◌, ◌==◌, ◌+◌, ◌≤◌, [], length, IfOk, None, Some};
+    ghost use Rattle.std.specs.List.{list_any, find, position};
+    ghost use Rattle.std.specs.Option.{option_map, option_copied};
+    ghost use Rattle.model.specs.Session.{Client as Known, is_client, is_confirmed_of, is_unconfirmed_of, is_replaced_by, without, changed_where, confirmed_with};
+    ghost use Rattle.wire.specs.ArgumentViews.{exchange_id_view};
+    ghost use Rattle.wire.specs.AnswerViews.{create_session_view};
+    ghost use Rattle.session.specs.Views.{client_of, clients_of, roll_of, among};
+    ghost use Rattle.session.specs.Rooms.{records_staying, Adds, ended_by, reclaimed};
+
+    /// No record.
+    pub fn new(alloc: Global, run: u32) -> Clients
+        ensures { roll_of result ≡ (run, 0, []) }
+    {
+        Clients {
+            run,
+            serial: 0,
+            list: Vec::new(alloc),
+        }
+    }
+
+    /// The record of this client id.
+    pub fn find(&self, number: u64) -> Option<&Client>
+        ensures { option_map client_of (option_copied result) ≡ find (is_client number) (clients_of self.now) }
+    {
+        for client in &self.list {
+            if client.number == number {
+                return Some(client);
+            }
+        }
+        None
+    }
+
+    /// The confirmed record of this owner id.
+    pub fn confirmed(&self, owner: &[u8]) -> Option<&Client>
+        ensures { option_map client_of (option_copied result) ≡ find (is_confirmed_of owner.now) (clients_of self.now) }
+    {
+        for client in &self.list {
+            if client.is_confirmed_of(owner) {
+                return Some(client);
+            }
+        }
+        None
+    }
+
+    /// Drops the unconfirmed record of this owner id.
+    pub fn remove_unconfirmed(&mut self, owner: &[u8])
+        ensures { roll_of self.new ≡ (self.old.run, self.old.serial, without (is_unconfirmed_of owner.now) (clients_of self.old)) }
+    {
+        self.list.retain(|client| !client.is_unconfirmed_of(owner));
+    }
+
+    /// Drops the record of this client id.
+    pub fn remove(&mut self, number: u64)
+        ensures { roll_of self.new ≡ (self.old.run, self.old.serial, without (is_client number) (clients_of self.old)) }
+    {
+        self.list.retain(|client| client.number != number);
+    }
+
+    // How many records stay where a new one of this owner id is made.
+    fn count_staying(&self, owner: &[u8], dropped: Option<u64>) -> usize
+        ensures { result ≡ length (records_staying owner.now dropped (clients_of self.now)) }
+    {
+        self.list
+            .iter()
+            .filter(|client| client.stays(owner, dropped))
+            .count()
+    }
+
+    /// A new unconfirmed record, in place of an unconfirmed one of the owner and of the record `dropped`: its client id.
+    pub fn add(
+        &mut self,
+        alloc: Global,
+        uid: u32,
+        arguments: &ExchangeIdArguments<'_>,
+        dropped: Option<u64>,
+    ) -> Result<u64, Refusal>
+        ensures { Adds uid (exchange_id_view arguments.now) dropped self.old self.new result }
+    {
+        let owner = arguments.owner;
+        if CLIENTS <= self.count_staying(owner, dropped) || self.serial == u32::MAX {
+            return Err(Refusal::Status(Status::Delay));
+        }
+        let number = u64::from(self.run) * 0x1_0000_0000 + u64::from(self.serial) + 1;
+        let client = Client {
+            number,
+            owner: Vec::from_slice(alloc, owner)?,
+            verifier: arguments.verifier,
+            principal: uid,
+            is_confirmed: false,
+            has_reclaimed: false,
+            sequence: 1,
+            kept: None,
+        };
+        self.list.reserve(1)?;
+        self.list.retain(|client| client.stays(owner, dropped));
+        self.serial += 1;
+        if self.list.push(client).is_err() {
+            unreachable!();
+        }
+        Ok(number)
+    }
+
+    /// RECLAIM_COMPLETE was answered OK for this client.
+    pub fn reclaim(&mut self, number: u64)
+        ensures { roll_of self.new ≡ (self.old.run, self.old.serial, changed_where (is_client number) reclaimed (clients_of self.old)) }
+    {
+        if let Some(at) = self.position(number) {
+            self.list[at].has_reclaimed = true;
+        }
+    }
+
+    fn position(&self, number: u64) -> Option<usize>
+        ensures { result ≡ position (λ client. is_client number (client_of client)) self.now.list.items }
+    {
+        self.list.iter().position(|client| client.number == number)
+    }
+
+    /// Whether a session of `client` ends the client of this id.
+    pub fn is_ending(&self, client: &Client, number: u64) -> bool
+        ensures { result ≡ list_any (λ ended. number == ended) (ended_by (client_of client.now) (clients_of self.now)) }
+    {
+        self.list.iter().any(|other| other.is_replaced_by(client) && number == other.number)
+    }
+
+    /// The clients that a session of `client` ends.
+    pub fn ending(&self, alloc: Global, client: &Client) -> Result<Vec<u64>, AllocError>
+        ensures { IfOk result (λ ended. ended.items ≡ ended_by (client_of client.now) (clients_of self.now)) }
+    {
+        let mut ended = Vec::new(alloc);
+        for other in &self.list {
+            if other.is_replaced_by(client) {
+                ended.push(other.number)?;
+            }
+        }
+        Ok(ended)
+    }
+
+    /// Drops the ended clients, and confirms the one whose session was made.
+    pub fn confirm(&mut self, number: u64, ended: &[u64], answer: CreateSessionAnswer)
+        ensures { (client : Known) → client.number ≡ number → ended.now ≡ ended_by client (clients_of self.old)
+            → roll_of self.new ≡ (self.old.run, self.old.serial, changed_where (is_client number) (confirmed_with (create_session_view answer)) (without (is_replaced_by client) (clients_of self.old))) }
+    {
+        self.list.retain(|client| !ended.contains(&client.number));
+        if let Some(at) = self.position(number) {
+            self.list[at].confirm(answer);
+        }
+    }
+}

@@ -1,0 +1,63 @@
+//! DESTROY_SESSION, DESTROY_CLIENTID and RECLAIM_COMPLETE (RFC 8881, sections 18.37, 18.50 and 18.51).
+
+ghost use Rattle.std.specs.Prelude.{◌≡◌};
+ghost use Rattle.std.specs.Result.{result_err};
+ghost use Rattle.model.specs.Session.{destroy_session, destroy_client_id, reclaim_complete};
+ghost use Rattle.session.specs.Views.{table_of, among};
+
+use crate::table::Table;
+use model::status::Status;
+
+#[tactic(auto, unfolding(crate::specs::Views::table_of, model::specs::Session::destroy_session, model::specs::Session::destroy_client_id, model::specs::Session::reclaim_complete))]
+impl Table {
+    /// DESTROY_SESSION.
+    ///
+    /// # Errors
+    /// BADSESSION for an unknown session; DELAY where a slot of it runs.
+    pub fn destroy_session(&mut self, id: &[u8; 16]) -> Result<(), Status>
+        ensures { destroy_session id.now (table_of self.old) ≡ (result_err result, table_of self.new) }
+    {
+        let Some(session) = self.sessions.find(id) else {
+            return Err(Status::BadSession);
+        };
+        if session.is_running() {
+            return Err(Status::Delay);
+        }
+        self.sessions.remove(id);
+        Ok(())
+    }
+
+    /// DESTROY_CLIENTID, where the clients of `with_opens` have opens.
+    ///
+    /// # Errors
+    /// STALE_CLIENTID for an unknown client; CLIENTID_BUSY where it has a session or an open.
+    pub fn destroy_clientid(&mut self, number: u64, with_opens: &[u64]) -> Result<(), Status>
+        ensures { destroy_client_id (among with_opens.now) number (table_of self.old) ≡ (result_err result, table_of self.new) }
+    {
+        if self.clients.find(number).is_none() {
+            return Err(Status::StaleClientId);
+        }
+        if self.has_state(with_opens, number) {
+            return Err(Status::ClientIdBusy);
+        }
+        self.clients.remove(number);
+        Ok(())
+    }
+
+    /// RECLAIM_COMPLETE for all file systems, by the client of the session. It takes no memory.
+    ///
+    /// # Errors
+    /// STALE_CLIENTID for an unknown client; COMPLETE_ALREADY the second time.
+    pub fn reclaim_complete(&mut self, number: u64) -> Result<(), Status>
+        ensures { reclaim_complete number (table_of self.old) ≡ (result_err result, table_of self.new) }
+    {
+        let Some(client) = self.clients.find(number) else {
+            return Err(Status::StaleClientId);
+        };
+        if client.has_reclaimed {
+            return Err(Status::CompleteAlready);
+        }
+        self.clients.reclaim(number);
+        Ok(())
+    }
+}

@@ -1,0 +1,85 @@
+//! EXCHANGE_ID (RFC 8881, section 18.35).
+
+ghost use Rattle.std.specs.Prelude.{◌≡◌};
+ghost use Rattle.std.specs.Prelude.{MatchOption};
+ghost use Rattle.model.specs.Session.{exchange_id, exchange_answer, new_record, without_client};
+ghost use Rattle.wire.specs.AnswerViews.{exchange_id_view as answer_view};
+ghost use Rattle.wire.specs.ArgumentViews.{exchange_id_view};
+ghost use Rattle.session.specs.Calls.{Exchanged};
+ghost use Rattle.session.specs.Limits.{served};
+ghost use Rattle.session.specs.Views.{table_of, among, cleared_of};
+
+use crate::fault::Refusal;
+use crate::table::Table;
+use model::status::Status;
+use wire::{ExchangeIdAnswer, ExchangeIdArguments};
+
+/// SUPP_MOVED_REFER, SUPP_MOVED_MIGR, BIND_PRINC_STATEID, USE_NON_PNFS, USE_PNFS_MDS and USE_PNFS_DS may be set.
+const EXCHANGE_FLAGS: u32 = 0x7_0103;
+
+const USE_NON_PNFS: u32 = 0x1_0000;
+
+const CONFIRMED: u32 = 0x8000_0000;
+
+const SERVER_NAME: &[u8] = b"nfs41srv";
+
+impl Table {
+    /// EXCHANGE_ID by this uid, where the clients of `with_opens` have opens.
+    ///
+    /// # Errors
+    /// INVAL where a flag is set that may not be; CLID_INUSE where the owner id's confirmed record is another principal's and
+    /// has a session or an open; DELAY where the new record would be the 65th, or no serial is left. `Memory` leaves the table
+    /// as it was, and comes only where a record would be made.
+    pub fn exchange_id(
+        &mut self,
+        uid: u32,
+        arguments: &ExchangeIdArguments<'_>,
+        with_opens: &[u64],
+    ) -> Result<ExchangeIdAnswer<'static>, Refusal>
+        ensures { Exchanged (exchange_id served (among with_opens.now) uid (exchange_id_view arguments.now) (table_of self.old)) (table_of self.old) (table_of self.new) result }
+    {
+        if arguments.flags | EXCHANGE_FLAGS != EXCHANGE_FLAGS {
+            return Err(Refusal::Status(Status::Inval));
+        }
+        let Some(client) = self.clients.confirmed(arguments.owner) else {
+            return self.add_client(uid, arguments, None);
+        };
+        let number = client.number;
+        if client.principal != uid {
+            if self.has_state(with_opens, number) {
+                return Err(Refusal::Status(Status::ClidInUse));
+            }
+            return self.add_client(uid, arguments, Some(number));
+        }
+        if client.verifier != arguments.verifier {
+            return self.add_client(uid, arguments, None);
+        }
+        let answer = answer(number, client.sequence, CONFIRMED | USE_NON_PNFS);
+        self.clients.remove_unconfirmed(arguments.owner);
+        Ok(answer)
+    }
+
+    fn add_client(
+        &mut self,
+        uid: u32,
+        arguments: &ExchangeIdArguments<'_>,
+        dropped: Option<u64>,
+    ) -> Result<ExchangeIdAnswer<'static>, Refusal>
+        ensures { Exchanged (new_record served uid (exchange_id_view arguments.now) (table_of self.old) (cleared_of dropped (table_of self.old))) (table_of self.old) (table_of self.new) result }
+    {
+        let number = self.clients.add(self.alloc, uid, arguments, dropped)?;
+        Ok(answer(number, 1, USE_NON_PNFS))
+    }
+}
+
+fn answer(client: u64, sequence: u32, flags: u32) -> ExchangeIdAnswer<'static>
+    ensures { answer_view result ≡ exchange_answer client sequence flags }
+{
+    ExchangeIdAnswer {
+        client,
+        sequence,
+        flags,
+        major_id: SERVER_NAME,
+        scope: SERVER_NAME,
+    }
+}

@@ -1,0 +1,113 @@
+//! The sessions of a run.
+
+ghost use Rattle.std.specs.Prelude.{◌<◌, ◌≤◌, ◌^◌, All};
+ghost use Rattle.std.specs.List.{AllPairs};
+
+use crate::session::Session;
+use std::alloc::{AllocError, Global};
+use wire::SequenceArguments;
+
+/// The sessions in the order in which they were made, and the serial that was given last.
+#[derive(Drop)]
+pub struct Sessions {
+    pub serial: u64,
+    pub list: Vec<Session>,
+    ghost rising: { AllPairs (λ earlier later. earlier.serial < later.serial) list.items },
+    ghost made: { All (λ session. session.serial ≤ serial) list.items },
+    ghost small: { serial < 2 ^ 64 },
+}
+
+impl Sessions {
+    ghost use Rattle.std.specs.Prelude.{◌≡◌, ◌≤◌, ◌<◌, ◌++◌, [], ◌∷◌, true, false, length, OnOk, OnErr};
+    ghost use Rattle.std.specs.List.{list_any, find, position};
+    ghost use Rattle.std.specs.Option.{option_map, option_copied};
+    ghost use Rattle.model.specs.Session.{is_session, is_of_client, is_of_clients, without, changed_where, with_slot, finished_slot, Free};
+    ghost use Rattle.session.specs.Slots.{running_slot};
+    ghost use Rattle.session.specs.Views.{session_of, sessions_of, book_of, runs_in, state_in};
+
+    /// No session.
+    pub fn new(alloc: Global) -> Sessions
+        ensures { book_of result ≡ (0, []) }
+    {
+        Sessions {
+            serial: 0,
+            list: Vec::new(alloc),
+        }
+    }
+
+    /// The session of this id.
+    pub fn find(&self, id: &[u8; 16]) -> Option<&Session>
+        ensures { option_map session_of (option_copied result) ≡ find (is_session id.now) (sessions_of self.now) }
+    {
+        for session in &self.list {
+            if session.has_id(id) {
+                return Some(session);
+            }
+        }
+        None
+    }
+
+    fn position(&self, id: &[u8; 16]) -> Option<usize>
+        ensures { result ≡ position (λ session. is_session id.now (session_of session)) self.now.list.items }
+    {
+        self.list.iter().position(|session| session.has_id(id))
+    }
+
+    /// Whether the client has a session.
+    pub fn has_client(&self, number: u64) -> bool
+        ensures { result ≡ list_any (is_of_client number) (sessions_of self.now) }
+    {
+        self.list.iter().any(|session| session.client == number)
+    }
+
+    /// The slot of the session runs the request. Without memory for its reply nothing changes.
+    pub fn start(
+        &mut self,
+        alloc: Global,
+        uid: u32,
+        arguments: &SequenceArguments,
+    ) -> Result<(), AllocError>
+        ensures ok { OnOk result (book_of self.new ≡ (self.old.serial, changed_where (is_session arguments.now.session) (with_slot arguments.now.slot (running_slot arguments.now.sequence uid)) (sessions_of self.old))) }
+        ensures err { OnErr result (book_of self.new ≡ book_of self.old) }
+        ensures free { OnErr result (state_in arguments.now.slot (find (is_session arguments.now.session) (sessions_of self.old)) ≡ Free) }
+    {
+        match self.position(&arguments.session) {
+            Some(at) => self.list[at].start(alloc, uid, arguments),
+            None => Ok(()),
+        }
+    }
+
+    /// The slot of the session keeps the reply to what it ran.
+    pub fn keep(&mut self, id: &[u8; 16], slot: u32, reply: &[u8])
+        requires { length reply.now ≤ 16384 }
+        ensures runs { runs_in slot (find (is_session id.now) (sessions_of self.old)) ≡ true
+            → book_of self.new ≡ (self.old.serial, changed_where (is_session id.now) (finished_slot slot reply.now) (sessions_of self.old)) }
+        ensures stays { runs_in slot (find (is_session id.now) (sessions_of self.old)) ≡ false → book_of self.new ≡ book_of self.old }
+    {
+        if let Some(at) = self.position(id) {
+            self.list[at].keep(slot, reply);
+        }
+    }
+
+    /// Ends the session of this id.
+    pub fn remove(&mut self, id: &[u8; 16])
+        ensures { book_of self.new ≡ (self.old.serial, without (is_session id.now) (sessions_of self.old)) }
+    {
+        self.list.retain(|session| !session.has_id(id));
+    }
+
+    /// A new session, of a later serial than those before, in place of those of the ended clients. Without memory nothing changes.
+    pub fn add(&mut self, ended: &[u64], session: Session) -> Result<(), AllocError>
+        requires { self.old.serial < session.serial }
+        ensures ok { OnOk result (book_of self.new ≡ (session.serial, without (is_of_clients ended.now) (sessions_of self.old) ++ session_of session ∷ [])) }
+        ensures err { OnErr result (book_of self.new ≡ book_of self.old) }
+    {
+        self.list.reserve(1)?;
+        self.list.retain(|session| !session.is_of(ended));
+        self.serial = session.serial;
+        if self.list.push(session).is_err() {
+            unreachable!();
+        }
+        Ok(())
+    }
+}

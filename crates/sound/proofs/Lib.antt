@@ -1,0 +1,3 @@
+pub mod DecidedLaws
+pub mod LinkLaws
+pub mod MarkLaws
