@@ -3,7 +3,7 @@ use Rattle.std.proofs.Common.{ℕ, Bool, true, false, List, ◌≡◌, ◌+◌, 
 use Rattle.std.specs.Prelude.{IsTrue, bytes_eq}
 use Rattle.std.proofs.lemmas.Nat.{from_be_bytes-to_be_bytes_4}
 use Rattle.fs.specs.declared.superblock.Verdict.TheVariants.{NotVolume, Worn, Damaged, Sound}
-use Rattle.std.proofs.lemmas.Bool.{and_parts, and_left, and_right, lt-leb, eqb-false, cond-true}
+use Rattle.std.proofs.lemmas.Bool.{eq-eqb, and_parts, and_left, and_right, lt-leb, eqb-false, cond-true}
 use Rattle.std.specs.Cmp.Lexicographic.{bytes_decides}
 use Rattle.fs.specs.Superblock.{is_size, is_volume, verdict, last_run, magic, version, superblock, word}
 use Rattle.std.specs.List.{starts_with}
@@ -15,6 +15,30 @@ word_nodes sectors nodes run fits = from_be_bytes-to_be_bytes_4 nodes fits
 pub word_run : (sectors nodes run : ℕ) → run < 2 ^ 32 → word 20 (superblock sectors nodes run) ≡ run
 unfolding word superblock
 word_run sectors nodes run fits = from_be_bytes-to_be_bytes_4 run fits
+
+word_sectors : (sectors nodes run : ℕ) → sectors < 2 ^ 32 → word 12 (superblock sectors nodes run) ≡ sectors
+unfolding word superblock
+word_sectors sectors nodes run fits = from_be_bytes-to_be_bytes_4 sectors fits
+
+word_version : (sectors nodes run : ℕ) → word 8 (superblock sectors nodes run) ≡ version
+unfolding word superblock
+word_version sectors nodes run = refl
+
+starts_with_magic : (sectors nodes run : ℕ) → starts_with eqb (superblock sectors nodes run) magic ≡ true
+unfolding superblock
+starts_with_magic sectors nodes run = refl
+
+-- the first sector of a volume tells that it is one
+pub volume_first : (sectors nodes run : ℕ) → sectors < 2 ^ 32 → nodes < 2 ^ 32 → IsTrue (is_size sectors nodes)
+    → is_volume sectors (superblock sectors nodes run) ≡ true
+unfolding is_volume
+volume_first sectors nodes run small few size =
+    rw (
+      starts_with_magic sectors nodes run,
+      word_version sectors nodes run,
+      eq-eqb (word 12 (superblock sectors nodes run)) sectors (word_sectors sectors nodes run small),
+      word_nodes sectors nodes run few,
+    ) size
 
 -- What a sound first sector is
 

@@ -1,6 +1,7 @@
 -- What a mount finds is the tree that stood there.
 use Rattle.std.proofs.Common.{ℕ, Bool, true, false, ◌≡◌, ◌+◌, ◌<◌, ◌≤◌, ◌⊎◌, ◌^◌, inl, refl, sym, ap, ◌∙◌, subst, arith, not, cond, true≢false, eqb}
 use Rattle.std.proofs.Math.Logic.{∥∥₁_map}
+use Rattle.std.proofs.lemmas.Bool.{eqb-true}
 use Rattle.std.specs.Prelude.{Result, Ok, Err, IfOk, IfErr, bytes_eq}
 use Rattle.std.specs.Cmp.Lexicographic.{bytes_decides}
 use Rattle.disk.specs.Moments.{Image, History, AddsOnly}
@@ -16,7 +17,7 @@ use Rattle.fs.specs.Refusals.{mount_fault}
 use Rattle.fs.specs.Stands.{Stands, IsBase, StandsFor}
 use Rattle.fs.specs.Superblock.{is_volume, superblock, verdict, word, last_run}
 use Rattle.journal.proofs.First.{first_kept}
-use Rattle.fs.proofs.FirstLaws.{word_nodes, word_run}
+use Rattle.fs.proofs.FirstLaws.{word_nodes, word_run, volume_first}
 use Rattle.fs.proofs.StandLaws.{size-least, size-most, nodes-most, stands_same}
 
 -- Results
@@ -39,16 +40,19 @@ module _ (size nodes run : ℕ) (tree : Tree) (seen : Image) (base : IsBase size
   few_nodes : nodes < 2 ^ 32
   few_nodes = let most = nodes-most size nodes base.stands.size in omega (arith, most)
 
-  large : 256 ≤ size
+  pub small : size < 2 ^ 32
+  small = let most = size-most size nodes base.stands.size in omega (arith, most)
+
+  pub large : 256 ≤ size
   large = size-least size nodes base.stands.size
 
   first_is : seen 0 ≡ superblock size nodes run
   first_is = sym (first_kept size seen base.base (omega (arith, large)) base.settles) ∙ base.stands.first
 
-  nodes_is : word 16 (seen 0) ≡ nodes
+  pub nodes_is : word 16 (seen 0) ≡ nodes
   nodes_is = ap (word 16) first_is ∙ word_nodes size nodes run few_nodes
 
-  run_is : word 20 (seen 0) ≡ run
+  pub run_is : word 20 (seen 0) ≡ run
   run_is = ap (word 20) first_is ∙ word_run size nodes run base.stands.counted
 
   spelled : seen 0 ≡ superblock size (word 16 (seen 0)) (word 20 (seen 0))
@@ -66,14 +70,38 @@ module _ (size nodes run : ℕ) (tree : Tree) (seen : Image) (base : IsBase size
   not_damaged is = never_damaged (is_volume size (seen 0)) (eqb (word 20 (seen 0)) last_run) (bytes_eq (seen 0) (superblock size (word 16 (seen 0)) (word 20 (seen 0))))
       ((bytes_decides (seen 0) (superblock size (word 16 (seen 0)) (word 20 (seen 0)))).1 spelled) is
 
+  never_none : (volume worn same : Bool) → volume ≡ true → cond (not volume) NotVolume (cond worn Worn (cond same Sound Damaged)) ≡ NotVolume → ⊥
+  never_none true true same is h = cc
+  never_none true false true is h = cc
+  never_none true false false is h = cc
+  never_none false worn same is h = true≢false (sym is)
+
+  -- and tells of a volume
+  pub is_volume_there : verdict size (seen 0) ≡ NotVolume → ⊥
+  unfolding verdict
+  is_volume_there is = never_none (is_volume size (seen 0)) (eqb (word 20 (seen 0)) last_run) (bytes_eq (seen 0) (superblock size (word 16 (seen 0)) (word 20 (seen 0))))
+      (ap (is_volume size) first_is ∙ volume_first size nodes run small few_nodes base.stands.size) is
+
+  worn_alone : (volume worn same : Bool) → cond (not volume) NotVolume (cond worn Worn (cond same Sound Damaged)) ≡ Worn → worn ≡ true
+  worn_alone true true same h = refl
+  worn_alone true false true h = absurd (cc)
+  worn_alone true false false h = absurd (cc)
+  worn_alone false worn same h = absurd (cc)
+
+  -- it is worn where the count is full alone
+  pub count_full : verdict size (seen 0) ≡ Worn → run + 1 ≡ 2 ^ 32
+  unfolding verdict
+  count_full is =
+      let worn = worn_alone (is_volume size (seen 0)) (eqb (word 20 (seen 0)) last_run)
+      (bytes_eq (seen 0) (superblock size (word 16 (seen 0)) (word 20 (seen 0)))) is in
+      let full : run ≡ last_run = sym run_is ∙ eqb-true (word 20 (seen 0)) last_run worn in
+      omega (arith, full)
+
   -- a stop within the journal's mount leaves the tree
   pub settled_moments : (old new : History) → AddsOnly (SettlesAs size seen) old new
       → AddsOnly (λ image. StandsFor size nodes run tree image ⊎ StandsFor size nodes (run + 1) tree image) old new
   settled_moments old new moments = AddsOnly-weaken (SettlesAs size seen) (λ image. StandsFor size nodes run tree image ⊎ StandsFor size nodes (run + 1) tree image) old new
       (λ image same. inl ∣ record { base = base.base; settles = same base.base base.settles; stands = base.stands } ∣₁) moments
-
-  small : size < 2 ^ 32
-  small = let most = size-most size nodes base.stands.size in omega (arith, most)
 
   module _ (at : Image) (settles : Settles size seen at) (sectors found_nodes found_run : ℕ) (sectors_is : sectors ≡ size)
       (fits : found_nodes < 2 ^ 32) (counts : found_run < 2 ^ 32) (first : seen 0 ≡ superblock sectors found_nodes found_run) where

@@ -8,3 +8,4 @@ pub mod MountLaws
 pub mod FirstLaws
 pub mod FoundLaws
 pub mod FormatLaws
+pub mod OneTree

@@ -1,13 +1,15 @@
 -- What a call on a file system says of an operation.
-use Rattle.std.specs.Prelude.{ℕ, true, List, Result, Ok, Err, ◌≡◌}
+use Rattle.std.specs.Prelude.{ℕ, true, List, Option, Some, None, Result, Ok, Err, ◌≡◌}
 use Rattle.model.specs.declared.acl.Cred.{Cred}
+use Rattle.model.specs.declared.status.Status.{Status}
 use Rattle.model.specs.Answer.{Answer}
 use Rattle.model.specs.Attribute.{trimmed}
 use Rattle.model.specs.Context.{at_node}
 use Rattle.model.specs.Operation.{Argument, Attributes, NewDirectory}
+use Rattle.model.specs.Refusal.{first_refusal}
 use Rattle.model.specs.Runs.{is_done}
-use Rattle.model.specs.Step.{State, Stepped, answered, refused, does}
-use Rattle.plain.specs.Step.{IsState, looked_up}
+use Rattle.model.specs.Step.{State, Stepped, current_refusals, answered, refused, does}
+use Rattle.plain.specs.Step.{IsState, looked_up, put_handle, got_handle}
 use Rattle.fs.specs.declared.fault.FsFault.{FsFault}
 use Rattle.fs.specs.declared.fault.FsFault.TheVariants as fault
 use Rattle.fs.specs.declared.created.Created.{Created}
@@ -28,6 +30,37 @@ LooksUp fs state now name (Err fault.NoRoom) = ⊥
 LooksUp fs state now name (Err fault.Memory) = ⊥
 LooksUp fs state now name (Err fault.Device) = ⊥
 LooksUp fs state now name (Err fault.Down) = fs.is_down ≡ true
+
+-- PUTFH and GETFH
+
+abbrev pub PutsHandle : FileSystem → State → (now : ℕ) → (handle : List ℕ) → Result ℕ FsFault → Type 0
+PutsHandle fs state now handle (Ok number) = does fs.limits state now (Argument.PutFh handle) ≡ put_handle state handle (Ok number)
+PutsHandle fs state now handle (Err (fault.Status reason)) = does fs.limits state now (Argument.PutFh handle) ≡ put_handle state handle (Err reason)
+PutsHandle fs state now handle (Err fault.NoRoom) = ⊥
+PutsHandle fs state now handle (Err fault.Memory) = ⊥
+PutsHandle fs state now handle (Err fault.Device) = ⊥
+PutsHandle fs state now handle (Err fault.Down) = fs.is_down ≡ true
+
+abbrev pub GetsHandle : FileSystem → State → (now : ℕ) → Result (List ℕ) FsFault → Type 0
+GetsHandle fs state now (Ok handle) = does fs.limits state now Argument.GetFh ≡ got_handle state (Ok handle)
+GetsHandle fs state now (Err (fault.Status reason)) = does fs.limits state now Argument.GetFh ≡ got_handle state (Err reason)
+GetsHandle fs state now (Err fault.NoRoom) = ⊥
+GetsHandle fs state now (Err fault.Memory) = ⊥
+GetsHandle fs state now (Err fault.Device) = ⊥
+GetsHandle fs state now (Err fault.Down) = fs.is_down ≡ true
+
+-- The tests of the current filehandle, which stand before all others
+
+abbrev pub current_refusal : State → Option Status
+current_refusal state = first_refusal (current_refusals state)
+
+abbrev pub TestsCurrent : FileSystem → State → Result (Unit {0}) FsFault → Type 0
+TestsCurrent fs state (Ok done) = current_refusal state ≡ None
+TestsCurrent fs state (Err (fault.Status reason)) = current_refusal state ≡ Some reason
+TestsCurrent fs state (Err fault.NoRoom) = ⊥
+TestsCurrent fs state (Err fault.Memory) = ⊥
+TestsCurrent fs state (Err fault.Device) = ⊥
+TestsCurrent fs state (Err fault.Down) = fs.is_down ≡ true
 
 -- CREATE of a directory
 

@@ -28,3 +28,8 @@ pub record IsBase (sectors nodes run : ℕ) (tree : Tree) (image : Image) : Type
 -- A map that a stop left stands for the tree.
 abbrev pub StandsFor : (sectors nodes run : ℕ) → Tree → Image → Type 0
 StandsFor sectors nodes run tree image = ∥ IsBase sectors nodes run tree image ∥₁
+
+-- The law: it stands for one tree, of one number of nodes, and of one restart count
+abbrev pub OneTreeStands : Type 0
+OneTreeStands = (sectors nodes run other_nodes other_run : ℕ) (tree other : Tree) (image : Image) → StandsFor sectors nodes run tree image
+    → StandsFor sectors other_nodes other_run other image → (tree ≡ other) × ((nodes ≡ other_nodes) × (run ≡ other_run))

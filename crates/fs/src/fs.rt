@@ -17,6 +17,7 @@ use durable::keep;
 use image::updates_of;
 use journal::{Journal, JournalFault};
 use model::limits::Limits;
+use model::status::Status;
 use model::step::every_step;
 use plain::make_dir::NewDirectory;
 use plain::put::Moment;
@@ -33,6 +34,7 @@ pub struct Fs<D: Device> {
     changes: u32,
     tree: Tree,
     is_down: bool,
+    ghost bounded: { run < 2 ^ 32 },
     ghost counted: { changes < 2 ^ 32 },
     ghost sized: { IsTrue (is_size (log_of journal).size limits.nodes) },
     ghost limited: { limits ≡ limits_of (log_of journal).size limits.nodes },
@@ -56,7 +58,7 @@ impl<D: Device> Fs<D> {
     ghost use Rattle.model.specs.Step.{State, does};
     ghost use Rattle.plain.specs.Given.{given_of};
     ghost use Rattle.plain.specs.View.{tree_of};
-    ghost use Rattle.fs.specs.Operations.{IsOn, LooksUp, MakesDir, new_directory};
+    ghost use Rattle.fs.specs.Operations.{IsOn, LooksUp, PutsHandle, GetsHandle, TestsCurrent, MakesDir, new_directory};
     ghost use Rattle.disk.specs.Moments.{AddsOnly, seen};
     ghost use Rattle.journal.specs.Journal.{log_of, failures_of};
     ghost use Rattle.model.specs.Tree.{Tree as NumberedTree};
@@ -87,7 +89,13 @@ impl<D: Device> Fs<D> {
             → (verdict (D.size device) (seen (D.history device).now 0) ≡ Verdict.Worn) × (D.history refused.device ≡ D.history device)) }
         ensures damaged { D.keeps_word → IfErr result (λ refused. refused.fault ≡ MountFault.Damaged
             → (nodes run : ℕ) (tree : NumberedTree) → IsBase (D.size device) nodes run tree (seen (D.history device).now) → ⊥) }
+        ensures no_tree { D.keeps_word → IfErr result (λ refused. refused.fault ≡ MountFault.NotVolume
+            → (nodes run : ℕ) (tree : NumberedTree) → IsBase (D.size device) nodes run tree (seen (D.history device).now) → ⊥) }
+        ensures full { D.keeps_word → IfErr result (λ refused. refused.fault ≡ MountFault.Worn
+            → (nodes run : ℕ) (tree : NumberedTree) → IsBase (D.size device) nodes run tree (seen (D.history device).now) → run + 1 ≡ 2 ^ 32) }
         ensures cause { IfErr result (λ refused. refused.fault ≡ MountFault.Device → IsCounted (D.failed device) (D.failed refused.device)) }
+        ensures later { IfOk result (λ fs. D.failed device ≤ fs_failures fs) }
+        ensures later_refused { IfErr result (λ refused. D.failed device ≤ D.failed refused.device) }
     {
         let mut device = device;
         let found = match find(&mut device) {
@@ -123,6 +131,8 @@ impl<D: Device> Fs<D> {
         ensures damaged { D.keeps_word → IfErr result (λ refused. refused.fault ≡ MountFault.Damaged
             → (tree : NumberedTree) → Stands found.sectors found.nodes (log_of journal).base found.run tree → ⊥) }
         ensures cause { IfErr result (λ refused. refused.fault ≡ MountFault.Device → IsCounted (failures_of journal) (D.failed refused.device)) }
+        ensures later { IfOk result (λ fs. failures_of journal ≤ fs_failures fs) }
+        ensures later_refused { IfErr result (λ refused. failures_of journal ≤ D.failed refused.device) }
         ensures only { IfErr result (λ refused. (refused.fault ≡ MountFault.Device) ⊎ ((refused.fault ≡ MountFault.Damaged) ⊎ (refused.fault ≡ MountFault.Memory))) }
     {
         let mut journal = journal;
@@ -151,6 +161,26 @@ impl<D: Device> Fs<D> {
         self.run
     }
 
+    /// Whether the device failed: each operation is refused from then on.
+    pub fn is_down(&self) -> bool
+        ensures { result ≡ (fs_of self.now).is_down }
+    {
+        self.is_down
+    }
+
+    /// Says of a file system that is not down that each map a stop leaves now stands for its tree.
+    pub fn tell_holds(&self)
+        ensures { D.keeps_word → (fs_of self.now).is_down ≡ false → Holds (fs_of self.now) }
+    {}
+
+    /// Says within which bounds the numbers of a file system stand.
+    pub fn tell_bounds(&self)
+        ensures run { (fs_of self.now).run < 2 ^ 32 }
+        ensures changes { (fs_of self.now).changes < 2 ^ 32 }
+        ensures sized { IsTrue (is_size (fs_of self.now).sectors (fs_of self.now).limits.nodes) }
+        ensures limits { (fs_of self.now).limits ≡ limits_of (fs_of self.now).sectors (fs_of self.now).limits.nodes }
+    {}
+
     /// LOOKUP (RFC 8881, section 18.13) in the directory of this number: the number of the node that the name leads to.
     pub fn lookup(&self, cred: &Cred, directory: u64, name: &[u8]) -> Result<u64, FsFault>
         ensures step { (state : State) (now : ℕ) → IsOn (fs_of self.now) cred.now directory state → LooksUp (fs_of self.now) state now name.now result }
@@ -160,6 +190,43 @@ impl<D: Device> Fs<D> {
             return Err(FsFault::Down);
         }
         Ok(self.tree.lookup(&self.limits, cred, directory, name)?)
+    }
+
+    /// PUTFH (RFC 8881, section 18.19): the number of the node that a filehandle names. BADHANDLE where it is none of this
+    /// server's, STALE where the node is gone.
+    pub fn put_handle(&self, handle: &[u8]) -> Result<u64, FsFault>
+        ensures step { (state : State) (now : ℕ) → state.tree ≡ (fs_of self.now).tree → PutsHandle (fs_of self.now) state now handle.now result }
+        ensures down { (fs_of self.now).is_down ≡ true → IsErrOf result FsFault.Down }
+    {
+        if self.is_down {
+            return Err(FsFault::Down);
+        }
+        Ok(self.tree.put_handle(handle)?)
+    }
+
+    /// GETFH (RFC 8881, section 18.8): the filehandle of the node of this number. STALE where it is gone.
+    pub fn handle(&self, number: u64) -> Result<[u8; 8], FsFault>
+        ensures step { (cred : Cred) (state : State) (now : ℕ) → IsOn (fs_of self.now) cred number state → GetsHandle (fs_of self.now) state now result }
+        ensures down { (fs_of self.now).is_down ≡ true → IsErrOf result FsFault.Down }
+    {
+        if self.is_down {
+            return Err(FsFault::Down);
+        }
+        Ok(self.tree.handle(number)?)
+    }
+
+    /// Tests the current filehandle, that of the node of this number (RFC 8881, section 16.2.3.1.1). STALE where it is gone.
+    pub fn check_node(&self, number: u64) -> Result<(), FsFault>
+        ensures step { (cred : Cred) (state : State) → IsOn (fs_of self.now) cred number state → TestsCurrent (fs_of self.now) state result }
+        ensures down { (fs_of self.now).is_down ≡ true → IsErrOf result FsFault.Down }
+    {
+        if self.is_down {
+            return Err(FsFault::Down);
+        }
+        if !self.tree.has(number) {
+            return Err(FsFault::Status(Status::Stale));
+        }
+        Ok(())
     }
 
     /// CREATE of a directory (RFC 8881, section 18.4), by this caller at this moment, in nanoseconds since 1970. It is kept on
@@ -191,6 +258,7 @@ impl<D: Device> Fs<D> {
         ensures no_room { IsErrOf result FsFault.NoRoom → has_room ≡ false }
         ensures down { (fs_of self.old).is_down ≡ true → IsErrOf result FsFault.Down }
         ensures goes_down { IsErrOf result FsFault.Device → (fs_of self.new).is_down ≡ true }
+        ensures device_room { IsErrOf result FsFault.Device → has_room ≡ true }
         ensures cause { IsErrOf result FsFault.Device → IsCounted (fs_failures self.old) (fs_failures self.new) }
         ensures later { fs_failures self.old ≤ fs_failures self.new }
     {

@@ -1,6 +1,7 @@
 //! The laws of a volume: each is the contract of a function that does nothing.
 
 ghost use Rattle.std.specs.Prelude.{◌≡◌, ◌<◌, ◌^◌, ℕ};
+ghost use Rattle.fs.specs.Stands.{OneTreeStands};
 ghost use Rattle.fs.specs.Superblock.{superblock, word};
 
 /// The first sector of a volume tells its nodes and its restart count.
@@ -8,4 +9,10 @@ ghost use Rattle.fs.specs.Superblock.{superblock, word};
 pub fn superblock_tells()
     ensures nodes { (sectors nodes run : ℕ) → nodes < 2 ^ 32 → word 16 (superblock sectors nodes run) ≡ nodes }
     ensures run { (sectors nodes run : ℕ) → run < 2 ^ 32 → word 20 (superblock sectors nodes run) ≡ run }
+{}
+
+/// A map that a stop left stands for one tree, of a volume with one number of nodes and one restart count.
+#[tactic(auto, using(crate::proofs::OneTree::one_tree_stands))]
+pub fn one_tree_stands()
+    ensures { OneTreeStands }
 {}

@@ -13,7 +13,7 @@ pub mod superblock;
 pub use created::Created;
 pub use fault::{FormatFault, FsFault, MountFault};
 pub use fs::{Fs, Unmounted};
-pub use laws::superblock_tells;
+pub use laws::{one_tree_stands, superblock_tells};
 
 #[cfg(test)]
 mod tests;

@@ -74,6 +74,34 @@ fn look_up_directories<R: AllocGlobal + Abort>(rt: &R, device: &mut MemDevice) -
     Ok(())
 }
 
+fn take_handles<R: AllocGlobal + Abort>(rt: &R, device: &mut MemDevice) -> Result<(), Fail> {
+    let Ok(fs) = Fs::mount(rt.alloc(), device) else {
+        return Err("not mounted".into());
+    };
+    let root = fs.handle(1)?;
+    assert_eq!(rt; root, [0, 0, 0, 0, 0, 0, 0, 1]);
+    assert_eq!(rt; fs.put_handle(&root), Ok(1));
+    assert_eq!(rt;
+        fs.put_handle(&[0, 0, 0, 0, 0, 0, 0, 2]),
+        Err(FsFault::Status(Status::Stale))
+    );
+    assert_eq!(rt;
+        fs.put_handle(b"short"),
+        Err(FsFault::Status(Status::BadHandle))
+    );
+    assert_eq!(rt; fs.handle(2), Err(FsFault::Status(Status::Stale)));
+    assert_eq!(rt; fs.check_node(1), Ok(()));
+    assert_eq!(rt; fs.check_node(2), Err(FsFault::Status(Status::Stale)));
+    Ok(())
+}
+
+#[test]
+fn filehandles_name_nodes(rt: HostRuntime) -> Result<(), Fail> {
+    let mut device = MemDevice::new(rt.alloc(), 256)?;
+    Fs::format(rt.alloc(), &mut device, 16)?;
+    take_handles(&rt, &mut device)
+}
+
 #[test]
 fn directories_are_there_after_a_mount(rt: HostRuntime) -> Result<(), Fail> {
     let mut device = MemDevice::new(rt.alloc(), 256)?;

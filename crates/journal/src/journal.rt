@@ -89,6 +89,7 @@ impl<D: Device> Journal<D> {
         ensures damaged { D.keeps_word → IfErr result (λ refused. refused.fault ≡ JournalFault.Damaged
             → LeavesOnlySynced (D.size device) (D.history device) (D.history refused.device)) }
         ensures memory { IfErr result (λ refused. refused.fault ≡ JournalFault.Memory → refused.device ≡ device) }
+        ensures later { IfErr result (λ refused. D.failed device ≤ D.failed refused.device) }
         ensures counted { IfErr result (λ refused. refused.fault ≡ JournalFault.Fault
             → IsCounted (D.failed device) (D.failed refused.device)) }
         ensures reasons { IfErr result (λ refused. (refused.fault ≡ JournalFault.Fault)

@@ -19,6 +19,7 @@ invariant_of-result g c =
     let nodes : c.of_volume-limits.result.nodes ≡ found.nodes = ap (λ (l : Limits). l.nodes) c.of_volume-limits.ensures in
     let size : found.sectors ≡ log.size = c.requires.size ∙ sym c.start.ensures.same_size in
     record {
+      bounded = c.requires.counted;
       counted = omega arith;
       sized = subst (λ (n : ℕ). IsTrue (is_size n c.of_volume-limits.result.nodes)) size (subst (λ (n : ℕ). IsTrue (is_size found.sectors n)) (sym nodes) c.requires.sized);
       limited = c.of_volume-limits.ensures ∙ (ap (λ (n : ℕ). limits_of n found.nodes) size ∙ ap (λ (n : ℕ). limits_of log.size n) (sym nodes));

@@ -4,7 +4,7 @@ use Rattle.journal.specs.Journal.{log_of}
 use Rattle.journal.specs.Settled.{Settles, SettlesAs}
 use Rattle.fs.specs.FileSystems.{fs_of}
 use Rattle.journal.proofs.First.{first_kept}
-use Rattle.fs.proofs.FoundLaws.{if_ok_so, if_ok_and, if_err_so, not_damaged, settled_moments, found_stands, found_moments, seen_stands, only_damaged}
+use Rattle.fs.proofs.FoundLaws.{if_ok_so, if_ok_and, if_err_so, not_damaged, is_volume_there, count_full, settled_moments, found_stands, found_moments, seen_stands, only_damaged}
 use Rattle.fs.proofs.StandLaws.{size-least, nodes-most}
 use Rattle.fs.proofs.fs.Fs.mount.Goals as goal
 
@@ -12,6 +12,16 @@ pub returns-in-Err-clause-damaged : goal.returns-in-Err-clause-damaged
 returns-in-Err-clause-damaged g c = λ k is nodes run tree base.
     not_damaged (g.D.Device.size c.args.device) nodes run tree (seen (g.D.Device.history c.args.device).now) base
     (c.in-Err.ensures.damaged k (ap (λ x. Err x) is))
+
+pub returns-in-Err-clause-no_tree : goal.returns-in-Err-clause-no_tree
+returns-in-Err-clause-no_tree g c = λ k is nodes run tree base.
+    is_volume_there (g.D.Device.size c.args.device) nodes run tree (seen (g.D.Device.history c.args.device).now) base
+    (c.in-Err.ensures.not_volume k (ap (λ x. Err x) is))
+
+pub returns-in-Err-clause-full : goal.returns-in-Err-clause-full
+returns-in-Err-clause-full g c = λ k is nodes run tree base.
+    count_full (g.D.Device.size c.args.device) nodes run tree (seen (g.D.Device.history c.args.device).now) base
+    (c.in-Err.ensures.worn k (ap (λ x. Err x) is))
 
 pub begin-requires-clause-first : goal.begin-requires-clause-first
 begin-requires-clause-first g c = λ k.

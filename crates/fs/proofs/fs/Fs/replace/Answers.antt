@@ -30,6 +30,7 @@ keep-requires g c =
 
 pub invariant_of-self-in-Err : goal.invariant_of-self-in-Err
 invariant_of-self-in-Err g c = record {
+  bounded = c.args.self.now.bounded;
   counted = c.args.self.now.counted;
   sized = subst (λ (n : ℕ). IsTrue (is_size n c.args.self.now.limits.nodes)) (sym c.keep.ensures.size) c.args.self.now.sized;
   limited = c.args.self.now.limited ∙ ap (λ (n : ℕ). limits_of n c.args.self.now.limits.nodes) (sym c.keep.ensures.size);
@@ -70,6 +71,7 @@ returns-in-Err g c = record {
 pub invariant_of-self-2 : goal.invariant_of-self-2
 unfolding fs_of
 invariant_of-self-2 g c = record {
+  bounded = c.args.self.now.bounded;
   counted = c.requires.counted;
   sized = subst (λ (n : ℕ). IsTrue (is_size n c.args.self.now.limits.nodes)) (sym c.keep.ensures.size) c.args.self.now.sized;
   limited = c.args.self.now.limited ∙ ap (λ (n : ℕ). limits_of n c.args.self.now.limits.nodes) (sym c.keep.ensures.size);
