@@ -3,3 +3,4 @@ pub mod ExactArguments
 pub mod ExactAnswers
 pub mod Entries
 pub mod Sizes
+pub mod Trimmed

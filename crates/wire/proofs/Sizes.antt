@@ -1,5 +1,5 @@
 -- How long spellings are.
-use Rattle.std.proofs.Common.{◌≡◌, ℕ, ◌+◌, ◌<◌, List, [], ◌∷◌, ◌++◌, length, take, drop, get_or, ◌≤◌, None, Some, sym, ap, ◌∙◌, arith}
+use Rattle.std.proofs.Common.{◌≡◌, ℕ, ◌+◌, ◌<◌, ◌==◌, Bool, true, false, cond, List, [], ◌∷◌, ◌++◌, length, take, drop, get_or, ◌≤◌, None, Some, sym, ap, ◌∙◌, arith}
 use Rattle.std.specs.Int.{w32, w64}
 use Rattle.std.proofs.lemmas.List.{length-append}
 use Rattle.xdr.specs.Grammar.{number}
@@ -8,7 +8,7 @@ use Rattle.xdr.proofs.Sizes.{int_length, hyper_length, padded_length}
 use Rattle.std.proofs.lemmas.Grind.{flat_map-append}
 use Rattle.std.proofs.lemmas.List.{take_more, take-append-drop, append-nil}
 use Rattle.model.specs.WireTypes.{attributes, channel}
-use Rattle.model.specs.WireAnswers.{entry, create_session_answer}
+use Rattle.model.specs.WireAnswers.{entry, create_session_answer, behind_refusal}
 use Rattle.wire.specs.declared.small.Attributes.{Attributes}
 use Rattle.wire.specs.declared.small.Channel.{Channel}
 use Rattle.wire.specs.declared.answers.Entry.{Entry}
@@ -59,3 +59,11 @@ pub create_session_length : (a : CreateSessionAnswer) (m n : ℕ) → length a.s
     → 24 + m + n ≡ length (create_session_answer.spelling (create_session_view a))
 create_session_length a m n len is_m is_n =
     rw (is_m, is_n) (sym (with_session a.session (channel.spelling (channel_view a.fore)) (channel.spelling (channel_view a.back)) a.sequence a.flags len))
+
+-- what stands behind a refusal
+behind_short : (b : Bool) → length (cond b (number w32 0) []) ≤ 4
+behind_short true = omega (arith, int_length 0)
+behind_short false = omega arith
+
+pub refusal_short : (operation : ℕ) → length (behind_refusal operation) ≤ 4
+refusal_short operation = behind_short (operation == 34)

@@ -1,6 +1,6 @@
 //! The operations by their numbers (RFC 8881, section 18).
 
-ghost use Rattle.std.specs.Prelude.{◌≡◌, ℕ, List, Err, IfSome, IfNone};
+ghost use Rattle.std.specs.Prelude.{◌≡◌, ◌≢◌, ℕ, List, Err, IfSome, IfNone};
 ghost use Rattle.xdr.specs.Clauses.{Accepts, Reads};
 ghost use Rattle.xdr.specs.Laws.{IsBytes};
 ghost use Rattle.xdr.specs.declared.refusal.Refusal.TheVariants.{Value};
@@ -63,6 +63,7 @@ impl Operation {
     pub fn from_number(number: u32) -> Option<Operation>
         ensures some { IfSome result (λ operation. number_of operation ≡ number) }
         ensures none { IfNone result ((bytes : List ℕ) → arguments_at number bytes ≡ Err Value) }
+        ensures other { IfNone result ((operation : Operation) → number_of operation ≢ number) }
     {
         Some(match number {
             3 => Operation::Access,

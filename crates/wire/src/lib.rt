@@ -5,8 +5,10 @@
 
 mod answers;
 mod argument;
+mod created;
 mod directory;
 mod file;
+mod fits;
 mod laws;
 mod open;
 mod outcome;

@@ -37,7 +37,7 @@ impl StateId {
 
     /// Writes it. A refusal may leave a front of it.
     #[tactic(auto, using(xdr::proofs::Writing::wrote_on, xdr::proofs::Writing::wrote_exit, xdr::proofs::Writing::wrote_end))]
-    pub(crate) fn write(&self, w: &mut Writer) -> Result<(), Refusal>
+    pub fn write(&self, w: &mut Writer) -> Result<(), Refusal>
         ensures { Wrote w.old w.new result (state_id.spelling (state_view self.now)) }
     {
         w.write_u32(self.seqid)?;
@@ -66,7 +66,7 @@ impl<'a> Attributes<'a> {
 
     /// Writes it. A refusal may leave a front of it.
     #[tactic(auto, using(xdr::proofs::Writing::wrote_on, xdr::proofs::Writing::wrote_exit, xdr::proofs::Writing::wrote_end))]
-    pub(crate) fn write(&self, w: &mut Writer) -> Result<(), Refusal>
+    pub fn write(&self, w: &mut Writer) -> Result<(), Refusal>
         requires { length self.now.values.now < 2 ^ 32 }
         ensures { Wrote w.old w.new result (attributes.spelling (attributes_view self.now)) }
     {
@@ -134,7 +134,7 @@ impl Channel {
 
     /// Writes it. A refusal may leave a front of it.
     #[tactic(auto, using(xdr::proofs::Writing::wrote_on, xdr::proofs::Writing::wrote_exit, xdr::proofs::Writing::wrote_end))]
-    pub(crate) fn write(&self, w: &mut Writer) -> Result<(), Refusal>
+    pub fn write(&self, w: &mut Writer) -> Result<(), Refusal>
         ensures { Wrote w.old w.new result (channel.spelling (channel_view self.now)) }
     {
         w.write_u32(self.header_pad_size)?;

@@ -114,15 +114,16 @@ fn results_are_written(rt: HostRuntime) -> Result<(), Fail> {
     }))
     .write(&mut writer)?;
     Outcome::Done(Answer::PutRootFh).write(&mut writer)?;
-    let mut was_set: Bitmap = Words::new();
-    was_set.push(0);
-    was_set.push(2);
+    let mut given: Bitmap = Words::new();
+    given.push(0);
+    given.push(2);
+    given.push(0);
     let change = ChangeInfo {
         is_atomic: true,
         before: 1,
         after: 0x1_0000_0001,
     };
-    Outcome::Done(Answer::Create(CreateAnswer { change, was_set })).write(&mut writer)?;
+    Outcome::Done(Answer::Create(CreateAnswer::new(change, &given))).write(&mut writer)?;
     let handle = [0, 0, 0, 1, 0, 0, 0, 1];
     Outcome::Done(Answer::GetFh(&handle)).write(&mut writer)?;
     let expected = [

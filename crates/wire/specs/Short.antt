@@ -1,0 +1,42 @@
+-- Results whose spelling is short.
+use Rattle.std.specs.Prelude.{◌≢◌, ◌≤◌, IsTrue, length}
+use Rattle.xdr.specs.Forms.{is_trimmed}
+use Rattle.model.specs.declared.status.Status.{Status}
+use Rattle.model.specs.Status.{code_of}
+use Rattle.model.specs.Answer as spec
+
+-- a status that refuses
+abbrev pub IsRefusal : Status → Type 0
+IsRefusal reason = code_of reason ≢ 0
+
+-- What the types of the fields do not tell. GETATTR, READ and READDIR answer what may be long.
+abbrev pub IsShortAnswer : spec.Answer → Type 0
+IsShortAnswer (spec.Answer.Access a) = Unit {0}
+IsShortAnswer (spec.Answer.Close a) = Unit {0}
+IsShortAnswer (spec.Answer.Commit a) = Unit {0}
+IsShortAnswer (spec.Answer.Create a) = IsTrue (is_trimmed a.was_set)
+IsShortAnswer (spec.Answer.GetAttr a) = ⊥
+IsShortAnswer (spec.Answer.GetFh handle) = length handle ≤ 128
+IsShortAnswer spec.Answer.Lookup = Unit {0}
+IsShortAnswer spec.Answer.LookupParent = Unit {0}
+IsShortAnswer (spec.Answer.Open a) = IsTrue (is_trimmed a.was_set)
+IsShortAnswer spec.Answer.PutFh = Unit {0}
+IsShortAnswer spec.Answer.PutRootFh = Unit {0}
+IsShortAnswer (spec.Answer.Read a) = ⊥
+IsShortAnswer (spec.Answer.ReadDir a) = ⊥
+IsShortAnswer (spec.Answer.Remove change) = Unit {0}
+IsShortAnswer (spec.Answer.Rename a) = Unit {0}
+IsShortAnswer spec.Answer.RestoreFh = Unit {0}
+IsShortAnswer spec.Answer.SaveFh = Unit {0}
+IsShortAnswer (spec.Answer.SetAttr was_set) = IsTrue (is_trimmed was_set)
+IsShortAnswer (spec.Answer.Write a) = Unit {0}
+IsShortAnswer (spec.Answer.ExchangeId a) = (length a.major_id ≤ 64) × (length a.scope ≤ 64)
+IsShortAnswer (spec.Answer.CreateSession a) = Unit {0}
+IsShortAnswer spec.Answer.DestroySession = Unit {0}
+IsShortAnswer (spec.Answer.Sequence a) = Unit {0}
+IsShortAnswer spec.Answer.DestroyClientId = Unit {0}
+IsShortAnswer spec.Answer.ReclaimComplete = Unit {0}
+
+abbrev pub IsShort : spec.Outcome → Type 0
+IsShort (spec.Done a) = IsShortAnswer a
+IsShort (spec.Refused operation reason) = IsRefusal reason

@@ -1,0 +1,7 @@
+pub mod Alone
+pub mod Bits
+pub mod Entries
+pub mod Exact
+pub mod Loops
+pub mod Naming
+pub mod Whole

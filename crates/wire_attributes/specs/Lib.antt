@@ -1,0 +1,4 @@
+pub mod Values
+pub mod Views
+pub mod Clauses
+pub mod Names

@@ -1,0 +1,22 @@
+//! The values of attributes on the wire, and the entries of access control lists (RFC 8881, sections 5 and 6.2; RFC 5662).
+//!
+//! A typed value for each attribute that the server has; handles and texts are borrowed from the record that was read.
+#![tactic(auto)]
+
+mod ace;
+mod bitmap;
+mod entry;
+mod laws;
+mod value;
+mod values;
+mod who;
+
+pub use ace::{ace_of, entry_of};
+pub use entry::AclEntry;
+pub use laws::values_are_exact;
+pub use value::{FileSystemId, Time, Value};
+pub use values::{read_values, values_of, write_values};
+pub use who::{number_of, text_of, who_of};
+
+#[cfg(test)]
+mod tests;

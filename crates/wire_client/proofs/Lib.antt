@@ -1,0 +1,6 @@
+pub mod Accepted
+pub mod Alone
+pub mod Chains
+pub mod Fitting
+pub mod Securities
+pub mod Trimmed

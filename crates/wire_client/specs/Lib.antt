@@ -1,0 +1,3 @@
+pub mod ArgumentFits
+pub mod Rests
+pub mod Reading
