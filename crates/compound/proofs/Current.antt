@@ -1,5 +1,5 @@
 -- The current filehandle in each world.
-use Rattle.std.proofs.Common.{◌≡◌, ℕ, true, false, refl}
+use Rattle.std.proofs.Common.{◌≡◌, ℕ, Bool, true, false, refl}
 use Rattle.model.specs.Answer.{Answer, Outcome}
 use Rattle.model.specs.Context.{has_current, at_node}
 use Rattle.model.specs.Need.{permitted}
@@ -8,12 +8,19 @@ use Rattle.model.specs.Step.{does, refusals, effect}
 use Rattle.model.specs.Tree.{root}
 use Rattle.model.specs.World.{World, InProgress, Gives, run}
 use Rattle.model.specs.declared.status.Status.TheVariants as status
-use Rattle.compound.specs.Runs.{takes_current}
 
 pub ran_root : (world : World) (request : InProgress) (now : ℕ)
     → run world request now Argument.PutRootFh ≡ Gives (Outcome.Done Answer.PutRootFh) world (record request { context = at_node request.context root })
 unfolding run does refusals permitted effect
 ran_root world request now = refl
+
+-- the operations served that take the current filehandle
+abbrev pub takes_current : Argument → Bool
+takes_current (Argument.Create arguments) = true
+takes_current Argument.GetFh = true
+takes_current (Argument.Lookup name) = true
+takes_current (Argument.ReclaimComplete one_fs) = one_fs
+takes_current _ = false
 
 pub wants_current : (world : World) (request : InProgress) (now : ℕ) (operation : Argument) → has_current request.context ≡ false
     → takes_current operation ≡ true

@@ -1,5 +1,13 @@
+pub mod Creating
 pub mod Current
+pub mod Firsts
+pub mod Refusals
 pub mod Replies
 pub mod Rests
+pub mod Rooms
 pub mod Sequencing
+pub mod Stepping
 pub mod Tables
+pub mod Trees
+pub mod Turning
+pub mod Unserved

@@ -1,19 +1,20 @@
 -- SEQUENCE and RECLAIM_COMPLETE on a world are those on its table.
-use Rattle.std.proofs.Common.{◌≡◌, ℕ, Option, Some, false, ap, sym, ◌∙◌}
+use Rattle.std.proofs.Common.{◌≡◌, ℕ, Bool, true, Option, Some, None, false, if◌then◌else◌, ap, sym, ◌∙◌}
 use Rattle.std.specs.List.{find}
 use Rattle.model.specs.Answer.{Answer, Outcome, SequenceAnswer}
 use Rattle.model.specs.Operation.{Argument, SequenceArguments}
 use Rattle.model.specs.Session as sessions
-use Rattle.model.specs.Session.{Table, Session, is_session, started, sequence_answer}
+use Rattle.model.specs.Session.{Table, Session, Client, is_client, reclaim_by, is_session, started, sequence_answer}
 use Rattle.model.specs.World.{World, InProgress, Gives, run, begun, started_in, tabled, gives, with_table, of_session}
 use Rattle.model.specs.declared.status.Status.{Status}
-use Rattle.compound.specs.Runs.{IsOn}
+use Rattle.fs.specs.FileSystem.{FileSystem}
+use Rattle.compound.specs.Steps.{IsServed}
 
 pub ran_sequence : (world : World) (request : InProgress) (now : ℕ) (arguments : SequenceArguments) (old : Table) (wanted : sessions.Begun)
-    → IsOn world old → sessions.begin request.context.cred.uid request.count arguments old ≡ wanted
+    → {fs : FileSystem} → IsServed world fs old → sessions.begin request.context.cred.uid request.count arguments old ≡ wanted
     → run world request now (Argument.Sequence arguments) ≡ begun world request arguments wanted
 unfolding run
-ran_sequence world request now arguments old wanted on is =
+ran_sequence world request now arguments old wanted {fs} on is =
     ap (begun world request arguments) (ap (sessions.begin request.context.cred.uid request.count arguments) on.table_is ∙ is)
 
 -- the request once the slot of this client's session runs it
@@ -42,8 +43,32 @@ begun_err world request arguments reason old new is same =
     ap (λ (table : Table). Gives (Outcome.Refused 53 reason) (with_table world table) request) (is ∙ sym same)
 
 pub ran_reclaim : (world : World) (request : InProgress) (now : ℕ) (old : Table) (wanted : Option Status × Table)
-    → IsOn world old → sessions.reclaim_complete request.context.client old ≡ wanted
+    → {fs : FileSystem} → IsServed world fs old → sessions.reclaim_complete request.context.client old ≡ wanted
     → run world request now (Argument.ReclaimComplete false) ≡ tabled world request 58 Answer.ReclaimComplete wanted
 unfolding run
-ran_reclaim world request now old wanted on is =
+ran_reclaim world request now old wanted {fs} on is =
     ap (tabled world request 58 Answer.ReclaimComplete) (ap (sessions.reclaim_complete request.context.client) on.table_is ∙ is)
+
+-- a refused RECLAIM_COMPLETE leaves the table
+
+abbrev chosen_of : (reclaimed : Bool) (table other : Table) (of : Status) → Option Status × Table
+chosen_of reclaimed table other of = if reclaimed then (Some of, table) else (None, other)
+
+chosen_refused : (reclaimed : Bool) (table other : Table) (of reason : Status)
+    → (chosen_of reclaimed table other of).0 ≡ Some reason → chosen_of reclaimed table other of ≡ (Some reason, table)
+chosen_refused true table other of reason is = ap (λ (first : Option Status). (first, table)) is
+chosen_refused false table other of reason is = absurd (cc)
+
+found_refused : (number : ℕ) (table : Table) (found : Option Client) (reason : Status)
+    → (reclaim_by number table found).0 ≡ Some reason → reclaim_by number table found ≡ (Some reason, table)
+found_refused number table None reason is = ap (λ (first : Option Status). (first, table)) is
+found_refused number table (Some client) reason is = chosen_refused client.has_reclaimed table _ _ reason is
+
+pub reclaim_refused : (number : ℕ) (table : Table) (reason : Status)
+    → (sessions.reclaim_complete number table).0 ≡ Some reason → sessions.reclaim_complete number table ≡ (Some reason, table)
+unfolding sessions.reclaim_complete
+reclaim_refused number table reason is = found_refused number table (find (is_client number) table.clients) reason is
+
+pub reclaim_none : (number : ℕ) (table : Table)
+    → (sessions.reclaim_complete number table).0 ≡ None → sessions.reclaim_complete number table ≡ (None, (sessions.reclaim_complete number table).1)
+reclaim_none number table is = ap (λ (first : Option Status). (first, (sessions.reclaim_complete number table).1)) is

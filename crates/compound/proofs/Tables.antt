@@ -11,27 +11,31 @@ use Rattle.model.specs.World.{World, InProgress, Gives, run, exchanged, created,
 use Rattle.model.specs.declared.status.Status.{Status}
 use Rattle.session.specs.Limits.{served}
 use Rattle.session.specs.Views.{among}
-use Rattle.compound.specs.Runs.{IsOn}
+use Rattle.fs.specs.FileSystem.{FileSystem}
+use Rattle.compound.specs.Operates.{RunsTo}
+use Rattle.compound.specs.Runs.{with_rest}
+use Rattle.compound.specs.Steps.{IsServed}
+use Rattle.compound.proofs.Rooms.{served_same}
 
 pub ran_exchange : (world : World) (request : InProgress) (now : ℕ) (arguments : ExchangeIdArguments) (old : Table) (wanted : Result ExchangeIdAnswer Status × Table)
-    → IsOn world old → sessions.exchange_id served (among []) request.context.cred.uid arguments old ≡ wanted
+    → {fs : FileSystem} → IsServed world fs old → sessions.exchange_id served (among []) request.context.cred.uid arguments old ≡ wanted
     → run world request now (Argument.ExchangeId arguments) ≡ exchanged world request wanted
 unfolding run
-ran_exchange world request now arguments old wanted on is =
+ran_exchange world request now arguments old wanted {fs} on is =
     let uid = request.context.cred.uid in
     ap (exchanged world request)
-    (ap (λ (limits : SessionLimits). sessions.exchange_id limits (has_opens world.opens) uid arguments world.table) on.limits
+    (ap (λ (limits : SessionLimits). sessions.exchange_id limits (has_opens world.opens) uid arguments world.table) on.sessions
     ∙ (ap (λ (opens : Opens). sessions.exchange_id served (has_opens opens) uid arguments world.table) on.opens
     ∙ (ap (sessions.exchange_id served (among []) uid arguments) on.table_is ∙ is)))
 
 pub ran_create : (world : World) (request : InProgress) (now : ℕ) (arguments : CreateSessionArguments) (old : Table)
-    → IsOn world old
+    → {fs : FileSystem} → IsServed world fs old
     → run world request now (Argument.CreateSession arguments) ≡ created world request (sessions.create_session served request.context.cred.uid arguments old)
 unfolding run
-ran_create world request now arguments old on =
+ran_create world request now arguments old {fs} on =
     let uid = request.context.cred.uid in
     ap (created world request)
-    (ap (λ (limits : SessionLimits). sessions.create_session limits uid arguments world.table) on.limits
+    (ap (λ (limits : SessionLimits). sessions.create_session limits uid arguments world.table) on.sessions
     ∙ ap (sessions.create_session served uid arguments) on.table_is)
 
 -- no opens end where there are none
@@ -91,17 +95,26 @@ created_err world request arguments reason old new is left refused =
     ∙ ap (λ (table : Table). Gives (Outcome.Refused 43 reason) (with_table world table) request) (is ∙ (sym same ∙ left))
 
 pub ran_destroy_session : (world : World) (request : InProgress) (now : ℕ) (id : List ℕ) (old : Table) (wanted : Option Status × Table)
-    → IsOn world old → sessions.destroy_session id old ≡ wanted
+    → {fs : FileSystem} → IsServed world fs old → sessions.destroy_session id old ≡ wanted
     → run world request now (Argument.DestroySession id) ≡ tabled world request 44 Answer.DestroySession wanted
 unfolding run
-ran_destroy_session world request now id old wanted on is =
+ran_destroy_session world request now id old wanted {fs} on is =
     ap (tabled world request 44 Answer.DestroySession) (ap (sessions.destroy_session id) on.table_is ∙ is)
 
 pub ran_destroy_client : (world : World) (request : InProgress) (now : ℕ) (client : ℕ) (old : Table) (wanted : Option Status × Table)
-    → IsOn world old → sessions.destroy_client_id (among []) client old ≡ wanted
+    → {fs : FileSystem} → IsServed world fs old → sessions.destroy_client_id (among []) client old ≡ wanted
     → run world request now (Argument.DestroyClientId client) ≡ tabled world request 57 Answer.DestroyClientId wanted
 unfolding run
-ran_destroy_client world request now client old wanted on is =
+ran_destroy_client world request now client old wanted {fs} on is =
     ap (tabled world request 57 Answer.DestroyClientId)
     (ap (λ (opens : Opens). sessions.destroy_client_id (has_opens opens) client world.table) on.opens
     ∙ (ap (sessions.destroy_client_id (among []) client) on.table_is ∙ is))
+
+-- with a file system that is as it was
+pub table_runs : (now : ℕ) (fs : FileSystem) (old new : Table) (request left : InProgress) (kind : Argument) (outcome : Outcome)
+    → ((world : World) (rest : List ℕ) → IsServed world fs old
+    → run world (with_rest request rest) now kind ≡ Gives outcome (with_table world new) (with_rest left rest))
+    → RunsTo now fs fs old new request left kind outcome
+table_runs now fs old new request left kind outcome runs = λ world rest on.
+    runs world rest on
+    ∙ ap (λ (before : World). Gives outcome (with_table before new) (with_rest left rest)) (sym (served_same world fs old on))

@@ -1,3 +1,6 @@
+pub mod Operates
 pub mod Runs
-pub mod Sequences
+pub mod Steps
+pub mod Trees
+pub mod Turns
 pub mod Views

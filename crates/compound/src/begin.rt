@@ -3,7 +3,7 @@
 ghost use Rattle.std.specs.Prelude.{◌≡◌, IfOk, IfErr};
 
 use crate::fault::Fault;
-use crate::running::{REPLY_BUFFER, Running};
+use crate::running::{RECORD_BUFFER, RESULT_BUFFER, Running};
 use model::acl::Cred;
 use rpc::Compound;
 use std::alloc::Global;
@@ -18,7 +18,7 @@ impl Running {
 
     /// Begins the COMPOUND of a call with this xid, by this caller, in this run of the server. All memory for its reply is
     /// taken here.
-    #[tactic(auto, unfolding(crate::specs::Views::in_progress_of))]
+    #[tactic(auto, unfolding(crate::specs::Views::in_progress_of), using(crate::proofs::Replies::tag_brief))]
     pub fn begin(
         alloc: Global,
         xid: u32,
@@ -27,12 +27,14 @@ impl Running {
         compound: &Compound<'_>,
     ) -> Result<Running, Fault>
         ensures ok { IfOk result (λ running. (world : World) → world.run ≡ run → in_progress_of running ≡ in_progress world xid cred (compound_view compound.now)) }
+        ensures run { IfOk result (λ running. (in_progress_of running).context.run ≡ run) }
         ensures err { IfErr result (λ fault. fault ≡ Memory) }
     {
         let tag = Vec::from_slice(alloc, compound.tag.bytes)?;
         let operations = Vec::from_slice(alloc, compound.operations)?;
-        let results = Writer::from_vec(Vec::with_capacity(alloc, REPLY_BUFFER)?);
-        let whole = Writer::from_vec(Vec::with_capacity(alloc, REPLY_BUFFER)?);
+        let results = Writer::from_vec(Vec::with_capacity(alloc, RESULT_BUFFER)?);
+        let kept = Writer::from_vec(Vec::with_capacity(alloc, RESULT_BUFFER)?);
+        let reply = Writer::from_vec(Vec::with_capacity(alloc, RECORD_BUFFER)?);
         Ok(Running {
             alloc,
             xid,
@@ -42,7 +44,8 @@ impl Running {
             position: 0,
             answered: 0,
             results,
-            whole,
+            kept,
+            reply,
             cred,
             client: 0,
             run,

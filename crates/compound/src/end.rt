@@ -1,51 +1,125 @@
-//! The end of a COMPOUND: its whole result, which the slot keeps.
+//! The end of a COMPOUND: its whole result, which the slot keeps, and the reply's record.
 
-ghost use Rattle.std.specs.Prelude.{◌≡◌};
+ghost use Rattle.std.specs.Prelude.{◌≡◌, ◌≤◌, ◌+◌, ◌++◌, [], length};
+ghost use Rattle.model.specs.Rpc.{compound_text};
+ghost use Rattle.model.specs.Session.{finish};
+ghost use Rattle.model.specs.World.{status_of, outcome_text};
+ghost use Rattle.model.specs.WireAnswers as answers;
+ghost use Rattle.session.specs.Views.{table_of};
+ghost use Rattle.wire.specs.OutcomeView.{outcome_view};
 
-use crate::running::Running;
+use crate::running::{Running, SlotId};
 use model::status::Status;
-use rpc::{CompoundResult, Tag};
+use rpc::{CompoundResult, Reply, Tag, write_reply};
 use session::Table;
+use wire::Outcome;
+use xdr::Writer;
 
 impl Running {
-    ghost use Rattle.std.specs.Prelude.{◌≡◌, ◌≤◌, length};
-    ghost use Rattle.model.specs.World.{result_of, kept_by};
-    ghost use Rattle.session.specs.Views.{table_of};
-    ghost use Rattle.compound.specs.Runs.{RunsIn};
+    ghost use Rattle.std.specs.Prelude.{◌≡◌, ◌≤◌, ℕ, List, Some, length};
+    ghost use Rattle.model.specs.Record.{framed};
+    ghost use Rattle.model.specs.Rpc.{Success, reply_text};
+    ghost use Rattle.model.specs.World.{reply_with, result_of, with_result, status_of, kept_by};
+    ghost use Rattle.model.specs.WireAnswers as answers;
+    ghost use Rattle.session.specs.Views.{table_of, reply_kept};
+    ghost use Rattle.wire.specs.OutcomeView.{outcome_view};
     ghost use Rattle.compound.specs.Views.{in_progress_of};
 
-    /// The whole result, where the last operation has this status. The slot keeps it. No memory is taken.
-    #[tactic(auto, unfolding(crate::specs::Views::in_progress_of))]
-    pub fn end(self, table: &mut Table, status: Status) -> Vec<u8>
-        requires small { length (result_of (in_progress_of self) status) ≤ 16384 }
-        requires runs { RunsIn (table_of table.old) (in_progress_of self).slot }
-        ensures whole { result.items ≡ result_of (in_progress_of self) status }
-        ensures kept { table_of table.new ≡ kept_by (in_progress_of self).slot (result_of (in_progress_of self) status) (table_of table.old) }
+    /// The reply's whole record, where this result is the last one. The slot keeps the result of the COMPOUND. No memory is taken.
+    #[tactic(auto, unfolding(crate::specs::Views::in_progress_of, model::specs::World::outcome_text), using(crate::proofs::Replies::room_length, crate::proofs::Replies::success_length, crate::proofs::Replies::framed_length))]
+    pub(crate) fn end(self, table: &mut Table, outcome: &Outcome<'_>) -> Vec<u8>
+        requires fits { answers.outcome.Fits (outcome_view outcome.now) }
+        requires room { length (reply_with (in_progress_of self) (outcome_view outcome.now)) ≤ 16384 }
+        ensures reply { result.items ≡ framed (reply_with (in_progress_of self) (outcome_view outcome.now)) }
+        ensures kept { table_of table.new ≡ kept_by (in_progress_of self).slot
+            (result_of (with_result (in_progress_of self) (outcome_view outcome.now)) (status_of (outcome_view outcome.now))) (table_of table.old) }
     {
-        let slot = self.slot;
-        let whole = self.spell(status);
+        let Running {
+            xid,
+            tag,
+            answered,
+            results,
+            kept,
+            reply,
+            slot,
+            ..
+        } = self;
+        let results = with_outcome(results, outcome);
+        let compound = result_of(status_of(outcome), &tag, answered + 1, results.as_slice());
         if let Some(id) = slot {
-            table.finish(&id.session, id.slot, &whole);
+            keep(table, &id, &compound, kept);
         }
-        whole
-    }
-
-    /// The whole result.
-    #[tactic(auto, unfolding(crate::specs::Views::in_progress_of))]
-    fn spell(self, status: Status) -> Vec<u8>
-        requires { length (result_of (in_progress_of self) status) ≤ 16384 }
-        ensures { result.items ≡ result_of (in_progress_of self) status }
-    {
-        let out = self.whole;
-        let compound = CompoundResult {
-            status,
-            tag: Tag { bytes: &self.tag },
-            count: self.answered,
-            results: self.results.as_slice(),
-        };
-        match compound.write(out) {
-            Ok(bytes) => bytes,
+        match write_reply(reply, xid, &Reply::Compound(compound)) {
+            Ok(reply) => reply,
             Err(_) => unreachable!(),
         }
+    }
+
+    /// The reply's whole record, where the result is the one that this slot keeps. No memory is taken.
+    #[tactic(auto, unfolding(crate::specs::Views::in_progress_of), using(crate::proofs::Replies::success_length, crate::proofs::Replies::framed_length))]
+    pub(crate) fn repeat(self, table: &Table, id: &SlotId) -> Vec<u8>
+        requires { (reply : List ℕ) × (reply_kept id.now.session id.now.slot (table_of table.now) ≡ Some reply) }
+        ensures { (reply : List ℕ) → reply_kept id.now.session id.now.slot (table_of table.now) ≡ Some reply
+            → result.items ≡ framed (reply_text (in_progress_of self).xid (Success reply)) }
+    {
+        let Some(kept) = table.kept(&id.session, id.slot) else {
+            unreachable!();
+        };
+        match write_reply(self.reply, self.xid, &Reply::Success(kept)) {
+            Ok(reply) => reply,
+            Err(_) => unreachable!(),
+        }
+    }
+}
+
+/// The results, and one more.
+#[tactic(auto, unfolding(model::specs::World::outcome_text))]
+fn with_outcome(results: Writer, outcome: &Outcome<'_>) -> Writer
+    requires fits { answers.outcome.Fits (outcome_view outcome.now) }
+    requires room { length results.bytes + length (outcome_text (outcome_view outcome.now)) ≤ results.capacity }
+    ensures { result.bytes ≡ results.bytes ++ outcome_text (outcome_view outcome.now) }
+{
+    let mut results = results;
+    match outcome.write(&mut results) {
+        Ok(()) => results,
+        Err(_) => unreachable!(),
+    }
+}
+
+/// The result of a COMPOUND.
+fn result_of<'a>(status: Status, tag: &'a [u8], count: u32, results: &'a [u8]) -> CompoundResult<'a>
+    requires { length tag.now ≤ 255 }
+    ensures text { compound_text result.status result.tag.bytes.now result.count result.results.now ≡ compound_text status tag.now count results.now }
+    ensures results { result.results.now ≡ results.now }
+{
+    CompoundResult {
+        status,
+        tag: Tag { bytes: tag },
+        count,
+        results,
+    }
+}
+
+/// The slot keeps the result, spelled into this memory.
+fn keep(table: &mut Table, id: &SlotId, compound: &CompoundResult<'_>, memory: Writer)
+    requires fresh { memory.bytes ≡ [] }
+    requires room { 16384 ≤ memory.capacity }
+    requires short { length (compound_text compound.now.status compound.now.tag.bytes.now compound.now.count compound.now.results.now) ≤ 16384 }
+    ensures { table_of table.new ≡ finish id.now.session id.now.slot
+        (compound_text compound.now.status compound.now.tag.bytes.now compound.now.count compound.now.results.now) (table_of table.old) }
+{
+    match compound.write(memory) {
+        Ok(result) => table.finish(&id.session, id.slot, result),
+        Err(_) => unreachable!(),
+    }
+}
+
+/// The status of a result.
+fn status_of(outcome: &Outcome<'_>) -> Status
+    ensures { result ≡ status_of (outcome_view outcome.now) }
+{
+    match outcome {
+        Outcome::Done(_) => Status::Ok,
+        Outcome::Refused { status, .. } => *status,
     }
 }

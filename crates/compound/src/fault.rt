@@ -12,6 +12,9 @@ pub enum Fault {
     /// No memory.
     #[error("Memory")]
     Memory,
+    /// The device failed; the file system is down from then on.
+    #[error("Device")]
+    Device,
 }
 
 impl From<AllocError> for Fault {

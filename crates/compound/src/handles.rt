@@ -2,39 +2,100 @@
 
 ghost use Rattle.std.specs.Prelude.{◌≡◌};
 
+use crate::operated::{Effect, Operated};
 use crate::running::Running;
+use crate::tree::status_of;
+use disk::Device;
+use fs::Fs;
 use model::status::Status;
-use wire::{Answer, Outcome};
+use wire::{Answer, Operation, Outcome};
 
 /// The root's number.
 const ROOT: u64 = 1;
 
-#[tactic(auto, unfolding(crate::specs::Views::in_progress_of))]
+#[tactic(auto, unfolding(crate::specs::Views::in_progress_of, model::specs::World::outcome_text))]
 impl Running {
-    ghost use Rattle.std.specs.Prelude.{◌≡◌, true, IfOk, IfErr};
+    ghost use Rattle.std.specs.Prelude.{◌≡◌, ◌<◌, ◌^◌, ℕ, true, false, nat_le, length, IfOk, IfErr};
+    ghost use Rattle.fs.specs.FileSystem.{FileSystem};
+    ghost use Rattle.fs.specs.FileSystems.{fs_of};
+    ghost use Rattle.model.specs.Answer.{Done, GetFh};
     ghost use Rattle.model.specs.Context.{has_current, current_number};
     ghost use Rattle.model.specs.Operation as operations;
+    ghost use Rattle.model.specs.Session.{Table};
+    ghost use Rattle.model.specs.WireAnswers as answers;
+    ghost use Rattle.model.specs.World.{reply_with, outcome_text};
     ghost use Rattle.model.specs.declared.status.Status.TheVariants as status;
-    ghost use Rattle.compound.specs.Runs.{RunsFree, WantsCurrent};
+    ghost use Rattle.compound.specs.Operates.{Operates, RunsTo, IsAnswered};
     ghost use Rattle.compound.specs.Views.{in_progress_of};
 
     /// PUTROOTFH (section 18.21): the root is the current node, whether it is there or not.
-    #[tactic(auto, unfolding(crate::specs::Views::in_progress_of), using(crate::proofs::Current::ran_root))]
-    pub fn put_root(&mut self) -> Outcome<'static>
-        ensures { RunsFree (in_progress_of self.old) (in_progress_of self.new) operations.Argument.PutRootFh result }
+    pub(crate) fn put_root(&self) -> Operated
+        ensures gives { (now : ℕ) (fs : FileSystem) (table : Table) → Operates now fs fs table table (in_progress_of self.now) operations.Argument.PutRootFh result }
+        ensures answered { IsAnswered (in_progress_of self.now) result }
     {
-        self.current = Some(ROOT);
-        Outcome::Done(Answer::PutRootFh)
+        self.settle(Answer::PutRootFh, Effect::Moves(ROOT))
+    }
+
+    /// PUTFH (section 18.19): the node that the filehandle names is the current one.
+    pub(crate) fn put_handle<D: Device>(&self, fs: &Fs<D>, handle: &[u8]) -> Operated
+        requires { (fs_of fs.now).is_down ≡ false }
+        ensures gives { (now : ℕ) (table : Table) → Operates now (fs_of fs.now) (fs_of fs.now) table table (in_progress_of self.now) (operations.Argument.PutFh handle.now) result }
+        ensures answered { IsAnswered (in_progress_of self.now) result }
+    {
+        match fs.put_handle(handle) {
+            Ok(number) => self.settle(Answer::PutFh, Effect::Moves(number)),
+            Err(fault) => self.refuse(Operation::PutFh, status_of(fault)),
+        }
+    }
+
+    /// GETFH (section 18.8).
+    pub(crate) fn get_handle<D: Device>(&self, fs: &Fs<D>) -> Operated
+        requires up { (fs_of fs.now).is_down ≡ false }
+        requires run { (in_progress_of self.now).context.run ≡ (fs_of fs.now).run }
+        ensures gives { (now : ℕ) (table : Table) → Operates now (fs_of fs.now) (fs_of fs.now) table table (in_progress_of self.now) operations.Argument.GetFh result }
+        ensures answered { IsAnswered (in_progress_of self.now) result }
+    {
+        let number = match self.current_node() {
+            Ok(number) => number,
+            Err(status) => return self.refuse(Operation::GetFh, status),
+        };
+        match fs.handle(number) {
+            Ok(handle) => self.settle_handle(handle),
+            Err(fault) => self.refuse(Operation::GetFh, status_of(fault)),
+        }
+    }
+
+    /// What GETFH comes to, where nothing else refuses it.
+    fn settle_handle(&self, handle: [u8; 8]) -> Operated
+        ensures gives { (now : ℕ) (fs : FileSystem) (table : Table)
+            → RunsTo now fs fs table table (in_progress_of self.now) (in_progress_of self.now) operations.Argument.GetFh (Done (GetFh handle))
+            → Operates now fs fs table table (in_progress_of self.now) operations.Argument.GetFh result }
+        ensures answered { IsAnswered (in_progress_of self.now) result }
+    {
+        if !self.has_handle_room(&handle) {
+            return self.refuse(Operation::GetFh, Status::RepTooBig);
+        }
+        Operated::GivesHandle(handle)
+    }
+
+    /// Whether the reply has room for this answer of GETFH.
+    fn has_handle_room(&self, handle: &[u8; 8]) -> bool
+        ensures room { result ≡ nat_le (length (reply_with (in_progress_of self.now) (Done (GetFh handle.now)))) 16368 }
+        ensures fits { answers.outcome.Fits (Done (GetFh handle.now)) }
+        ensures small { length (outcome_text (Done (GetFh handle.now))) < 2 ^ 63 }
+    {
+        let outcome = Outcome::Done(Answer::GetFh(handle));
+        outcome.tell_fits();
+        self.has_room(&outcome)
     }
 
     /// The number of the current node.
     ///
     /// # Errors
     /// NOFILEHANDLE where there is none: each operation that takes the current filehandle answers that.
-    #[tactic(auto, unfolding(crate::specs::Views::in_progress_of), using(crate::proofs::Current::wants_current))]
-    pub fn current_node(&self) -> Result<u64, Status>
+    pub(crate) fn current_node(&self) -> Result<u64, Status>
         ensures ok { IfOk result (λ number. (has_current (in_progress_of self.now).context ≡ true) × (current_number (in_progress_of self.now).context ≡ number)) }
-        ensures err { IfErr result (λ reason. (reason ≡ status.NoFileHandle) × WantsCurrent (in_progress_of self.now)) }
+        ensures err { IfErr result (λ reason. (reason ≡ status.NoFileHandle) × (has_current (in_progress_of self.now).context ≡ false)) }
     {
         match self.current {
             Some(number) => Ok(number),

@@ -9,14 +9,20 @@ mod end;
 mod fault;
 mod handles;
 mod next;
+mod operate;
+mod operated;
 mod results;
 mod running;
 mod sequence;
+mod step;
+mod tree;
 
 pub use fault::Fault;
 pub use next::Next;
-pub use running::{REPLY_BUFFER, Running, SlotId};
-pub use sequence::Sequenced;
+pub use running::{RECORD_BUFFER, RESULT_BUFFER, Running, SlotId};
+pub use step::{Stepped, Undone};
 
+#[cfg(test)]
+mod step_tests;
 #[cfg(test)]
 mod tests;

@@ -108,7 +108,7 @@ impl Running {
 
     /// Whether one operation remains.
     #[tactic(auto, unfolding(crate::specs::Views::in_progress_of))]
-    fn is_last(&self) -> bool
+    pub(crate) fn is_last(&self) -> bool
         ensures { result ≡ is_last (in_progress_of self.now) }
     {
         self.count - self.answered == 1

@@ -2,10 +2,10 @@
 
 ghost use Rattle.std.specs.Prelude.{◌≡◌};
 
+use crate::operated::{Effect, Operated};
 use crate::running::Running;
 use model::status::Status;
-use rpc::{CompoundResult, Tag};
-use wire::Outcome;
+use wire::{Answer, Operation, Outcome};
 use xdr::opaque_size;
 
 /// The most bytes of a reply up to the end of an OK result, the record's header not counted.
@@ -15,12 +15,19 @@ const MOST_REPLY_BYTES: usize = 16_368;
 /// the status and the number of results.
 const AROUND_RESULTS: usize = 32;
 
+#[tactic(auto, unfolding(model::specs::World::outcome_text))]
 impl Running {
-    ghost use Rattle.std.specs.Prelude.{◌≡◌, ◌+◌, ◌<◌, ◌≤◌, ◌^◌, length};
-    ghost use Rattle.model.specs.Rpc.{compound_text};
-    ghost use Rattle.model.specs.World.{World, has_room, with_result, result_of, outcome_text};
+    ghost use Rattle.std.specs.Prelude.{◌≡◌, ◌+◌, ◌<◌, ◌≤◌, ◌^◌, ℕ, nat_le, length};
+    ghost use Rattle.fs.specs.FileSystem.{FileSystem};
+    ghost use Rattle.model.specs.Answer.{Done, Refused};
+    ghost use Rattle.model.specs.Operation.{Argument as Kind, operation_of};
+    ghost use Rattle.model.specs.Session.{Table as Known};
+    ghost use Rattle.model.specs.World.{with_result, reply_with, outcome_text};
     ghost use Rattle.model.specs.WireAnswers as answers;
-    ghost use Rattle.wire.specs.OutcomeView.{outcome_view};
+    ghost use Rattle.wire.specs.OutcomeView.{answer_view, outcome_view};
+    ghost use Rattle.wire.specs.Numbers.{number_of};
+    ghost use Rattle.wire.specs.Short.{IsRefusal, IsShortAnswer};
+    ghost use Rattle.compound.specs.Operates.{Operates, RunsTo, GivesIn, IsAnswered, left_by};
     ghost use Rattle.compound.specs.Views.{in_progress_of};
 
     /// Whether the reply has room for this result, if it were the last one.
@@ -28,36 +35,73 @@ impl Running {
     pub fn has_room(&self, outcome: &Outcome<'_>) -> bool
         requires fits { answers.outcome.Fits (outcome_view outcome.now) }
         requires small { length (outcome_text (outcome_view outcome.now)) < 2 ^ 63 }
-        ensures { (world : World) → world.limits.reply_bytes ≡ 16368 → result ≡ has_room world (in_progress_of self.now) (outcome_view outcome.now) }
+        ensures { result ≡ nat_le (length (reply_with (in_progress_of self.now) (outcome_view outcome.now))) 16368 }
     {
         let size = AROUND_RESULTS + opaque_size(&self.tag) + self.results.len() + outcome.size();
         size <= MOST_REPLY_BYTES
     }
 
-    /// Puts a result behind those so far.
-    #[tactic(auto, unfolding(crate::specs::Views::in_progress_of, model::specs::World::outcome_text))]
-    pub fn push_result(&mut self, outcome: &Outcome<'_>)
-        requires fits { answers.outcome.Fits (outcome_view outcome.now) }
-        requires more { (in_progress_of self.old).answered < (in_progress_of self.old).count }
-        requires room { length (in_progress_of self.old).results + length (outcome_text (outcome_view outcome.now)) ≤ 16384 }
-        ensures { in_progress_of self.new ≡ with_result (in_progress_of self.old) (outcome_view outcome.now) }
+    /// What an operation comes to that nothing else refuses: it is refused where the reply has no room for its answer.
+    pub(crate) fn settle(&self, answer: Answer<'static>, effect: Effect) -> Operated
+        requires { IsShortAnswer (answer_view answer) }
+        ensures gives { (now : ℕ) (fs : FileSystem) (table : Known) (kind : Kind) → (answers.answer_told (answer_view answer.entry)).number ≡ operation_of kind
+            → RunsTo now fs fs table table (in_progress_of self.now) (left_by effect (in_progress_of self.now)) kind (Done (answer_view answer.entry))
+            → Operates now fs fs table table (in_progress_of self.now) kind result }
+        ensures answered { IsAnswered (in_progress_of self.now) result }
     {
-        if outcome.write(&mut self.results).is_err() {
-            unreachable!();
+        let operation = answer.operation();
+        let outcome = Outcome::Done(answer);
+        outcome.tell_fits();
+        if !self.has_room(&outcome) {
+            return self.refuse(operation, Status::RepTooBig);
         }
-        self.answered += 1;
+        Operated::Gives { outcome, effect }
     }
 
-    /// The result of the COMPOUND, where its last operation has this status.
-    #[tactic(auto, unfolding(crate::specs::Views::in_progress_of))]
-    pub fn result(&self, status: Status) -> CompoundResult<'_>
-        ensures { compound_text result.status result.tag.bytes.now result.count result.results.now ≡ result_of (in_progress_of self.now) status }
+    /// What an operation comes to that is refused.
+    pub(crate) fn refuse(&self, operation: Operation, status: Status) -> Operated
+        requires { IsRefusal status }
+        ensures gives { (now : ℕ) (old new : FileSystem) (old_table new_table : Known) (kind : Kind)
+            → GivesIn now old new old_table new_table (in_progress_of self.now) (in_progress_of self.now) kind (Refused (number_of operation) status)
+            → Operates now old new old_table new_table (in_progress_of self.now) kind result }
+        ensures answered { IsAnswered (in_progress_of self.now) result }
     {
-        CompoundResult {
+        let outcome = Outcome::Refused {
+            operation: operation.number(),
             status,
-            tag: Tag { bytes: &self.tag },
-            count: self.answered,
-            results: self.results.as_slice(),
+        };
+        outcome.tell_fits();
+        Operated::Gives {
+            outcome,
+            effect: Effect::Stays,
+        }
+    }
+
+    /// What the first operation comes to, where nothing refuses it: the reply has room for each short answer.
+    pub(crate) fn answer_first(&self, answer: Answer<'static>, effect: Effect) -> Operated
+        requires first { (in_progress_of self.now).answered ≡ 0 }
+        requires short { IsShortAnswer (answer_view answer) }
+        ensures gives { (now : ℕ) (old new : FileSystem) (old_table new_table : Known) (kind : Kind)
+            → RunsTo now old new old_table new_table (in_progress_of self.now) (left_by effect (in_progress_of self.now)) kind (Done (answer_view answer.entry))
+            → Operates now old new old_table new_table (in_progress_of self.now) kind result }
+        ensures answered { IsAnswered (in_progress_of self.now) result }
+    {
+        let outcome = Outcome::Done(answer);
+        outcome.tell_fits();
+        Operated::Gives { outcome, effect }
+    }
+
+    /// Puts a result behind those so far.
+    #[tactic(auto, unfolding(crate::specs::Views::in_progress_of, model::specs::World::outcome_text), using(crate::proofs::Replies::room_length))]
+    pub fn push_result(&mut self, outcome: &Outcome<'_>)
+        requires fits { answers.outcome.Fits (outcome_view outcome.now) }
+        requires more { (in_progress_of self.old).answered + 1 < (in_progress_of self.old).count }
+        requires room { length (reply_with (in_progress_of self.old) (outcome_view outcome.now)) ≤ 16368 }
+        ensures { in_progress_of self.new ≡ with_result (in_progress_of self.old) (outcome_view outcome.now) }
+    {
+        match outcome.write(&mut self.results) {
+            Ok(()) => self.answered += 1,
+            Err(_) => unreachable!(),
         }
     }
 }

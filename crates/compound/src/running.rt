@@ -1,13 +1,17 @@
 //! What the server keeps of a COMPOUND that has begun.
 
-ghost use Rattle.std.specs.Prelude.{◌≡◌, ◌≤◌, [], length};
+ghost use Rattle.std.specs.Prelude.{◌≡◌, ◌≤◌, ◌<◌, ◌+◌, [], length};
+ghost use Rattle.xdr.specs.Forms.{counted};
 
 use model::acl::Cred;
 use std::alloc::Global;
 use xdr::Writer;
 
-/// The bytes for which each COMPOUND has memory from its begin on: those of the longest reply.
-pub const REPLY_BUFFER: usize = 16_384;
+/// The bytes for which each COMPOUND has memory from its begin on: those of its longest result, which a slot keeps.
+pub const RESULT_BUFFER: usize = 16_384;
+
+/// Those of the longest reply's record: the record's header, and six words, stand round the result.
+pub const RECORD_BUFFER: usize = RESULT_BUFFER + 28;
 
 /// A slot of a session.
 #[derive(Clone, Copy, Debug, PartialEq, Eq)]
@@ -30,8 +34,10 @@ pub struct Running {
     /// How many operations have their results.
     pub(crate) answered: u32,
     pub(crate) results: Writer,
-    /// Memory for the whole result.
-    pub(crate) whole: Writer,
+    /// Memory for the whole result, which the slot keeps.
+    pub(crate) kept: Writer,
+    /// Memory for the reply's record.
+    pub(crate) reply: Writer,
     pub(crate) cred: Cred,
     /// The client of the session, 0 before SEQUENCE.
     pub(crate) client: u64,
@@ -43,10 +49,13 @@ pub struct Running {
     /// The slot that runs it.
     pub(crate) slot: Option<SlotId>,
     ghost short: { length tag.items ≤ 255 },
-    ghost more: { answered ≤ count },
+    ghost more: { answered < count },
     ghost within: { position ≤ length operations.items },
-    ghost few: { length results.bytes ≤ 16384 },
+    ghost brief: { 32 + length (counted tag.items) + length results.bytes ≤ 16368 },
+    ghost first: { answered ≡ 0 → results.bytes ≡ [] },
     ghost room: { 16384 ≤ results.capacity },
-    ghost fresh: { whole.bytes ≡ [] },
-    ghost whole_room: { 16384 ≤ whole.capacity },
+    ghost kept_fresh: { kept.bytes ≡ [] },
+    ghost kept_room: { 16384 ≤ kept.capacity },
+    ghost reply_fresh: { reply.bytes ≡ [] },
+    ghost reply_room: { 16412 ≤ reply.capacity },
 }

@@ -2,65 +2,112 @@
 
 ghost use Rattle.std.specs.Prelude.{◌≡◌};
 
-use crate::clients::refused;
-use crate::fault::Fault;
+use crate::operated::{Effect, Operated};
 use crate::running::{Running, SlotId};
-use session::{Begun, Refusal, Table};
+use disk::Device;
+use fs::Fs;
+use model::status::Status;
+use session::{Begun, Table};
 use wire::{Answer, Operation, Outcome, SequenceArguments};
 
-/// What SEQUENCE does.
-#[derive(Drop)]
-pub enum Sequenced {
-    /// The slot runs the COMPOUND, or SEQUENCE is refused.
-    Gives(Outcome<'static>),
-    /// The COMPOUND is a retry: its whole result is the one that the slot keeps, which `Table::kept` gives.
-    Replays,
-}
-
-#[tactic(auto, unfolding(crate::specs::Views::in_progress_of))]
+#[tactic(auto, unfolding(crate::specs::Views::in_progress_of, model::specs::World::outcome_text))]
 impl Running {
-    ghost use Rattle.std.specs.Prelude.{◌≡◌, true, false, IfOk, IfErr};
+    ghost use Rattle.std.specs.Prelude.{◌≡◌, ◌<◌, ◌^◌, ℕ, true, false, nat_le, length, None};
+    ghost use Rattle.fs.specs.FileSystem.{FileSystem};
+    ghost use Rattle.fs.specs.FileSystems.{fs_of};
     ghost use Rattle.model.specs.Operation as operations;
+    ghost use Rattle.model.specs.Answer.{Done, ReclaimComplete as Reclaimed};
+    ghost use Rattle.model.specs.Session.{Table as Known, reclaim_complete};
+    ghost use Rattle.model.specs.WireAnswers as answers;
+    ghost use Rattle.model.specs.World.{reply_with, outcome_text};
     ghost use Rattle.session.specs.Views.{table_of};
     ghost use Rattle.wire.specs.ArgumentViews.{sequence_view};
-    ghost use Rattle.compound.specs.Runs.{Runs};
-    ghost use Rattle.compound.specs.Sequences.{Sequences};
+    ghost use Rattle.compound.specs.Operates.{Operates, IsAnswered};
     ghost use Rattle.compound.specs.Views.{in_progress_of};
-    ghost use Rattle.compound.specs.declared.fault.Fault.TheVariants.{Memory};
 
-    /// SEQUENCE. Where a slot runs the COMPOUND, its client is the session's from then on. After `Memory` nothing changed.
-    pub fn sequence(
-        &mut self,
-        table: &mut Table,
-        arguments: &SequenceArguments,
-    ) -> Result<Sequenced, Fault>
-        ensures ok { IfOk result (Sequences (table_of table.old) (table_of table.new) (in_progress_of self.old) (in_progress_of self.new) (sequence_view arguments.now)) }
-        ensures err { IfErr result (λ fault. (fault ≡ Memory) × (table_of table.new ≡ table_of table.old) × (in_progress_of self.new ≡ in_progress_of self.old)) }
+    /// SEQUENCE. Where a slot runs the COMPOUND, its client is the session's from then on.
+    pub(crate) fn sequence(&self, table: &mut Table, arguments: &SequenceArguments) -> Operated
+        requires first { (in_progress_of self.now).answered ≡ 0 }
+        ensures gives { (now : ℕ) (fs : FileSystem) → Operates now fs fs (table_of table.old) (table_of table.new) (in_progress_of self.now) (operations.Argument.Sequence (sequence_view arguments.now)) result }
+        ensures answered { IsAnswered (in_progress_of self.now) result }
     {
+        let slot = SlotId {
+            session: arguments.session,
+            slot: arguments.slot,
+        };
         match table.begin(self.cred.uid, self.count, arguments) {
             Ok(Begun::Runs { client, answer }) => {
-                self.client = client;
-                self.slot = Some(SlotId {
-                    session: arguments.session,
-                    slot: arguments.slot,
-                });
-                Ok(Sequenced::Gives(Outcome::Done(Answer::Sequence(answer))))
+                self.answer_first(Answer::Sequence(answer), Effect::Joins { slot, client })
             }
-            Ok(Begun::Replays) => Ok(Sequenced::Replays),
-            Err(Refusal::Status(status)) => {
-                Ok(Sequenced::Gives(refused(Operation::Sequence, status)))
-            }
-            Err(Refusal::Memory) => Err(Fault::Memory),
+            Ok(Begun::Replays) => Operated::Replays(slot),
+            Err(status) => self.refuse(Operation::Sequence, status),
         }
     }
 
-    /// RECLAIM_COMPLETE for all file systems.
-    pub fn reclaim_complete(&self, table: &mut Table) -> Outcome<'static>
-        ensures { Runs (table_of table.old) (table_of table.new) (in_progress_of self.now) (in_progress_of self.now) (operations.Argument.ReclaimComplete false) result }
+    /// RECLAIM_COMPLETE.
+    pub(crate) fn reclaim<D: Device>(&self, fs: &Fs<D>, table: &mut Table, one_fs: bool) -> Operated
+        requires up { (fs_of fs.now).is_down ≡ false }
+        requires run { (in_progress_of self.now).context.run ≡ (fs_of fs.now).run }
+        ensures gives { (now : ℕ) → Operates now (fs_of fs.now) (fs_of fs.now) (table_of table.old) (table_of table.new) (in_progress_of self.now) (operations.Argument.ReclaimComplete one_fs) result }
+        ensures answered { IsAnswered (in_progress_of self.now) result }
     {
+        if one_fs {
+            self.reclaim_one(fs)
+        } else {
+            self.reclaim_all(table)
+        }
+    }
+
+    /// RECLAIM_COMPLETE for all file systems. Nothing changes where the reply has no room for its result.
+    fn reclaim_all(&self, table: &mut Table) -> Operated
+        ensures gives { (now : ℕ) (fs : FileSystem) → Operates now fs fs (table_of table.old) (table_of table.new) (in_progress_of self.now) (operations.Argument.ReclaimComplete false) result }
+        ensures answered { IsAnswered (in_progress_of self.now) result }
+    {
+        match table.check_reclaim(self.client) {
+            Ok(()) => self.reclaim_in_room(table),
+            Err(status) => self.refuse(Operation::ReclaimComplete, status),
+        }
+    }
+
+    /// The same, where nothing but room may refuse it.
+    fn reclaim_in_room(&self, table: &mut Table) -> Operated
+        requires { (reclaim_complete (in_progress_of self.now).context.client (table_of table.old)).0 ≡ None }
+        ensures gives { (now : ℕ) (fs : FileSystem) → Operates now fs fs (table_of table.old) (table_of table.new) (in_progress_of self.now) (operations.Argument.ReclaimComplete false) result }
+        ensures answered { IsAnswered (in_progress_of self.now) result }
+    {
+        if !self.has_reclaim_room() {
+            return self.refuse(Operation::ReclaimComplete, Status::RepTooBig);
+        }
         match table.reclaim_complete(self.client) {
-            Ok(()) => Outcome::Done(Answer::ReclaimComplete),
-            Err(status) => refused(Operation::ReclaimComplete, status),
+            Ok(()) => Operated::Gives {
+                outcome: Outcome::Done(Answer::ReclaimComplete),
+                effect: Effect::Stays,
+            },
+            Err(_) => unreachable!(),
+        }
+    }
+
+    /// Whether the reply has room for the answer of RECLAIM_COMPLETE.
+    fn has_reclaim_room(&self) -> bool
+        ensures room { result ≡ nat_le (length (reply_with (in_progress_of self.now) (Done Reclaimed))) 16368 }
+        ensures fits { answers.outcome.Fits (Done Reclaimed) }
+        ensures small { length (outcome_text (Done Reclaimed)) < 2 ^ 63 }
+    {
+        let outcome = Outcome::Done(Answer::ReclaimComplete);
+        outcome.tell_fits();
+        self.has_room(&outcome)
+    }
+
+    /// RECLAIM_COMPLETE for the file system of the current filehandle: it is answered each time.
+    fn reclaim_one<D: Device>(&self, fs: &Fs<D>) -> Operated
+        requires up { (fs_of fs.now).is_down ≡ false }
+        requires run { (in_progress_of self.now).context.run ≡ (fs_of fs.now).run }
+        ensures gives { (now : ℕ) (table : Known) → Operates now (fs_of fs.now) (fs_of fs.now) table table (in_progress_of self.now) (operations.Argument.ReclaimComplete true) result }
+        ensures answered { IsAnswered (in_progress_of self.now) result }
+    {
+        match self.check_current(fs) {
+            Ok(()) => self.settle(Answer::ReclaimComplete, Effect::Stays),
+            Err(status) => self.refuse(Operation::ReclaimComplete, status),
         }
     }
 }

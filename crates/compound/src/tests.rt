@@ -1,4 +1,8 @@
-use crate::{Next, Running, Sequenced};
+ghost use Rattle.std.specs.Prelude.{◌≡◌, IfOk};
+ghost use Rattle.compound.specs.Views.{in_progress_of};
+
+use crate::operated::{Effect, Operated};
+use crate::{Next, Running};
 use model::acl::{Cred, Gids};
 use model::status::Status;
 use rpc::{Compound, Tag};
@@ -49,7 +53,13 @@ fn bytes_of(alloc: Global, words: &[u32]) -> Result<Vec<u8>, AllocError> {
     Ok(bytes)
 }
 
-fn running(alloc: Global, count: u32, words: &[u32]) -> Result<Running, Fail> {
+#[tactic(auto, unfolding(crate::specs::Views::in_progress_of))]
+fn running(alloc: Global, count: u32, words: &[u32]) -> Result<Running, Fail>
+    ensures { IfOk result (λ running. (in_progress_of running).answered ≡ 0) }
+{
+    if count == 0 {
+        return Err("no operation".into());
+    }
     let operations = bytes_of(alloc, words)?;
     let cred = Cred {
         uid: 7,
@@ -61,22 +71,25 @@ fn running(alloc: Global, count: u32, words: &[u32]) -> Result<Running, Fail> {
         count,
         operations: &operations,
     };
-    Ok(Running::begin(alloc, 1, 1, cred, &compound)?)
+    let running = Running::begin(alloc, 1, 1, cred, &compound)?;
+    if running.answered != 0 {
+        return Err("it has results".into());
+    }
+    Ok(running)
 }
 
 // a table with one client and its session
 fn table_of(alloc: Global) -> Result<Table, Fail> {
     let mut table = Table::new(alloc, 1);
-    let first = running(alloc, 1, &[])?;
     let hello = ExchangeIdArguments {
         verifier: [1; 8],
         owner: b"A",
         flags: 0,
         implementation: None,
     };
-    first.exchange_id(&mut table, &hello)?;
+    let known = table.exchange_id(7, &hello, &[])?;
     let session = CreateSessionArguments {
-        client: FIRST,
+        client: known.client,
         sequence: 1,
         flags: 0,
         fore: CHANNEL,
@@ -84,7 +97,7 @@ fn table_of(alloc: Global) -> Result<Table, Fail> {
         callback_program: 0,
         security: Vec::new(alloc),
     };
-    first.create_session(&mut table, &session)?;
+    table.create_session(7, &session)?;
     Ok(table)
 }
 
@@ -103,20 +116,31 @@ fn first_operations_are_tested_in_order(rt: HostRuntime) -> Result<(), Fail> {
     Ok(())
 }
 
+// the status of a result, and what else it leaves
+fn told(done: &Operated) -> (Status, Option<Effect>) {
+    match done {
+        Operated::Gives { outcome, effect } => match outcome {
+            Outcome::Done(_) => (Status::Ok, Some(*effect)),
+            Outcome::Refused { status, .. } => (*status, Some(*effect)),
+        },
+        Operated::GivesHandle(_) => (Status::Ok, Some(Effect::Stays)),
+        Operated::Replays(_) => (Status::Ok, None),
+    }
+}
+
 #[test]
 fn sequence_runs_once(rt: HostRuntime) -> Result<(), Fail> {
     let mut table = table_of(rt.alloc())?;
-    let mut begun = running(rt.alloc(), 2, &[])?;
+    let begun = running(rt.alloc(), 2, &[])?;
     assert!(rt; begun.current_node() == Err(Status::NoFileHandle));
-    match begun.sequence(&mut table, &SEQUENCE)? {
-        Sequenced::Gives(Outcome::Done(_)) => {}
+    match told(&begun.sequence(&mut table, &SEQUENCE)) {
+        (Status::Ok, Some(Effect::Joins { client, .. })) => assert_eq!(rt; client, FIRST),
         _ => return Err("it does not run".into()),
     }
-    match begun.sequence(&mut table, &SEQUENCE)? {
-        Sequenced::Gives(Outcome::Refused { status, .. }) => assert_eq!(rt; status, Status::Delay),
-        _ => return Err("it runs twice".into()),
-    }
-    let _root = begun.put_root();
-    assert!(rt; begun.current_node() == Ok(1));
+    assert!(rt;
+        told(&begun.sequence(&mut table, &SEQUENCE)) == (Status::Delay, Some(Effect::Stays))
+    );
+    table.finish(&SESSION, 0, Vec::new(rt.alloc()));
+    assert!(rt; told(&begun.sequence(&mut table, &SEQUENCE)) == (Status::Ok, None));
     Ok(())
 }

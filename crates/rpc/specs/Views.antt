@@ -18,7 +18,7 @@ use Rattle.rpc.specs.declared.reply.AuthStat.{AuthStat}
 use Rattle.rpc.specs.declared.reply.AuthStat.TheVariants as stats
 use Rattle.rpc.specs.declared.reply.Reply.{Reply}
 use Rattle.rpc.specs.declared.reply.Reply.TheVariants as replies
-use Rattle.rpc.specs.declared.request.Compound.{Compound}
+use Rattle.rpc.specs.declared.compound.Compound.{Compound}
 use Rattle.rpc.specs.declared.request.Head.{Head}
 use Rattle.rpc.specs.declared.request.Request.{Request}
 use Rattle.rpc.specs.declared.request.Request.TheVariants as requests

@@ -1,8 +1,8 @@
 //! The records of a stream, one at a time (RFC 5531, section 11).
 
-ghost use Rattle.std.specs.Prelude.{⊤, ◌≡◌, ℕ, List, [], true, Some, MatchOption, IfOk, IfErr};
+ghost use Rattle.std.specs.Prelude.{⊤, ◌≡◌, ◌↔◌, ℕ, List, [], true, Some, MatchOption, IfOk, IfErr, IsTrue};
 ghost use Rattle.model.specs.Rpc.{read_call, is_call_read};
-ghost use Rattle.model.specs.World.{arrives_at, taken_at};
+ghost use Rattle.model.specs.World.{Closed, arrives_at, taken_at};
 ghost use Rattle.rpc.specs.Assembly.{record_limits, Gathers, Holds, connection_of, Refusal};
 
 use crate::fault::RecordFault;
@@ -70,6 +70,13 @@ impl Assembler {
             State::Holds(_) => Ok(0),
             State::Refuses(fault) => Err(*fault),
         }
+    }
+
+    /// Whether a header or a whole record was refused: nothing more is taken.
+    pub fn is_refused(&self) -> bool
+        ensures { IsTrue result ↔ (connection_of self.now ≡ Closed) }
+    {
+        matches!(self.state, State::Refuses(_))
     }
 
     /// The whole record that waits, which holds a call.

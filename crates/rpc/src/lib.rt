@@ -4,6 +4,7 @@
 mod assembler;
 mod auth;
 mod call;
+mod compound;
 mod fault;
 mod fragment;
 mod join;
@@ -17,12 +18,13 @@ mod tag;
 pub use assembler::Assembler;
 pub use auth::read_auth_sys;
 pub use call::{Call, CallRead, read_call};
+pub use compound::Compound;
 pub use fault::RecordFault;
 pub use reply::{
     AuthStat, CompoundResult, Reply, write_compound_head, write_frame_header, write_reply,
     write_success,
 };
-pub use request::{Compound, Request};
+pub use request::Request;
 pub use tag::Tag;
 pub use wire::SystemCredential as AuthSys;
 

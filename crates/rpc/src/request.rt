@@ -7,6 +7,7 @@ ghost use Rattle.rpc.specs.Views.{head_view, call_view, reply_view, request_view
 
 use crate::auth::{cred_from, read_auth_sys};
 use crate::call::Call;
+use crate::compound::Compound;
 use crate::reply::{AuthStat, CompoundResult, Reply};
 use crate::tag::Tag;
 use model::acl::Cred;
@@ -36,18 +37,8 @@ const MINOR_VERSION: u32 = 1;
 pub enum Request<'a> {
     /// It is answered at once, and no operation runs.
     Answers(Reply<'a>),
-    /// A COMPOUND of at least one operation, for this caller.
+    /// A COMPOUND, for this caller.
     Runs(Cred, Compound<'a>),
-}
-
-/// A COMPOUND of minor version 1 (RFC 8881, section 16.2).
-#[derive(Clone, Copy, Debug)]
-pub struct Compound<'a> {
-    pub tag: Tag<'a>,
-    /// How many operations there are.
-    pub count: u32,
-    /// The bytes of all of them.
-    pub operations: &'a [u8],
 }
 
 /// What stands before the operations of a COMPOUND of any minor version.

@@ -177,6 +177,7 @@ fn refusals_last(rt: HostRuntime) -> Result<(), Fail> {
             let mut assembler = Assembler::new(rt.alloc());
             let met = feed_cut(&mut assembler, &bytes, size);
             assert_eq!(rt; met, Err(fault), "the bytes {words:?}");
+            assert!(rt; assembler.is_refused());
             assert_eq!(rt; assembler.feed(&[]), Err(fault));
             assert!(rt; assembler.take().is_none());
         }

@@ -1,13 +1,12 @@
 -- What SEQUENCE does, by what its slot does.
-use Rattle.std.proofs.Common.{◌≡◌, ℕ, ◌<◌, Bool, true, false, cond, ◌==◌, nat_lt, List, [], ◌∷◌, length, Option, Some, Ok, Err, refl, ap, ◌∙◌, find, ltb-true, get_or-set_same}
-use Rattle.std.specs.Option.{option_map}
+use Rattle.std.proofs.Common.{◌≡◌, ℕ, Bool, true, false, cond, ◌==◌, nat_lt, List, length, Some, Ok, Err, refl, ap}
 use Rattle.model.specs.declared.status.Status.{Status}
 use Rattle.model.specs.declared.status.Status.TheVariants as status
 use Rattle.model.specs.Operation.{SequenceArguments}
-use Rattle.model.specs.Session.{Begun, Refuses, Replays, Runs, SlotState, Free, Running, Kept, Slot, Session, begin_by, begin_slot, begin_new, is_session, slot_at, with_slot, changed_where, next_number, no_slot, is_running_state}
+use Rattle.model.specs.Session.{Begun, Refuses, Replays, Runs, SlotState, Free, Running, Kept, Slot, Session, begin_by, begin_slot, begin_new, slot_at, next_number}
 use Rattle.session.specs.declared.slot.Next.TheVariants as next
-use Rattle.session.specs.Slots.{next_of, kept_reply, running_slot}
-use Rattle.session.specs.Views.{reply_at, runs_in}
+use Rattle.session.specs.Slots.{next_of, kept_reply}
+use Rattle.session.specs.Views.{reply_at}
 
 pub refuses : (b : Begun) (reason : Status) → next_of b ≡ Err reason → b ≡ Refuses reason
 refuses (Refuses why) reason e = cc
@@ -51,37 +50,9 @@ inside_replays : (a : Bool) (b : Begun) (reply : List ℕ) → cond a b (Refuses
 inside_replays true b reply e = e
 inside_replays false b reply e = cc
 
-inside_runs : (a : Bool) (b : Begun) → cond a b (Refuses status.BadSlot) ≡ Runs → a ≡ true
-inside_runs true b e = refl
-inside_runs false b e = cc
-
 -- a retry is answered by the kept reply
 pub replays_kept : (uid count : ℕ) (arguments : SequenceArguments) (session : Session) (reply : List ℕ) → begin_by uid count arguments (Some session) ≡ Replays reply → reply_at arguments.slot session ≡ Some reply
 replays_kept uid count arguments session reply e =
     let slot : Slot = slot_at session arguments.slot in
     slot_replays uid count arguments session slot slot.state reply
     (inside_replays (nat_lt arguments.slot (length session.slots)) (begin_slot uid count arguments session slot slot.state) reply e)
-
-pub runs_within : (uid count : ℕ) (arguments : SequenceArguments) (session : Session) → begin_by uid count arguments (Some session) ≡ Runs → arguments.slot < length session.slots
-runs_within uid count arguments session e =
-    let slot : Slot = slot_at session arguments.slot in
-    ltb-true arguments.slot (length session.slots) (inside_runs (nat_lt arguments.slot (length session.slots)) (begin_slot uid count arguments session slot slot.state) e)
-
--- A change that leaves the test as it is
-
-find_changed_cons : {A : Type 0} (test : A → Bool) (change : A → A) (b : Bool) (x : A) (rest rest' : Option A) → test x ≡ b → test (change x) ≡ test x → rest ≡ option_map change rest'
-    → cond (test (cond b (change x) x)) (Some (cond b (change x) x)) rest ≡ option_map change (cond b (Some x) rest')
-find_changed_cons test change true x rest rest' e same later = ap (λ t. cond t (Some (change x)) rest) (same ∙ e)
-find_changed_cons test change false x rest rest' e same later = ap (λ t. cond t (Some x) rest) e ∙ later
-
-find_changed : {A : Type 0} (test : A → Bool) (change : A → A) → ((x : A) → test (change x) ≡ test x) → (xs : List A) → find test (changed_where test change xs) ≡ option_map change (find test xs)
-find_changed test change same [] = refl
-find_changed test change same (x ∷ xs) =
-    find_changed_cons test change (test x) x (find test (changed_where test change xs)) (find test xs) refl (same x) (find_changed test change same xs)
-
--- the slot that was started runs
-pub started_runs : (id : List ℕ) (place number uid : ℕ) (sessions : List Session) (session : Session) → find (is_session id) sessions ≡ Some session → place < length session.slots
-    → runs_in place (find (is_session id) (changed_where (is_session id) (with_slot place (running_slot number uid)) sessions)) ≡ true
-started_runs id place number uid sessions session e within =
-    ap (runs_in place) (find_changed (is_session id) (with_slot place (running_slot number uid)) (λ session. refl) sessions ∙ ap (option_map (with_slot place (running_slot number uid))) e)
-    ∙ ap (λ (slot : Slot). is_running_state slot.state) (get_or-set_same session.slots place (running_slot number uid) no_slot within)

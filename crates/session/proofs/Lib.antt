@@ -7,4 +7,3 @@ pub mod Kept
 pub mod Lists
 pub mod Opening
 pub mod Serials
-pub mod States

@@ -1,8 +1,8 @@
 -- Tests, filters and changes of a list that is seen through a view.
-use Rattle.std.proofs.Common.{◌≡◌, ℕ, ◌<◌, ◌≤◌, inl, inr, zero, suc, Bool, true, false, cond, ◌&&◌, ◌||◌, List, [], ◌∷◌, ◌++◌, map, filter, length, get_or, set, Option, None, Some, refl, sym, ap, ◌∙◌, arith, find, nat_lt, Result, Ok, Err}
-use Rattle.std.specs.Result.{is_ok, is_err, OnOk, OnErr}
+use Rattle.std.proofs.Common.{◌≡◌, ℕ, ◌<◌, ◌≤◌, inl, inr, zero, suc, Bool, true, false, cond, ◌&&◌, ◌||◌, List, [], ◌∷◌, ◌++◌, map, filter, length, get_or, set, None, Some, refl, sym, ap, ◌∙◌, arith, nat_lt, Result, Ok, Err}
+use Rattle.std.specs.Result.{is_ok, is_err}
 use Rattle.std.specs.List.{list_any, position, position_or_len, AllPairs}
-use Rattle.std.proofs.lemmas.List.{length-map, length-set, map-set, get_or-map, get_or-set_same, get_or-set_other, set-get_or, ext_get_or}
+use Rattle.std.proofs.lemmas.List.{length-map, length-set, map-set, get_or-map, get_or-set_same, get_or-set_other, ext_get_or}
 use Rattle.std.proofs.lemmas.List.Quantifiers.{position-Some}
 use Rattle.std.proofs.lemmas.List.Sums.{fails_before_first}
 use Rattle.std.proofs.lemmas.Bool.{cases_eq, cases_lt, ltb-false}
@@ -49,34 +49,13 @@ pub any_filtered : {A B : Type 0} (g : B → Bool) (f : A → B) (p : A → Bool
 any_filtered g f p [] = refl
 any_filtered g f p (x ∷ xs) = any_filtered_cons g f (p x) x (filter p xs) (list_any (λ y. p y && g (f y)) xs) (any_filtered g f p xs)
 
--- The first that passes
-
-found_cons : {A B : Type 0} (test : B → Bool) (f : A → B) (b : Bool) (x : A) (xs : List A) (z : B) → test (f x) ≡ b → b ≡ false → find test (map f xs) ≡ Some z → cond b (Some (f x)) (find test (map f xs)) ≡ Some z
-found_cons test f true x xs z e fails later = cc
-found_cons test f false x xs z e fails later = later
-
-pub found_first : {A B : Type 0} (test : B → Bool) (f : A → B) (xs : List A) (i : ℕ) (d : A) → i < length xs → test (f (get_or xs i d)) ≡ true
-    → ((k : ℕ) → k < i → test (f (get_or xs k d)) ≡ false) → find test (map f xs) ≡ Some (f (get_or xs i d))
-found_first test f [] i d within here before = absurd (omega arith)
-found_first test f (x ∷ xs) zero d within here before = ap (λ b. cond b (Some (f x)) (find test (map f xs))) here
-found_first test f (x ∷ xs) (suc i) d within here before =
-    found_cons test f (test (f x)) x xs _ refl (before 0 (omega arith))
-    (found_first test f xs i d (omega arith) here (λ k h. before (suc k) (omega arith)))
-
-none_cons : {B : Type 0} (b : Bool) (z : B) (o : Option B) → b ≡ false → o ≡ None → cond b (Some z) o ≡ None
-none_cons true z o fails later = cc
-none_cons false z o fails later = later
-
-pub found_none : {A B : Type 0} (test : B → Bool) (f : A → B) (xs : List A) → ((k : ℕ) (d : A) → k < length xs → test (f (get_or xs k d)) ≡ false) → find test (map f xs) ≡ None
-found_none test f [] fails = refl
-found_none test f (x ∷ xs) fails =
-    none_cons (test (f x)) (f x) (find test (map f xs)) (fails 0 x (omega arith)) (found_none test f xs (λ k d h. fails (suc k) d (omega arith)))
+-- Where no position is found
 
 past_from : (n m : ℕ) (b : Bool) → nat_lt n m ≡ b → cond b (Some n) None ≡ None → b ≡ false
 past_from n m true e h = cc
 past_from n m false e h = refl
 
--- where no position is found, nothing passes
+-- nothing passes
 pub position-None : {A : Type 0} (p : A → Bool) (xs : List A) → position p xs ≡ None → (k : ℕ) (d : A) → k < length xs → p (get_or xs k d) ≡ false
 position-None p xs e k d h =
     let past : length xs ≤ position_or_len p xs = ltb-false (position_or_len p xs) (length xs) (past_from _ _ (nat_lt (position_or_len p xs) (length xs)) refl e) in
@@ -157,17 +136,6 @@ changed_at f key test change xs i x y rises one e read made =
 pub untouched : {A B : Type 0} (f : A → B) (test : B → Bool) (change : B → B) (xs : List A) → position (λ z. test (f z)) xs ≡ None → changed_where test change (map f xs) ≡ map f xs
 untouched f test change xs e = changed_none f test change xs (position-None (λ z. test (f z)) xs e)
 
-pub found_at : {A B : Type 0} (f : A → B) (test : B → Bool) (xs : List A) (i : ℕ) (x : A) → position (λ z. test (f z)) xs ≡ Some i → x ≡ get_or xs i x → find test (map f xs) ≡ Some (f x)
-found_at f test xs i x e read =
-    let at = position-Some (λ z. test (f z)) xs i x e in
-    found_first test f xs i x at.0 at.1 at.2 ∙ ap (λ z. Some (f z)) (sym read)
-
-pub found_nowhere : {A B : Type 0} (f : A → B) (test : B → Bool) (xs : List A) → position (λ z. test (f z)) xs ≡ None → find test (map f xs) ≡ None
-found_nowhere f test xs e = found_none test f xs (position-None (λ z. test (f z)) xs e)
-
-pub within_at : {A : Type 0} (p : A → Bool) (xs : List A) (i : ℕ) (d : A) → position p xs ≡ Some i → i < length xs
-within_at p xs i d e = (position-Some p xs i d e).0
-
 -- what a filter keeps, seen
 pub kept_view : {A B : Type 0} (p : B → Bool) (f : A → B) (xs ys : List A) → ys ≡ filter (λ x. p (f x)) xs → map f ys ≡ filter p (map f xs)
 kept_view p f xs ys e = ap (map f) e ∙ sym (filter-map p f xs)
@@ -206,16 +174,3 @@ any_one q (x ∷ xs) (suc i) d within others =
 pub pushed : {A R E : Type 0} (r : Result R E) (xs ys : List A) (y : A) → ys ≡ cond (is_ok r) (xs ++ y ∷ []) xs → is_err r ≡ false → ys ≡ xs ++ y ∷ []
 pushed (Ok x) xs ys y e ok = e
 pushed (Err x) xs ys y e ok = cc
-
--- an element seen as before
-pub unchanged_set : {A B : Type 0} (f : A → B) (xs : List A) (i : ℕ) (x y : A) → i < length xs → x ≡ get_or xs i x → f y ≡ f x → map f (set xs i y) ≡ map f xs
-unchanged_set f xs i x y within read same =
-    map-set f xs i y ∙ ap (λ z. set (map f xs) i z) (same ∙ ap f read ∙ sym (get_or-map f xs i x (f x) within)) ∙ set-get_or (map f xs) i (f x)
-
-pub on_ok : {R E : Type 0} {P Q : Type 0} (r : Result R E) → (P → Q) → OnOk r P → OnOk r Q
-on_ok (Ok x) step p = step p
-on_ok (Err x) step p = tt
-
-pub on_err : {R E : Type 0} {P Q : Type 0} (r : Result R E) → (P → Q) → OnErr r P → OnErr r Q
-on_err (Ok x) step p = tt
-on_err (Err x) step p = step p

@@ -1,19 +1,25 @@
 -- What the calls on a table answer, and the table that they leave.
-use Rattle.std.specs.Prelude.{◌≡◌, ℕ, ◌+◌, true, List, Some, Result, Ok, Err}
+use Rattle.std.specs.Prelude.{◌≡◌, ℕ, ◌+◌, List, Some, Result, Ok, Err}
 use Rattle.std.specs.List.{find}
 use Rattle.model.specs.declared.status.Status.{Status}
 use Rattle.model.specs.Answer as answer
 use Rattle.model.specs.Operation.{SequenceArguments}
 use Rattle.model.specs.Session as model
 use Rattle.model.specs.Session.{is_session, begin, started, sequence_answer}
+use Rattle.wire.specs.Short.{IsRefusal}
 use Rattle.wire.specs.AnswerViews.{exchange_id_view, create_session_view, sequence_view}
 use Rattle.wire.specs.declared.answers.ExchangeIdAnswer.{ExchangeIdAnswer}
-use Rattle.session.specs.Views.{reply_kept, slot_runs, slot_state}
+use Rattle.session.specs.Views.{reply_kept}
 use Rattle.session.specs.declared.fault.Refusal.{Refusal}
 use Rattle.session.specs.declared.fault.Refusal.TheVariants as refusal
 use Rattle.session.specs.declared.create.CreatedSession.{CreatedSession}
 use Rattle.session.specs.declared.sequence.Begun.{Begun}
 use Rattle.session.specs.declared.sequence.Begun.TheVariants as begun
+
+-- a status that refuses, or no memory
+abbrev pub Refuses : Refusal → Type 0
+Refuses (refusal.Status reason) = IsRefusal reason
+Refuses refusal.Memory = Unit {0}
 
 -- EXCHANGE_ID answers what is wanted, and leaves that table. For want of memory, which only a new record has, the table stays.
 abbrev pub Exchanged : Result answer.ExchangeIdAnswer Status × model.Table → model.Table → model.Table → Result ExchangeIdAnswer Refusal → Type 0
@@ -32,14 +38,11 @@ Created wanted old new (Err refusal.Memory) = (wanted.table.session_serial ≡ o
 abbrev pub IsBegun : SequenceArguments → model.Session → ℕ → answer.SequenceAnswer → Type 0
 IsBegun arguments session client answered = (client ≡ session.client) × (answered ≡ sequence_answer arguments session)
 
--- SEQUENCE runs, replays the kept reply or refuses, and only a slot that runs changes. For want of memory, which only a slot
--- has that would run its first request, the table stays.
-abbrev pub Begins : ℕ → ℕ → SequenceArguments → model.Table → model.Table → Result Begun Refusal → Type 0
+-- SEQUENCE runs, replays the kept reply or refuses, and only a slot that runs changes.
+abbrev pub Begins : ℕ → ℕ → SequenceArguments → model.Table → model.Table → Result Begun Status → Type 0
 Begins uid count arguments old new (Ok begun.Replays) =
     (reply : List ℕ) × (begin uid count arguments old ≡ model.Replays reply) × (reply_kept arguments.session arguments.slot old ≡ Some reply) × (new ≡ old)
 Begins uid count arguments old new (Ok (begun.Runs client answered)) =
     (session : model.Session) × (find (is_session arguments.session) old.sessions ≡ Some session) × IsBegun arguments session client (sequence_view answered)
-    × (begin uid count arguments old ≡ model.Runs) × (new ≡ started uid arguments old) × (slot_runs arguments.session arguments.slot new ≡ true)
-Begins uid count arguments old new (Err (refusal.Status reason)) = (begin uid count arguments old ≡ model.Refuses reason) × (new ≡ old)
-Begins uid count arguments old new (Err refusal.Memory) =
-    (begin uid count arguments old ≡ model.Runs) × (slot_state arguments.session arguments.slot old ≡ model.Free) × (new ≡ old)
+    × (begin uid count arguments old ≡ model.Runs) × (new ≡ started uid arguments old)
+Begins uid count arguments old new (Err reason) = (begin uid count arguments old ≡ model.Refuses reason) × (new ≡ old)

@@ -10,8 +10,8 @@ use Rattle.session.specs.declared.slot.Next.TheVariants as next
 
 abbrev pub state_of : SlotState → model.SlotState
 state_of slot_state.Free = model.Free
-state_of (slot_state.Running room) = model.Running
-state_of (slot_state.Kept reply) = model.Kept reply
+state_of slot_state.Running = model.Running
+state_of (slot_state.Kept reply) = model.Kept reply.bytes.items
 
 abbrev pub slot_of : Slot → model.Slot
 slot_of slot = record { last = slot.last; uid = slot.uid; state = state_of slot.state }
@@ -26,14 +26,9 @@ kept_reply model.Free = None
 kept_reply model.Running = None
 kept_reply (model.Kept reply) = Some reply
 
--- The slot once the reply to what ran is kept. One that runs nothing stays.
-abbrev pub with_reply : List ℕ → model.Slot → model.SlotState → model.Slot
-with_reply reply slot model.Free = slot
-with_reply reply slot model.Running = record slot { state = model.Kept reply }
-with_reply reply slot (model.Kept before) = slot
-
+-- the slot once it keeps the reply
 abbrev pub kept_slot : List ℕ → model.Slot → model.Slot
-kept_slot reply slot = with_reply reply slot slot.state
+kept_slot reply slot = record slot { state = model.Kept reply }
 
 -- what a slot does with a request, without the reply
 abbrev pub next_of : model.Begun → Result Next Status

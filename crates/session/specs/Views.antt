@@ -3,9 +3,9 @@ use Rattle.std.specs.Prelude.{ℕ, Bool, List, map, Option, None, Some, ◌==◌
 use Rattle.std.specs.List.{find, list_any}
 use Rattle.std.specs.Option.{option_map}
 use Rattle.model.specs.Session as model
-use Rattle.model.specs.Session.{is_session, slot_at, is_running_state}
+use Rattle.model.specs.Session.{is_session, slot_at}
 use Rattle.wire.specs.AnswerViews.{create_session_view}
-use Rattle.session.specs.Slots.{slot_of, kept_slot, kept_reply}
+use Rattle.session.specs.Slots.{slot_of, kept_reply}
 use Rattle.session.specs.declared.client.Client.{Client}
 use Rattle.session.specs.declared.clients.Clients.{Clients}
 use Rattle.session.specs.declared.session.Session.{Session}
@@ -56,17 +56,10 @@ table_of table = table_by (roll_of table.clients) (book_of table.sessions)
 abbrev pub among : List ℕ → ℕ → Bool
 among numbers number = list_any (λ known. known == number) numbers
 
--- the session once the reply to what the slot ran is kept
-abbrev pub kept_session : ℕ → List ℕ → model.Session → model.Session
-kept_session place reply session = model.with_slot place (kept_slot reply (slot_at session place)) session
-
 -- the state of the slot; none of no session is free
 abbrev pub state_in : ℕ → Option model.Session → model.SlotState
 state_in place None = model.Free
 state_in place (Some session) = (slot_at session place).state
-
-unfoldable pub slot_state : List ℕ → ℕ → model.Table → model.SlotState
-slot_state id place table = state_in place (find (is_session id) table.sessions)
 
 -- the reply that the slot keeps
 abbrev pub reply_at : ℕ → model.Session → Option (List ℕ)
@@ -77,13 +70,6 @@ reply_in place found = kept_reply (state_in place found)
 
 unfoldable pub reply_kept : List ℕ → ℕ → model.Table → Option (List ℕ)
 reply_kept id place table = reply_in place (find (is_session id) table.sessions)
-
--- whether the slot runs a request
-abbrev pub runs_in : ℕ → Option model.Session → Bool
-runs_in place found = is_running_state (state_in place found)
-
-unfoldable pub slot_runs : List ℕ → ℕ → model.Table → Bool
-slot_runs id place table = runs_in place (find (is_session id) table.sessions)
 
 -- the table that a new record is made beside, where the record `dropped` goes
 abbrev pub cleared_of : Option ℕ → model.Table → model.Table

@@ -1,13 +1,14 @@
 //! CREATE_SESSION (RFC 8881, section 18.36).
 
-ghost use Rattle.std.specs.Prelude.{◌≡◌, ◌&&◌, ◌+◌, ◌<◌, ◌^◌, None};
+ghost use Rattle.std.specs.Prelude.{◌≡◌, ◌&&◌, ◌+◌, ◌<◌, ◌^◌, None, IfErr};
 ghost use Rattle.std.specs.List.{list_any};
 ghost use Rattle.std.specs.Result.{result_err};
 ghost use Rattle.model.specs.Refusal.{first_refusal};
 ghost use Rattle.model.specs.Session.{Client as Known, create_session, create_unless, replaced_by, is_of_clients, is_running, is_full_of_sessions, fore_channel, is_too_small};
 ghost use Rattle.wire.specs.ArgumentViews.{create_session_view};
 ghost use Rattle.wire.specs.SmallViews.{channel_view};
-ghost use Rattle.session.specs.Calls.{Created};
+ghost use Rattle.wire.specs.Short.{IsRefusal};
+ghost use Rattle.session.specs.Calls.{Created, Refuses};
 ghost use Rattle.session.specs.Limits.{served};
 ghost use Rattle.session.specs.Rooms.{argument_refusals, room_refusals, ended_by};
 ghost use Rattle.session.specs.Views.{table_of, client_of};
@@ -43,7 +44,8 @@ impl Table {
         uid: u32,
         arguments: &CreateSessionArguments<'_>,
     ) -> Result<CreatedSession, Refusal>
-        ensures { Created (create_session served uid (create_session_view arguments.now) (table_of self.old)) (table_of self.old) (table_of self.new) result }
+        ensures answered { Created (create_session served uid (create_session_view arguments.now) (table_of self.old)) (table_of self.old) (table_of self.new) result }
+        ensures refused { IfErr result Refuses }
     {
         let Some(client) = self.clients.find(arguments.client) else {
             return Err(Refusal::Status(Status::StaleClientId));
@@ -63,7 +65,8 @@ impl Table {
 
     // DELAY where a session that would end runs a request, and where there is no place or no serial for one more.
     fn check_room(&self, client: &Client) -> Result<(), Status>
-        ensures { result_err result ≡ first_refusal (room_refusals (client_of client.now) (table_of self.now)) }
+        ensures first { result_err result ≡ first_refusal (room_refusals (client_of client.now) (table_of self.now)) }
+        ensures refused { IfErr result IsRefusal }
     {
         if self.ends_a_running_session(client) || self.is_full_beside(client) {
             return Err(Status::Delay);
@@ -99,8 +102,9 @@ impl Table {
         ended: Vec<u64>,
     ) -> Result<CreatedSession, Refusal>
         requires { self.old.sessions.serial + 1 < 2 ^ 64 }
-        ensures { (client : Known) → client.number ≡ arguments.now.client → ended.items ≡ ended_by client (table_of self.old).clients
+        ensures answered { (client : Known) → client.number ≡ arguments.now.client → ended.items ≡ ended_by client (table_of self.old).clients
             → Created (create_unless served (create_session_view arguments.now) client (table_of self.old) None) (table_of self.old) (table_of self.new) result }
+        ensures refused { IfErr result Refuses }
     {
         let number = arguments.client;
         let serial = self.sessions.serial + 1;
@@ -124,7 +128,8 @@ impl Table {
 
 // The tests of the arguments alone, where this is the record's next number.
 fn check_arguments(next: u32, arguments: &CreateSessionArguments<'_>) -> Result<(), Status>
-    ensures { result_err result ≡ first_refusal (argument_refusals next (create_session_view arguments.now)) }
+    ensures first { result_err result ≡ first_refusal (argument_refusals next (create_session_view arguments.now)) }
+    ensures refused { IfErr result IsRefusal }
 {
     if arguments.sequence != next {
         return Err(Status::SeqMisordered);

@@ -1,8 +1,9 @@
 //! DESTROY_SESSION, DESTROY_CLIENTID and RECLAIM_COMPLETE (RFC 8881, sections 18.37, 18.50 and 18.51).
 
-ghost use Rattle.std.specs.Prelude.{◌≡◌};
+ghost use Rattle.std.specs.Prelude.{◌≡◌, IfErr};
 ghost use Rattle.std.specs.Result.{result_err};
 ghost use Rattle.model.specs.Session.{destroy_session, destroy_client_id, reclaim_complete};
+ghost use Rattle.wire.specs.Short.{IsRefusal};
 ghost use Rattle.session.specs.Views.{table_of, among};
 
 use crate::table::Table;
@@ -15,7 +16,8 @@ impl Table {
     /// # Errors
     /// BADSESSION for an unknown session; DELAY where a slot of it runs.
     pub fn destroy_session(&mut self, id: &[u8; 16]) -> Result<(), Status>
-        ensures { destroy_session id.now (table_of self.old) ≡ (result_err result, table_of self.new) }
+        ensures answered { destroy_session id.now (table_of self.old) ≡ (result_err result, table_of self.new) }
+        ensures refused { IfErr result IsRefusal }
     {
         let Some(session) = self.sessions.find(id) else {
             return Err(Status::BadSession);
@@ -32,7 +34,8 @@ impl Table {
     /// # Errors
     /// STALE_CLIENTID for an unknown client; CLIENTID_BUSY where it has a session or an open.
     pub fn destroy_clientid(&mut self, number: u64, with_opens: &[u64]) -> Result<(), Status>
-        ensures { destroy_client_id (among with_opens.now) number (table_of self.old) ≡ (result_err result, table_of self.new) }
+        ensures answered { destroy_client_id (among with_opens.now) number (table_of self.old) ≡ (result_err result, table_of self.new) }
+        ensures refused { IfErr result IsRefusal }
     {
         if self.clients.find(number).is_none() {
             return Err(Status::StaleClientId);
@@ -44,12 +47,13 @@ impl Table {
         Ok(())
     }
 
-    /// RECLAIM_COMPLETE for all file systems, by the client of the session. It takes no memory.
+    /// Why RECLAIM_COMPLETE would be refused.
     ///
     /// # Errors
     /// STALE_CLIENTID for an unknown client; COMPLETE_ALREADY the second time.
-    pub fn reclaim_complete(&mut self, number: u64) -> Result<(), Status>
-        ensures { reclaim_complete number (table_of self.old) ≡ (result_err result, table_of self.new) }
+    pub fn check_reclaim(&self, number: u64) -> Result<(), Status>
+        ensures answered { result_err result ≡ (reclaim_complete number (table_of self.now)).0 }
+        ensures refused { IfErr result IsRefusal }
     {
         let Some(client) = self.clients.find(number) else {
             return Err(Status::StaleClientId);
@@ -57,6 +61,18 @@ impl Table {
         if client.has_reclaimed {
             return Err(Status::CompleteAlready);
         }
+        Ok(())
+    }
+
+    /// RECLAIM_COMPLETE for all file systems, by the client of the session. It takes no memory.
+    ///
+    /// # Errors
+    /// As `check_reclaim` has them.
+    pub fn reclaim_complete(&mut self, number: u64) -> Result<(), Status>
+        ensures answered { reclaim_complete number (table_of self.old) ≡ (result_err result, table_of self.new) }
+        ensures refused { IfErr result IsRefusal }
+    {
+        self.check_reclaim(number)?;
         self.clients.reclaim(number);
         Ok(())
     }

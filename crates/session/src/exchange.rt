@@ -1,11 +1,12 @@
 //! EXCHANGE_ID (RFC 8881, section 18.35).
 
-ghost use Rattle.std.specs.Prelude.{◌≡◌};
-ghost use Rattle.std.specs.Prelude.{MatchOption};
+ghost use Rattle.std.specs.Prelude.{◌≡◌, IfOk, IfErr};
+ghost use Rattle.model.specs.Answer.{Answer};
 ghost use Rattle.model.specs.Session.{exchange_id, exchange_answer, new_record, without_client};
 ghost use Rattle.wire.specs.AnswerViews.{exchange_id_view as answer_view};
 ghost use Rattle.wire.specs.ArgumentViews.{exchange_id_view};
-ghost use Rattle.session.specs.Calls.{Exchanged};
+ghost use Rattle.wire.specs.Short.{IsShortAnswer};
+ghost use Rattle.session.specs.Calls.{Exchanged, Refuses};
 ghost use Rattle.session.specs.Limits.{served};
 ghost use Rattle.session.specs.Views.{table_of, among, cleared_of};
 
@@ -36,7 +37,9 @@ impl Table {
         arguments: &ExchangeIdArguments<'_>,
         with_opens: &[u64],
     ) -> Result<ExchangeIdAnswer<'static>, Refusal>
-        ensures { Exchanged (exchange_id served (among with_opens.now) uid (exchange_id_view arguments.now) (table_of self.old)) (table_of self.old) (table_of self.new) result }
+        ensures answered { Exchanged (exchange_id served (among with_opens.now) uid (exchange_id_view arguments.now) (table_of self.old)) (table_of self.old) (table_of self.new) result }
+        ensures short { IfOk result (λ known. IsShortAnswer (Answer.ExchangeId (answer_view known))) }
+        ensures refused { IfErr result Refuses }
     {
         if arguments.flags | EXCHANGE_FLAGS != EXCHANGE_FLAGS {
             return Err(Refusal::Status(Status::Inval));
@@ -65,7 +68,9 @@ impl Table {
         arguments: &ExchangeIdArguments<'_>,
         dropped: Option<u64>,
     ) -> Result<ExchangeIdAnswer<'static>, Refusal>
-        ensures { Exchanged (new_record served uid (exchange_id_view arguments.now) (table_of self.old) (cleared_of dropped (table_of self.old))) (table_of self.old) (table_of self.new) result }
+        ensures answered { Exchanged (new_record served uid (exchange_id_view arguments.now) (table_of self.old) (cleared_of dropped (table_of self.old))) (table_of self.old) (table_of self.new) result }
+        ensures short { IfOk result (λ known. IsShortAnswer (Answer.ExchangeId (answer_view known))) }
+        ensures refused { IfErr result Refuses }
     {
         let number = self.clients.add(self.alloc, uid, arguments, dropped)?;
         Ok(answer(number, 1, USE_NON_PNFS))
@@ -73,7 +78,8 @@ impl Table {
 }
 
 fn answer(client: u64, sequence: u32, flags: u32) -> ExchangeIdAnswer<'static>
-    ensures { answer_view result ≡ exchange_answer client sequence flags }
+    ensures answered { answer_view result ≡ exchange_answer client sequence flags }
+    ensures short { IsShortAnswer (Answer.ExchangeId (answer_view result)) }
 {
     ExchangeIdAnswer {
         client,

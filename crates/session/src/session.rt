@@ -30,13 +30,14 @@ pub fn session_id(client: u64, serial: u64) -> [u8; 16]
 }
 
 impl Session {
-    ghost use Rattle.std.specs.Prelude.{◌≡◌, ◌≤◌, ◌-◌, Some, IfOk, OnOk, OnErr, length, map, replicate};
+    ghost use Rattle.std.specs.Prelude.{◌≡◌, ◌≤◌, ◌-◌, Some, IfOk, IfSome, IfErr, length, map, replicate};
     ghost use Rattle.std.specs.Option.{option_map};
     ghost use Rattle.std.specs.Vec.{vec_len};
-    ghost use Rattle.model.specs.Session.{is_session, is_of_clients, is_running, no_slot, begin_by, begin_new, with_slot, slot_at, Free};
+    ghost use Rattle.model.specs.Session.{is_session, is_of_clients, is_running, no_slot, begin_by, begin_new, with_slot, finished_slot};
     ghost use Rattle.wire.specs.ArgumentViews.{sequence_view};
+    ghost use Rattle.wire.specs.Short.{IsRefusal};
     ghost use Rattle.session.specs.Slots.{slot_of, running_slot, next_of};
-    ghost use Rattle.session.specs.Views.{session_of, kept_session, reply_at};
+    ghost use Rattle.session.specs.Views.{session_of, reply_at};
 
     /// A session of which no slot ran yet.
     pub fn new(
@@ -85,15 +86,16 @@ impl Session {
 
     /// What SEQUENCE does on it (RFC 8881, section 18.46).
     pub fn next(&self, uid: u32, count: u32, arguments: &SequenceArguments) -> Result<Next, Status>
-        ensures { result ≡ next_of (begin_by uid count (sequence_view arguments.now) (Some (session_of self.now))) }
+        ensures next { result ≡ next_of (begin_by uid count (sequence_view arguments.now) (Some (session_of self.now))) }
+        ensures refused { IfErr result IsRefusal }
     {
         let Some(slot) = self.slots.get(arguments.slot as usize) else {
             return Err(Status::BadSlot);
         };
         let is_last = arguments.sequence == slot.last;
         match &slot.state {
-            SlotState::Running(_) if is_last => Err(Status::Delay),
-            SlotState::Running(_) => Err(Status::SeqMisordered),
+            SlotState::Running if is_last => Err(Status::Delay),
+            SlotState::Running => Err(Status::SeqMisordered),
             SlotState::Kept(_) if is_last => {
                 if uid == slot.uid {
                     Ok(Next::Replays)
@@ -112,7 +114,8 @@ impl Session {
         count: u32,
         arguments: &SequenceArguments,
     ) -> Result<Next, Status>
-        ensures { result ≡ next_of (begin_new count (sequence_view arguments.now) (session_of self.now) (slot_of slot.now)) }
+        ensures next { result ≡ next_of (begin_new count (sequence_view arguments.now) (session_of self.now) (slot_of slot.now)) }
+        ensures refused { IfErr result IsRefusal }
     {
         if arguments.sequence != slot.last.wrapping_add(1) {
             return Err(Status::SeqMisordered);
@@ -123,28 +126,20 @@ impl Session {
         Ok(Next::Runs)
     }
 
-    /// The slot runs the request. Without memory for its reply the session stays.
-    pub fn start(
-        &mut self,
-        alloc: Global,
-        uid: u32,
-        arguments: &SequenceArguments,
-    ) -> Result<(), AllocError>
-        ensures ok { OnOk result (session_of self.new ≡ with_slot arguments.now.slot (running_slot arguments.now.sequence uid) (session_of self.old)) }
-        ensures err { OnErr result (session_of self.new ≡ session_of self.old) }
-        ensures free { OnErr result ((slot_at (session_of self.old) arguments.now.slot).state ≡ Free) }
+    /// The slot runs the request.
+    pub fn start(&mut self, uid: u32, arguments: &SequenceArguments)
+        ensures { session_of self.new ≡ with_slot arguments.now.slot (running_slot arguments.now.sequence uid) (session_of self.old) }
     {
         let place = arguments.slot as usize;
         if place < self.slots.len() {
-            self.slots[place].start(alloc, arguments.sequence, uid)?;
+            self.slots[place].start(arguments.sequence, uid);
         }
-        Ok(())
     }
 
-    /// The slot keeps the reply to what it ran.
-    pub fn keep(&mut self, slot: u32, reply: &[u8])
-        requires { length reply.now ≤ 16384 }
-        ensures { session_of self.new ≡ kept_session slot reply.now (session_of self.old) }
+    /// The slot keeps the reply to what it ran. Where there is no such slot the session stays.
+    pub fn keep(&mut self, slot: u32, reply: Vec<u8>)
+        requires small { length reply.items ≤ 16384 }
+        ensures { session_of self.new ≡ finished_slot slot reply.items (session_of self.old) }
     {
         let place = slot as usize;
         if place < self.slots.len() {
@@ -154,7 +149,8 @@ impl Session {
 
     /// The reply that the slot keeps.
     pub fn kept(&self, slot: u32) -> Option<&[u8]>
-        ensures { option_map (λ bytes. bytes.now) result ≡ reply_at slot (session_of self.now) }
+        ensures short { IfSome result (λ bytes. length bytes.now ≤ 16384) }
+        ensures kept { option_map (λ bytes. bytes.now) result ≡ reply_at slot (session_of self.now) }
     {
         self.slots.get(slot as usize)?.kept()
     }

@@ -18,12 +18,12 @@ pub struct Sessions {
 }
 
 impl Sessions {
-    ghost use Rattle.std.specs.Prelude.{◌≡◌, ◌≤◌, ◌<◌, ◌++◌, [], ◌∷◌, true, false, length, OnOk, OnErr};
+    ghost use Rattle.std.specs.Prelude.{◌≡◌, ◌≤◌, ◌<◌, ◌++◌, [], ◌∷◌, length, OnOk, OnErr};
     ghost use Rattle.std.specs.List.{list_any, find, position};
     ghost use Rattle.std.specs.Option.{option_map, option_copied};
-    ghost use Rattle.model.specs.Session.{is_session, is_of_client, is_of_clients, without, changed_where, with_slot, finished_slot, Free};
+    ghost use Rattle.model.specs.Session.{is_session, is_of_client, is_of_clients, without, changed_where, with_slot, finished_slot};
     ghost use Rattle.session.specs.Slots.{running_slot};
-    ghost use Rattle.session.specs.Views.{session_of, sessions_of, book_of, runs_in, state_in};
+    ghost use Rattle.session.specs.Views.{session_of, sessions_of, book_of};
 
     /// No session.
     pub fn new(alloc: Global) -> Sessions
@@ -60,29 +60,19 @@ impl Sessions {
         self.list.iter().any(|session| session.client == number)
     }
 
-    /// The slot of the session runs the request. Without memory for its reply nothing changes.
-    pub fn start(
-        &mut self,
-        alloc: Global,
-        uid: u32,
-        arguments: &SequenceArguments,
-    ) -> Result<(), AllocError>
-        ensures ok { OnOk result (book_of self.new ≡ (self.old.serial, changed_where (is_session arguments.now.session) (with_slot arguments.now.slot (running_slot arguments.now.sequence uid)) (sessions_of self.old))) }
-        ensures err { OnErr result (book_of self.new ≡ book_of self.old) }
-        ensures free { OnErr result (state_in arguments.now.slot (find (is_session arguments.now.session) (sessions_of self.old)) ≡ Free) }
+    /// The slot of the session runs the request.
+    pub fn start(&mut self, uid: u32, arguments: &SequenceArguments)
+        ensures { book_of self.new ≡ (self.old.serial, changed_where (is_session arguments.now.session) (with_slot arguments.now.slot (running_slot arguments.now.sequence uid)) (sessions_of self.old)) }
     {
-        match self.position(&arguments.session) {
-            Some(at) => self.list[at].start(alloc, uid, arguments),
-            None => Ok(()),
+        if let Some(at) = self.position(&arguments.session) {
+            self.list[at].start(uid, arguments);
         }
     }
 
     /// The slot of the session keeps the reply to what it ran.
-    pub fn keep(&mut self, id: &[u8; 16], slot: u32, reply: &[u8])
-        requires { length reply.now ≤ 16384 }
-        ensures runs { runs_in slot (find (is_session id.now) (sessions_of self.old)) ≡ true
-            → book_of self.new ≡ (self.old.serial, changed_where (is_session id.now) (finished_slot slot reply.now) (sessions_of self.old)) }
-        ensures stays { runs_in slot (find (is_session id.now) (sessions_of self.old)) ≡ false → book_of self.new ≡ book_of self.old }
+    pub fn keep(&mut self, id: &[u8; 16], slot: u32, reply: Vec<u8>)
+        requires small { length reply.items ≤ 16384 }
+        ensures { book_of self.new ≡ (self.old.serial, changed_where (is_session id.now) (finished_slot slot reply.items) (sessions_of self.old)) }
     {
         if let Some(at) = self.position(id) {
             self.list[at].keep(slot, reply);

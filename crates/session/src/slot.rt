@@ -4,17 +4,15 @@ ghost use Rattle.std.specs.Prelude.{◌≡◌, IfOk, map, replicate};
 ghost use Rattle.model.specs.Session.{no_slot};
 ghost use Rattle.session.specs.Slots.{slot_of};
 
-use crate::reply::Reply;
+use crate::held::KeptReply;
 use std::alloc::{AllocError, Global};
-use std::mem;
 
 /// What a slot holds: nothing yet, a request that runs, or the COMPOUND result of the last one.
 #[derive(Drop)]
 pub enum SlotState {
     Free,
-    /// With the room where its result will be kept.
-    Running(Reply),
-    Kept(Reply),
+    Running,
+    Kept(KeptReply),
 }
 
 /// A slot. `last` is the number of the last request that ran, 0 at first, and `uid` who sent it.
@@ -35,9 +33,9 @@ pub enum Next {
 }
 
 impl Slot {
-    ghost use Rattle.std.specs.Prelude.{◌≡◌, ◌≤◌, OnOk, OnErr, length};
+    ghost use Rattle.std.specs.Prelude.{◌≡◌, ◌≤◌, length, IfSome};
     ghost use Rattle.std.specs.Option.{option_map};
-    ghost use Rattle.model.specs.Session.{no_slot, is_running_state, Free};
+    ghost use Rattle.model.specs.Session.{no_slot, is_running_state};
     ghost use Rattle.session.specs.Slots.{slot_of, running_slot, kept_slot, kept_reply};
 
     /// A slot on which nothing ran.
@@ -55,48 +53,35 @@ impl Slot {
     pub fn is_running(&self) -> bool
         ensures { result ≡ is_running_state (slot_of self.now).state }
     {
-        matches!(self.state, SlotState::Running(_))
+        matches!(self.state, SlotState::Running)
     }
 
     /// The reply that it keeps.
     pub fn kept(&self) -> Option<&[u8]>
-        ensures { option_map (λ bytes. bytes.now) result ≡ kept_reply (slot_of self.now).state }
+        ensures short { IfSome result (λ bytes. length bytes.now ≤ 16384) }
+        ensures kept { option_map (λ bytes. bytes.now) result ≡ kept_reply (slot_of self.now).state }
     {
         match &self.state {
-            SlotState::Kept(reply) => Some(reply.as_slice()),
-            SlotState::Free | SlotState::Running(_) => None,
+            SlotState::Kept(reply) => Some(reply.bytes.as_slice()),
+            SlotState::Free | SlotState::Running => None,
         }
     }
 
-    /// Runs a request. The room for its reply is taken where the slot has none yet; where there is no memory for it the slot
-    /// stays.
-    pub fn start(&mut self, alloc: Global, number: u32, uid: u32) -> Result<(), AllocError>
-        ensures ok { OnOk result (slot_of self.new ≡ running_slot number uid) }
-        ensures err { OnErr result (slot_of self.new ≡ slot_of self.old) }
-        ensures free { OnErr result ((slot_of self.old).state ≡ Free) }
+    /// Runs a request.
+    pub fn start(&mut self, number: u32, uid: u32)
+        ensures { slot_of self.new ≡ running_slot number uid }
     {
-        let room = match mem::replace(&mut self.state, SlotState::Free) {
-            SlotState::Free => Reply::new(alloc)?,
-            SlotState::Running(room) | SlotState::Kept(room) => room,
-        };
         self.last = number;
         self.uid = uid;
-        self.state = SlotState::Running(room);
-        Ok(())
+        self.state = SlotState::Running;
     }
 
-    /// Keeps the reply to what runs. A slot that runs nothing stays.
-    pub fn keep(&mut self, reply: &[u8])
-        requires { length reply.now ≤ 16384 }
-        ensures { slot_of self.new ≡ kept_slot reply.now (slot_of self.old) }
+    /// Keeps the reply to its last request.
+    pub fn keep(&mut self, reply: Vec<u8>)
+        requires small { length reply.items ≤ 16384 }
+        ensures { slot_of self.new ≡ kept_slot reply.items (slot_of self.old) }
     {
-        match mem::replace(&mut self.state, SlotState::Free) {
-            SlotState::Running(mut room) => {
-                room.keep(reply);
-                self.state = SlotState::Kept(room);
-            }
-            other => self.state = other,
-        }
+        self.state = SlotState::Kept(KeptReply { bytes: reply });
     }
 }
 

@@ -1,19 +1,27 @@
-use Rattle.std.proofs.Common.{ap, sym, ◌∙◌}
-use Rattle.model.specs.World.{Gives, with_table}
+use Rattle.model.specs.Answer.{Answer, Done, Refused}
+use Rattle.model.specs.Operation.{Argument}
 use Rattle.session.specs.Views.{table_of}
-use Rattle.wire.specs.declared.outcome.Outcome.{Outcome}
-use Rattle.wire.specs.OutcomeView.{outcome_view}
 use Rattle.compound.specs.Runs.{with_rest}
 use Rattle.compound.specs.Views.{in_progress_of}
-use Rattle.compound.proofs.Tables.{ran_destroy_session}
+use Rattle.compound.proofs.Rooms.{gives_refusal}
+use Rattle.compound.proofs.Tables.{ran_destroy_session, table_runs}
 use Rattle.compound.proofs.running.Running.destroy_session.Goals as goal
 
-pub returns-in-Ok : goal.returns-in-Ok
+pub returns-in-Ok-clause-gives : goal.returns-in-Ok-clause-gives
 unfolding in_progress_of
-returns-in-Ok c = λ world now rest on. ran_destroy_session world (with_rest (in_progress_of c.args.self.now) rest) now _ _ _ on c.in-Ok.ensures
+returns-in-Ok-clause-gives c = λ now fs.
+    let request = in_progress_of c.args.self.now in
+    let kind = Argument.DestroySession c.args.id.now in
+    c.answer_first.ensures.gives now fs fs (table_of c.args.table.now) (table_of c.destroy_session.new.self) kind
+    (table_runs now fs (table_of c.args.table.now) (table_of c.destroy_session.new.self) request request kind (Done Answer.DestroySession)
+    (λ world rest on. ran_destroy_session world (with_rest request rest) now _ _ _ on c.in-Ok.ensures.answered))
 
-pub returns-in-Err : goal.returns-in-Err
+pub returns-in-Err-clause-gives : goal.returns-in-Err-clause-gives
 unfolding in_progress_of
-returns-in-Err c = λ world now rest on.
-    ran_destroy_session world (with_rest (in_progress_of c.args.self.now) rest) now _ _ _ on c.in-Err.ensures
-    ∙ ap (λ (o : Outcome). Gives (outcome_view o) (with_table world (table_of c.destroy_session.new.self)) (with_rest (in_progress_of c.args.self.now) rest)) (sym c.refused.ensures)
+returns-in-Err-clause-gives c = λ now fs.
+    let request = in_progress_of c.args.self.now in
+    let kind = Argument.DestroySession c.args.id.now in
+    c.refuse.ensures.gives now fs fs (table_of c.args.table.now) (table_of c.destroy_session.new.self) kind
+    (gives_refusal now fs fs (table_of c.args.table.now) (table_of c.destroy_session.new.self) request kind 44 c.in-Err.status
+    (table_runs now fs (table_of c.args.table.now) (table_of c.destroy_session.new.self) request request kind (Refused 44 c.in-Err.status)
+    (λ world rest on. ran_destroy_session world (with_rest request rest) now _ _ _ on c.in-Err.ensures.answered)))

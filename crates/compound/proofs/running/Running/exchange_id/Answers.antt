@@ -1,19 +1,29 @@
-use Rattle.std.proofs.Common.{ap, sym, ◌∙◌}
-use Rattle.model.specs.World.{Gives, with_table}
+use Rattle.model.specs.Answer.{Answer, Done, Refused}
+use Rattle.model.specs.Operation.{Argument}
 use Rattle.session.specs.Views.{table_of}
-use Rattle.wire.specs.declared.outcome.Outcome.{Outcome}
-use Rattle.wire.specs.OutcomeView.{outcome_view}
+use Rattle.wire.specs.AnswerViews as answers
+use Rattle.wire.specs.ArgumentViews.{exchange_id_view}
 use Rattle.compound.specs.Runs.{with_rest}
 use Rattle.compound.specs.Views.{in_progress_of}
-use Rattle.compound.proofs.Tables.{ran_exchange}
+use Rattle.compound.proofs.Rooms.{gives_refusal}
+use Rattle.compound.proofs.Tables.{ran_exchange, table_runs}
 use Rattle.compound.proofs.running.Running.exchange_id.Goals as goal
 
-pub returns-in-Ok-clause-ok : goal.returns-in-Ok-clause-ok
+pub returns-in-Ok-clause-gives : goal.returns-in-Ok-clause-gives
 unfolding in_progress_of
-returns-in-Ok-clause-ok c = λ world now rest on. ran_exchange world (with_rest (in_progress_of c.args.self.now) rest) now _ _ _ on c.in-Ok.ensures
+returns-in-Ok-clause-gives c = λ now fs.
+    let request = in_progress_of c.args.self.now in
+    let kind = Argument.ExchangeId (exchange_id_view c.args.arguments.now) in
+    c.answer_first.ensures.gives now fs fs (table_of c.args.table.now) (table_of c.exchange_id.new.self) kind
+    (table_runs now fs (table_of c.args.table.now) (table_of c.exchange_id.new.self) request request kind (Done (Answer.ExchangeId (answers.exchange_id_view c.in-Ok.answer)))
+    (λ world rest on. ran_exchange world (with_rest request rest) now _ _ _ on c.in-Ok.ensures.answered))
 
-pub returns-in-Err-Status-clause-ok : goal.returns-in-Err-Status-clause-ok
+pub returns-in-Err-Status-clause-gives : goal.returns-in-Err-Status-clause-gives
 unfolding in_progress_of
-returns-in-Err-Status-clause-ok c = λ world now rest on.
-    ran_exchange world (with_rest (in_progress_of c.args.self.now) rest) now _ _ _ on (rw c.in-Err-Status.field-0-is at c.in-Err-Status.ensures)
-    ∙ ap (λ (o : Outcome). Gives (outcome_view o) (with_table world (table_of c.exchange_id.new.self)) (with_rest (in_progress_of c.args.self.now) rest)) (sym c.refused.ensures)
+returns-in-Err-Status-clause-gives c = λ now fs.
+    let request = in_progress_of c.args.self.now in
+    let kind = Argument.ExchangeId (exchange_id_view c.args.arguments.now) in
+    c.refuse.ensures.gives now fs fs (table_of c.args.table.now) (table_of c.exchange_id.new.self) kind
+    (gives_refusal now fs fs (table_of c.args.table.now) (table_of c.exchange_id.new.self) request kind 42 c.in-Err-Status.status
+    (table_runs now fs (table_of c.args.table.now) (table_of c.exchange_id.new.self) request request kind (Refused 42 c.in-Err-Status.status)
+    (λ world rest on. ran_exchange world (with_rest request rest) now _ _ _ on (rw c.in-Err-Status.field-0-is at c.in-Err-Status.ensures.answered))))

@@ -9,5 +9,5 @@ pub returns-then-place-len : goal.returns-then-place-len
 returns-then-place-len c =
     let session : Known = session_of c.args.self.now in
     ap (λ (slots : List KnownSlot). record session { slots = slots })
-    (mapped_set slot_of (kept_slot c.args.reply.now) c.args.self.now.slots.items c.args.slot c.index_mut.result.now c.keep.new.self no_slot
+    (mapped_set slot_of (kept_slot c.args.reply.items) c.args.self.now.slots.items c.args.slot c.index_mut.result.now c.keep.new.self no_slot
     (omega (arith, c.args.self.now.slots.ok.0)) c.index_mut.ensures.value c.keep.ensures)

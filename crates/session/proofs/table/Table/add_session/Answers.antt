@@ -9,15 +9,15 @@ use Rattle.session.specs.Views.{table_of, table_by, roll_of, book_of, sessions_o
 use Rattle.session.proofs.Opening.{answer_at, session_at, created_is, table_is}
 use Rattle.session.proofs.table.Table.add_session.Goals as goal
 
-pub returns-in_err-add : goal.returns-in_err-add
+pub returns-in_err-add-clause-answered : goal.returns-in_err-add-clause-answered
 unfolding table_of
-returns-in_err-add c client named ended =
+returns-in_err-add-clause-answered c client named ended =
     let p = err_from_is_err_and c.from_residual-in_err-add.result c.from_residual-in_err-add.ensures.1 in
     rw (p.1, p.2) (refl, ap (table_by (roll_of c.args.self.now.clients)) c.in_err-add.ensures.err)
 
-pub returns : goal.returns
+pub returns-clause-answered : goal.returns-clause-answered
 unfolding table_of
-returns c client named ended =
+returns-clause-answered c client named ended =
     let arguments = create_session_view c.args.arguments.now in
     let old = c.args.self.now in
     let number = c.args.arguments.now.client in

@@ -1,66 +1,51 @@
-use Rattle.std.proofs.Common.{Some, Ok, refl, sym, ap, ◌∙◌, find}
+use Rattle.std.proofs.Common.{Some, Ok, refl, sym, ap, ◌∙◌}
 use Rattle.std.specs.Option.{option_map, option_copied}
 use Rattle.std.proofs.lemmas.Result.{err_from_is_err_and}
-use Rattle.model.specs.Session.{begin, begin_by, started, is_session, Session as Known, Table}
+use Rattle.model.specs.Session.{begin, begin_by, started, Session as Known}
 use Rattle.wire.specs.ArgumentViews.{sequence_view}
-use Rattle.session.specs.Views.{table_of, table_by, roll_of, session_of, sessions_of, reply_kept, reply_in, slot_runs, slot_state, runs_in}
-use Rattle.session.proofs.Beginning.{refuses, replays, runs, replays_kept, runs_within, started_runs}
+use Rattle.session.specs.Views.{table_of, table_by, roll_of, session_of, reply_kept, reply_in}
+use Rattle.session.proofs.Beginning.{refuses, replays, runs, replays_kept}
 use Rattle.session.proofs.table.Table.begin.Goals as goal
 
-pub returns-in_default : goal.returns-in_default
+pub returns-in_default-clause-answered : goal.returns-in_default-clause-answered
 unfolding begin table_of
-returns-in_default c =
+returns-in_default-clause-answered c =
     let found = sym c.find.ensures ∙ ap (λ r. option_map session_of (option_copied r)) c.in_default.is in
     (ap (begin_by c.args.uid c.args.count (sequence_view c.args.arguments.now)) found, refl)
 
-pub returns-in_err-next : goal.returns-in_err-next
+pub returns-in_err-next-clause-answered : goal.returns-in_err-next-clause-answered
 unfolding begin table_of
-returns-in_err-next c =
+returns-in_err-next-clause-answered c =
     let arguments = sequence_view c.args.arguments.now in
     let session : Known = session_of c.in-Some.session.now in
     let found = sym c.find.ensures ∙ ap (λ r. option_map session_of (option_copied r)) c.in-Some.is in
     let p = err_from_is_err_and c.from_residual.result c.from_residual.ensures.1 in
     rw (p.1, p.2) (
       ap (begin_by c.args.uid c.args.count arguments) found
-          ∙ refuses (begin_by c.args.uid c.args.count arguments (Some session)) c.in_err-next.field-0.0 (sym c.next.ensures ∙ c.in_err-next.was),
+          ∙ refuses (begin_by c.args.uid c.args.count arguments (Some session)) c.in_err-next.field-0.0 (sym c.next.ensures.next ∙ c.in_err-next.was),
       refl,
     )
 
-pub returns-in-Replays : goal.returns-in-Replays
+pub returns-in-Replays-clause-answered : goal.returns-in-Replays-clause-answered
 unfolding begin table_of reply_kept
-returns-in-Replays c =
+returns-in-Replays-clause-answered c =
     let arguments = sequence_view c.args.arguments.now in
     let session : Known = session_of c.in-Some.session.now in
     let found = sym c.find.ensures ∙ ap (λ r. option_map session_of (option_copied r)) c.in-Some.is in
-    let next = replays (begin_by c.args.uid c.args.count arguments (Some session)) (sym c.next.ensures ∙ c.in_ok-next.was ∙ ap Ok c.in-Replays.is) in (
+    let next = replays (begin_by c.args.uid c.args.count arguments (Some session)) (sym c.next.ensures.next ∙ c.in_ok-next.was ∙ ap Ok c.in-Replays.is) in (
       next.0,
       ap (begin_by c.args.uid c.args.count arguments) found ∙ next.1,
       ap (reply_in c.args.arguments.now.slot) found ∙ replays_kept c.args.uid c.args.count arguments session next.0 next.1,
       refl,
     )
 
-pub returns-in_err-start : goal.returns-in_err-start
-unfolding begin table_of slot_state
-returns-in_err-start c =
+pub returns-clause-answered : goal.returns-clause-answered
+unfolding begin table_of started
+returns-clause-answered c =
     let arguments = sequence_view c.args.arguments.now in
     let session : Known = session_of c.in-Some.session.now in
     let found = sym c.find.ensures ∙ ap (λ r. option_map session_of (option_copied r)) c.in-Some.is in
-    let next = runs (begin_by c.args.uid c.args.count arguments (Some session)) (sym c.next.ensures ∙ c.in_ok-next.was ∙ ap Ok c.in-Runs.is) in
-    let p = err_from_is_err_and c.from_residual-in_err-start.result c.from_residual-in_err-start.ensures.1 in
-    rw (p.1, p.2) (
-      ap (begin_by c.args.uid c.args.count arguments) found ∙ next,
-      c.in_err-start.ensures.free,
-      ap (table_by (roll_of c.args.self.now.clients)) c.in_err-start.ensures.err,
-    )
-
-pub returns : goal.returns
-unfolding begin table_of started slot_runs
-returns c =
-    let arguments = sequence_view c.args.arguments.now in
-    let session : Known = session_of c.in-Some.session.now in
-    let found = sym c.find.ensures ∙ ap (λ r. option_map session_of (option_copied r)) c.in-Some.is in
-    let next = runs (begin_by c.args.uid c.args.count arguments (Some session)) (sym c.next.ensures ∙ c.in_ok-next.was ∙ ap Ok c.in-Runs.is) in
-    let made = ap (table_by (roll_of c.args.self.now.clients)) c.in_ok-start.ensures.ok in (
+    let next = runs (begin_by c.args.uid c.args.count arguments (Some session)) (sym c.next.ensures.next ∙ c.in_ok-next.was ∙ ap Ok c.in-Runs.is) in (
       session,
       found,
       (
@@ -75,8 +60,5 @@ returns c =
         }) c.highest_slot-highest_slot.ensures,
       ),
       ap (begin_by c.args.uid c.args.count arguments) found ∙ next,
-      made,
-      ap (λ (table : Table). runs_in c.args.arguments.now.slot (find (is_session c.args.arguments.now.session) table.sessions)) made
-          ∙ started_runs c.args.arguments.now.session c.args.arguments.now.slot c.args.arguments.now.sequence c.args.uid (sessions_of c.args.self.now.sessions) session found
-          (runs_within c.args.uid c.args.count arguments session next),
+      ap (table_by (roll_of c.args.self.now.clients)) c.start.ensures,
     )

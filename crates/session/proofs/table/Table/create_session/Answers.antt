@@ -13,24 +13,24 @@ use Rattle.session.proofs.Creating.{create_unknown, create_other, create_same, r
 use Rattle.session.proofs.Opening.{found_passes}
 use Rattle.session.proofs.table.Table.create_session.Goals as goal
 
-pub returns-in_default : goal.returns-in_default
+pub returns-in_default-clause-answered : goal.returns-in_default-clause-answered
 unfolding table_of
-returns-in_default c =
+returns-in_default-clause-answered c =
     let found = sym c.find.ensures ∙ ap (λ r. option_map client_of (option_copied r)) c.in_default.is in
     let e = create_unknown c.args.uid (create_session_view c.args.arguments.now) (table_of c.args.self.now) found in
     (ap (λ (o : CreateSessionOutcome). o.answer) e, ap (λ (o : CreateSessionOutcome). o.table) e)
 
-pub returns-then-client-uid : goal.returns-then-client-uid
+pub returns-then-client-uid-clause-answered : goal.returns-then-client-uid-clause-answered
 unfolding table_of
-returns-then-client-uid c =
+returns-then-client-uid-clause-answered c =
     let found = sym c.find.ensures ∙ ap (λ r. option_map client_of (option_copied r)) c.in-Some.is in
     let other : (c.in-Some.client.now.principal == c.args.uid) ≡ false = search (rules, tests) in
     let e = create_other c.args.uid (create_session_view c.args.arguments.now) (table_of c.args.self.now) (client_of c.in-Some.client.now) found other in
     (ap (λ (o : CreateSessionOutcome). o.answer) e, ap (λ (o : CreateSessionOutcome). o.table) e)
 
-pub returns-in-Some-repeated : goal.returns-in-Some-repeated
+pub returns-in-Some-repeated-clause-answered : goal.returns-in-Some-repeated-clause-answered
 unfolding table_of
-returns-in-Some-repeated c =
+returns-in-Some-repeated-clause-answered c =
     let arguments = create_session_view c.args.arguments.now in
     let client : Known = client_of c.in-Some.client.now in
     let found = sym c.find.ensures ∙ ap (λ r. option_map client_of (option_copied r)) c.in-Some.is in
@@ -39,44 +39,44 @@ returns-in-Some-repeated c =
     ∙ repeats answer_view arguments client (table_of c.args.self.now) c.in-Some.client.now.kept c.in-Some-repeated.answer (sym c.repeated.ensures ∙ c.in-Some-repeated.is) in
     (ap (λ (o : CreateSessionOutcome). o.answer) e, ap (λ (o : CreateSessionOutcome). o.ended_clients) e ∙ search rules, ap (λ (o : CreateSessionOutcome). o.table) e)
 
-pub returns-in_err-check_arguments : goal.returns-in_err-check_arguments
+pub returns-in_err-check_arguments-clause-answered : goal.returns-in_err-check_arguments-clause-answered
 unfolding table_of
-returns-in_err-check_arguments c =
+returns-in_err-check_arguments-clause-answered c =
     let arguments = create_session_view c.args.arguments.now in
     let client : Known = client_of c.in-Some.client.now in
     let found = sym c.find.ensures ∙ ap (λ r. option_map client_of (option_copied r)) c.in-Some.is in
     let same : (c.in-Some.client.now.principal == c.args.uid) ≡ true = search (rules, tests) in
-    let refused = refused_by_arguments arguments client (table_of c.args.self.now) c.in_err-check_arguments.field-0.0 (sym c.check_arguments.ensures ∙ ap result_err c.in_err-check_arguments.was) in
+    let refused = refused_by_arguments arguments client (table_of c.args.self.now) c.in_err-check_arguments.field-0.0 (sym c.check_arguments.ensures.first ∙ ap result_err c.in_err-check_arguments.was) in
     let e = create_same c.args.uid arguments (table_of c.args.self.now) client found same
     ∙ counts answer_view arguments client (table_of c.args.self.now) c.in-Some.client.now.kept (sym c.repeated.ensures ∙ c.in_default-repeated.is)
     ∙ ap (create_unless served arguments client (table_of c.args.self.now)) refused in
     let p = err_from_is_err_and c.from_residual.result c.from_residual.ensures.1 in
     rw (p.1, p.2) (ap (λ (o : CreateSessionOutcome). o.answer) e, ap (λ (o : CreateSessionOutcome). o.table) e)
 
-pub returns-in_err-check_room : goal.returns-in_err-check_room
+pub returns-in_err-check_room-clause-answered : goal.returns-in_err-check_room-clause-answered
 unfolding table_of
-returns-in_err-check_room c =
+returns-in_err-check_room-clause-answered c =
     let arguments = create_session_view c.args.arguments.now in
     let client : Known = client_of c.in-Some.client.now in
     let found = sym c.find.ensures ∙ ap (λ r. option_map client_of (option_copied r)) c.in-Some.is in
     let same : (c.in-Some.client.now.principal == c.args.uid) ≡ true = search (rules, tests) in
-    let refused = refused_by_room arguments client (table_of c.args.self.now) (sym c.check_arguments.ensures ∙ ap result_err c.in_ok-check_arguments.was)
-    ∙ sym c.check_room.ensures ∙ ap result_err c.in_err-check_room.was in
+    let refused = refused_by_room arguments client (table_of c.args.self.now) (sym c.check_arguments.ensures.first ∙ ap result_err c.in_ok-check_arguments.was)
+    ∙ sym c.check_room.ensures.first ∙ ap result_err c.in_err-check_room.was in
     let e = create_same c.args.uid arguments (table_of c.args.self.now) client found same
     ∙ counts answer_view arguments client (table_of c.args.self.now) c.in-Some.client.now.kept (sym c.repeated.ensures ∙ c.in_default-repeated.is)
     ∙ ap (create_unless served arguments client (table_of c.args.self.now)) refused in
     let p = err_from_is_err_and c.from_residual-in_err-check_room.result c.from_residual-in_err-check_room.ensures.1 in
     rw (p.1, p.2) (ap (λ (o : CreateSessionOutcome). o.answer) e, ap (λ (o : CreateSessionOutcome). o.table) e)
 
-pub returns-in_err-ended : goal.returns-in_err-ended
+pub returns-in_err-ended-clause-answered : goal.returns-in_err-ended-clause-answered
 unfolding table_of
-returns-in_err-ended c =
+returns-in_err-ended-clause-answered c =
     let arguments = create_session_view c.args.arguments.now in
     let client : Known = client_of c.in-Some.client.now in
     let found = sym c.find.ensures ∙ ap (λ r. option_map client_of (option_copied r)) c.in-Some.is in
     let same : (c.in-Some.client.now.principal == c.args.uid) ≡ true = search (rules, tests) in
-    let room = refused_by_room arguments client (table_of c.args.self.now) (sym c.check_arguments.ensures ∙ ap result_err c.in_ok-check_arguments.was)
-    ∙ sym c.check_room.ensures ∙ ap result_err c.in_ok-check_room.was in
+    let room = refused_by_room arguments client (table_of c.args.self.now) (sym c.check_arguments.ensures.first ∙ ap result_err c.in_ok-check_arguments.was)
+    ∙ sym c.check_room.ensures.first ∙ ap result_err c.in_ok-check_room.was in
     let e = create_same c.args.uid arguments (table_of c.args.self.now) client found same
     ∙ counts answer_view arguments client (table_of c.args.self.now) c.in-Some.client.now.kept (sym c.repeated.ensures ∙ c.in_default-repeated.is)
     ∙ ap (create_unless served arguments client (table_of c.args.self.now)) room in
@@ -86,21 +86,21 @@ returns-in_err-ended c =
 pub add_session-requires : goal.add_session-requires
 unfolding table_of
 add_session-requires c =
-    let left = serial_left (client_of c.in-Some.client.now) (table_of c.args.self.now) (sym c.check_room.ensures ∙ ap result_err c.in_ok-check_room.was) in
+    let left = serial_left (client_of c.in-Some.client.now) (table_of c.args.self.now) (sym c.check_room.ensures.first ∙ ap result_err c.in_ok-check_room.was) in
     omega arith
 
-pub returns : goal.returns
+pub returns-clause-answered : goal.returns-clause-answered
 unfolding table_of
-returns c =
+returns-clause-answered c =
     let arguments = create_session_view c.args.arguments.now in
     let client : Known = client_of c.in-Some.client.now in
     let found = sym c.find.ensures ∙ ap (λ r. option_map client_of (option_copied r)) c.in-Some.is in
     let same : (c.in-Some.client.now.principal == c.args.uid) ≡ true = search (rules, tests) in
-    let room = refused_by_room arguments client (table_of c.args.self.now) (sym c.check_arguments.ensures ∙ ap result_err c.in_ok-check_arguments.was)
-    ∙ sym c.check_room.ensures ∙ ap result_err c.in_ok-check_room.was in
+    let room = refused_by_room arguments client (table_of c.args.self.now) (sym c.check_arguments.ensures.first ∙ ap result_err c.in_ok-check_arguments.was)
+    ∙ sym c.check_room.ensures.first ∙ ap result_err c.in_ok-check_room.was in
     let e = create_same c.args.uid arguments (table_of c.args.self.now) client found same
     ∙ counts answer_view arguments client (table_of c.args.self.now) c.in-Some.client.now.kept (sym c.repeated.ensures ∙ c.in_default-repeated.is)
     ∙ ap (create_unless served arguments client (table_of c.args.self.now)) room in
     let named : client.number ≡ c.args.arguments.now.client = eqb-true _ _ (found_passes (is_client c.args.arguments.now.client) (clients_of c.args.self.now.clients) client found) in
     subst (λ (wanted : CreateSessionOutcome). Created wanted (table_of c.args.self.now) (table_of c.add_session.new.self) c.add_session.result) (sym e)
-    (c.add_session.ensures client named c.in_ok-ended.ensures)
+    (c.add_session.ensures.answered client named c.in_ok-ended.ensures)

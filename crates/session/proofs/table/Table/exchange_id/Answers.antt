@@ -10,58 +10,58 @@ use Rattle.session.specs.Views.{table_of, table_by, book_of, client_of, clients_
 use Rattle.session.proofs.Exchanging.{exchange_inval, exchange_unknown, exchange_other, exchange_same}
 use Rattle.session.proofs.table.Table.exchange_id.Goals as goal
 
-pub returns-then-arguments-ne-EXCHANGE_FLAGS : goal.returns-then-arguments-ne-EXCHANGE_FLAGS
+pub returns-then-arguments-ne-EXCHANGE_FLAGS-clause-answered : goal.returns-then-arguments-ne-EXCHANGE_FLAGS-clause-answered
 unfolding table_of
-returns-then-arguments-ne-EXCHANGE_FLAGS c =
+returns-then-arguments-ne-EXCHANGE_FLAGS-clause-answered c =
     let flags : has_only exchange_flags c.args.arguments.now.flags ≡ false = search (rules, tests) in
     exchange_inval (among c.args.with_opens.now) c.args.uid (exchange_id_view c.args.arguments.now) (table_of c.args.self.now) flags
 
-pub returns-in_default : goal.returns-in_default
+pub returns-in_default-clause-answered : goal.returns-in_default-clause-answered
 unfolding table_of
-returns-in_default c =
+returns-in_default-clause-answered c =
     let flags : has_only exchange_flags c.args.arguments.now.flags ≡ true = search (rules, tests) in
     let found = sym c.confirmed.ensures ∙ ap (λ r. option_map client_of (option_copied r)) c.in_default.is in
     subst (λ (wanted : Result Answered Status × Table). Exchanged wanted (table_of c.args.self.now) (table_of c.add_client.new.self) c.add_client.result)
-    (sym (exchange_unknown (among c.args.with_opens.now) c.args.uid (exchange_id_view c.args.arguments.now) (table_of c.args.self.now) flags found)) c.add_client.ensures
+    (sym (exchange_unknown (among c.args.with_opens.now) c.args.uid (exchange_id_view c.args.arguments.now) (table_of c.args.self.now) flags found)) c.add_client.ensures.answered
 
-pub returns-then-has_state : goal.returns-then-has_state
+pub returns-then-has_state-clause-answered : goal.returns-then-has_state-clause-answered
 unfolding table_of
-returns-then-has_state c =
+returns-then-has_state-clause-answered c =
     let flags : has_only exchange_flags c.args.arguments.now.flags ≡ true = search (rules, tests) in
     let found = sym c.confirmed.ensures ∙ ap (λ r. option_map client_of (option_copied r)) c.in-Some.is in
     let other : (c.in-Some.client.now.principal == c.args.uid) ≡ false = search (rules, tests) in
     exchange_other (among c.args.with_opens.now) c.args.uid (exchange_id_view c.args.arguments.now) (table_of c.args.self.now) (client_of c.in-Some.client.now) true flags found other
     (sym c.has_state.ensures ∙ c.if-has_state.true)
 
-pub returns-then-client-uid : goal.returns-then-client-uid
+pub returns-then-client-uid-clause-answered : goal.returns-then-client-uid-clause-answered
 unfolding table_of
-returns-then-client-uid c =
+returns-then-client-uid-clause-answered c =
     let flags : has_only exchange_flags c.args.arguments.now.flags ≡ true = search (rules, tests) in
     let found = sym c.confirmed.ensures ∙ ap (λ r. option_map client_of (option_copied r)) c.in-Some.is in
     let other : (c.in-Some.client.now.principal == c.args.uid) ≡ false = search (rules, tests) in
     subst (λ (wanted : Result Answered Status × Table). Exchanged wanted (table_of c.args.self.now) (table_of c.add_client-then-client-uid.new.self) c.add_client-then-client-uid.result)
     (sym (exchange_other (among c.args.with_opens.now) c.args.uid (exchange_id_view c.args.arguments.now) (table_of c.args.self.now) (client_of c.in-Some.client.now) false flags found other
     (sym c.has_state.ensures ∙ c.if-has_state.false)))
-    c.add_client-then-client-uid.ensures
+    c.add_client-then-client-uid.ensures.answered
 
-pub returns-then-ne : goal.returns-then-ne
+pub returns-then-ne-clause-answered : goal.returns-then-ne-clause-answered
 unfolding table_of
-returns-then-ne c =
+returns-then-ne-clause-answered c =
     let flags : has_only exchange_flags c.args.arguments.now.flags ≡ true = search (rules, tests) in
     let found = sym c.confirmed.ensures ∙ ap (λ r. option_map client_of (option_copied r)) c.in-Some.is in
     let same : (c.in-Some.client.now.principal == c.args.uid) ≡ true = search (rules, tests) in
     let verifier : bytes_eq c.in-Some.client.now.verifier c.args.arguments.now.verifier ≡ false = search (rules, tests) in
     subst (λ (wanted : Result Answered Status × Table). Exchanged wanted (table_of c.args.self.now) (table_of c.add_client-then-ne.new.self) c.add_client-then-ne.result)
     (sym (exchange_same (among c.args.with_opens.now) c.args.uid (exchange_id_view c.args.arguments.now) (table_of c.args.self.now) (client_of c.in-Some.client.now) false flags found same verifier))
-    c.add_client-then-ne.ensures
+    c.add_client-then-ne.ensures.answered
 
-pub returns : goal.returns
+pub returns-clause-answered : goal.returns-clause-answered
 unfolding table_of
-returns c =
+returns-clause-answered c =
     let flags : has_only exchange_flags c.args.arguments.now.flags ≡ true = search (rules, tests) in
     let found = sym c.confirmed.ensures ∙ ap (λ r. option_map client_of (option_copied r)) c.in-Some.is in
     let same : (c.in-Some.client.now.principal == c.args.uid) ≡ true = search (rules, tests) in
     let verifier : bytes_eq c.in-Some.client.now.verifier c.args.arguments.now.verifier ≡ true = search (rules, tests) in
     exchange_same (among c.args.with_opens.now) c.args.uid (exchange_id_view c.args.arguments.now) (table_of c.args.self.now) (client_of c.in-Some.client.now) true flags found same verifier
-    ∙ ap (λ (a : Answered). (Ok a, table_by (c.args.self.now.clients.run, c.args.self.now.clients.serial, without (is_unconfirmed_of c.args.arguments.now.owner.now) (clients_of c.args.self.now.clients)) (book_of c.args.self.now.sessions))) (sym c.answer-answer.ensures)
+    ∙ ap (λ (a : Answered). (Ok a, table_by (c.args.self.now.clients.run, c.args.self.now.clients.serial, without (is_unconfirmed_of c.args.arguments.now.owner.now) (clients_of c.args.self.now.clients)) (book_of c.args.self.now.sessions))) (sym c.answer-answer.ensures.answered)
     ∙ ap (λ (roll : ℕ × ℕ × List Known). (Ok (answer_view c.answer-answer.result), table_by roll (book_of c.args.self.now.sessions))) (sym c.remove_unconfirmed.ensures)

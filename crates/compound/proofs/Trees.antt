@@ -1,0 +1,312 @@
+-- The operations on a world are those on its file system's tree.
+use Rattle.std.proofs.Common.{◌≡◌, ◌≢◌, ℕ, ◌==◌, Bool, true, false, not, ◌&&◌, List, [], ◌∷◌, ◌++◌, Option, Some, None, Ok, Err, flat_map, unwrap_or, refl, sym, ap, subst, ◌∙◌}
+use Rattle.fs.specs.FileSystem.{FileSystem}
+use Rattle.fs.specs.Operations.{IsOn, LooksUp, PutsHandle, GetsHandle, TestsCurrent, current_refusal}
+use Rattle.fs.specs.declared.fault.FsFault.{FsFault}
+use Rattle.fs.specs.declared.fault.FsFault.TheVariants as fault
+use Rattle.model.specs.Answer.{Answer, Outcome, Done, Refused}
+use Rattle.model.specs.Attribute.{Value, Mode, attribute_refusals, value_refusals, values_of}
+use Rattle.model.specs.Context.{Context, has_current, current_number, at_node}
+use Rattle.model.specs.Keyed.{is_key}
+use Rattle.model.specs.declared.limits.Limits.{Limits}
+use Rattle.model.specs.Name.{name_refusals}
+use Rattle.model.specs.Need.{permitted}
+use Rattle.model.specs.Operation.{Argument, Attributes, NewDirectory, OtherType, operation_of}
+use Rattle.model.specs.Refusal.{Refusals, first_refusal, refused_or}
+use Rattle.model.specs.Session.{Table}
+use Rattle.model.specs.Status.{code_of}
+use Rattle.model.specs.Step.{State, Stepped, does, refused, refusals, effect, late, change_refusals, unless_refused, current, current_refusals}
+use Rattle.model.specs.Tree.{root}
+use Rattle.model.specs.World.{World, InProgress, Gives, run, stepped, state_of, reclaimed}
+use Rattle.model.specs.declared.node.NodeKind.{NodeKind}
+use Rattle.model.specs.declared.node.NodeKind.TheVariants as kind
+use Rattle.model.specs.declared.status.Status.{Status}
+use Rattle.model.specs.declared.status.Status.TheVariants as status
+use Rattle.wire.specs.Short.{IsRefusal}
+use Rattle.compound.specs.Operates.{RunsTo}
+use Rattle.compound.specs.Runs.{with_rest}
+use Rattle.compound.specs.Steps.{IsServed}
+use Rattle.compound.specs.Trees.{IsStatus, IsHere}
+use Rattle.compound.proofs.Current.{ran_root, takes_current, wants_current}
+use Rattle.compound.proofs.Rooms.{served_same}
+
+-- The state of a world by a request
+
+pub here : (world : World) (fs : FileSystem) (table : Table) (request : InProgress) (rest : List ℕ) → IsServed world fs table
+    → IsHere fs request (state_of world (with_rest request rest))
+here world fs table request rest on = record { tree_is = on.tree; changes_is = on.changes; context_is = refl }
+
+pub is_on : (fs : FileSystem) (request : InProgress) (number : ℕ) (state : State) → request.context.run ≡ fs.run
+    → has_current request.context ≡ true → current_number request.context ≡ number → IsHere fs request state
+    → IsOn fs request.context.cred number state
+is_on fs request number state in_run has is there = record {
+  is_state = record {
+    tree_is = there.tree_is;
+    cred_is = ap (λ (c : Context). c.cred) there.context_is;
+    has_current = subst (λ (c : Context). has_current c ≡ true) (sym there.context_is) has;
+    current_is = ap current_number there.context_is ∙ is;
+  };
+  run = ap (λ (c : Context). c.run) there.context_is ∙ in_run;
+  changes = there.changes_is;
+}
+
+-- some state is one
+abbrev pub of_request : FileSystem → InProgress → State
+of_request fs request = record { tree = fs.tree; changes = fs.changes; opens = []; context = request.context }
+
+pub is_there : (fs : FileSystem) (request : InProgress) → IsHere fs request (of_request fs request)
+is_there fs request = record { tree_is = refl; changes_is = refl; context_is = refl }
+
+-- Faults of a file system that is up
+
+down : {A : Type 0} (is_down : Bool) → is_down ≡ false → is_down ≡ true → A
+down is_down up is = absurd (cc)
+
+pub looks_status : (fs : FileSystem) (state : State) (now : ℕ) (name : List ℕ) (why : FsFault) → fs.is_down ≡ false
+    → LooksUp fs state now name (Err why) → IsStatus why
+looks_status fs state now name (fault.Status reason) up is = tt
+looks_status fs state now name fault.NoRoom up is = is
+looks_status fs state now name fault.Memory up is = is
+looks_status fs state now name fault.Device up is = is
+looks_status fs state now name fault.Down up is = down fs.is_down up is
+
+pub puts_status : (fs : FileSystem) (state : State) (now : ℕ) (handle : List ℕ) (why : FsFault) → fs.is_down ≡ false
+    → PutsHandle fs state now handle (Err why) → IsStatus why
+puts_status fs state now handle (fault.Status reason) up is = tt
+puts_status fs state now handle fault.NoRoom up is = is
+puts_status fs state now handle fault.Memory up is = is
+puts_status fs state now handle fault.Device up is = is
+puts_status fs state now handle fault.Down up is = down fs.is_down up is
+
+pub gets_status : (fs : FileSystem) (state : State) (now : ℕ) (why : FsFault) → fs.is_down ≡ false
+    → GetsHandle fs state now (Err why) → IsStatus why
+gets_status fs state now (fault.Status reason) up is = tt
+gets_status fs state now fault.NoRoom up is = is
+gets_status fs state now fault.Memory up is = is
+gets_status fs state now fault.Device up is = is
+gets_status fs state now fault.Down up is = down fs.is_down up is
+
+pub tests_status : (fs : FileSystem) (state : State) (why : FsFault) → fs.is_down ≡ false
+    → TestsCurrent fs state (Err why) → IsStatus why
+tests_status fs state (fault.Status reason) up is = tt
+tests_status fs state fault.NoRoom up is = is
+tests_status fs state fault.Memory up is = is
+tests_status fs state fault.Device up is = is
+tests_status fs state fault.Down up is = down fs.is_down up is
+
+-- Every refusal has a status that is not OK
+
+abbrev is_bad : Status → Bool
+is_bad reason = not (code_of reason == 0)
+
+abbrev all_bad : Refusals → Bool
+all_bad [] = true
+all_bad (test ∷ rest) = is_bad test.1 && all_bad rest
+
+both : (a b : Bool) → (a && b) ≡ true → (a ≡ true) × (b ≡ true)
+both true b is = (refl, is)
+both false b is = absurd (cc)
+
+bad_refuses : (n : ℕ) → not (n == 0) ≡ true → n ≢ 0
+bad_refuses n bad zero = absurd (bad_zero (subst (λ (k : ℕ). not (k == 0) ≡ true) zero bad))
+  where
+    bad_zero : not (0 == 0) ≡ true → ⊥
+    bad_zero is = cc
+
+first_bad_by : (test : Bool) (of reason : Status) (others : Option Status) → is_bad of ≡ true → (others ≡ Some reason → is_bad reason ≡ true)
+    → refused_or test of others ≡ Some reason → is_bad reason ≡ true
+first_bad_by true of reason others bad rest is = subst (λ (o : Option Status). bad_in o ≡ true) is bad
+  where
+    bad_in : Option Status → Bool
+    bad_in None = true
+    bad_in (Some one) = is_bad one
+first_bad_by false of reason others bad rest is = rest is
+
+first_bad : (tests : Refusals) (reason : Status) → all_bad tests ≡ true → first_refusal tests ≡ Some reason → is_bad reason ≡ true
+first_bad [] reason bad is = absurd (cc)
+first_bad (test ∷ rest) reason bad is =
+    let each = both (is_bad test.1) (all_bad rest) bad in
+    first_bad_by test.0 test.1 reason (first_refusal rest) each.0 (first_bad rest reason each.1) is
+
+append_bad : (front rest : Refusals) → all_bad front ≡ true → all_bad rest ≡ true → all_bad (front ++ rest) ≡ true
+append_bad [] rest bad others = others
+append_bad (test ∷ front) rest bad others =
+    let each = both (is_bad test.1) (all_bad front) bad in
+    ap (λ (b : Bool). b && all_bad (front ++ rest)) each.0 ∙ append_bad front rest each.1 others
+
+values_bad : (limits : Limits) (kind : NodeKind) (values : List Value) → all_bad (flat_map (value_refusals limits kind) values) ≡ true
+values_bad limits kind [] = refl
+values_bad limits kind (Mode mode ∷ values) = values_bad limits kind values
+
+done≢refused : (answer : Answer) (number : ℕ) (reason : Status) → Done answer ≡ Refused number reason → ⊥
+done≢refused answer number reason is = cc
+
+same_reason : (number : ℕ) (of reason : Status) → Refused number of ≡ Refused number reason → of ≡ reason
+same_reason number of reason is = cc
+
+unless_bad : (state : State) (kind : Argument) (reason : Status) (answer : Answer) (first : Option Status) (after : Stepped)
+    → ((of : Status) → first ≡ Some of → is_bad of ≡ true) → after.outcome ≡ Done answer
+    → unless_refused state kind first after ≡ refused state kind reason → is_bad reason ≡ true
+unless_bad state kind reason answer None after bad done is =
+    absurd (done≢refused answer (operation_of kind) reason (sym done ∙ ap (λ (s : Stepped). s.outcome) is))
+unless_bad state kind reason answer (Some of) after bad done is =
+    subst (λ (r : Status). is_bad r ≡ true) (same_reason (operation_of kind) of reason (ap (λ (s : Stepped). s.outcome) is)) (bad of refl)
+
+does_bad : (limits : Limits) (state : State) (now : ℕ) (kind : Argument) (reason : Status) (answer : Answer)
+    → all_bad (refusals limits state kind) ≡ true → (effect state now kind).outcome ≡ Done answer
+    → does limits state now kind ≡ refused state kind reason → IsRefusal reason
+unfolding does
+does_bad limits state now kind reason answer bad done is =
+    let tests = refusals limits state kind ++ change_refusals limits state kind (effect state now kind).state.tree in
+    bad_refuses (code_of reason) (unless_bad state kind reason answer (first_refusal tests) (effect state now kind)
+    (λ of first. first_bad tests of (append_bad (refusals limits state kind) (change_refusals limits state kind (effect state now kind).state.tree) bad refl) first)
+    done is)
+
+pub lookup_bad : (limits : Limits) (state : State) (now : ℕ) (name : List ℕ) (reason : Status)
+    → does limits state now (Argument.Lookup name) ≡ refused state (Argument.Lookup name) reason → IsRefusal reason
+unfolding refusals name_refusals effect
+lookup_bad limits state now name reason is = does_bad limits state now (Argument.Lookup name) reason Answer.Lookup refl refl is
+
+pub put_bad : (limits : Limits) (state : State) (now : ℕ) (handle : List ℕ) (reason : Status)
+    → does limits state now (Argument.PutFh handle) ≡ refused state (Argument.PutFh handle) reason → IsRefusal reason
+unfolding refusals effect
+put_bad limits state now handle reason is = does_bad limits state now (Argument.PutFh handle) reason Answer.PutFh refl refl is
+
+pub get_bad : (limits : Limits) (state : State) (now : ℕ) (reason : Status)
+    → does limits state now Argument.GetFh ≡ refused state Argument.GetFh reason → IsRefusal reason
+unfolding refusals effect
+get_bad limits state now reason is = does_bad limits state now Argument.GetFh reason _ refl refl is
+
+pub create_bad : (limits : Limits) (state : State) (now : ℕ) (name : List ℕ) (given : Attributes) (reason : Status)
+    → does limits state now (Argument.Create (NewDirectory name given)) ≡ refused state (Argument.Create (NewDirectory name given)) reason → IsRefusal reason
+unfolding refusals name_refusals attribute_refusals effect
+create_bad limits state now name given reason is =
+    let values = unwrap_or (values_of given) [] in
+    does_bad limits state now (Argument.Create (NewDirectory name given)) reason _
+    (append_bad (flat_map (value_refusals limits kind.Directory) values) ((not (permitted state.tree state.context (Argument.Create (NewDirectory name given))), status.Access) ∷ late limits state (Argument.Create (NewDirectory name given)))
+    (values_bad limits kind.Directory values) refl)
+    refl is
+
+pub current_bad : (state : State) (reason : Status) → current_refusal state ≡ Some reason → IsRefusal reason
+current_bad state reason is = bad_refuses (code_of reason) (first_bad (current_refusals state) reason refl is)
+
+pub current_none : (state : State) → has_current state.context ≡ false → current_refusal state ≡ Some status.NoFileHandle
+current_none state none = rw none refl
+
+-- What operations come to
+
+module _ (now : ℕ) (fs : FileSystem) (table : Table) (request : InProgress) where
+  pub tree_runs : (left : Context) (kind : Argument) (outcome : Outcome)
+      → ((world : World) (rest : List ℕ) → run world (with_rest request rest) now kind
+      ≡ stepped world (with_rest request rest) (does world.limits.volume (state_of world (with_rest request rest)) now kind))
+      → ((world : World) (rest : List ℕ) → IsServed world fs table → does fs.limits (state_of world (with_rest request rest)) now kind
+      ≡ record { outcome = outcome; state = record (state_of world (with_rest request rest)) { context = left } })
+      → RunsTo now fs fs table table request (record request { context = left }) kind outcome
+  tree_runs left kind outcome on_tree does_so = λ world rest on.
+      on_tree world rest
+      ∙ (ap (λ (limits : Limits). stepped world (with_rest request rest) (does limits (state_of world (with_rest request rest)) now kind)) on.volume
+      ∙ (ap (stepped world (with_rest request rest)) (does_so world rest on)
+      ∙ ap (λ (after : World). Gives outcome after (with_rest (record request { context = left }) rest)) (sym (served_same world fs table on))))
+
+  -- where there is no current filehandle
+  pub wants : (kind : Argument) → takes_current kind ≡ true → has_current request.context ≡ false
+      → RunsTo now fs fs table table request request kind (Refused (operation_of kind) status.NoFileHandle)
+  wants kind takes none = λ world rest on.
+      wants_current world (with_rest request rest) now kind none takes
+      ∙ ap (λ (after : World). Gives (Refused (operation_of kind) status.NoFileHandle) after (with_rest request rest)) (sym (served_same world fs table on))
+
+  pub root_runs : RunsTo now fs fs table table request (record request { context = at_node request.context root }) Argument.PutRootFh (Done Answer.PutRootFh)
+  root_runs = λ world rest on.
+      ran_root world (with_rest request rest) now
+      ∙ ap (λ (after : World). Gives (Done Answer.PutRootFh) after (with_rest (record request { context = at_node request.context root }) rest)) (sym (served_same world fs table on))
+
+  module _ (name : List ℕ) where
+    pub looked_ok : (number : ℕ) → ((state : State) → IsHere fs request state → LooksUp fs state now name (Ok number))
+        → RunsTo now fs fs table table request (record request { context = at_node request.context number }) (Argument.Lookup name) (Done Answer.Lookup)
+    unfolding run
+    looked_ok number does_so = tree_runs (at_node request.context number) (Argument.Lookup name) (Done Answer.Lookup) (λ world rest. refl)
+        (λ world rest on. does_so (state_of world (with_rest request rest)) (here world fs table request rest on))
+
+    pub looked_err : (reason : Status) → ((state : State) → IsHere fs request state → LooksUp fs state now name (Err (fault.Status reason)))
+        → RunsTo now fs fs table table request request (Argument.Lookup name) (Refused 15 reason)
+    unfolding run
+    looked_err reason does_so = tree_runs request.context (Argument.Lookup name) (Refused 15 reason) (λ world rest. refl)
+        (λ world rest on. does_so (state_of world (with_rest request rest)) (here world fs table request rest on))
+
+    pub put_ok : (number : ℕ) → ((state : State) → IsHere fs request state → PutsHandle fs state now name (Ok number))
+        → RunsTo now fs fs table table request (record request { context = at_node request.context number }) (Argument.PutFh name) (Done Answer.PutFh)
+    unfolding run
+    put_ok number does_so = tree_runs (at_node request.context number) (Argument.PutFh name) (Done Answer.PutFh) (λ world rest. refl)
+        (λ world rest on. does_so (state_of world (with_rest request rest)) (here world fs table request rest on))
+
+    pub put_err : (reason : Status) → ((state : State) → IsHere fs request state → PutsHandle fs state now name (Err (fault.Status reason)))
+        → RunsTo now fs fs table table request request (Argument.PutFh name) (Refused 22 reason)
+    unfolding run
+    put_err reason does_so = tree_runs request.context (Argument.PutFh name) (Refused 22 reason) (λ world rest. refl)
+        (λ world rest on. does_so (state_of world (with_rest request rest)) (here world fs table request rest on))
+
+  pub got_ok : (handle : List ℕ) → ((state : State) → IsHere fs request state → GetsHandle fs state now (Ok handle))
+      → RunsTo now fs fs table table request request Argument.GetFh (Done (Answer.GetFh handle))
+  unfolding run
+  got_ok handle does_so = tree_runs request.context Argument.GetFh (Done (Answer.GetFh handle)) (λ world rest. refl)
+      (λ world rest on. does_so (state_of world (with_rest request rest)) (here world fs table request rest on))
+
+  pub got_err : (reason : Status) → ((state : State) → IsHere fs request state → GetsHandle fs state now (Err (fault.Status reason)))
+      → RunsTo now fs fs table table request request Argument.GetFh (Refused 10 reason)
+  unfolding run
+  got_err reason does_so = tree_runs request.context Argument.GetFh (Refused 10 reason) (λ world rest. refl)
+      (λ world rest on. does_so (state_of world (with_rest request rest)) (here world fs table request rest on))
+
+  pub reclaim_ok : ((state : State) → IsHere fs request state → current_refusal state ≡ None)
+      → RunsTo now fs fs table table request request (Argument.ReclaimComplete true) (Done Answer.ReclaimComplete)
+  unfolding run
+  reclaim_ok tests = λ world rest on.
+      ap (reclaimed world (with_rest request rest)) (tests (state_of world (with_rest request rest)) (here world fs table request rest on))
+      ∙ ap (λ (after : World). Gives (Done Answer.ReclaimComplete) after (with_rest request rest)) (sym (served_same world fs table on))
+
+  pub reclaim_err : (reason : Status) → ((state : State) → IsHere fs request state → current_refusal state ≡ Some reason)
+      → RunsTo now fs fs table table request request (Argument.ReclaimComplete true) (Refused 58 reason)
+  unfolding run
+  reclaim_err reason tests = λ world rest on.
+      ap (reclaimed world (with_rest request rest)) (tests (state_of world (with_rest request rest)) (here world fs table request rest on))
+      ∙ ap (λ (after : World). Gives (Refused 58 reason) after (with_rest request rest)) (sym (served_same world fs table on))
+
+  -- CREATE of another type
+
+  other_does : (state : State) (type_number : ℕ) (reason : Status)
+      → refused_or (not (has_current state.context)) status.NoFileHandle (refused_or (not (is_key (current state) state.tree)) status.Stale (Some status.BadType)) ≡ Some reason
+      → does fs.limits state now (Argument.Create (OtherType type_number)) ≡ refused state (Argument.Create (OtherType type_number)) reason
+  unfolding does refusals
+  other_does state type_number reason is =
+      ap (λ (first : Option Status). unless_refused state (Argument.Create (OtherType type_number)) first (effect state now (Argument.Create (OtherType type_number)))) is
+
+  other_runs : (type_number : ℕ) (reason : Status)
+      → ((state : State) → IsHere fs request state → does fs.limits state now (Argument.Create (OtherType type_number)) ≡ refused state (Argument.Create (OtherType type_number)) reason)
+      → RunsTo now fs fs table table request request (Argument.Create (OtherType type_number)) (Refused 6 reason)
+  unfolding run
+  other_runs type_number reason does_so = tree_runs request.context (Argument.Create (OtherType type_number)) (Refused 6 reason) (λ world rest. refl)
+      (λ world rest on. does_so (state_of world (with_rest request rest)) (here world fs table request rest on))
+
+  behind_none : (a b : Bool) → refused_or a status.NoFileHandle (refused_or b status.Stale None) ≡ None
+      → refused_or a status.NoFileHandle (refused_or b status.Stale (Some status.BadType)) ≡ Some status.BadType
+  behind_none true b is = absurd (cc)
+  behind_none false true is = absurd (cc)
+  behind_none false false is = refl
+
+  behind_some : (a b : Bool) (reason : Status) → refused_or a status.NoFileHandle (refused_or b status.Stale None) ≡ Some reason
+      → refused_or a status.NoFileHandle (refused_or b status.Stale (Some status.BadType)) ≡ Some reason
+  behind_some true b reason is = is
+  behind_some false true reason is = is
+  behind_some false false reason is = absurd (cc)
+
+  pub other_ok : (type_number : ℕ) → ((state : State) → IsHere fs request state → current_refusal state ≡ None)
+      → RunsTo now fs fs table table request request (Argument.Create (OtherType type_number)) (Refused 6 status.BadType)
+  other_ok type_number tests = other_runs type_number status.BadType (λ state there.
+      other_does state type_number status.BadType
+      (behind_none (not (has_current state.context)) (not (is_key (current state) state.tree)) (tests state there)))
+
+  pub other_err : (type_number : ℕ) (reason : Status) → ((state : State) → IsHere fs request state → current_refusal state ≡ Some reason)
+      → RunsTo now fs fs table table request request (Argument.Create (OtherType type_number)) (Refused 6 reason)
+  other_err type_number reason tests = other_runs type_number reason (λ state there.
+      other_does state type_number reason
+      (behind_some (not (has_current state.context)) (not (is_key (current state) state.tree)) reason (tests state there)))

@@ -1,0 +1,78 @@
+-- A turn of a request, by what its next operation gave.
+use Rattle.std.proofs.Common.{◌≡◌, ℕ, Bool, true, false, if◌then◌else◌, List, Option, Some, refl, ap, sym, subst, ◌∙◌}
+use Rattle.disk.specs.Moments.{History}
+use Rattle.fs.specs.FileSystem.{FileSystem, AddsTrees}
+use Rattle.model.specs.Answer as model
+use Rattle.model.specs.Operation.{Argument}
+use Rattle.model.specs.Session.{Table}
+use Rattle.model.specs.Tree.{Tree}
+use Rattle.model.specs.World as turns
+use Rattle.model.specs.World.{World, InProgress, HasRun, Entry, Turned, Reads, next_operation, operates, has_run, behind, ends, goes_on, with_result, is_last, entry_of}
+use Rattle.model.specs.declared.status.Status.TheVariants as status
+use Rattle.wire.specs.OutcomeView.{outcome_view}
+use Rattle.compound.specs.Operates.{Operates, GivesIn, run_in_room, tree_by, left_by}
+use Rattle.compound.specs.Runs.{with_rest}
+use Rattle.compound.specs.Steps.{with_served, stepped_on}
+use Rattle.compound.specs.Turns.{Turns, TurnsTo}
+use Rattle.compound.specs.declared.operated.Operated.{Operated}
+use Rattle.compound.specs.declared.operated.Operated.TheVariants as operated
+
+-- an operation that was read: the turn is what its run makes
+read_turn : (world : World) (number now : ℕ) (request : InProgress) (operation : Argument) (rest : List ℕ) (ran : HasRun)
+    → next_operation request ≡ Reads operation rest → run_in_room world (with_rest request rest) now operation ≡ ran
+    → stepped_on world number now request ≡ has_run world number (with_rest request rest) operation ran
+read_turn world number now request operation rest ran next runs =
+    ap (operates world number now request) next ∙ ap (has_run world number (with_rest request rest) operation) runs
+
+turns_to : (now : ℕ) (old new : FileSystem) (old_table new_table : Table) (request left : InProgress) (operation : Argument) (rest : List ℕ) (outcome : model.Outcome)
+    → next_operation request ≡ Reads operation rest → GivesIn now old new old_table new_table request left operation outcome
+    → TurnsTo now old new old_table new_table request (with_rest left rest) outcome
+turns_to now old new old_table new_table request left operation rest outcome next ran = λ world number served. (
+  Some (entry_of world (with_rest request rest) operation outcome (with_served world new new_table)),
+  read_turn world number now request operation rest _ next (ran world rest served),
+)
+
+pub turns_read : (now : ℕ) (old new : FileSystem) (old_table new_table : Table) (request : InProgress) (operation : Argument) (rest : List ℕ) (done : Operated)
+    → next_operation request ≡ Reads operation rest → Operates now old new old_table new_table request operation done
+    → Turns now old new old_table new_table request rest done
+turns_read now old new old_table new_table request operation rest (operated.Gives outcome left) next ran =
+    turns_to now old new old_table new_table request (left_by left request) operation rest (outcome_view outcome) next ran
+turns_read now old new old_table new_table request operation rest (operated.GivesHandle handle) next ran =
+    turns_to now old new old_table new_table request request operation rest (model.Done (model.GetFh handle)) next ran
+turns_read now old new old_table new_table request operation rest (operated.Replays slot) next ran = (
+  ran.0,
+  ran.1,
+  ran.2,
+  ran.3,
+  λ world number served. read_turn world number now request operation rest _ next (ran.4 world rest served),
+)
+
+-- The tree behind a turn
+
+either : (test : Bool) (one other : Turned) (tree : Tree) → one.world.tree ≡ tree → other.world.tree ≡ tree
+    → (if test then one else other).world.tree ≡ tree
+either true one other tree first second = first
+either false one other tree first second = second
+
+behind_tree : (world : World) (number : ℕ) (request : InProgress) (outcome : model.Outcome) (executed : Option Entry)
+    → (behind world number request outcome executed).world.tree ≡ world.tree
+behind_tree world number request (model.Refused operation reason) executed = refl
+behind_tree world number request (model.Done answer) executed =
+    either (is_last request) (ends world number (with_result request (model.Done answer)) status.Ok executed)
+    (goes_on world number (with_result request (model.Done answer)) executed) world.tree refl refl
+
+run_tree : (world : World) (number : ℕ) (request : InProgress) (operation : Argument) (ran : HasRun)
+    → (has_run world number request operation ran).world.tree ≡ tree_by world ran
+run_tree world number request operation (turns.Gives outcome after left) =
+    behind_tree after number left outcome (Some (entry_of world request operation outcome after))
+run_tree world number request operation (turns.Replays reply session slot) = refl
+
+pub adds_read : (now : ℕ) (old : FileSystem) (world : World) (number : ℕ) (request : InProgress) (operation : Argument) (rest : List ℕ) (new : History)
+    → next_operation request ≡ Reads operation rest
+    → AddsTrees old (tree_by world (run_in_room world (with_rest request rest) now operation)) new
+    → AddsTrees old (stepped_on world number now request).world.tree new
+adds_read now old world number request operation rest new next adds =
+    let ran = run_in_room world (with_rest request rest) now operation in
+    subst (λ (tree : Tree). AddsTrees old tree new)
+    (sym (ap (λ (turn : Turned). turn.world.tree) (read_turn world number now request operation rest ran next refl)
+    ∙ run_tree world number (with_rest request rest) operation ran)) adds

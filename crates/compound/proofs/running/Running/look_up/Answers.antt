@@ -1,0 +1,61 @@
+use Rattle.std.proofs.Common.{sym, subst, refl, Err}
+use Rattle.fs.specs.FileSystems.{fs_of}
+use Rattle.fs.specs.Operations.{LooksUp}
+use Rattle.fs.specs.declared.fault.FsFault.{FsFault}
+use Rattle.model.specs.Answer.{Refused}
+use Rattle.model.specs.Operation.{Argument}
+use Rattle.model.specs.declared.status.Status.{Status}
+use Rattle.compound.specs.Operates.{GivesIn}
+use Rattle.compound.specs.Views.{in_progress_of}
+use Rattle.compound.proofs.Rooms.{gives_refusal}
+use Rattle.compound.proofs.Trees.{is_on, is_there, of_request, looks_status, lookup_bad, looked_ok, looked_err, wants}
+use Rattle.compound.proofs.running.Running.look_up.Goals as goal
+
+pub returns-in-Err-clause-gives : goal.returns-in-Err-clause-gives
+unfolding in_progress_of
+returns-in-Err-clause-gives g c = λ now table.
+    let fs = fs_of c.args.fs.now in
+    let request = in_progress_of c.args.self.now in
+    let kind = Argument.Lookup c.args.name.now in
+    c.refuse.ensures.gives now fs fs table table kind
+    (subst (λ (reason : Status). GivesIn now fs fs table table request request kind (Refused 15 reason)) (sym c.in-Err.ensures.err.0)
+    (gives_refusal now fs fs table table request kind 15 _ (wants now fs table request kind refl c.in-Err.ensures.err.1)))
+
+pub status_of-requires : goal.status_of-requires
+unfolding in_progress_of
+status_of-requires g c =
+    let fs = fs_of c.args.fs.now in
+    let request = in_progress_of c.args.self.now in
+    looks_status fs (of_request fs request) 0 c.args.name.now c.in-Err-lookup.fault c.requires.up
+    (c.in-Err-lookup.ensures.step (of_request fs request) 0 (is_on fs request _ _ c.requires.run c.in-Ok.ensures.ok.0 c.in-Ok.ensures.ok.1 (is_there fs request)))
+
+pub refuse-requires-in-Err-lookup : goal.refuse-requires-in-Err-lookup
+unfolding in_progress_of
+refuse-requires-in-Err-lookup g c =
+    let fs = fs_of c.args.fs.now in
+    let request = in_progress_of c.args.self.now in
+    let state = of_request fs request in
+    lookup_bad fs.limits state 0 c.args.name.now c.status_of.result
+    (subst (λ (why : FsFault). LooksUp fs state 0 c.args.name.now (Err why)) c.status_of.ensures
+    (c.in-Err-lookup.ensures.step state 0 (is_on fs request _ _ c.requires.run c.in-Ok.ensures.ok.0 c.in-Ok.ensures.ok.1 (is_there fs request))))
+
+pub returns-in-Ok-lookup-clause-gives : goal.returns-in-Ok-lookup-clause-gives
+unfolding in_progress_of
+returns-in-Ok-lookup-clause-gives g c = λ now table.
+    let fs = fs_of c.args.fs.now in
+    let request = in_progress_of c.args.self.now in
+    c.settle.ensures.gives now fs table (Argument.Lookup c.args.name.now) refl
+    (looked_ok now fs table request c.args.name.now c.in-Ok-lookup.number
+    (λ state there. c.in-Ok-lookup.ensures.step state now (is_on fs request _ _ c.requires.run c.in-Ok.ensures.ok.0 c.in-Ok.ensures.ok.1 there)))
+
+pub returns-in-Err-lookup-clause-gives : goal.returns-in-Err-lookup-clause-gives
+unfolding in_progress_of
+returns-in-Err-lookup-clause-gives g c = λ now table.
+    let fs = fs_of c.args.fs.now in
+    let request = in_progress_of c.args.self.now in
+    let kind = Argument.Lookup c.args.name.now in
+    c.refuse-in-Err-lookup.ensures.gives now fs fs table table kind
+    (gives_refusal now fs fs table table request kind 15 c.status_of.result
+    (looked_err now fs table request c.args.name.now c.status_of.result
+    (λ state there. subst (λ (why : FsFault). LooksUp fs state now c.args.name.now (Err why)) c.status_of.ensures
+    (c.in-Err-lookup.ensures.step state now (is_on fs request _ _ c.requires.run c.in-Ok.ensures.ok.0 c.in-Ok.ensures.ok.1 there)))))

@@ -1,0 +1,38 @@
+use Rattle.std.proofs.Common.{subst, refl, Err}
+use Rattle.fs.specs.FileSystems.{fs_of}
+use Rattle.fs.specs.Operations.{PutsHandle}
+use Rattle.fs.specs.declared.fault.FsFault.{FsFault}
+use Rattle.model.specs.Operation.{Argument}
+use Rattle.compound.specs.Views.{in_progress_of}
+use Rattle.compound.proofs.Rooms.{gives_refusal}
+use Rattle.compound.proofs.Trees.{of_request, puts_status, put_bad, put_ok, put_err}
+use Rattle.compound.proofs.running.Running.put_handle.Goals as goal
+
+pub status_of-requires : goal.status_of-requires
+status_of-requires g c =
+    let fs = fs_of c.args.fs.now in
+    let state = of_request fs (in_progress_of c.args.self.now) in
+    puts_status fs state 0 c.args.handle.now c.in-Err.fault c.requires (c.in-Err.ensures.step state 0 refl)
+
+pub refuse-requires : goal.refuse-requires
+refuse-requires g c =
+    let fs = fs_of c.args.fs.now in
+    let state = of_request fs (in_progress_of c.args.self.now) in
+    put_bad fs.limits state 0 c.args.handle.now c.status_of.result
+    (subst (λ (why : FsFault). PutsHandle fs state 0 c.args.handle.now (Err why)) c.status_of.ensures (c.in-Err.ensures.step state 0 refl))
+
+pub returns-in-Ok-clause-gives : goal.returns-in-Ok-clause-gives
+returns-in-Ok-clause-gives g c = λ now table.
+    let fs = fs_of c.args.fs.now in
+    c.settle.ensures.gives now fs table (Argument.PutFh c.args.handle.now) refl
+    (put_ok now fs table (in_progress_of c.args.self.now) c.args.handle.now c.in-Ok.number (λ state there. c.in-Ok.ensures.step state now there.tree_is))
+
+pub returns-in-Err-clause-gives : goal.returns-in-Err-clause-gives
+returns-in-Err-clause-gives g c = λ now table.
+    let fs = fs_of c.args.fs.now in
+    let request = in_progress_of c.args.self.now in
+    let kind = Argument.PutFh c.args.handle.now in
+    c.refuse.ensures.gives now fs fs table table kind
+    (gives_refusal now fs fs table table request kind 22 c.status_of.result
+    (put_err now fs table request c.args.handle.now c.status_of.result
+    (λ state there. subst (λ (why : FsFault). PutsHandle fs state now c.args.handle.now (Err why)) c.status_of.ensures (c.in-Err.ensures.step state now there.tree_is))))

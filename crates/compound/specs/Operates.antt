@@ -1,0 +1,97 @@
+-- One operation that was read, with the room that the reply has for its result, by the definition.
+use Rattle.std.specs.Prelude.{◌≡◌, ℕ, ◌≤◌, ◌<◌, ◌^◌, Bool, true, false, List, length, Some, ⊤}
+use Rattle.fs.specs.FileSystem.{FileSystem}
+use Rattle.model.specs.Answer as model
+use Rattle.model.specs.Context.{at_node}
+use Rattle.model.specs.Operation.{Argument, operation_of}
+use Rattle.model.specs.Session.{Table}
+use Rattle.model.specs.Tree.{Tree}
+use Rattle.model.specs.WireAnswers as answers
+use Rattle.model.specs.World as turns
+use Rattle.model.specs.World.{World, InProgress, HasRun, run, in_room, outcome_text, reply_with}
+use Rattle.session.specs.Views.{reply_kept}
+use Rattle.wire.specs.OutcomeView.{outcome_view}
+use Rattle.compound.specs.Runs.{with_rest}
+use Rattle.compound.specs.Steps.{IsServed, with_served}
+use Rattle.compound.specs.Views.{slot_of}
+use Rattle.compound.specs.declared.operated.Effect.{Effect}
+use Rattle.compound.specs.declared.operated.Effect.TheVariants as effect
+use Rattle.compound.specs.declared.operated.Operated.{Operated}
+use Rattle.compound.specs.declared.operated.Operated.TheVariants as operated
+
+abbrev pub left_by : Effect → InProgress → InProgress
+left_by effect.Stays request = request
+left_by (effect.Moves number) request = record request { context = at_node request.context number }
+left_by (effect.Joins slot client) request = record request { context = record request.context { client = client }; slot = Some (slot_of slot) }
+
+-- the operation runs, and its result is there if the reply has room for it
+abbrev pub run_in_room : World → InProgress → (now : ℕ) → Argument → HasRun
+run_in_room world request now operation = in_room world request (operation_of operation) (run world request now operation)
+
+-- in each such world, whatever stands behind it, the operation comes to this, before its room is tested
+abbrev pub RunsTo : (now : ℕ) → (old new : FileSystem) → (old_table new_table : Table) → (request left : InProgress) → Argument → model.Outcome → Type 0
+RunsTo now old new old_table new_table request left operation outcome =
+    (world : World) (rest : List ℕ) → IsServed world old old_table
+    → run world (with_rest request rest) now operation ≡ turns.Gives outcome (with_served world new new_table) (with_rest left rest)
+
+-- in each such world, whatever stands behind it, the operation gives this
+abbrev pub GivesIn : (now : ℕ) → (old new : FileSystem) → (old_table new_table : Table) → (request left : InProgress) → Argument → model.Outcome → Type 0
+GivesIn now old new old_table new_table request left operation outcome =
+    (world : World) (rest : List ℕ) → IsServed world old old_table
+    → run_in_room world (with_rest request rest) now operation
+    ≡ turns.Gives outcome (with_served world new new_table) (with_rest left rest)
+
+abbrev pub Operates : (now : ℕ) → (old new : FileSystem) → (old_table new_table : Table) → InProgress → Argument → Operated → Type 0
+Operates now old new old_table new_table request operation (operated.Gives outcome left) =
+    GivesIn now old new old_table new_table request (left_by left request) operation (outcome_view outcome)
+Operates now old new old_table new_table request operation (operated.GivesHandle handle) =
+    GivesIn now old new old_table new_table request request operation (model.Done (model.GetFh handle))
+Operates now old new old_table new_table request operation (operated.Replays slot) =
+    (reply : List ℕ) × (new ≡ old) × (new_table ≡ old_table) × (reply_kept slot.session slot.slot old_table ≡ Some reply)
+    × ((world : World) (rest : List ℕ) → IsServed world old old_table
+    → run_in_room world (with_rest request rest) now operation ≡ turns.Replays reply slot.session slot.slot)
+
+-- the tree behind it
+abbrev pub tree_by : World → HasRun → Tree
+tree_by world (turns.Gives outcome after left) = after.tree
+tree_by world (turns.Replays reply session slot) = world.tree
+
+-- an OK result has room in the reply, whatever stands behind the operation
+abbrev pub HasRoom : InProgress → model.Outcome → Type 0
+HasRoom request (model.Done answer) = length (reply_with request (model.Done answer)) ≤ 16368
+HasRoom request (model.Refused operation reason) = ⊤
+
+-- a result can be spelled, in few bytes
+pub record IsSpelled (request : InProgress) (outcome : model.Outcome) : Type 0 where
+  pub fits : answers.outcome.Fits outcome
+  pub small : length (outcome_text outcome) < 2 ^ 63
+  pub room : HasRoom request outcome
+
+abbrev pub IsAnswered : InProgress → Operated → Type 0
+IsAnswered request (operated.Gives outcome left) = IsSpelled request (outcome_view outcome)
+IsAnswered request (operated.GivesHandle handle) = IsSpelled request (model.Done (model.GetFh handle))
+IsAnswered request (operated.Replays slot) = ⊤
+
+-- the operations that come only first in a COMPOUND
+abbrev pub comes_first : Argument → Bool
+comes_first (Argument.ExchangeId arguments) = true
+comes_first (Argument.CreateSession arguments) = true
+comes_first (Argument.DestroySession id) = true
+comes_first (Argument.DestroyClientId client) = true
+comes_first (Argument.Sequence arguments) = true
+comes_first _ = false
+
+-- the operations that are not served
+abbrev pub is_unserved : Argument → Bool
+is_unserved (Argument.Create arguments) = false
+is_unserved Argument.GetFh = false
+is_unserved (Argument.Lookup name) = false
+is_unserved (Argument.PutFh handle) = false
+is_unserved Argument.PutRootFh = false
+is_unserved (Argument.ExchangeId arguments) = false
+is_unserved (Argument.CreateSession arguments) = false
+is_unserved (Argument.DestroySession id) = false
+is_unserved (Argument.Sequence arguments) = false
+is_unserved (Argument.DestroyClientId client) = false
+is_unserved (Argument.ReclaimComplete one_fs) = false
+is_unserved _ = true

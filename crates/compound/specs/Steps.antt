@@ -1,0 +1,49 @@
+-- One operation of a COMPOUND on a file system and on the table of clients and sessions, by the definition.
+use Rattle.std.specs.Prelude.{◌≡◌, ℕ, []}
+use Rattle.fs.specs.FileSystem.{FileSystem}
+use Rattle.model.specs.Session.{Table}
+use Rattle.model.specs.World as world
+use Rattle.model.specs.World.{World, Connection, Busy, Replied, Turn, Turned, InProgress, next_operation, operates, with_connection}
+use Rattle.session.specs.Limits.{served}
+use Rattle.compound.specs.Views.{in_progress_of}
+use Rattle.compound.specs.declared.step.Stepped.{Stepped}
+use Rattle.compound.specs.declared.step.Stepped.TheVariants as stepped
+
+-- a world that has this file system and this table, and in which nothing is open
+pub record IsServed (world : World) (fs : FileSystem) (table : Table) : Type 0 where
+  pub volume : world.limits.volume ≡ fs.limits
+  pub sessions : world.limits.sessions ≡ served
+  pub reply_bytes : world.limits.reply_bytes ≡ 16368
+  pub run : world.run ≡ fs.run
+  pub tree : world.tree ≡ fs.tree
+  pub changes : world.changes ≡ fs.changes
+  pub opens : world.opens ≡ []
+  pub table_is : world.table ≡ table
+
+-- the world with what they are now
+abbrev pub with_served : World → FileSystem → Table → World
+with_served world fs table = record world { tree = fs.tree; changes = fs.changes; table = table }
+
+-- a turn of the request
+abbrev pub stepped_on : World → (number now : ℕ) → InProgress → Turned
+stepped_on world number now request = operates world number now request (next_operation request)
+
+abbrev pub turn_by : Stepped → Turn
+turn_by (stepped.Ran running) = world.Ran
+turn_by (stepped.Answered reply) = world.Answered
+
+abbrev pub connection_by : Stepped → Connection
+connection_by (stepped.Ran running) = Busy (in_progress_of running)
+connection_by (stepped.Answered reply) = Replied reply.items
+
+-- on each connection of each such world, the turn is this one, and leaves this world
+abbrev pub Steps : (now : ℕ) → (old new : FileSystem) → (old_table new_table : Table) → InProgress → Stepped → Type 0
+Steps now old new old_table new_table request done =
+    (world : World) (number : ℕ) → IsServed world old old_table
+    → ((stepped_on world number now request).turn ≡ turn_by done)
+    × ((stepped_on world number now request).world ≡ with_connection (with_served world new new_table) number (connection_by done))
+
+-- the request goes on in the same run of the server
+abbrev pub StaysInRun : (run : ℕ) → Stepped → Type 0
+StaysInRun run (stepped.Ran running) = (in_progress_of running).context.run ≡ run
+StaysInRun run (stepped.Answered reply) = Unit {0}

@@ -1,0 +1,29 @@
+//! What an operation does.
+
+use crate::running::SlotId;
+use wire::Outcome;
+
+/// What an operation leaves of its COMPOUND, beside the result.
+#[derive(Clone, Copy, Debug, PartialEq, Eq)]
+pub enum Effect {
+    /// Nothing changes.
+    Stays,
+    /// The node of this number is the current one.
+    Moves(u64),
+    /// The slot runs the COMPOUND, of the session of this client.
+    Joins { slot: SlotId, client: u64 },
+}
+
+/// What an operation does.
+#[derive(Drop)]
+pub enum Operated {
+    /// Its result, and what it leaves.
+    Gives {
+        outcome: Outcome<'static>,
+        effect: Effect,
+    },
+    /// The result of GETFH: this filehandle. Nothing changes.
+    GivesHandle([u8; 8]),
+    /// The COMPOUND is a retry: its whole result is the one that this slot keeps, which `Table::kept` gives.
+    Replays(SlotId),
+}

@@ -1,0 +1,174 @@
+//! One operation of a COMPOUND: the server's atomic step.
+
+ghost use Rattle.std.specs.Prelude.{◌≡◌, ◌<◌, ◌^◌};
+ghost use Rattle.wire.specs.declared.outcome.Outcome.TheVariants as outcomes;
+ghost use Rattle.compound.specs.declared.operated.Effect.TheVariants as effect;
+ghost use Rattle.compound.specs.declared.operated.Operated.TheVariants as operated;
+
+use crate::fault::Fault;
+use crate::next::Next;
+use crate::operated::{Effect, Operated};
+use crate::running::Running;
+use disk::Device;
+use fs::Fs;
+use model::status::Status;
+use session::Table;
+use wire::{Answer, Outcome};
+
+/// What a step leaves.
+#[derive(Drop)]
+pub enum Stepped {
+    /// One operation ran, and more remain.
+    Ran(Running),
+    /// The last operation ran. The reply's whole record, its header included; its slot keeps the result.
+    Answered(Vec<u8>),
+}
+
+/// A COMPOUND whose next operation was not done, and why.
+#[derive(Drop)]
+pub struct Undone {
+    pub fault: Fault,
+    /// The COMPOUND, given back as it was.
+    pub running: Running,
+}
+
+impl Running {
+    ghost use Rattle.std.specs.Prelude.{◌≡◌, ◌≤◌, ℕ, true, false, length, drop, IfOk, IfErr, OnErr, IsErrOf};
+    ghost use Rattle.disk.specs.Cause.{IsCounted};
+    ghost use Rattle.fs.specs.FileSystem.{AddsTrees};
+    ghost use Rattle.fs.specs.FileSystems.{fs_of, fs_failures};
+    ghost use Rattle.model.specs.World.{World};
+    ghost use Rattle.session.specs.Views.{table_of};
+    ghost use Rattle.wire.specs.OutcomeView.{outcome_view};
+    ghost use Rattle.compound.specs.Operates.{IsAnswered, IsSpelled, left_by};
+    ghost use Rattle.compound.specs.Steps.{IsServed, Steps, StaysInRun, stepped_on};
+    ghost use Rattle.compound.specs.Turns.{Turns, StandsBehind};
+    ghost use Rattle.compound.specs.Views.{in_progress_of};
+    ghost use Rattle.compound.specs.declared.fault.Fault.TheVariants as fault;
+
+    /// Reads the next operation, tests it and runs it, at this moment in nanoseconds since 1970. A change is kept on the device
+    /// before its result is there.
+    ///
+    /// # Errors
+    /// The COMPOUND comes back as it was. After `Memory` nothing changed; after `Device` the file system is down.
+    pub fn step<D: Device>(
+        self,
+        fs: &mut Fs<D>,
+        table: &mut Table,
+        now: u64,
+    ) -> Result<Stepped, Undone>
+        requires up { (fs_of fs.old).is_down ≡ false }
+        requires run { (in_progress_of self).context.run ≡ (fs_of fs.old).run }
+        ensures step { IfOk result (Steps now (fs_of fs.old) (fs_of fs.new) (table_of table.old) (table_of table.new) (in_progress_of self)) }
+        ensures stays { IfOk result (StaysInRun (fs_of fs.old).run) }
+        ensures same { fs_of fs.new ≡ record (fs_of fs.old) { tree = (fs_of fs.new).tree; changes = (fs_of fs.new).changes; is_down = (fs_of fs.new).is_down; history = (fs_of fs.new).history } }
+        ensures still_up { IfOk result (λ done. (fs_of fs.new).is_down ≡ false) }
+        ensures back { IfErr result (λ undone. in_progress_of undone.running ≡ in_progress_of self) }
+        ensures table { OnErr result (table_of table.new ≡ table_of table.old) }
+        ensures memory { IfErr result (λ undone. undone.fault ≡ fault.Memory → fs_of fs.new ≡ fs_of fs.old) }
+        ensures device { IfErr result (λ undone. undone.fault ≡ fault.Device
+            → fs_of fs.new ≡ record (fs_of fs.old) { is_down = true; history = (fs_of fs.new).history }) }
+        ensures cause { IfErr result (λ undone. undone.fault ≡ fault.Device → IsCounted (fs_failures fs.old) (fs_failures fs.new)) }
+        ensures later { fs_failures fs.old ≤ fs_failures fs.new }
+        ensures moments { D.keeps_word → (world : World) (number : ℕ) → IsServed world (fs_of fs.old) (table_of table.old)
+            → AddsTrees (fs_of fs.old) (stepped_on world number now (in_progress_of self)).world.tree (fs_of fs.new).history }
+    {
+        let Ran { position, done } = match self.run_next(fs, table, now) {
+            Ok(ran) => ran,
+            Err(fault) => return Err(Undone {
+                fault,
+                running: self,
+            }),
+        };
+        let mut running = self;
+        running.advance(position);
+        match done {
+            Operated::Replays(slot) => Ok(Stepped::Answered(running.repeat(table, &slot))),
+            Operated::GivesHandle(handle) => {
+                let outcome = Outcome::Done(Answer::GetFh(&handle));
+                Ok(running.answer(table, &outcome))
+            }
+            Operated::Gives { outcome, effect } => {
+                running.leave(effect);
+                Ok(running.answer(table, &outcome))
+            }
+        }
+    }
+
+    /// Reads the next operation, tests it and runs it. The COMPOUND itself is not changed yet.
+    fn run_next<D: Device>(&self, fs: &mut Fs<D>, table: &mut Table, now: u64) -> Result<Ran, Fault>
+        requires up { (fs_of fs.old).is_down ≡ false }
+        requires run { (in_progress_of self.now).context.run ≡ (fs_of fs.old).run }
+        ensures turns { IfOk result (λ ran. Turns now (fs_of fs.old) (fs_of fs.new) (table_of table.old) (table_of table.new) (in_progress_of self.now) (drop ran.position self.now.operations.items) ran.done) }
+        ensures within { IfOk result (λ ran. ran.position ≤ length self.now.operations.items) }
+        ensures answered { IfOk result (λ ran. IsAnswered (in_progress_of self.now) ran.done) }
+        ensures same { fs_of fs.new ≡ record (fs_of fs.old) { tree = (fs_of fs.new).tree; changes = (fs_of fs.new).changes; is_down = (fs_of fs.new).is_down; history = (fs_of fs.new).history } }
+        ensures still_up { IfOk result (λ ran. (fs_of fs.new).is_down ≡ false) }
+        ensures table { OnErr result (table_of table.new ≡ table_of table.old) }
+        ensures memory { IsErrOf result fault.Memory → fs_of fs.new ≡ fs_of fs.old }
+        ensures device { IsErrOf result fault.Device → fs_of fs.new ≡ record (fs_of fs.old) { is_down = true; history = (fs_of fs.new).history } }
+        ensures cause { IsErrOf result fault.Device → IsCounted (fs_failures fs.old) (fs_failures fs.new) }
+        ensures later { fs_failures fs.old ≤ fs_failures fs.new }
+        ensures moments { D.keeps_word → (world : World) (number : ℕ) → IsServed world (fs_of fs.old) (table_of table.old)
+            → AddsTrees (fs_of fs.old) (stepped_on world number now (in_progress_of self.now)).world.tree (fs_of fs.new).history }
+    {
+        match self.next_operation(self.alloc)? {
+            Next::Refuses { operation, status } => Ok(Ran {
+                position: self.position,
+                done: refused(operation, status),
+            }),
+            Next::Reads { argument, position } => {
+                let done = self.operate(fs, table, now, &argument)?;
+                Ok(Ran { position, done })
+            }
+        }
+    }
+
+    /// What an operation leaves of the COMPOUND, beside its result.
+    #[tactic(auto, unfolding(crate::specs::Views::in_progress_of))]
+    fn leave(&mut self, effect: Effect)
+        ensures { in_progress_of self.new ≡ left_by effect (in_progress_of self.old) }
+    {
+        match effect {
+            Effect::Stays => {}
+            Effect::Moves(number) => self.current = Some(number),
+            Effect::Joins { slot, client } => {
+                self.slot = Some(slot);
+                self.client = client;
+            }
+        }
+    }
+
+    /// The COMPOUND behind this result: it goes on, or the reply is there, since this result is the last one or not OK.
+    fn answer(self, table: &mut Table, outcome: &Outcome<'_>) -> Stepped
+        requires { IsSpelled (in_progress_of self) (outcome_view outcome.now) }
+        ensures stands { StandsBehind (table_of table.old) (table_of table.new) (in_progress_of self) (outcome_view outcome.now) result }
+        ensures stays { StaysInRun (in_progress_of self).context.run result }
+    {
+        if matches!(outcome, Outcome::Done(_)) && !self.is_last() {
+            let mut running = self;
+            running.push_result(outcome);
+            return Stepped::Ran(running);
+        }
+        Stepped::Answered(self.end(table, outcome))
+    }
+}
+
+/// The operation of this number is refused before it is run.
+fn refused(operation: u32, status: Status) -> Operated
+    ensures number { operation < 2 ^ 32 }
+    ensures gives { result ≡ operated.Gives (outcomes.Refused operation status) effect.Stays }
+{
+    Operated::Gives {
+        outcome: Outcome::Refused { operation, status },
+        effect: Effect::Stays,
+    }
+}
+
+/// An operation that ran, or was refused before.
+#[derive(Drop)]
+struct Ran {
+    /// Where the bytes behind it begin.
+    position: usize,
+    done: Operated,
+}

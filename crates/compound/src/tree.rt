@@ -1,0 +1,203 @@
+//! The operations on the tree (RFC 8881, sections 18.4 and 18.13).
+
+ghost use Rattle.std.specs.Prelude.{◌≡◌};
+
+use crate::fault::Fault;
+use crate::operated::{Effect, Operated};
+use crate::running::Running;
+use disk::Device;
+use fs::{Fs, FsFault};
+use model::status::Status;
+use plain::attributes::Attributes as Given;
+use plain::make_dir::NewDirectory;
+use wire::{
+    Answer, Attributes, Bitmap, ChangeInfo, CreateAnswer, CreateArguments, Operation, Outcome,
+};
+
+impl Running {
+    ghost use Rattle.std.specs.Prelude.{◌≡◌, ◌≤◌, ℕ, List, true, false, nat_le, length, IfOk, IfErr, IsErrOf};
+    ghost use Rattle.disk.specs.Cause.{IsCounted};
+    ghost use Rattle.fs.specs.FileSystem.{AddsTrees};
+    ghost use Rattle.fs.specs.FileSystems.{fs_of, fs_failures};
+    ghost use Rattle.model.specs.Operation as operations;
+    ghost use Rattle.model.specs.Session.{Table};
+    ghost use Rattle.model.specs.Answer.{Done, Create};
+    ghost use Rattle.model.specs.Attribute.{trimmed};
+    ghost use Rattle.model.specs.World.{World, reply_with};
+    ghost use Rattle.wire.specs.ArgumentViews.{create_view};
+    ghost use Rattle.wire.specs.SmallViews.{attributes_view};
+    ghost use Rattle.wire.specs.Short.{IsRefusal};
+    ghost use Rattle.compound.specs.Operates.{Operates, IsAnswered, run_in_room, tree_by};
+    ghost use Rattle.compound.specs.Runs.{with_rest};
+    ghost use Rattle.compound.specs.Steps.{IsServed};
+    ghost use Rattle.compound.specs.Trees.{TestsCurrent};
+    ghost use Rattle.compound.specs.Views.{in_progress_of};
+    ghost use Rattle.compound.specs.declared.fault.Fault.TheVariants as fault;
+
+    /// The tests of the current filehandle: NOFILEHANDLE where there is none, STALE where its node is gone.
+    pub(crate) fn check_current<D: Device>(&self, fs: &Fs<D>) -> Result<(), Status>
+        requires up { (fs_of fs.now).is_down ≡ false }
+        requires run { (in_progress_of self.now).context.run ≡ (fs_of fs.now).run }
+        ensures tests { TestsCurrent (fs_of fs.now) (in_progress_of self.now) result }
+        ensures refused { IfErr result IsRefusal }
+    {
+        let number = match self.current_node() {
+            Ok(number) => number,
+            Err(status) => return Err(status),
+        };
+        match fs.check_node(number) {
+            Ok(()) => Ok(()),
+            Err(fault) => Err(status_of(fault)),
+        }
+    }
+
+    /// LOOKUP (section 18.13): the node that the name leads to is the current one.
+    pub(crate) fn look_up<D: Device>(&self, fs: &Fs<D>, name: &[u8]) -> Operated
+        requires up { (fs_of fs.now).is_down ≡ false }
+        requires run { (in_progress_of self.now).context.run ≡ (fs_of fs.now).run }
+        ensures gives { (now : ℕ) (table : Table) → Operates now (fs_of fs.now) (fs_of fs.now) table table (in_progress_of self.now) (operations.Argument.Lookup name.now) result }
+        ensures answered { IsAnswered (in_progress_of self.now) result }
+    {
+        let directory = match self.current_node() {
+            Ok(number) => number,
+            Err(status) => return self.refuse(Operation::Lookup, status),
+        };
+        match fs.lookup(&self.cred, directory, name) {
+            Ok(number) => self.settle(Answer::Lookup, Effect::Moves(number)),
+            Err(fault) => self.refuse(Operation::Lookup, status_of(fault)),
+        }
+    }
+
+    /// CREATE (section 18.4).
+    pub(crate) fn create<D: Device>(
+        &self,
+        fs: &mut Fs<D>,
+        now: u64,
+        arguments: &CreateArguments<'_>,
+    ) -> Result<Operated, Fault>
+        requires up { (fs_of fs.old).is_down ≡ false }
+        requires run { (in_progress_of self.now).context.run ≡ (fs_of fs.old).run }
+        ensures gives { IfOk result (λ done. (table : Table) → Operates now (fs_of fs.old) (fs_of fs.new) table table (in_progress_of self.now) (operations.Argument.Create (create_view arguments.now)) done) }
+        ensures answered { IfOk result (IsAnswered (in_progress_of self.now)) }
+        ensures same { fs_of fs.new ≡ record (fs_of fs.old) { tree = (fs_of fs.new).tree; changes = (fs_of fs.new).changes; is_down = (fs_of fs.new).is_down; history = (fs_of fs.new).history } }
+        ensures still_up { IfOk result (λ done. (fs_of fs.new).is_down ≡ false) }
+        ensures memory { IsErrOf result fault.Memory → fs_of fs.new ≡ fs_of fs.old }
+        ensures device { IsErrOf result fault.Device → fs_of fs.new ≡ record (fs_of fs.old) { is_down = true; history = (fs_of fs.new).history } }
+        ensures cause { IsErrOf result fault.Device → IsCounted (fs_failures fs.old) (fs_failures fs.new) }
+        ensures later { fs_failures fs.old ≤ fs_failures fs.new }
+        ensures moments { D.keeps_word → (table : Table) (world : World) (rest : List ℕ) → IsServed world (fs_of fs.old) table
+            → AddsTrees (fs_of fs.old) (tree_by world (run_in_room world (with_rest (in_progress_of self.now) rest) now (operations.Argument.Create (create_view arguments.now)))) (fs_of fs.new).history }
+    {
+        match arguments {
+            CreateArguments::NewDirectory { name, attributes } => {
+                self.create_directory(fs, now, name, attributes)
+            }
+            CreateArguments::OtherType(kind) => Ok(self.create_other(fs, *kind)),
+        }
+    }
+
+    /// CREATE of another type than a directory: nothing else is made by it.
+    pub(crate) fn create_other<D: Device>(&self, fs: &Fs<D>, kind: u32) -> Operated
+        requires up { (fs_of fs.now).is_down ≡ false }
+        requires run { (in_progress_of self.now).context.run ≡ (fs_of fs.now).run }
+        ensures gives { (now : ℕ) (table : Table) → Operates now (fs_of fs.now) (fs_of fs.now) table table (in_progress_of self.now) (operations.Argument.Create (operations.OtherType kind)) result }
+        ensures answered { IsAnswered (in_progress_of self.now) result }
+    {
+        match self.check_current(fs) {
+            Ok(()) => self.refuse(Operation::Create, Status::BadType),
+            Err(status) => self.refuse(Operation::Create, status),
+        }
+    }
+
+    /// CREATE of a directory (section 18.4): it is the current node. Nothing is made where the reply has no room for the result.
+    pub(crate) fn create_directory<D: Device>(
+        &self,
+        fs: &mut Fs<D>,
+        now: u64,
+        name: &[u8],
+        attributes: &Attributes<'_>,
+    ) -> Result<Operated, Fault>
+        requires up { (fs_of fs.old).is_down ≡ false }
+        requires run { (in_progress_of self.now).context.run ≡ (fs_of fs.old).run }
+        ensures gives { IfOk result (λ done. (table : Table) → Operates now (fs_of fs.old) (fs_of fs.new) table table (in_progress_of self.now) (operations.Argument.Create (operations.NewDirectory name.now (attributes_view attributes.now))) done) }
+        ensures answered { IfOk result (IsAnswered (in_progress_of self.now)) }
+        ensures same { fs_of fs.new ≡ record (fs_of fs.old) { tree = (fs_of fs.new).tree; changes = (fs_of fs.new).changes; is_down = (fs_of fs.new).is_down; history = (fs_of fs.new).history } }
+        ensures still_up { IfOk result (λ done. (fs_of fs.new).is_down ≡ false) }
+        ensures memory { IsErrOf result fault.Memory → fs_of fs.new ≡ fs_of fs.old }
+        ensures device { IsErrOf result fault.Device → fs_of fs.new ≡ record (fs_of fs.old) { is_down = true; history = (fs_of fs.new).history } }
+        ensures cause { IsErrOf result fault.Device → IsCounted (fs_failures fs.old) (fs_failures fs.new) }
+        ensures later { fs_failures fs.old ≤ fs_failures fs.new }
+        ensures moments { D.keeps_word → (table : Table) (world : World) (rest : List ℕ) → IsServed world (fs_of fs.old) table
+            → AddsTrees (fs_of fs.old) (tree_by world (run_in_room world (with_rest (in_progress_of self.now) rest) now (operations.Argument.Create (operations.NewDirectory name.now (attributes_view attributes.now))))) (fs_of fs.new).history }
+    {
+        let parent = match self.current_node() {
+            Ok(number) => number,
+            Err(status) => return Ok(self.refuse(Operation::Create, status)),
+        };
+        let has_room = self.has_created_room(&attributes.bitmap);
+        let asked = NewDirectory {
+            parent,
+            name,
+            attributes: Given {
+                bitmap: attributes.bitmap.as_slice(),
+                values: attributes.values,
+            },
+        };
+        match fs.make_dir(&self.cred, now, asked, has_room) {
+            Ok(made) => Ok(Operated::Gives {
+                outcome: created(&attributes.bitmap, made.before, made.number),
+                effect: Effect::Moves(made.number),
+            }),
+            Err(FsFault::Status(status)) => Ok(self.refuse(Operation::Create, status)),
+            Err(FsFault::NoRoom) => Ok(self.refuse(Operation::Create, Status::RepTooBig)),
+            Err(FsFault::Memory) => Err(Fault::Memory),
+            Err(FsFault::Device) => Err(Fault::Device),
+            Err(FsFault::Down) => unreachable!(),
+        }
+    }
+
+    /// Whether the reply has room for the result of a CREATE of a directory. The change values do not matter.
+    fn has_created_room(&self, bitmap: &Bitmap) -> bool
+        ensures { result ≡ nat_le (length (reply_with (in_progress_of self.now) (Done (Create (record { change = record { is_atomic = true; before = 0; after = 0 }; was_set = trimmed bitmap.now }))))) 16368 }
+    {
+        let outcome = created(bitmap, 0, 0);
+        self.has_room(&outcome)
+    }
+}
+
+ghost use Rattle.std.specs.Prelude.{◌≤◌, ◌<◌, ◌^◌, IsTrue, true, length};
+ghost use Rattle.xdr.specs.Forms.{is_trimmed};
+ghost use Rattle.model.specs.Answer.{Answer as Answered, Done, Create};
+ghost use Rattle.model.specs.Attribute.{trimmed};
+ghost use Rattle.model.specs.World.{outcome_text};
+ghost use Rattle.model.specs.WireAnswers as answers;
+ghost use Rattle.wire.specs.OutcomeView.{outcome_view};
+ghost use Rattle.compound.specs.Trees.{IsStatus};
+ghost use Rattle.fs.specs.declared.fault.FsFault.TheVariants as faults;
+
+/// The result of a CREATE that made a directory: its parent's change value before and after.
+fn created(bitmap: &Bitmap, before: u64, after: u64) -> Outcome<'static>
+    ensures is { outcome_view result ≡ Done (Create (record { change = record { is_atomic = true; before = before; after = after }; was_set = trimmed bitmap.now })) }
+    ensures fits { answers.outcome.Fits (outcome_view result) }
+    ensures small { length (outcome_text (outcome_view result)) < 2 ^ 63 }
+{
+    let change = ChangeInfo {
+        is_atomic: true,
+        before,
+        after,
+    };
+    let outcome = Outcome::Done(Answer::Create(CreateAnswer::new(change, bitmap)));
+    outcome.tell_fits();
+    outcome
+}
+
+/// The status of a fault that has one.
+pub(crate) fn status_of(fault: FsFault) -> Status
+    requires { IsStatus fault }
+    ensures { fault ≡ faults.Status result }
+{
+    match fault {
+        FsFault::Status(status) => status,
+        _ => unreachable!(),
+    }
+}

@@ -1,0 +1,10 @@
+//! The reply that a slot keeps.
+
+ghost use Rattle.std.specs.Prelude.{◌≤◌, length};
+
+/// A whole COMPOUND result, of at most as many bytes as a record has.
+#[derive(Drop)]
+pub struct KeptReply {
+    pub bytes: Vec<u8>,
+    ghost short: { length bytes.items ≤ 16384 },
+}
