@@ -82,7 +82,7 @@ where
     O: Write,
 {
     let mut device = MemDevice::new(rt.alloc(), MEMORY_SECTORS)?;
-    Server::format(&mut device, MEMORY_NODES)?;
+    Server::format(rt.alloc(), &mut device, MEMORY_NODES)?;
     script(rt.alloc(), &mut device, input, out)
 }
 
@@ -94,7 +94,7 @@ fn format_file<R, O>(
     out: &mut O,
 ) -> Result<(), Refused>
 where
-    R: Files<File = File>,
+    R: Files<File = File> + AllocGlobal,
     O: Write,
 {
     // The size is tested before the file is touched.
@@ -102,7 +102,7 @@ where
         return Err(Refused::Size);
     }
     let mut device = FileDevice::create(rt, file, sectors)?;
-    Server::format(&mut device, nodes)?;
+    Server::format(rt.alloc(), &mut device, nodes)?;
     writeln!(out, "formatted")?;
     Ok(())
 }

@@ -1,16 +1,34 @@
 //! The lines of a script.
 
+use crate::operation::{Operation, read_operations};
 use std::alloc::{AllocError, Global};
 
 /// What a line asks for.
-#[derive(Clone, Copy, Debug, PartialEq, Eq)]
+#[derive(Drop)]
 pub enum Line<'a> {
     /// Nothing: the line is empty or a comment.
     Nothing,
     /// Drop the server and its connections, and mount again.
     Restart,
+    /// A client does something.
+    Client { name: &'a str, action: Action<'a> },
+}
+
+/// What a client does.
+#[derive(Drop)]
+pub enum Action<'a> {
     /// A new client of this name connects and makes itself known.
-    Hello { name: &'a str, uid: u32, gid: u32 },
+    Hello { uid: u32, gid: u32 },
+    /// It asks for a session.
+    Session,
+    /// It sends these operations behind a SEQUENCE.
+    Call(Vec<Operation<'a>>),
+    /// Its connection is given a turn.
+    Turn,
+    /// Turns are run up to its reply, which it takes.
+    Take,
+    /// It sends its last record again, over a new connection.
+    Retry,
 }
 
 /// Reads a line without its end; none where it has no form. Words are parted by one blank.
@@ -19,20 +37,46 @@ pub fn read_line(alloc: Global, text: &str) -> Result<Option<Line<'_>>, AllocErr
         return Ok(Some(Line::Nothing));
     }
     let words: Vec<&str> = text.split(' ').collect(alloc)?;
-    Ok(line_of(&words))
+    if words.iter().any(|word| word.is_empty()) {
+        return Ok(None);
+    }
+    match words.as_slice() {
+        [word] if *word == "restart" => Ok(Some(Line::Restart)),
+        [name, rest @ ..] => match read_action(alloc, rest)? {
+            Some(action) => Ok(Some(Line::Client {
+                name: *name,
+                action,
+            })),
+            None => Ok(None),
+        },
+        [] => Ok(None),
+    }
 }
 
-fn line_of<'a>(words: &[&'a str]) -> Option<Line<'a>> {
-    if words.iter().any(|word| word.is_empty()) {
-        return None;
-    }
+fn read_action<'a>(alloc: Global, words: &[&'a str]) -> Result<Option<Action<'a>>, AllocError> {
     match words {
-        [word] if *word == "restart" => Some(Line::Restart),
-        [name, verb, uid, gid] if *verb == "hello" => Some(Line::Hello {
-            name: *name,
-            uid: decimal(*uid)?,
-            gid: decimal(*gid)?,
-        }),
+        [verb, operations @ ..] if *verb == "call" => {
+            Ok(read_operations(alloc, operations)?.map(Action::Call))
+        }
+        [verb, uid, gid] if *verb == "hello" => Ok(hello_of(*uid, *gid)),
+        [verb] => Ok(plain_action(*verb)),
+        _ => Ok(None),
+    }
+}
+
+fn hello_of<'a>(uid: &str, gid: &str) -> Option<Action<'a>> {
+    Some(Action::Hello {
+        uid: decimal(uid)?,
+        gid: decimal(gid)?,
+    })
+}
+
+fn plain_action<'a>(verb: &str) -> Option<Action<'a>> {
+    match verb {
+        "session" => Some(Action::Session),
+        "turn" => Some(Action::Turn),
+        "take" => Some(Action::Take),
+        "retry" => Some(Action::Retry),
         _ => None,
     }
 }

@@ -1,9 +1,12 @@
 //! The program `nfs41`: formats volumes, and runs scripts of clients against a server.
 #![tactic(auto)]
 
+mod actions;
+mod client;
 mod command;
 mod line;
 mod message;
+mod operation;
 mod refused;
 mod script;
 #[cfg(test)]

@@ -1,22 +1,13 @@
 //! Running a script: clients and the server in one thread, which take turns.
 
-use crate::line::{Line, read_line};
-use crate::message::{read_hello, write_hello};
+use crate::actions::{call, hello, retry, session, take, turn};
+use crate::client::Client;
+use crate::line::{Action, Line, read_line};
 use crate::refused::Refused;
 use disk::Device;
-use server::{Server, Turn};
+use server::Server;
 use std::alloc::Global;
 use std::io::{BufRead, ErrorKind, Write};
-
-/// The moment that every turn is handed.
-const MOMENT: u64 = 0;
-
-/// A client of the script.
-#[derive(Drop)]
-struct Client {
-    name: String,
-    conn: usize,
-}
 
 /// Why the lines of one mount end.
 #[derive(Clone, Copy, PartialEq, Eq)]
@@ -34,6 +25,7 @@ pub fn script<D: Device, I: BufRead, O: Write>(
     input: &mut I,
     out: &mut O,
 ) -> Result<(), Refused> {
+    let mut clients = Vec::new(alloc);
     let mut restarted = false;
     for _ in 0..u64::MAX {
         let mut server = match Server::mount(alloc, &mut *device) {
@@ -43,21 +35,29 @@ pub fn script<D: Device, I: BufRead, O: Write>(
         if restarted {
             writeln!(out, "run {}", server.restart_count())?;
         }
-        if run_lines(alloc, &mut server, input, out)? == End::Script {
+        if run_lines(alloc, &mut server, &mut clients, input, out)? == End::Script {
             break;
         }
+        disconnect(&mut clients);
         restarted = true;
     }
     Ok(())
 }
 
+/// The connections ended with the server. What the clients know stays.
+fn disconnect(clients: &mut Vec<Client>) {
+    for client in clients.iter_mut() {
+        client.disconnect();
+    }
+}
+
 fn run_lines<D: Device, I: BufRead, O: Write>(
     alloc: Global,
     server: &mut Server<D>,
+    clients: &mut Vec<Client>,
     input: &mut I,
     out: &mut O,
 ) -> Result<End, Refused> {
-    let mut clients = Vec::new(alloc);
     for _ in 0..u64::MAX {
         let mut text = String::new(alloc);
         if next_line(input, &mut text)? == 0 {
@@ -66,8 +66,8 @@ fn run_lines<D: Device, I: BufRead, O: Write>(
         match read_line(alloc, text.as_str().trim_end_matches('\n'))? {
             Some(Line::Nothing) => {}
             Some(Line::Restart) => return Ok(End::Restart),
-            Some(Line::Hello { name, uid, gid }) => {
-                hello(alloc, server, &mut clients, name, uid, gid, out)?;
+            Some(Line::Client { name, action }) => {
+                act(alloc, server, clients, name, action, out)?;
             }
             None => return Err(Refused::Script),
         }
@@ -86,59 +86,51 @@ fn next_line<I: BufRead>(input: &mut I, text: &mut String) -> Result<usize, Refu
     }
 }
 
-/// Connects a new client, makes it known and tells its number.
-fn hello<D: Device, O: Write>(
+/// Does what a line asks of the client of this name.
+fn act<D: Device, O: Write>(
     alloc: Global,
     server: &mut Server<D>,
     clients: &mut Vec<Client>,
     name: &str,
-    uid: u32,
-    gid: u32,
+    action: Action<'_>,
     out: &mut O,
 ) -> Result<(), Refused> {
-    if let Some(place) = clients
-        .iter()
-        .position(|client| client.name.as_str() == name)
-    {
-        let old = clients.remove(place);
-        server.hangup(old.conn, MOMENT)?;
+    if let Action::Hello { uid, gid } = action {
+        forget(server, clients, name)?;
+        let client = hello(alloc, server, name, uid, gid, out)?;
+        return Ok(clients.push(client)?);
     }
-    let conn = server.connect()?;
-    clients.push(Client {
-        name: String::from_str(alloc, name)?,
-        conn,
-    })?;
-    let xid = 1;
-    let reply = exchange(
-        alloc,
-        server,
-        conn,
-        &write_hello(alloc, xid, name, uid, gid)?,
-    )?;
-    let known = read_hello(&reply, xid)?;
-    writeln!(out, "{name} client {} {}", known.id, known.sequence)?;
-    Ok(())
+    let Some(client) = clients
+        .iter_mut()
+        .find(|client| client.name.as_str() == name)
+    else {
+        return Err(Refused::Script);
+    };
+    match action {
+        Action::Hello { .. } => Ok(()),
+        Action::Session => session(alloc, server, client, out),
+        Action::Call(operations) => call(alloc, server, client, &operations),
+        Action::Turn => turn(server, client, out),
+        Action::Take => take(alloc, server, client, out),
+        Action::Retry => retry(server, client),
+    }
 }
 
-/// Sends a record, and runs turns until its reply can be taken.
-fn exchange<D: Device>(
-    alloc: Global,
+/// A name's new client takes the place of its old one, whose connection is hung up.
+fn forget<D: Device>(
     server: &mut Server<D>,
-    conn: usize,
-    record_bytes: &[u8],
-) -> Result<Vec<u8>, Refused> {
-    if server.feed(conn, record_bytes)? != record_bytes.len() {
-        return Err(Refused::Garbled);
+    clients: &mut Vec<Client>,
+    name: &str,
+) -> Result<(), Refused> {
+    let Some(place) = clients
+        .iter()
+        .position(|client| client.name.as_str() == name)
+    else {
+        return Ok(());
+    };
+    let old = clients.remove(place);
+    if let Some(conn) = old.conn {
+        server.hangup(conn, crate::actions::MOMENT)?;
     }
-    for _ in 0..u64::MAX {
-        match server.turn(conn, MOMENT)? {
-            Turn::Ran => {}
-            Turn::Idle => return Err(Refused::Garbled),
-            Turn::Answered => break,
-        }
-    }
-    match server.take_output(conn)? {
-        Some(reply) => Ok(Vec::from_slice(alloc, &reply)?),
-        None => Err(Refused::Garbled),
-    }
+    Ok(())
 }

@@ -1,9 +1,8 @@
-pub mod Zeros
+pub mod HangUps
 pub mod Moments
-pub mod FormatPhases
-pub mod Counted
-pub mod MountPhases
-pub mod SuperblockLemmas
-pub mod Lengths
-pub mod Receiving
-pub mod CountLaws
+pub mod Openings
+pub mod Refusals
+pub mod ServedTurns
+pub mod SlabLaws
+pub mod Turning
+pub mod Worlds

@@ -1,11 +1,5 @@
-pub mod Superblock
-pub mod Volume
-pub mod Mount
-pub mod Call
-pub mod Compound
-pub mod Views
-pub mod Connection
-pub mod Answers
-pub mod ConnectionViews
-pub mod World
+pub mod Connections
 pub mod Faults
+pub mod Headline
+pub mod Servers
+pub mod Serves

@@ -1,38 +1,13 @@
+//! Why a server does not do what it is asked.
+
+ghost use Rattle.std.specs.Prelude.{◌≡◌};
+ghost use Rattle.server.specs.Faults.{feed_fault, turn_fault};
+ghost use Rattle.server.specs.declared.fault.ServerFault.TheVariants as faults;
+
+use compound::Fault;
+use rpc::RecordFault;
+use std::alloc::AllocFailed;
 use thiserror::Error;
-
-/// Why a device was not formatted.
-#[derive(Clone, Copy, Debug, PartialEq, Eq, Error)]
-pub enum FormatFault {
-    /// The device failed; a stop within the format may leave the same.
-    #[error("Device")]
-    Device,
-    /// No memory. Nothing was written.
-    #[error("Memory")]
-    Memory,
-    /// No volume has this many sectors and nodes. Nothing was written.
-    #[error("Size")]
-    Size,
-}
-
-/// Why a volume was not mounted.
-#[derive(Clone, Copy, Debug, PartialEq, Eq, Error)]
-pub enum MountFault {
-    /// The device failed; the restart count may be raised.
-    #[error("Device")]
-    Device,
-    /// A volume, but not in the form that a format and mounts leave.
-    #[error("Damaged")]
-    Damaged,
-    /// No volume of this version and of the device's size.
-    #[error("NotVolume")]
-    NotVolume,
-    /// The restart count is full.
-    #[error("Worn")]
-    Worn,
-    /// No memory. Nothing was written.
-    #[error("Memory")]
-    Memory,
-}
 
 /// Why a server does not do what it is asked.
 #[derive(Clone, Copy, Debug, PartialEq, Eq, Error)]
@@ -46,10 +21,42 @@ pub enum ServerFault {
     /// The connection was closed by a refused header or record.
     #[error("Closed")]
     Closed,
-    /// The device failed.
+    /// The device failed, in this call or before.
     #[error("Device")]
     Device,
-    /// No memory. Nothing changed.
+    /// No memory.
     #[error("Memory")]
     Memory,
+}
+
+impl<T: Drop> From<AllocFailed<T>> for ServerFault {
+    ghost from_gives = { λ _ fault. fault ≡ faults.Memory };
+
+    fn from(_: AllocFailed<T>) -> ServerFault {
+        ServerFault::Memory
+    }
+}
+
+impl From<RecordFault> for ServerFault {
+    ghost from_gives = { λ fault gives. gives ≡ feed_fault fault };
+
+    fn from(fault: RecordFault) -> ServerFault {
+        match fault {
+            RecordFault::RecordTooBig | RecordFault::TooManyFragments | RecordFault::NotACall => {
+                ServerFault::Closed
+            }
+            RecordFault::Memory => ServerFault::Memory,
+        }
+    }
+}
+
+impl From<Fault> for ServerFault {
+    ghost from_gives = { λ fault gives. gives ≡ turn_fault fault };
+
+    fn from(fault: Fault) -> ServerFault {
+        match fault {
+            Fault::Memory => ServerFault::Memory,
+            Fault::Device => ServerFault::Device,
+        }
+    }
 }

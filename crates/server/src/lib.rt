@@ -1,30 +1,18 @@
-//! The server: formatting and mounting a volume, connections, and one operation a turn.
+//! The server: connections, and one operation of one COMPOUND a turn, on a volume that survives a stop at any moment.
 #![tactic(auto)]
 
-mod call;
-mod clients;
-mod compound;
 mod connection;
-mod device;
-mod exchange;
 mod fault;
-mod format;
-mod header;
 pub mod laws;
-mod mount;
-mod outcome;
-mod receive;
-mod reply;
-mod root;
-mod sector;
+mod request;
 mod server;
-mod state;
-mod superblock;
 mod turn;
+mod volume;
 
-pub use fault::{FormatFault, MountFault, ServerFault};
-pub use server::{Server, Unmounted};
-pub use superblock::is_volume_size;
+pub use fault::ServerFault;
+pub use fs::superblock::is_volume_size;
+pub use fs::{FormatFault, MountFault, Unmounted};
+pub use server::Server;
 pub use turn::Turn;
 
 #[cfg(test)]

@@ -1,215 +1,208 @@
 //! The server over a device.
 
-ghost use Rattle.std.specs.Prelude.{◌≡◌, ◌≤◌};
+ghost use Rattle.std.specs.Prelude.{◌≡◌, ◌≤◌, ℕ, Some};
 ghost use Rattle.slab.specs.Slab.{slab_len};
+ghost use Rattle.fs.specs.FileSystems.{fs_of};
+ghost use Rattle.model.specs.Keyed.{at};
+ghost use Rattle.model.specs.World as world;
+ghost use Rattle.server.specs.Connections.{connections_of, IsOfRun};
 
-use crate::clients::Clients;
-use crate::connection::{Connection, ConnectionFault};
-use crate::fault::{FormatFault, MountFault, ServerFault};
-use crate::format::format;
-use crate::mount::raise_count;
+use crate::connection::Connection;
+use crate::fault::ServerFault;
 use crate::turn::Turn;
-use bytes::Bytes;
 use disk::Device;
+use fs::Fs;
+use session::Table;
 use slab::Slab;
 use std::alloc::Global;
 
 /// The most connections at a time.
-const MOST_CONNECTIONS: usize = 16;
+pub(crate) const MOST_CONNECTIONS: usize = 16;
 
-/// A mounted volume, the clients that made themselves known since, and connections.
+/// A mounted volume, the clients and sessions of this run, and connections.
 #[derive(Drop)]
 pub struct Server<D: Device> {
-    alloc: Global,
-    device: D,
-    run: u32,
-    clients: Clients,
-    connections: Slab<Connection>,
+    pub(crate) alloc: Global,
+    pub(crate) fs: Fs<D>,
+    pub(crate) table: Table,
+    pub(crate) connections: Slab<Connection>,
     ghost few: { slab_len connections ≤ 16 },
+    ghost of_run: { (n : ℕ) (connection : world.Connection) → at n (connections_of connections) ≡ Some connection → IsOfRun (fs_of fs).run connection },
 }
 
-/// A device that was not mounted, and why.
-#[derive(Drop)]
-pub struct Unmounted<D: Device> {
-    /// Why.
-    pub fault: MountFault,
-    /// The device, given back.
-    pub device: D,
-}
-
-impl From<ConnectionFault> for ServerFault {
-    ghost use Rattle.std.specs.Prelude.{◌≡◌};
-    ghost use Rattle.server.specs.Faults.{server_fault};
-
-    ghost from_gives = { λ fault gives. gives ≡ server_fault fault };
-
-    fn from(fault: ConnectionFault) -> Self {
-        match fault {
-            ConnectionFault::Closed => ServerFault::Closed,
-            ConnectionFault::Memory => ServerFault::Memory,
-        }
-    }
-}
-
-#[tactic(auto, unfolding(crate::specs::World::world_of, crate::specs::World::device_of))]
+#[tactic(auto, unfolding(crate::specs::Servers::world_of, crate::specs::Servers::volume_of, crate::specs::Servers::failures_of))]
 impl<D: Device> Server<D> {
-    ghost use Rattle.std.specs.Prelude.{◌≡◌, ◌≢◌, ◌≤◌, ◌<◌, ◌+◌, ◌-◌, ◌^◌, ◌↔◌, ◌⊎◌, ℕ, false, Some, None, OnOk, OnErr, IfOk, IfErr, IsErrOf};
-    ghost use Rattle.disk.specs.Moments.{AddsOnly, seen, synced};
+    ghost use Rattle.std.specs.Prelude.{◌≡◌, ◌≢◌, ◌≤◌, ◌<◌, ◌+◌, ◌-◌, ◌^◌, ◌↔◌, ◌⊎◌, ◌∷◌, [], ℕ, List, true, false, Some, None, length, option_map, OnOk, OnErr, IfOk, IfErr, IsErrOf};
     ghost use Rattle.disk.specs.Cause.{IsCounted};
-    ghost use Rattle.server.specs.declared.superblock.Verdict.TheVariants.{Sound};
-    ghost use Rattle.server.specs.Superblock.{is_size, verdict, count_in};
-    ghost use Rattle.server.specs.Volume.{IsFormatted, IsErasedOrFormatted, LeavesOnly};
-    ghost use Rattle.server.specs.Mount.{IsRaised, IsSameOrRaised};
-    ghost use Rattle.server.specs.Faults.{IsRefusal, OnlySynced};
-    ghost use Rattle.server.specs.Connection as definition;
-    ghost use Rattle.server.specs.World.{World, world_of, device_of, IsNew, Changes, Connects, Drops, IsSame};
-
-    /// Makes the device a new volume of this many nodes: first sector 0 is zeros, then all other
-    /// sectors are as in the new volume, then sector 0 is. So a stop leaves what was there, no
-    /// volume, or the new one.
-    pub fn format(device: &mut D, nodes: u32) -> Result<(), FormatFault>
-        ensures any_moment { D.keeps_word → AddsOnly (IsErasedOrFormatted (D.size device.old) nodes) (D.history device.old) (D.history device.new) }
-        ensures ok { D.keeps_word → OnOk result (LeavesOnly (IsFormatted (D.size device.old) nodes) (D.history device.new).now) }
-        ensures size { IsErrOf result FormatFault.Size ↔ (is_size (D.size device.old) nodes ≡ false) }
-        ensures untouched { IsErrOf result FormatFault.Size → D.history device.new ≡ D.history device.old }
-        ensures cause { IsErrOf result FormatFault.Device → IsCounted (D.failed device.old) (D.failed device.new) }
-        ensures no_memory { IsErrOf result FormatFault.Memory → ⊥ }
-        ensures later { D.failed device.old ≤ D.failed device.new }
-        ensures same_size { D.size device.new ≡ D.size device.old }
-    {
-        format(device, nodes)
-    }
-
-    /// Mounts the volume: fixes what the device holds, tests sector 0, and raises the restart count
-    /// there by one write and a sync. Every map that a crash may leave from then on has the new
-    /// count, which is the server's run.
-    pub fn mount(alloc: Global, mut device: D) -> Result<Server<D>, Unmounted<D>>
-        ensures any_moment { D.keeps_word → IfOk result (λ server. AddsOnly (IsSameOrRaised (seen (D.history device).now)) (D.history device) (D.history (device_of server))) }
-        ensures sound { D.keeps_word → OnOk result (verdict (D.size device) (seen (D.history device).now 0) ≡ Sound) }
-        ensures new { IfOk result (λ server. IsNew (world_of server).run (world_of server)) }
-        ensures run { D.keeps_word → IfOk result (λ server. (world_of server).run ≡ count_in (seen (D.history device).now 0) + 1) }
-        ensures raised { D.keeps_word → IfOk result (λ server. LeavesOnly (IsRaised (seen (D.history device).now)) (D.history (device_of server)).now) }
-        ensures size { IfOk result (λ server. D.size (device_of server) ≡ D.size device) }
-
-        ensures any_moment_refused { D.keeps_word → IfErr result (λ refused. AddsOnly (IsSameOrRaised (seen (D.history device).now)) (D.history device) (D.history refused.device)) }
-        ensures refusal { D.keeps_word → IfErr result (λ refused. IsRefusal (verdict (D.size device) (seen (D.history device).now 0)) refused.fault) }
-        ensures unwritten { D.keeps_word → IfErr result (λ refused. OnlySynced refused.fault (D.history device) (D.history refused.device)) }
-        ensures cause { IfErr result (λ refused. refused.fault ≡ MountFault.Device → IsCounted (D.failed device) (D.failed refused.device)) }
-    {
-        let connections = match Slab::with_capacity(alloc, MOST_CONNECTIONS) {
-            Ok(connections) => connections,
-            Err(_) => {
-                return Err(Unmounted {
-                    fault: MountFault::Memory,
-                    device,
-                });
-            }
-        };
-        match raise_count(&mut device) {
-            Ok(run) => Ok(Server {
-                alloc,
-                device,
-                run,
-                clients: Clients::new(alloc),
-                connections,
-            }),
-            Err(fault) => Err(Unmounted { fault, device }),
-        }
-    }
+    ghost use Rattle.disk.specs.Moments.{AddsOnly};
+    ghost use Rattle.fs.specs.FileSystem.{Holds};
+    ghost use Rattle.model.specs.Keyed.{at};
+    ghost use Rattle.model.specs.Runs as runs;
+    ghost use Rattle.model.specs.Runs.{Serving, Happens, Fails, StaysDown, MayLeave, effect_of};
+    ghost use Rattle.model.specs.Tree.{Tree};
+    ghost use Rattle.model.specs.World.{Closed, one, taken_at, reply_at, is_busy, mounted_world, can_connect};
+    ghost use Rattle.rpc.specs.Assembly.{record_limits};
+    ghost use Rattle.server.specs.Connections.{turn_view};
+    ghost use Rattle.server.specs.Servers.{world_of, volume_of, failures_of, serving, up, server_limits, StandsForOne};
+    ghost use Rattle.server.specs.Serves.{IsTurned, MayLeaveTurning};
 
     /// The run of this mount: the restart count that it wrote.
     pub fn restart_count(&self) -> u32
         ensures { result ≡ (world_of self.now).run }
     {
-        self.run
+        self.fs.restart_count()
     }
 
     /// A new connection, and its number.
+    ///
+    /// # Errors
+    /// Device where the file system is down; Full where there are 16 connections; Memory. Nothing changed then.
     pub fn connect(&mut self) -> Result<usize, ServerFault>
-        ensures ok { IfOk result (λ conn. Connects (world_of self.old) (world_of self.new) conn) }
-        ensures full { IsErrOf result ServerFault.Full ↔ ((world_of self.old).count ≡ 16) }
-        ensures err { OnErr result (IsSame (world_of self.old) (world_of self.new)) }
-        ensures only { IfErr result (λ fault. (fault ≡ ServerFault.Full) ⊎ (fault ≡ ServerFault.Memory)) }
-        ensures device { device_of self.new ≡ device_of self.old }
+        ensures ok { IfOk result (λ conn. (can_connect (world_of self.old) conn ≡ true) × Happens (up self.old) (runs.Connects conn) (up self.new)) }
+        ensures device { IsErrOf result ServerFault.Device ↔ ((volume_of self.old).is_down ≡ true) }
+        ensures full { IsErrOf result ServerFault.Full → length (world_of self.old).connections ≡ 16 }
+        ensures is_full { (volume_of self.old).is_down ≡ false → length (world_of self.old).connections ≡ 16 → IsErrOf result ServerFault.Full }
+        ensures err { OnErr result (world_of self.new ≡ world_of self.old) }
+        ensures only { IfErr result (λ fault. (fault ≡ ServerFault.NoConnection → ⊥) × (fault ≡ ServerFault.Closed → ⊥)) }
+        ensures volume { volume_of self.new ≡ volume_of self.old }
     {
+        if self.fs.is_down() {
+            return Err(ServerFault::Device);
+        }
         if self.connections.len() >= MOST_CONNECTIONS {
             return Err(ServerFault::Full);
         }
-        match self.connections.insert(Connection::new(self.alloc)) {
-            Ok(conn) => Ok(conn),
-            Err(_) => Err(ServerFault::Memory),
-        }
+        Ok(self.connections.insert(Connection::new(self.alloc))?)
     }
 
-    /// Takes the front of a piece up to the end of the connection's first whole record, and answers
-    /// how many bytes that is; nothing while a whole record or a reply waits.
+    /// Takes the front of a piece up to the end of the connection's first whole record, and answers how many bytes that is;
+    /// none while a whole request or a reply waits.
+    ///
+    /// # Errors
+    /// Device where the file system is down; NoConnection; Closed where the piece brings a refused header or ends a record that
+    /// is no call, and from then on; Memory, and then nothing changed.
     pub fn feed(&mut self, conn: usize, piece: &[u8]) -> Result<usize, ServerFault>
-        ensures no_connection { IsErrOf result ServerFault.NoConnection ↔ ((world_of self.old).at conn ≡ None) }
-        ensures ok { (connection : definition.Connection) → (world_of self.old).at conn ≡ Some connection →
-            IfOk result (λ n. ((definition.arrived connection piece.now).taken ≡ Some n) × Changes (world_of self.old) (world_of self.new) conn (definition.arrived connection piece.now).connection) }
-        ensures closed { (connection : definition.Connection) → (world_of self.old).at conn ≡ Some connection → IsErrOf result ServerFault.Closed →
-            ((definition.arrived connection piece.now).taken ≡ None) × Changes (world_of self.old) (world_of self.new) conn (definition.arrived connection piece.now).connection }
-        ensures clients { (world_of self.new).clients ≡ (world_of self.old).clients }
-        ensures memory { IsErrOf result ServerFault.Memory → IsSame (world_of self.old) (world_of self.new) }
+        ensures ok { IfOk result (λ n. Happens (up self.old) (runs.Arrives conn piece.now) (up self.new)
+            × ((connection : _) → at conn (world_of self.old).connections ≡ Some connection → taken_at record_limits piece.now connection ≡ Some n)) }
+        ensures closed { IsErrOf result ServerFault.Closed → Happens (up self.old) (runs.Arrives conn piece.now) (up self.new)
+            × ((connection : _) → at conn (world_of self.old).connections ≡ Some connection → taken_at record_limits piece.now connection ≡ None) }
+        ensures device { IsErrOf result ServerFault.Device ↔ ((volume_of self.old).is_down ≡ true) }
+        ensures no_connection { IsErrOf result ServerFault.NoConnection → at conn (world_of self.old).connections ≡ None }
+        ensures is_none { (volume_of self.old).is_down ≡ false → at conn (world_of self.old).connections ≡ None → IsErrOf result ServerFault.NoConnection }
+        ensures err { IfErr result (λ fault. (fault ≡ ServerFault.Closed → ⊥) → world_of self.new ≡ world_of self.old) }
         ensures never_full { IsErrOf result ServerFault.Full → ⊥ }
-        ensures never_device { IsErrOf result ServerFault.Device → ⊥ }
-        ensures device { device_of self.new ≡ device_of self.old }
+        ensures volume { volume_of self.new ≡ volume_of self.old }
     {
+        if self.fs.is_down() {
+            return Err(ServerFault::Device);
+        }
         let Some(connection) = self.connections.get_mut(conn) else {
             return Err(ServerFault::NoConnection);
         };
         Ok(connection.feed(piece)?)
     }
 
-    /// Gives the connection a turn at this moment, in nanoseconds since 1970.
-    pub fn turn(&mut self, conn: usize, _now: u64) -> Result<Turn, ServerFault>
-        ensures no_connection { IsErrOf result ServerFault.NoConnection ↔ ((world_of self.old).at conn ≡ None) }
-        ensures ok { (connection : definition.Connection) → (world_of self.old).at conn ≡ Some connection →
-            let turned = definition.turned (world_of self.old).run (world_of self.old).clients connection in
-            IfOk result (λ turn. (turned.turn ≡ Some turn) × Changes (world_of self.old) (world_of self.new) conn turned.connection) }
-        ensures clients { (connection : definition.Connection) → (world_of self.old).at conn ≡ Some connection →
-            OnOk result ((world_of self.new).clients ≡ (definition.turned (world_of self.old).run (world_of self.old).clients connection).clients) }
-        ensures closed { (connection : definition.Connection) → (world_of self.old).at conn ≡ Some connection → IsErrOf result ServerFault.Closed →
-            (definition.turned (world_of self.old).run (world_of self.old).clients connection).turn ≡ None }
-        ensures err { OnErr result (IsSame (world_of self.old) (world_of self.new)) }
+    /// Gives the connection a turn at this moment, in nanoseconds since 1970: one operation of its request runs. A change is kept
+    /// on the device before its result is there.
+    ///
+    /// # Errors
+    /// Device where the file system is down, or goes down in this call: then no reply tells of the operation. NoConnection; Closed
+    /// where the connection was closed; Memory, and then nothing changed and the request stays.
+    pub fn turn(&mut self, conn: usize, now: u64) -> Result<Turn, ServerFault>
+        ensures ok { IfOk result (λ turn. (turn_view turn ≡ (one (world_of self.old) conn now).turn) × Happens (up self.old) (runs.Turns conn now) (up self.new)) }
+        ensures fails { (volume_of self.old).is_down ≡ false → IsErrOf result ServerFault.Device
+            → Fails (up self.old) (runs.Turns conn now) (serving self.new ((world_of self.old).tree ∷ (one (world_of self.old) conn now).world.tree ∷ [])) }
+        ensures down { (volume_of self.old).is_down ≡ true → IsErrOf result ServerFault.Device × (volume_of self.new ≡ volume_of self.old) }
+        ensures cause { IsErrOf result ServerFault.Device → ((volume_of self.old).is_down ≡ true) ⊎ IsCounted (failures_of self.old) (failures_of self.new) }
+        ensures no_connection { IsErrOf result ServerFault.NoConnection → at conn (world_of self.old).connections ≡ None }
+        ensures is_none { (volume_of self.old).is_down ≡ false → at conn (world_of self.old).connections ≡ None → IsErrOf result ServerFault.NoConnection }
+        ensures closed { IsErrOf result ServerFault.Closed → at conn (world_of self.old).connections ≡ Some Closed }
+        ensures is_closed { (volume_of self.old).is_down ≡ false → at conn (world_of self.old).connections ≡ Some Closed → IsErrOf result ServerFault.Closed }
+        ensures err { OnErr result (world_of self.new ≡ world_of self.old) }
+        ensures untouched { IfErr result (λ fault. (fault ≡ ServerFault.Device → ⊥) → volume_of self.new ≡ volume_of self.old) }
         ensures never_full { IsErrOf result ServerFault.Full → ⊥ }
-        ensures never_device { IsErrOf result ServerFault.Device → ⊥ }
-        ensures device { device_of self.new ≡ device_of self.old }
+        ensures moments { D.keeps_word → (volume_of self.old).is_down ≡ false
+            → AddsOnly (StandsForOne (volume_of self.old) (MayLeave (up self.old) (runs.Turns conn now))) (volume_of self.old).history (volume_of self.new).history }
+        ensures holds { D.keeps_word → (volume_of self.new).is_down ≡ false → Holds (volume_of self.new) }
+        ensures same { volume_of self.new ≡ record (volume_of self.old) { tree = (volume_of self.new).tree; changes = (volume_of self.new).changes; is_down = (volume_of self.new).is_down; history = (volume_of self.new).history } }
+        ensures later { failures_of self.old ≤ failures_of self.new }
     {
+        self.fs.tell_holds();
+        if self.fs.is_down() {
+            return Err(ServerFault::Device);
+        }
         let Some(connection) = self.connections.get_mut(conn) else {
             return Err(ServerFault::NoConnection);
         };
-        Ok(connection.turn(self.run, &mut self.clients)?)
+        if connection.is_closed() {
+            return Err(ServerFault::Closed);
+        }
+        let turn = connection.turn(&mut self.fs, &mut self.table, now)?;
+        self.fs.tell_holds();
+        Ok(turn)
     }
 
-    /// Drops the connection, and all that it holds.
-    pub fn hangup(&mut self, conn: usize, _now: u64) -> Result<(), ServerFault>
-        ensures no_connection { IsErrOf result ServerFault.NoConnection ↔ ((world_of self.old).at conn ≡ None) }
-        ensures ok { OnOk result (Drops (world_of self.old) (world_of self.new) conn) }
-        ensures err { OnErr result (IsSame (world_of self.old) (world_of self.new)) }
-        ensures only { IfErr result (λ fault. fault ≡ ServerFault.NoConnection) }
-        ensures device { device_of self.new ≡ device_of self.old }
+    /// Drops the connection, and all that it holds. A request that has begun is run to its end first, and its slot keeps the reply.
+    ///
+    /// # Errors
+    /// Device and NoConnection as in `turn`. After Memory what was run stays run, and the connection stays.
+    pub fn hangup(&mut self, conn: usize, now: u64) -> Result<(), ServerFault>
+        ensures ok { OnOk result ((between : Serving) × IsTurned conn now (up self.old) between × Happens between (runs.HangsUp conn) (up self.new)) }
+        ensures gone { OnOk result (at conn (world_of self.new).connections ≡ None) }
+        ensures memory { IsErrOf result ServerFault.Memory → IsTurned conn now (up self.old) (up self.new) }
+        ensures fails { (volume_of self.old).is_down ≡ false → IsErrOf result ServerFault.Device
+            → (between : Serving) × (recent : List Tree) × IsTurned conn now (up self.old) between × Fails between (runs.Turns conn now) (serving self.new recent) }
+        ensures down { (volume_of self.old).is_down ≡ true → IsErrOf result ServerFault.Device × (world_of self.new ≡ world_of self.old) × (volume_of self.new ≡ volume_of self.old) }
+        ensures cause { IsErrOf result ServerFault.Device → ((volume_of self.old).is_down ≡ true) ⊎ IsCounted (failures_of self.old) (failures_of self.new) }
+        ensures no_connection { IsErrOf result ServerFault.NoConnection → (at conn (world_of self.old).connections ≡ None) × (world_of self.new ≡ world_of self.old) × (volume_of self.new ≡ volume_of self.old) }
+        ensures is_none { (volume_of self.old).is_down ≡ false → at conn (world_of self.old).connections ≡ None → IsErrOf result ServerFault.NoConnection }
+        ensures never { IfErr result (λ fault. (fault ≡ ServerFault.Full → ⊥) × (fault ≡ ServerFault.Closed → ⊥)) }
+        ensures moments { D.keeps_word → (volume_of self.old).is_down ≡ false
+            → AddsOnly (StandsForOne (volume_of self.old) (MayLeaveTurning conn now (up self.old))) (volume_of self.old).history (volume_of self.new).history }
+        ensures holds { D.keeps_word → (volume_of self.new).is_down ≡ false → Holds (volume_of self.new) }
+        ensures same { volume_of self.new ≡ record (volume_of self.old) { tree = (volume_of self.new).tree; changes = (volume_of self.new).changes; is_down = (volume_of self.new).is_down; history = (volume_of self.new).history } }
+        ensures later { failures_of self.old ≤ failures_of self.new }
     {
-        match self.connections.try_remove(conn) {
-            Some(_) => Ok(()),
-            None => Err(ServerFault::NoConnection),
+        self.fs.tell_holds();
+        if self.fs.is_down() {
+            return Err(ServerFault::Device);
+        }
+        if !self.connections.contains(conn) {
+            return Err(ServerFault::NoConnection);
+        }
+        while self.is_busy(conn) {
+            self.turn(conn, now)?;
+        }
+        self.connections.try_remove(conn);
+        Ok(())
+    }
+
+    /// Whether the connection's request has begun.
+    fn is_busy(&self, conn: usize) -> bool
+        ensures { result ≡ is_busy (at conn (world_of self.now).connections) }
+    {
+        match self.connections.get(conn) {
+            Some(connection) => connection.is_busy(),
+            None => false,
         }
     }
 
-    /// The connection's reply record, once; none where there is no reply.
-    pub fn take_output(&mut self, conn: usize) -> Result<Option<Bytes>, ServerFault>
-        ensures no_connection { IsErrOf result ServerFault.NoConnection ↔ ((world_of self.old).at conn ≡ None) }
-        ensures ok { (connection : definition.Connection) → (world_of self.old).at conn ≡ Some connection →
-            IfOk result (λ output. (output ≡ (definition.taken connection).1) × Changes (world_of self.old) (world_of self.new) conn (definition.taken connection).0) }
-        ensures err { OnErr result (IsSame (world_of self.old) (world_of self.new)) }
-        // It takes no memory, and looks at no device.
+    /// Hands out the connection's reply record, once; None where there is no reply. A server that is down does so too.
+    ///
+    /// # Errors
+    /// NoConnection.
+    pub fn take_output(&mut self, conn: usize) -> Result<Option<Vec<u8>>, ServerFault>
+        ensures reply { IfOk result (λ output. option_map (λ reply. reply.items) output ≡ reply_at (world_of self.old) conn) }
+        ensures ok { (volume_of self.old).is_down ≡ false → OnOk result (Happens (up self.old) (runs.Takes conn) (up self.new)) }
+        ensures down { (volume_of self.old).is_down ≡ true → OnOk result ((recent : List Tree) → StaysDown (serving self.old recent) conn (serving self.new recent)) }
+        ensures no_connection { IsErrOf result ServerFault.NoConnection ↔ (at conn (world_of self.old).connections ≡ None) }
         ensures only { IfErr result (λ fault. fault ≡ ServerFault.NoConnection) }
-        ensures clients { (world_of self.new).clients ≡ (world_of self.old).clients }
-        ensures device { device_of self.new ≡ device_of self.old }
+        ensures err { OnErr result (world_of self.new ≡ world_of self.old) }
+        ensures volume { volume_of self.new ≡ volume_of self.old }
     {
-        let Some(connection) = self.connections.get_mut(conn) else {
-            return Err(ServerFault::NoConnection);
-        };
-        Ok(connection.take_output())
+        match self.connections.get_mut(conn) {
+            Some(connection) => Ok(connection.take_output()),
+            None => Err(ServerFault::NoConnection),
+        }
     }
 }

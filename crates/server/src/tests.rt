@@ -1,29 +1,114 @@
-//! What no contract says: the bytes of the standards' examples, and what stops leave on a device.
+//! The bytes of whole connections: records that come in, the turns that they take, and the replies.
+//!
+//! A record is written as words of four bytes in hex, its header first; leading zeros may be left out.
 
-mod requests;
+mod calls;
+mod cuts;
+mod ends;
+mod sessions;
 mod volumes;
 
-use crate::{MountFault, Server};
-use disk::{Device, MemDevice};
-use std::alloc::Global;
+use crate::{Server, Turn};
+use disk::MemDevice;
+use std::alloc::{AllocGlobal, Global};
+use std::process::Abort;
 use std::test::Fail;
 
-// a new volume of 256 sectors and 16 nodes
-fn new_volume(alloc: Global) -> Result<MemDevice, Fail> {
-    let mut device = MemDevice::new(alloc, 256)?;
-    Server::format(&mut device, 16)?;
-    Ok(device)
+/// What a row does on the connection of this number.
+enum Step {
+    /// Hands in a record, which is taken whole.
+    Feeds(usize, &'static str),
+    /// Runs one operation, behind which more remain.
+    Runs(usize),
+    /// Runs so many operations, of which the last one gives the reply; then takes this reply.
+    Ends(usize, u32, &'static str),
+    /// Hands in a record, runs so many operations, of which the last one gives the reply, and takes this reply.
+    Asks(usize, &'static str, u32, &'static str),
+    HangsUp(usize),
 }
 
-fn mount<D: Device>(alloc: Global, device: D) -> Result<Server<D>, MountFault> {
-    match Server::mount(alloc, device) {
-        Ok(server) => Ok(server),
-        Err(refused) => Err(refused.fault),
+fn bytes_of(alloc: Global, words: &str) -> Result<Vec<u8>, Fail> {
+    let mut bytes = Vec::new(alloc);
+    for word in words.split_whitespace() {
+        let number = u32::from_str_radix(word, 16)?;
+        bytes.extend_from_slice(&number.to_be_bytes())?;
+    }
+    Ok(bytes)
+}
+
+/// Changes the four bytes at this place into this number.
+fn put(record: &mut [u8], place: usize, number: u32) {
+    for (byte, digit) in record.iter_mut().skip(place).zip(number.to_be_bytes()) {
+        *byte = digit;
     }
 }
 
-// the run of one mount
-fn run_of<D: Device>(alloc: Global, device: D) -> Result<u32, MountFault> {
-    let server = mount(alloc, device)?;
-    Ok(server.restart_count())
+/// A server of run 1 over a new volume of 256 sectors and 16 nodes, with the connections 0, 1 and 2.
+fn new_server(alloc: Global) -> Result<Server<MemDevice>, Fail> {
+    let mut device = MemDevice::new(alloc, 256)?;
+    Server::format(alloc, &mut device, 16)?;
+    let Ok(mut server) = Server::mount(alloc, device) else {
+        return Err("not mounted".into());
+    };
+    for _ in 0..3 {
+        server.connect()?;
+    }
+    Ok(server)
+}
+
+/// Hands in a record, which is taken whole.
+fn feed(server: &mut Server<MemDevice>, conn: usize, record: &[u8]) -> Result<(), Fail> {
+    if server.feed(conn, record)? != record.len() {
+        return Err("not taken whole".into());
+    }
+    Ok(())
+}
+
+/// Runs so many operations, and takes the reply that the last one gives.
+fn end(server: &mut Server<MemDevice>, conn: usize, turns: u32) -> Result<Vec<u8>, Fail> {
+    for _ in 1..turns {
+        if server.turn(conn, 0)? != Turn::Ran {
+            return Err("too few operations".into());
+        }
+    }
+    if server.turn(conn, 0)? != Turn::Answered {
+        return Err("no answer".into());
+    }
+    Ok(server.take_output(conn)?.ok_or("no reply")?)
+}
+
+fn expect(rt: &impl Abort, alloc: Global, reply: &[u8], words: &str) -> Result<(), Fail> {
+    let wanted = bytes_of(alloc, words)?;
+    assert_eq!(rt; reply, wanted.as_slice(), "in place of {words}");
+    Ok(())
+}
+
+fn take(
+    rt: &impl Abort,
+    alloc: Global,
+    server: &mut Server<MemDevice>,
+    step: &Step,
+) -> Result<(), Fail> {
+    match step {
+        Step::Feeds(conn, record) => feed(server, *conn, &bytes_of(alloc, record)?),
+        Step::Runs(conn) => {
+            assert_eq!(rt; server.turn(*conn, 0)?, Turn::Ran);
+            Ok(())
+        }
+        Step::Ends(conn, turns, reply) => { expect(rt, alloc, &end(server, *conn, *turns)?, reply) }
+        Step::Asks(conn, record, turns, reply) => {
+            feed(server, *conn, &bytes_of(alloc, record)?)?;
+            expect(rt, alloc, &end(server, *conn, *turns)?, reply)
+        }
+        Step::HangsUp(conn) => Ok(server.hangup(*conn, 0)?),
+    }
+}
+
+/// Plays a row on a new volume.
+fn play<R: AllocGlobal + Abort>(rt: &R, row: &[Step]) -> Result<(), Fail> {
+    let mut server = new_server(rt.alloc())?;
+    for step in row {
+        take(rt, rt.alloc(), &mut server, step)?;
+    }
+    Ok(())
 }

@@ -1,0 +1,166 @@
+//! Scripts on a volume in memory.
+
+use super::{expect_run, run};
+use std::test::Fail;
+
+/// Two clients whose turns interleave, a retry, and what is there behind a restart: lines and what they tell.
+const TWO_CLIENTS: [(&str, &str); 24] = [
+    ("# two clients", ""),
+    ("A hello 7 7", "A client 4294967297 1\n"),
+    ("A session", "A session 00000001000000010000000000000001\n"),
+    ("B hello 8 8", "B client 4294967298 1\n"),
+    ("B session", "B session 00000001000000020000000000000002\n"),
+    ("A call root ; mkdir a 755 ; getfh", ""),
+    ("A turn", "A ran\n"),
+    ("A turn", "A ran\n"),
+    ("B call root ; lookup a", ""),
+    ("B take", "B sequence 0\nB root 0\nB lookup 2\n"),
+    ("A turn", "A ran\n"),
+    ("A turn", "A answered\n"),
+    ("A turn", "A idle\n"),
+    ("B call root ; lookup a ; mkdir b 700", ""),
+    ("B take", "B sequence 0\nB root 0\nB lookup 0\nB mkdir 13\n"),
+    (
+        "A take",
+        "A sequence 0\nA root 0\nA mkdir 0\nA getfh 0 0000000100000001\n",
+    ),
+    ("A retry", ""),
+    ("A turn", "A answered\n"),
+    (
+        "A take",
+        "A sequence 0\nA root 0\nA mkdir 0\nA getfh 0 0000000100000001\n",
+    ),
+    ("restart", "run 2\n"),
+    ("A hello 7 7", "A client 8589934593 1\n"),
+    ("A session", "A session 00000002000000010000000000000001\n"),
+    ("A call root ; mkdir a 755", ""),
+    ("A take", "A sequence 0\nA root 0\nA mkdir 17\n"),
+];
+
+/// What holds of sessions and retries: lines and what they tell.
+const SESSIONS: [(&str, &str); 17] = [
+    ("A hello 7 7", "A client 4294967297 1\n"),
+    ("A session", "A session 00000001000000010000000000000001\n"),
+    ("A session", "A session 00000001000000010000000000000001\n"),
+    ("A retry", ""),
+    ("A take", "A session 0\n"),
+    ("A call root ; lookup none ; getfh", ""),
+    ("A turn", "A ran\n"),
+    ("A retry", ""),
+    ("A take", "A sequence 10008\n"),
+    ("B hello 007 0", "B client 4294967298 1\n"),
+    ("B retry", ""),
+    ("B take", "B hello 0\n"),
+    ("A hello 7 7", "A client 4294967297 2\n"),
+    ("restart", "run 2\n"),
+    ("B retry", ""),
+    ("B take", "B hello 0\n"),
+    ("", ""),
+];
+
+/// Lines of no form, and lines that lack what they speak of.
+const REFUSED_LINES: [&str; 30] = [
+    "A\n",
+    "A hello\n",
+    "A hello 7\n",
+    "A hello 7 7 7\n",
+    "A hello x 7\n",
+    "A hello +7 7\n",
+    "A hello 4294967296 7\n",
+    "A  hello 7 7\n",
+    " A hello 7 7\n",
+    "A hello 7 7 \n",
+    "A hello 7 7\r\n",
+    "restart now\n",
+    "A session\n",
+    "A session now\n",
+    "A turn\n",
+    "A take\n",
+    "A retry\n",
+    "A call root\n",
+    "A call\n",
+    "A call root ;\n",
+    "A call ; root\n",
+    "A call root ; ; root\n",
+    "A call root;root\n",
+    "A call root now\n",
+    "A call lookup\n",
+    "A call mkdir a\n",
+    "A call mkdir a 8\n",
+    "A call mkdir a 40000000000\n",
+    "A call getfh 1\n",
+    "A call nothing\n",
+];
+
+fn expect_lines<R: std::rt::Files<File = std::fs::File> + AllocGlobal + std::process::Abort>(
+    rt: &R,
+    rows: &[(&str, &str)],
+) -> Result<(), Fail> {
+    let mut script = String::new(rt.alloc());
+    let mut told = String::new(rt.alloc());
+    for (line, out) in rows {
+        script.push_str(*line)?;
+        script.push('\n')?;
+        told.push_str(*out)?;
+    }
+    expect_run(rt, &[], script.as_str(), 0, told.as_str(), "");
+    Ok(())
+}
+
+#[test]
+fn clients_take_turns(rt: HostRuntime) -> Result<(), Fail> {
+    expect_run(&rt, &[], "", 0, "", "");
+    expect_lines(&rt, &TWO_CLIENTS)
+}
+
+#[test]
+fn sessions_answer_again(rt: HostRuntime) -> Result<(), Fail> {
+    expect_lines(&rt, &SESSIONS)
+}
+
+#[test]
+fn lines_of_no_form_stop_the_script(rt: HostRuntime) {
+    for line in REFUSED_LINES {
+        expect_run(&rt, &[], line, 1, "", "refused: Script\n");
+    }
+}
+
+/// A line that takes a reply where none is to come, and one behind a restart, which ended the connection.
+#[test]
+fn lines_that_lack_a_reply_stop_the_script(rt: HostRuntime) {
+    let told = "A client 4294967297 1\n";
+    expect_run(
+        &rt,
+        &[],
+        "A hello 7 7\nA take\n",
+        1,
+        told,
+        "refused: Script\n",
+    );
+    let told = "A client 4294967297 1\nrun 2\n";
+    expect_run(
+        &rt,
+        &[],
+        "A hello 7 7\nrestart\nA session\n",
+        1,
+        told,
+        "refused: Script\n",
+    );
+}
+
+#[test]
+fn what_the_server_refuses_is_told(rt: HostRuntime) -> Result<(), Fail> {
+    let other = "A hello 7 7\nA session\nB hello 7 7\nA hello 8 8\n";
+    let told =
+        "A client 4294967297 1\nA session 00000001000000010000000000000001\nB client 4294967298 1\n";
+    expect_run(&rt, &[], other, 1, told, "refused: Status\n");
+    let mut many = String::new(rt.alloc());
+    for name in 'A'..='Q' {
+        many.push(name)?;
+        many.push_str(" hello 7 7\n")?;
+    }
+    let left = run(&rt, &[], many.as_str());
+    assert_eq!(rt; left.status, 1);
+    assert_eq!(rt; left.err.as_slice(), b"refused: Full\n".as_slice());
+    Ok(())
+}

@@ -1,0 +1,137 @@
+-- What a turn of a connection is, by what the connection does.
+use Rattle.std.proofs.Common.{◌≡◌, ℕ, List, [], ◌∷◌, Some, Result, Ok, Err, IfOk, inl, inr, refl, ap, ap₂, sym, subst, ◌∙◌, arith, eq-eqb, ne_eqb, le-ltb}
+use Rattle.std.proofs.lemmas.Bool.{cases_order}
+use Rattle.compound.specs.Steps.{IsServed, with_served, stepped_on}
+use Rattle.compound.specs.Views.{in_progress_of}
+use Rattle.compound.specs.declared.fault.Fault.{Fault}
+use Rattle.compound.specs.declared.running.Running.{Running}
+use Rattle.disk.specs.Moments.{History}
+use Rattle.fs.specs.FileSystem.{FileSystem, AddsTrees}
+use Rattle.model.proofs.KeyedLaws.{at-below, at-first, at-rest, some≢none}
+use Rattle.model.specs.Keyed.{Keyed, at, with, IsAbove}
+use Rattle.model.specs.Rpc.{read_call}
+use Rattle.model.specs.Session.{Table}
+use Rattle.model.specs.Tree.{Tree}
+use Rattle.model.specs.World as world
+use Rattle.model.specs.World.{World, Connection, InProgress, Turned, Waiting, Busy, Replied, one, called, turned, idle, with_connection}
+use Rattle.rpc.specs.Assembly.{Assembly, Gathers, Holds, Refuses, connection_of}
+use Rattle.server.specs.Connections.{IsRising, Leads, Turns, Opens, turn_view}
+use Rattle.server.specs.declared.request.Opened.TheVariants as opened
+use Rattle.server.specs.declared.turn.Turn.{Turn}
+use Rattle.server.specs.declared.turn.Turn.TheVariants as turn
+
+-- Nothing changes where a connection stays as it is
+
+rising_rest : (least : ℕ) (entries : Keyed Connection) → IsAbove least entries → IsRising entries
+rising_rest least [] above = tt
+rising_rest least (entry ∷ rest) above = above.1
+
+same_value : (x y : Connection) → Some x ≡ Some y → x ≡ y
+same_value x y same = cc
+
+pub with-held : (entries : Keyed Connection) (number : ℕ) (held : Connection) → IsRising entries → at number entries ≡ Some held
+    → with entries number held ≡ entries
+with-held [] number held rising is = absurd (some≢none held (sym is))
+with-held (entry ∷ rest) number held rising is = elim (cases_order number entry.0) [
+  | inl one ↦
+      let value : entry.1 ≡ held = same_value entry.1 held (sym (at-first entry.0 number entry.1 rest one) ∙ is) in
+      rw (eq-eqb number entry.0 one) (ap₂ (λ (n : ℕ) (v : Connection). (n, v) ∷ rest) one (sym value))
+  | inr apart ↦ elim apart [
+    | inl low ↦ absurd (some≢none held (sym is ∙ at-below (entry ∷ rest) number number (low, rising) (omega arith)))
+    | inr high ↦
+        let behind : at number rest ≡ Some held = sym (at-rest entry.0 number entry.1 rest (omega arith)) ∙ is in
+        rw (ne_eqb number entry.0 (omega arith), le-ltb number entry.0 (omega arith))
+        (ap (λ (r : Keyed Connection). entry ∷ r) (with-held rest number held (rising_rest entry.0 rest rising) behind))
+  ]
+]
+
+served_still : (world : World) (fs : FileSystem) (table : Table) → IsServed world fs table → with_served world fs table ≡ world
+served_still world fs table served = rw (← served.tree, ← served.changes, ← served.table_is) refl
+
+connection_still : (world : World) (number : ℕ) (held : Connection) → IsRising world.connections
+    → at number world.connections ≡ Some held → with_connection world number held ≡ world
+connection_still world number held rising is =
+    ap (λ (cs : Keyed Connection). record world { connections = cs }) (with-held world.connections number held rising is)
+
+still : (world : World) (fs : FileSystem) (table : Table) (number : ℕ) (held : Connection) → IsServed world fs table
+    → IsRising world.connections → at number world.connections ≡ Some held
+    → with_connection (with_served world fs table) number held ≡ world
+still world fs table number held served rising is =
+    ap (λ (w : World). with_connection w number held) (served_still world fs table served) ∙ connection_still world number held rising is
+
+-- A turn by what it comes to
+
+one_is : (world : World) (number now : ℕ) (before : Connection) → at number world.connections ≡ Some before
+    → one world number now ≡ turned world number now (Some before)
+unfolding one
+one_is world number now before is = rw is refl
+
+module _ (now : ℕ) (before : Connection) (by : World → ℕ → Turned)
+    (comes : (world : World) (number : ℕ) → turned world number now (Some before) ≡ by world number) where
+  one_comes : (world : World) (number : ℕ) → at number world.connections ≡ Some before → one world number now ≡ by world number
+  one_comes world number is = one_is world number now before is ∙ comes world number
+
+  pub turns_by : (old new : FileSystem) (old_table new_table : Table) (after left : Connection) (done : Turn) (turn : world.Turn)
+      → turn_view done ≡ turn → after ≡ left → Leads by old new old_table new_table left turn
+      → Turns now old new old_table new_table before after done
+  turns_by old new old_table new_table after left done turn same_turn same_after leads = λ world number served rising is. (
+    ap (λ (t : Turned). t.turn) (one_comes world number is) ∙ ((leads world number served).0 ∙ sym same_turn),
+    ap (λ (t : Turned). t.world) (one_comes world number is)
+        ∙ ((leads world number served).1 ∙ sym (ap (λ (c : Connection). with_connection (with_served world new new_table) number c) same_after)),
+  )
+
+  pub turns_if : (old new : FileSystem) (old_table new_table : Table) (after : Connection) (result : Result Turn Fault)
+      → IfOk result (λ done. Leads by old new old_table new_table after (turn_view done))
+      → IfOk result (Turns now old new old_table new_table before after)
+  turns_if old new old_table new_table after (Ok done) leads =
+      turns_by old new old_table new_table after after done (turn_view done) refl refl leads
+  turns_if old new old_table new_table after (Err fault) leads = tt
+
+  pub moments_by : (fs : FileSystem) (table : Table) (new : History)
+      → ((world : World) (number : ℕ) → IsServed world fs table → AddsTrees fs (by world number).world.tree new)
+      → (world : World) (number : ℕ) → IsServed world fs table → at number world.connections ≡ Some before
+      → AddsTrees fs (one world number now).world.tree new
+  moments_by fs table new adds world number served is =
+      subst (λ (t : Tree). AddsTrees fs t new) (sym (ap (λ (t : Turned). t.world.tree) (one_comes world number is))) (adds world number served)
+
+-- nothing is done
+pub idle_turn : (now : ℕ) (before : Connection) (fs : FileSystem) (table : Table)
+    → ((world : World) (number : ℕ) → turned world number now (Some before) ≡ idle world)
+    → Turns now fs fs table table before before turn.Idle
+idle_turn now before fs table comes = λ world number served rising is. (
+  ap (λ (t : Turned). t.turn) (one_comes now before (λ w n. idle w) comes world number is),
+  ap (λ (t : Turned). t.world) (one_comes now before (λ w n. idle w) comes world number is) ∙ sym (still world fs table number before served rising is),
+)
+
+-- What it comes to
+
+pub replied_comes : (now : ℕ) (before : Connection) (reply : List ℕ) → before ≡ Replied reply
+    → (world : World) (number : ℕ) → turned world number now (Some before) ≡ idle world
+replied_comes now before reply is world number = rw is refl
+
+pub no_record_comes : (now : ℕ) (assembly : Assembly) → ((request : List ℕ) → assembly ≡ Holds request → ⊥)
+    → (world : World) (number : ℕ) → turned world number now (Some (connection_of assembly)) ≡ idle world
+no_record_comes now (Gathers bytes) none world number = refl
+no_record_comes now (Holds request) none world number = absurd (none request refl)
+no_record_comes now (Refuses fault) none world number = refl
+
+pub waiting_comes : (now : ℕ) (before : Connection) (request : List ℕ) → before ≡ Waiting request
+    → (world : World) (number : ℕ) → turned world number now (Some before) ≡ called world number now (read_call request)
+waiting_comes now before request is world number = rw is refl
+
+pub busy_comes : (now : ℕ) (before : Connection) (request : InProgress) → before ≡ Busy request
+    → (world : World) (number : ℕ) → turned world number now (Some before) ≡ stepped_on world number now request
+busy_comes now before request is world number = rw is refl
+
+-- The first turn
+
+pub opened_moments : (fs : FileSystem) (table : Table) (run : ℕ) (request : List ℕ) (running : Running) (now : ℕ) (new : History)
+    → Opens run request (opened.Begins running) → run ≡ fs.run
+    → ((world : World) (number : ℕ) → IsServed world fs table
+    → AddsTrees fs (stepped_on world number now (in_progress_of running)).world.tree new)
+    → (world : World) (number : ℕ) → IsServed world fs table
+    → AddsTrees fs (called world number now (read_call request)).world.tree new
+opened_moments fs table run request running now new opens same adds world number served =
+    let one : called world number now (read_call request) ≡ stepped_on world number now (in_progress_of running)
+    = opens.1 world number now (served.run ∙ sym same) in
+    subst (λ (t : Tree). AddsTrees fs t new) (sym (ap (λ (t : Turned). t.world.tree) one)) (adds world number served)

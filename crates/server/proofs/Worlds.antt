@@ -1,0 +1,230 @@
+-- Events of a server that keeps each change at once.
+use Rattle.std.proofs.Common.{◌≡◌, ◌⊎◌, ◌+◌, ◌<◌, ◌≤◌, ℕ, zero, suc, Bool, true, false, List, [], ◌∷◌, ◌++◌, length, get_or, None, Some, Result, Ok, Err, IfOk, IfErr, OnOk, OnErr, IsErrOf, refl, sym, ap, ◌∙◌, subst, inl, inr, cond, arith, lt-ltb}
+use Rattle.std.specs.List.{IsAmong}
+use Rattle.std.proofs.lemmas.Bool.{cases_eq}
+use Rattle.fs.specs.FileSystem.{FileSystem}
+use Rattle.model.specs.Keyed.{Keyed, at, with, without}
+use Rattle.model.specs.Record.{RecordLimits, Front, Partial, Refused, Whole, front}
+use Rattle.model.specs.Rpc.{is_call_read, read_call}
+use Rattle.model.specs.Runs.{Serving, Event, Happens, Fails, StaysDown, MayLeave, effect_of}
+use Rattle.model.specs.Session.{Table}
+use Rattle.model.specs.Tree.{Tree}
+use Rattle.model.specs.World as world
+use Rattle.model.specs.World.{World, Quiet, Closed, arrives, arrives_at, arrived, taken_at, takes, without_reply, connects, can_connect, changed, with_connection, without_connection, hangs_up, is_busy, one, idle, reply_in}
+use Rattle.model.proofs.KeyedLaws.{at-with_same, at-with_other, at-without_same, at-without_other}
+use Rattle.model.proofs.RuledOutLaws.{each_event_happens}
+use Rattle.rpc.specs.Assembly.{record_limits}
+use Rattle.rpc.specs.declared.fault.RecordFault.{RecordFault as RecordRefusal}
+use Rattle.rpc.specs.declared.fault.RecordFault.TheVariants as refusals
+use Rattle.slab.specs.Slab.{Slab, slab_len, Updates}
+use Rattle.server.specs.declared.connection.Connection.{Connection}
+use Rattle.server.specs.Connections.{IsOfRun, connections_of, connection_view}
+use Rattle.server.proofs.SlabLaws.{with_slot, grew, grew_count}
+use Rattle.server.specs.Servers.{world_by}
+
+-- Events
+
+among_one : (only tree : Tree) → IsAmong (only ∷ []) tree → tree ≡ only
+among_one only tree among = by_place among.0 among.1.0 among.1.1
+  where
+    by_place : (place : ℕ) → place < length (only ∷ []) → tree ≡ get_or (only ∷ []) place tree → tree ≡ only
+    by_place zero less e = e
+    by_place (suc place) less e = absurd (omega arith)
+
+-- a server whose file system is up, before and after
+abbrev served : World → Serving
+served world = record { world = world; recent = world.tree ∷ []; is_down = false }
+
+-- an event happens as soon as the world is what the event makes of it
+happened : (old new : World) (event : Event) → new ≡ effect_of old event → Happens (served old) event (served new)
+happened old new event is =
+    let made = each_event_happens (served old) event refl (0, (omega arith, refl)) in
+    let same : made.0.world.tree ≡ new.tree = ap (λ (w : World). w.tree) (made.1.world ∙ sym is) in
+    record {
+      up = refl;
+      world = is;
+      still_up = refl;
+      no_others = λ tree left. made.1.no_others tree (subst (IsAmong made.0.recent) (same ∙ sym (among_one new.tree tree left)) made.2);
+      durable = λ entry e lasts tree left. made.1.durable entry e lasts tree (subst (IsAmong made.0.recent) (same ∙ sym (among_one new.tree tree left)) made.2);
+    }
+
+-- what a stop within the event may leave: the tree behind it
+may_leave_after : (old : World) (event : Event) → MayLeave (served old) event (effect_of old event).tree
+may_leave_after old event =
+    let made = each_event_happens (served old) event refl (0, (omega arith, refl)) in
+    subst (MayLeave (served old) event) (ap (λ (w : World). w.tree) made.1.world) (made.1.no_others made.0.world.tree made.2)
+
+abbrev pub with_tree : World → Bool → Serving
+with_tree world is_down = record { world = world; recent = world.tree ∷ []; is_down = is_down }
+
+pub happens : (old new : World) (old_down new_down : Bool) (event : Event) → old_down ≡ false → new_down ≡ false → new ≡ effect_of old event
+    → Happens (with_tree old old_down) event (with_tree new new_down)
+happens old new old_down new_down event up still is =
+    subst (λ (b : Bool). Happens (with_tree old b) event (with_tree new new_down)) (sym up)
+    (subst (λ (b : Bool). Happens (with_tree old false) event (with_tree new b)) (sym still) (happened old new event is))
+
+pub may_leave : (old : World) (down : Bool) (event : Event) → down ≡ false → MayLeave (with_tree old down) event (effect_of old event).tree
+may_leave old down event up = subst (λ (b : Bool). MayLeave (with_tree old b) event (effect_of old event).tree) (sym up) (may_leave_after old event)
+
+pub may_stay : (old : World) (down : Bool) (event : Event) → MayLeave (with_tree old down) event old.tree
+may_stay old down event = inl (0, (omega arith, refl))
+
+-- the device fails in a turn
+abbrev failing : World → (after : Tree) → Serving
+failing world after = record { world = world; recent = world.tree ∷ after ∷ []; is_down = true }
+
+among_two : (first second tree : Tree) → IsAmong (first ∷ second ∷ []) tree → (tree ≡ first) ⊎ (tree ≡ second)
+among_two first second tree among = by_place among.0 among.1.0 among.1.1
+  where
+    by_place : (place : ℕ) → place < length (first ∷ second ∷ []) → tree ≡ get_or (first ∷ second ∷ []) place tree → (tree ≡ first) ⊎ (tree ≡ second)
+    by_place zero less e = inl e
+    by_place (suc zero) less e = inr e
+    by_place (suc (suc place)) less e = absurd (omega arith)
+
+pub fails : (old new : World) (old_down new_down : Bool) (event : Event) → old_down ≡ false → new_down ≡ true → new ≡ old
+    → Fails (with_tree old old_down) event (record { world = new; recent = old.tree ∷ (effect_of old event).tree ∷ []; is_down = new_down })
+fails old new old_down new_down event up down is = record {
+  up = up;
+  world = is;
+  down = down;
+  no_others = λ tree left. elim (among_two old.tree (effect_of old event).tree tree left) [
+    | inl first ↦ subst (MayLeave (with_tree old old_down) event) (sym first) (may_stay old old_down event)
+    | inr second ↦ subst (MayLeave (with_tree old old_down) event) (sym second) (may_leave old old_down event up)
+  ];
+}
+
+pub stays_down : (old new : World) (old_down new_down : Bool) (recent : List Tree) (connection : ℕ) → old_down ≡ true → new_down ≡ true → new ≡ takes old connection
+    → StaysDown (record { world = old; recent = recent; is_down = old_down }) connection (record { world = new; recent = recent; is_down = new_down })
+stays_down old new old_down new_down recent connection was down is = record {
+  down = was;
+  world = is;
+  still_down = down;
+  no_others = λ tree left. left;
+}
+
+-- What they make of a world
+
+pub arrives_is : (old : World) (number : ℕ) (piece : List ℕ) (connection : world.Connection) → at number old.connections ≡ Some connection
+    → arrives old number piece ≡ with_connection old number (arrives_at old.limits.records piece connection)
+unfolding arrives
+arrives_is old number piece connection is = ap (changed old number (arrives_at old.limits.records piece)) is
+
+pub takes_is : (old : World) (number : ℕ) (connection : world.Connection) → at number old.connections ≡ Some connection
+    → takes old number ≡ with_connection old number (without_reply connection)
+unfolding takes
+takes_is old number connection is = ap (changed old number without_reply) is
+
+pub can_connect_by : (old : World) (number : ℕ) → at number old.connections ≡ None → length old.connections < old.limits.connections → can_connect old number ≡ true
+can_connect_by old number free few = rw (free, lt-ltb _ _ few)
+
+pub connects_is : (old : World) (number : ℕ) → can_connect old number ≡ true → connects old number ≡ with_connection old number (Quiet [])
+unfolding connects
+connects_is old number can = ap (λ (b : Bool). cond b (with_connection old number (Quiet [])) old) can
+
+pub hangs_up_is : (old : World) (number : ℕ) → is_busy (at number old.connections) ≡ false → hangs_up old number ≡ without_connection old number
+unfolding hangs_up
+hangs_up_is old number quiet = ap (λ (b : Bool). cond b old (without_connection old number)) quiet
+
+-- A request that has begun is of this run
+
+abbrev pub AllOfRun : ℕ → Keyed world.Connection → Type 0
+AllOfRun run connections = (n : ℕ) (connection : world.Connection) → at n connections ≡ Some connection → IsOfRun run connection
+
+pub all_of_run_with : (run : ℕ) (connections : Keyed world.Connection) (number : ℕ) (connection : world.Connection)
+    → AllOfRun run connections → IsOfRun run connection → AllOfRun run (with connections number connection)
+all_of_run_with run connections number connection all here n other is = elim (cases_eq n number) [
+  | inl same ↦
+      let stands : at n (with connections number connection) ≡ Some connection = ap (λ (k : ℕ). at k (with connections number connection)) same ∙ at-with_same connections number connection in
+      let e : connection ≡ other = cc in
+      subst (IsOfRun run) e here
+  | inr apart ↦ all n other (sym (at-with_other connections number n connection apart) ∙ is)
+]
+
+pub all_of_run_without : (run : ℕ) (connections : Keyed world.Connection) (number : ℕ) → AllOfRun run connections → AllOfRun run (without connections number)
+all_of_run_without run connections number all n other is = elim (cases_eq n number) [
+  | inl same ↦
+      let gone : at n (without connections number) ≡ None = ap (λ (k : ℕ). at k (without connections number)) same ∙ at-without_same connections number in
+      let never : ⊥ = cc in absurd never
+  | inr apart ↦ all n other (sym (at-without_other connections number n apart) ∙ is)
+]
+
+pub quiet_of_run : (run : ℕ) (bytes : List ℕ) → IsOfRun run (Quiet bytes)
+quiet_of_run run bytes request is = let never : ⊥ = cc in absurd never
+
+pub not_busy_of_run : (run : ℕ) (connection : world.Connection) → is_busy (Some connection) ≡ false → IsOfRun run connection
+not_busy_of_run run connection quiet request is =
+    let busy : is_busy (Some connection) ≡ true = ap (λ (c : world.Connection). is_busy (Some c)) is in
+    let never : ⊥ = cc in absurd never
+
+pub taken_of_run : (run : ℕ) (connection : world.Connection) → IsOfRun run connection → IsOfRun run (without_reply connection)
+taken_of_run run (world.Quiet bytes) here = here
+taken_of_run run (world.Waiting request) here = here
+taken_of_run run (world.Busy request) here = here
+taken_of_run run (world.Replied reply) here = quiet_of_run run []
+taken_of_run run world.Closed here = here
+
+arrived_quiet : (bytes : List ℕ) (found : Front) → is_busy (Some (arrived bytes found)) ≡ false
+arrived_quiet bytes Partial = refl
+arrived_quiet bytes (Refused fault) = refl
+arrived_quiet bytes (Whole request rest) = by_call (is_call_read (read_call request))
+  where
+    by_call : (b : Bool) → is_busy (Some (cond b (world.Waiting request) world.Closed)) ≡ false
+    by_call true = refl
+    by_call false = refl
+
+pub arrived_of_run : (run : ℕ) (limits : RecordLimits) (piece : List ℕ) (connection : world.Connection) → IsOfRun run connection → IsOfRun run (arrives_at limits piece connection)
+arrived_of_run run limits piece (world.Quiet bytes) here = not_busy_of_run run _ (arrived_quiet (bytes ++ piece) (front limits (bytes ++ piece)))
+arrived_of_run run limits piece (world.Waiting request) here = here
+arrived_of_run run limits piece (world.Busy request) here = here
+arrived_of_run run limits piece (world.Replied reply) here = here
+arrived_of_run run limits piece world.Closed here = here
+
+-- The world behind each call
+
+module _ (fs : FileSystem) (table : Table) (old new : Keyed world.Connection) (number : ℕ) where
+  pub took : (before after : world.Connection) → at number old ≡ Some before → new ≡ with old number after → after ≡ without_reply before
+      → world_by fs table new ≡ takes (world_by fs table old) number
+  took before after is written gives =
+      ap (world_by fs table) (written ∙ ap (with old number) gives) ∙ sym (takes_is (world_by fs table old) number before is)
+
+  pub fed : (piece : List ℕ) (before after : world.Connection) → at number old ≡ Some before → new ≡ with old number after
+      → after ≡ arrives_at record_limits piece before → world_by fs table new ≡ arrives (world_by fs table old) number piece
+  fed piece before after is written gives =
+      ap (world_by fs table) (written ∙ ap (with old number) gives) ∙ sym (arrives_is (world_by fs table old) number piece before is)
+
+  pub connected : (after : world.Connection) → can_connect (world_by fs table old) number ≡ true → new ≡ with old number after → after ≡ Quiet []
+      → world_by fs table new ≡ connects (world_by fs table old) number
+  connected after can written gives =
+      ap (world_by fs table) (written ∙ ap (with old number) gives) ∙ sym (connects_is (world_by fs table old) number can)
+
+  pub hung_up : is_busy (at number old) ≡ false → new ≡ without old number → world_by fs table new ≡ hangs_up (world_by fs table old) number
+  hung_up quiet written = ap (world_by fs table) written ∙ sym (hangs_up_is (world_by fs table old) number quiet)
+
+-- What a feed leaves of a connection
+pub feeds_of_run : (run : ℕ) (piece : List ℕ) (before after : world.Connection) (result : Result ℕ RecordRefusal)
+    → IfOk result (λ n. (after ≡ arrives_at record_limits piece before) × (taken_at record_limits piece before ≡ Some n))
+    → IfErr result (λ refusal. (refusal ≡ refusals.Memory → ⊥) → (after ≡ Closed) × (arrives_at record_limits piece before ≡ Closed) × (taken_at record_limits piece before ≡ None))
+    → (IsErrOf result refusals.Memory → after ≡ before) → IsOfRun run before → IsOfRun run after
+feeds_of_run run piece before after (Ok n) arrived closed memory here = subst (IsOfRun run) (sym arrived.0) (arrived_of_run run record_limits piece before here)
+feeds_of_run run piece before after (Err refusals.Memory) arrived closed memory here = subst (IsOfRun run) (sym (memory refl)) here
+feeds_of_run run piece before after (Err refusals.RecordTooBig) arrived closed memory here = subst (IsOfRun run) (sym (closed (λ e. let never : ⊥ = cc in absurd never)).0) (not_busy_of_run run Closed refl)
+feeds_of_run run piece before after (Err refusals.TooManyFragments) arrived closed memory here = subst (IsOfRun run) (sym (closed (λ e. let never : ⊥ = cc in absurd never)).0) (not_busy_of_run run Closed refl)
+feeds_of_run run piece before after (Err refusals.NotACall) arrived closed memory here = subst (IsOfRun run) (sym (closed (λ e. let never : ⊥ = cc in absurd never)).0) (not_busy_of_run run Closed refl)
+
+-- A slab behind an insert that may have failed
+
+pub inserted_of_run : {E : Type 0} (run : ℕ) (old new : Slab Connection) (value : Connection) (result : Result ℕ E)
+    → IfOk result (λ key. Updates old new key (Some value)) → OnErr result (new ≡ record old { capacity = new.capacity })
+    → IsOfRun run (connection_view value) → AllOfRun run (connections_of old) → AllOfRun run (connections_of new)
+inserted_of_run run old new value (Ok key) updates failed here all =
+    subst (AllOfRun run) (sym (with_slot old new key value updates)) (all_of_run_with run (connections_of old) key (connection_view value) all here)
+inserted_of_run run old new value (Err fault) updates failed here all = subst (AllOfRun run) (sym (grew old new failed)) all
+
+pub inserted_count : {E : Type 0} (old new : Slab Connection) (result : Result ℕ E)
+    → OnOk result (slab_len new ≡ slab_len old + 1) → OnErr result (new ≡ record old { capacity = new.capacity }) → slab_len new ≤ slab_len old + 1
+inserted_count old new (Ok key) count failed = omega (arith, count)
+inserted_count old new (Err fault) count failed = omega (arith, grew_count old new failed)
+
+-- A server of which only the world and whether it is down are seen
+pub same_serving : (old new : World) (old_down new_down : Bool) → new ≡ old → new_down ≡ old_down → with_tree new new_down ≡ with_tree old old_down
+same_serving old new old_down new_down world down = ap (λ (w : World). with_tree w new_down) world ∙ ap (with_tree old) down

@@ -1,0 +1,57 @@
+use Rattle.std.proofs.Common.{◌<◌, [], sym, ap, subst, arith}
+use Rattle.slab.specs.Slab.{slab_len}
+use Rattle.fs.specs.FileSystems.{fs_of}
+use Rattle.session.specs.Views.{table_of}
+use Rattle.server.specs.Connections.{connections_of, connection_view, IsOfRun}
+use Rattle.server.specs.declared.fault.ServerFault.TheVariants as faults
+use Rattle.server.specs.Servers.{world_of, volume_of, world_by}
+use Rattle.server.proofs.Refusals.{told_by}
+use Rattle.server.proofs.SlabLaws.{count_of, with_slot, stands_none, grew}
+use Rattle.server.proofs.Worlds.{quiet_of_run, can_connect_by, connected, happens, inserted_of_run, inserted_count}
+use Rattle.server.proofs.server.Server.connect.Goals as goal
+
+pub returns-then-len-ge-MOST_CONNECTIONS-clause-full : goal.returns-then-len-ge-MOST_CONNECTIONS-clause-full
+unfolding world_of
+returns-then-len-ge-MOST_CONNECTIONS-clause-full g c = λ is. omega (arith, count_of c.args.self.now.connections, c.args.self.now.few)
+
+pub invariant_of-self : goal.invariant_of-self
+invariant_of-self g c =
+    let s = c.args.self.now in
+    let run = (fs_of s.fs).run in
+    record {
+      few = omega (arith, inserted_count s.connections c.insert.new.self c.insert.result c.insert.ensures.len c.insert.ensures.err);
+      of_run = inserted_of_run run s.connections c.insert.new.self c.new.result c.insert.result c.insert.ensures.updates c.insert.ensures.err
+          (subst (IsOfRun run) (sym c.new.ensures) (quiet_of_run run [])) s.of_run;
+    }
+
+pub returns-in_err-insert-clause-is_full : goal.returns-in_err-insert-clause-is_full
+unfolding world_of
+returns-in_err-insert-clause-is_full g c = λ up full. absurd (omega (arith, count_of c.args.self.now.connections, full))
+
+pub returns-in_err-insert-clause-err : goal.returns-in_err-insert-clause-err
+unfolding world_of
+returns-in_err-insert-clause-err g c =
+    let s = c.args.self.now in
+    let told = told_by c.from_residual.result faults.Memory c.from_residual.ensures.1 in
+    let failed = rw c.in_err-insert.was at c.insert.ensures.err in
+    rw told (ap (world_by (fs_of s.fs) (table_of s.table)) (grew s.connections c.insert.new.self failed))
+
+pub returns-clause-ok : goal.returns-clause-ok
+unfolding world_of volume_of
+returns-clause-ok g c =
+    let s = c.args.self.now in
+    let conn = c.in_ok-insert.field-0 in
+    let updates = rw c.in_ok-insert.was at c.insert.ensures.updates in
+    let vacant = rw c.in_ok-insert.was at c.insert.ensures.was_vacant in
+    let few : slab_len s.connections < 16 = omega arith in
+    let can = can_connect_by (world_by (fs_of s.fs) (table_of s.table) (connections_of s.connections)) conn (stands_none s.connections conn (sym vacant))
+    (omega (arith, count_of s.connections)) in (
+      can,
+      happens _ _ _ _ _ (sym c.if-is_down.ensures) (sym c.if-is_down.ensures)
+          (connected (fs_of s.fs) (table_of s.table) (connections_of s.connections) _ conn (connection_view c.new.result) can
+          (with_slot s.connections c.insert.new.self conn c.new.result updates) c.new.ensures),
+    )
+
+pub returns-clause-is_full : goal.returns-clause-is_full
+unfolding world_of
+returns-clause-is_full g c = λ up full. absurd (omega (arith, count_of c.args.self.now.connections, full))

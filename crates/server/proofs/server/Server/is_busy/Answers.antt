@@ -1,0 +1,13 @@
+use Rattle.std.proofs.Common.{sym, ap, ◌∙◌}
+use Rattle.model.specs.World.{is_busy}
+use Rattle.server.specs.Servers.{world_of}
+use Rattle.server.proofs.SlabLaws.{stands, stands_none}
+use Rattle.server.proofs.server.Server.is_busy.Goals as goal
+
+pub returns-in-Some : goal.returns-in-Some
+unfolding world_of
+returns-in-Some g c = c.is_busy.ensures ∙ ap is_busy (sym (stands c.args.self.now.connections c.args.conn c.in-Some.connection.now c.in-Some.ensures))
+
+pub returns-in-None : goal.returns-in-None
+unfolding world_of
+returns-in-None g c = ap is_busy (sym (stands_none c.args.self.now.connections c.args.conn c.in-None.ensures))

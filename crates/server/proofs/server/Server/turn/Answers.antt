@@ -1,0 +1,157 @@
+use Rattle.std.proofs.Common.{◌≡◌, ℕ, Some, Err, true, refl, sym, ap, ◌∙◌, subst, arith}
+use Rattle.compound.specs.declared.fault.Fault.TheVariants as turns
+use Rattle.slab.specs.Slab.{with_value}
+use Rattle.fs.specs.FileSystem.{FileSystem}
+use Rattle.fs.specs.FileSystems.{fs_of}
+use Rattle.model.specs.Runs as runs
+use Rattle.model.specs.World.{Closed}
+use Rattle.session.specs.Views.{table_of}
+use Rattle.server.specs.Connections.{connections_of, connection_view}
+use Rattle.server.specs.Faults.{turn_fault}
+use Rattle.server.specs.declared.fault.ServerFault.TheVariants as faults
+use Rattle.server.specs.Servers.{world_of, volume_of, world_by}
+use Rattle.server.proofs.Refusals.{told_by, device_told}
+use Rattle.server.proofs.SlabLaws.{stands, stands_none, wrote, wrote_count, rewrote, numbers_rise}
+use Rattle.server.proofs.ServedTurns.{served_by, turned, undone, turning_moments}
+use Rattle.server.proofs.Worlds.{AllOfRun, all_of_run_with, happens, fails}
+use Rattle.server.proofs.server.Server.turn.Goals as goal
+
+pub returns-in_default-clause-no_connection : goal.returns-in_default-clause-no_connection
+unfolding world_of
+returns-in_default-clause-no_connection g c = λ is. stands_none c.args.self.now.connections c.args.conn c.in_default.ensures.value
+
+pub returns-in_default-clause-is_closed : goal.returns-in_default-clause-is_closed
+unfolding world_of
+returns-in_default-clause-is_closed g c =
+    let free = stands_none c.args.self.now.connections c.args.conn c.in_default.ensures.value in
+    λ up there. let never : ⊥ = cc in absurd never
+
+pub invariant_of-self-then-is_closed : goal.invariant_of-self-then-is_closed
+invariant_of-self-then-is_closed g c =
+    let s = c.args.self.now in
+    let before = c.in-Some.connection.now in
+    record {
+      few = omega (arith, wrote_count s.connections c.args.conn before before c.in-Some.ensures.value, s.few);
+      of_run = subst (AllOfRun (fs_of s.fs).run) (sym (rewrote s.connections c.args.conn before before c.in-Some.ensures.value refl)) s.of_run;
+    }
+
+pub returns-then-is_closed-clause-is_none : goal.returns-then-is_closed-clause-is_none
+unfolding world_of
+returns-then-is_closed-clause-is_none g c =
+    let there = stands c.args.self.now.connections c.args.conn c.in-Some.connection.now c.in-Some.ensures.value in
+    λ up free. let never : ⊥ = cc in absurd never
+
+pub returns-then-is_closed-clause-closed : goal.returns-then-is_closed-clause-closed
+unfolding world_of
+returns-then-is_closed-clause-closed g c =
+    λ is. stands c.args.self.now.connections c.args.conn c.in-Some.connection.now c.in-Some.ensures.value ∙ ap Some (c.is_closed.ensures.0 c.if-is_closed.true)
+
+pub turn-requires-clause-run : goal.turn-requires-clause-run
+turn-requires-clause-run g c =
+    let s = c.args.self.now in
+    let before = c.in-Some.connection.now in
+    s.of_run c.args.conn (connection_view before) (stands s.connections c.args.conn before c.in-Some.ensures.value)
+
+pub invariant_of-self-2 : goal.invariant_of-self-2
+invariant_of-self-2 g c =
+    let s = c.args.self.now in
+    let before = c.in-Some.connection.now in
+    let after = c.turn.new.self in
+    let run = (fs_of s.fs).run in
+    let same_run : (fs_of c.turn.new.fs).run ≡ run = ap (λ (f : FileSystem). f.run) c.turn.ensures.same in
+    record {
+      few = omega (arith, wrote_count s.connections c.args.conn before after c.in-Some.ensures.value, s.few);
+      of_run = subst (λ (r : ℕ). AllOfRun r (connections_of (with_value s.connections c.args.conn after))) (sym same_run)
+          (subst (AllOfRun run) (sym (wrote s.connections c.args.conn before after c.in-Some.ensures.value))
+          (all_of_run_with run (connections_of s.connections) c.args.conn (connection_view after) s.of_run c.turn.ensures.run));
+    }
+
+pub returns-in_err-turn-clause-fails : goal.returns-in_err-turn-clause-fails
+unfolding world_of volume_of
+returns-in_err-turn-clause-fails g c =
+    let s = c.args.self.now in
+    let before = c.in-Some.connection.now in
+    let after = c.turn.new.self in
+    let refusal = c.in_err-turn.field-0.0 in
+    let told = told_by c.from_residual.result (turn_fault refusal) c.from_residual.ensures.1 in
+    let back = rw c.in_err-turn.was at c.turn.ensures.back in
+    λ up is.
+    let device : refusal ≡ turns.Device = device_told refusal (let told_is : turn_fault refusal ≡ faults.Device = cc in told_is) in
+    fails _ _ _ _ (runs.Turns c.args.conn c.args.now) up
+    (ap (λ (f : FileSystem). f.is_down) (c.turn.ensures.device (c.in_err-turn.was ∙ ap Err device)))
+    (undone (fs_of s.fs) (fs_of c.turn.new.fs) (table_of s.table) (table_of c.turn.new.table) (connections_of s.connections) _ refusal
+    (λ memory. c.turn.ensures.memory (c.in_err-turn.was ∙ ap Err memory)) (λ device. c.turn.ensures.device (c.in_err-turn.was ∙ ap Err device)) back.1
+    (rewrote s.connections c.args.conn before after c.in-Some.ensures.value back.0))
+
+pub returns-in_err-turn-clause-is_none : goal.returns-in_err-turn-clause-is_none
+unfolding world_of
+returns-in_err-turn-clause-is_none g c =
+    let there = stands c.args.self.now.connections c.args.conn c.in-Some.connection.now c.in-Some.ensures.value in
+    λ up free. let never : ⊥ = cc in absurd never
+
+pub returns-in_err-turn-clause-is_closed : goal.returns-in_err-turn-clause-is_closed
+unfolding world_of
+returns-in_err-turn-clause-is_closed g c =
+    let there = stands c.args.self.now.connections c.args.conn c.in-Some.connection.now c.in-Some.ensures.value in
+    λ up closed.
+    let is : connection_view c.in-Some.connection.now ≡ Closed = cc in
+    let tested : c.is_closed.result ≡ true = c.is_closed.ensures.1 is in
+    let never : ⊥ = cc in absurd never
+
+pub returns-in_err-turn-clause-err : goal.returns-in_err-turn-clause-err
+unfolding world_of
+returns-in_err-turn-clause-err g c =
+    let s = c.args.self.now in
+    let before = c.in-Some.connection.now in
+    let after = c.turn.new.self in
+    let refusal = c.in_err-turn.field-0.0 in
+    let told = told_by c.from_residual.result (turn_fault refusal) c.from_residual.ensures.1 in
+    let back = rw c.in_err-turn.was at c.turn.ensures.back in
+    rw told (undone (fs_of s.fs) (fs_of c.turn.new.fs) (table_of s.table) (table_of c.turn.new.table) (connections_of s.connections) _ refusal
+    (λ memory. c.turn.ensures.memory (c.in_err-turn.was ∙ ap Err memory)) (λ device. c.turn.ensures.device (c.in_err-turn.was ∙ ap Err device)) back.1
+    (rewrote s.connections c.args.conn before after c.in-Some.ensures.value back.0))
+
+pub returns-in_err-turn-clause-moments : goal.returns-in_err-turn-clause-moments
+unfolding world_of volume_of
+returns-in_err-turn-clause-moments g c =
+    let s = c.args.self.now in
+    let before = c.in-Some.connection.now in
+    λ keeps up. turning_moments (fs_of s.fs) (table_of s.table) (connections_of s.connections) c.args.conn c.args.now _ up
+    (c.turn.ensures.moments keeps (world_by (fs_of s.fs) (table_of s.table) (connections_of s.connections)) c.args.conn (served_by _ _ _)
+    (stands s.connections c.args.conn before c.in-Some.ensures.value))
+
+pub returns-clause-ok : goal.returns-clause-ok
+unfolding world_of volume_of
+returns-clause-ok g c =
+    let s = c.args.self.now in
+    let before = c.in-Some.connection.now in
+    let after = c.turn.new.self in
+    let still = rw c.in_ok-turn.was at c.turn.ensures.still_up in
+    let made = turned (fs_of s.fs) (fs_of c.turn.new.fs) (table_of s.table) (table_of c.turn.new.table) (connections_of s.connections) _ c.args.conn c.args.now
+    (connection_view before) (connection_view after) (wrote s.connections c.args.conn before after c.in-Some.ensures.value) c.in_ok-turn.turn
+    (rw c.in_ok-turn.was at c.turn.ensures.turn) (numbers_rise s.connections) (stands s.connections c.args.conn before c.in-Some.ensures.value) c.turn.ensures.same in
+    (made.0, happens _ _ _ _ (runs.Turns c.args.conn c.args.now) (sym c.if-is_down.ensures) still made.1)
+
+pub returns-clause-is_none : goal.returns-clause-is_none
+unfolding world_of
+returns-clause-is_none g c =
+    let there = stands c.args.self.now.connections c.args.conn c.in-Some.connection.now c.in-Some.ensures.value in
+    λ up free. let never : ⊥ = cc in absurd never
+
+pub returns-clause-is_closed : goal.returns-clause-is_closed
+unfolding world_of
+returns-clause-is_closed g c =
+    let there = stands c.args.self.now.connections c.args.conn c.in-Some.connection.now c.in-Some.ensures.value in
+    λ up closed.
+    let is : connection_view c.in-Some.connection.now ≡ Closed = cc in
+    let tested : c.is_closed.result ≡ true = c.is_closed.ensures.1 is in
+    let never : ⊥ = cc in absurd never
+
+pub returns-clause-moments : goal.returns-clause-moments
+unfolding world_of volume_of
+returns-clause-moments g c =
+    let s = c.args.self.now in
+    let before = c.in-Some.connection.now in
+    λ keeps up. turning_moments (fs_of s.fs) (table_of s.table) (connections_of s.connections) c.args.conn c.args.now _ up
+    (c.turn.ensures.moments keeps (world_by (fs_of s.fs) (table_of s.table) (connections_of s.connections)) c.args.conn (served_by _ _ _)
+    (stands s.connections c.args.conn before c.in-Some.ensures.value))

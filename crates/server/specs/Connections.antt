@@ -1,0 +1,81 @@
+-- What a connection stands for, and a turn of it by the definition.
+use Rattle.std.specs.Prelude.{◌≡◌, ℕ, List, [], ◌∷◌, map, Some, None}
+use Rattle.slab.specs.Slab.{Slab, entries}
+use Rattle.compound.specs.Steps.{IsServed, with_served, stepped_on}
+use Rattle.compound.specs.Views.{in_progress_of}
+use Rattle.fs.specs.FileSystem.{FileSystem}
+use Rattle.model.specs.Keyed.{Keyed, at, IsAbove}
+use Rattle.model.specs.Rpc.{read_call}
+use Rattle.model.specs.Session.{Table}
+use Rattle.model.specs.World as world
+use Rattle.model.specs.World.{World, InProgress, Turned, Answered, Busy, Replied, one, called, with_connection}
+use Rattle.rpc.specs.Assembly.{connection_of}
+use Rattle.server.specs.declared.connection.Connection.{Connection}
+use Rattle.server.specs.declared.connection.State.{State}
+use Rattle.server.specs.declared.connection.State.TheVariants as state
+use Rattle.server.specs.declared.request.Opened.{Opened}
+use Rattle.server.specs.declared.request.Opened.TheVariants as opened
+use Rattle.server.specs.declared.turn.Turn.{Turn}
+use Rattle.server.specs.declared.turn.Turn.TheVariants as turn
+
+abbrev pub state_view : State → world.Connection
+state_view (state.Receiving assembler) = connection_of assembler
+state_view (state.Running running) = Busy (in_progress_of running)
+state_view (state.Replied reply) = Replied reply.items
+
+unfoldable pub connection_view : Connection → world.Connection
+connection_view connection = state_view connection.state
+
+abbrev pub numbered : ℕ × Connection → ℕ × world.Connection
+numbered entry = (entry.0, connection_view entry.1)
+
+-- the connections by rising number
+unfoldable pub connections_of : Slab Connection → Keyed world.Connection
+connections_of connections = map numbered (entries connections)
+
+abbrev pub turn_view : Turn → world.Turn
+turn_view turn.Idle = world.Idle
+turn_view turn.Ran = world.Ran
+turn_view turn.Answered = Answered
+
+-- the numbers rise
+abbrev pub IsRising : Keyed world.Connection → Type 0
+IsRising [] = Unit {0}
+IsRising (entry ∷ rest) = IsAbove entry.0 rest
+
+-- in each such world, on each connection, what is done by the definition is this turn, and leaves this world
+abbrev pub Leads : (World → ℕ → Turned) → (old new : FileSystem) → (old_table new_table : Table) → (after : world.Connection) → world.Turn → Type 0
+Leads by old new old_table new_table after done =
+    (world : World) (number : ℕ) → IsServed world old old_table
+    → ((by world number).turn ≡ done)
+    × ((by world number).world ≡ with_connection (with_served world new new_table) number after)
+
+-- in each such world that has this connection, its turn is this one, and leaves this world
+abbrev pub Turns : (now : ℕ) → (old new : FileSystem) → (old_table new_table : Table) → (before after : world.Connection) → Turn → Type 0
+Turns now old new old_table new_table before after done =
+    (world : World) (number : ℕ) → IsServed world old old_table → IsRising world.connections → at number world.connections ≡ Some before
+    → ((one world number now).turn ≡ turn_view done)
+    × ((one world number now).world ≡ with_connection (with_served world new new_table) number after)
+
+-- a request that has begun goes on in this run of the server
+abbrev pub IsOfRun : (run : ℕ) → world.Connection → Type 0
+IsOfRun run connection = (request : InProgress) → connection ≡ Busy request → request.context.run ≡ run
+
+-- a turn that gives this reply without an operation
+abbrev pub replied : World → (number : ℕ) → (reply : List ℕ) → Turned
+replied old number reply = record {
+  turn = Answered;
+  world = with_connection old number (Replied reply);
+  executed = None;
+  keeps = None;
+  replays = None;
+}
+
+-- what the turn of a whole record is, in each world of this run
+abbrev pub Opens : (run : ℕ) → (request : List ℕ) → Opened → Type 0
+Opens run request (opened.Answers reply) =
+    (world : World) (number now : ℕ) → called world number now (read_call request) ≡ replied world number reply.items
+Opens run request (opened.Begins running) =
+    ((in_progress_of running).context.run ≡ run)
+    × ((world : World) (number now : ℕ) → world.run ≡ run
+    → called world number now (read_call request) ≡ stepped_on world number now (in_progress_of running))

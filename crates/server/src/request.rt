@@ -1,0 +1,106 @@
+//! A whole record: its call is answered at once, or its COMPOUND begins.
+
+ghost use Rattle.std.specs.Prelude.{◌≡◌, ◌≤◌, ℕ, [], true, false, IfOk, IfErr, OnOk, OnErr, IsErrOf};
+ghost use Rattle.disk.specs.Cause.{IsCounted};
+ghost use Rattle.fs.specs.FileSystem.{AddsTrees};
+ghost use Rattle.fs.specs.FileSystems.{fs_of, fs_failures};
+ghost use Rattle.model.specs.Record.{framed};
+ghost use Rattle.model.specs.Rpc as rpc;
+ghost use Rattle.model.specs.Rpc.{is_call_read, reply_text};
+ghost use Rattle.model.specs.World.{World, called};
+ghost use Rattle.rpc.specs.Views.{reply_view, tail_of};
+ghost use Rattle.session.specs.Views.{table_of};
+ghost use Rattle.compound.specs.Steps.{IsServed, StaysInRun, connection_by, turn_by};
+ghost use Rattle.compound.specs.declared.fault.Fault.TheVariants as fault;
+ghost use Rattle.compound.specs.declared.fault.Fault.TheVariants.{Memory};
+ghost use Rattle.server.specs.Connections.{Opens, Leads};
+
+use compound::{Fault, Running, Stepped};
+use disk::Device;
+use fs::Fs;
+use rpc::{CallRead, Reply, Request, read_call, write_reply};
+use session::Table;
+use std::alloc::Global;
+use xdr::Writer;
+
+/// The bytes of a record's header.
+const HEADER_SIZE: usize = 4;
+
+/// What a call comes to before an operation runs.
+#[derive(Drop)]
+pub enum Opened {
+    /// The whole record of a reply.
+    Answers(Vec<u8>),
+    /// A COMPOUND whose first operation runs next.
+    Begins(Running),
+}
+
+/// The first turn of a whole record: its call is answered at once, or the first operation of its COMPOUND runs.
+pub fn first_turn<D: Device>(
+    alloc: Global,
+    request: &[u8],
+    fs: &mut Fs<D>,
+    table: &mut Table,
+    now: u64,
+) -> Result<Stepped, Fault>
+    requires up { (fs_of fs.old).is_down ≡ false }
+    requires call { is_call_read (rpc.read_call request.now) ≡ true }
+    ensures turn { IfOk result (λ done. Leads (λ world number. called world number now (rpc.read_call request.now)) (fs_of fs.old) (fs_of fs.new) (table_of table.old) (table_of table.new) (connection_by done) (turn_by done)) }
+    ensures stays { IfOk result (StaysInRun (fs_of fs.old).run) }
+    ensures same { fs_of fs.new ≡ record (fs_of fs.old) { tree = (fs_of fs.new).tree; changes = (fs_of fs.new).changes; is_down = (fs_of fs.new).is_down; history = (fs_of fs.new).history } }
+    ensures still_up { OnOk result ((fs_of fs.new).is_down ≡ false) }
+    ensures table { OnErr result (table_of table.new ≡ table_of table.old) }
+    ensures memory { IsErrOf result fault.Memory → fs_of fs.new ≡ fs_of fs.old }
+    ensures device { IsErrOf result fault.Device → fs_of fs.new ≡ record (fs_of fs.old) { is_down = true; history = (fs_of fs.new).history } }
+    ensures cause { IsErrOf result fault.Device → IsCounted (fs_failures fs.old) (fs_failures fs.new) }
+    ensures later { fs_failures fs.old ≤ fs_failures fs.new }
+    ensures moments { D.keeps_word → (world : World) (number : ℕ) → IsServed world (fs_of fs.old) (table_of table.old)
+        → AddsTrees (fs_of fs.old) (called world number now (rpc.read_call request.now)).world.tree (fs_of fs.new).history }
+{
+    match open(alloc, fs.restart_count(), request)? {
+        Opened::Answers(reply) => Ok(Stepped::Answered(reply)),
+        Opened::Begins(running) => match running.step(fs, table, now) {
+            Ok(done) => Ok(done),
+            Err(undone) => Err(undone.fault),
+        },
+    }
+}
+
+/// Reads the call of a whole record, and tests it. All memory for its reply is taken here.
+pub fn open(alloc: Global, run: u32, request: &[u8]) -> Result<Opened, Fault>
+    requires { is_call_read (rpc.read_call request.now) ≡ true }
+    ensures ok { IfOk result (Opens run request.now) }
+    ensures err { IfErr result (λ fault. fault ≡ Memory) }
+{
+    let call = match read_call(request) {
+        Ok(CallRead::Calls(call)) => call,
+        Ok(CallRead::OtherVersion { xid }) => {
+            let reply = record_of(alloc, xid, &Reply::VersionRefused)?;
+            return Ok(Opened::Answers(reply));
+        }
+        Err(_) => unreachable!(),
+    };
+    match call.request(alloc)? {
+        Request::Answers(reply) => Ok(Opened::Answers(record_of(alloc, call.xid, &reply)?)),
+        Request::Runs(cred, compound) => {
+            let running = Running::begin(alloc, call.xid, run, cred, &compound)?;
+            Ok(Opened::Begins(running))
+        }
+    }
+}
+
+/// The whole record of a reply.
+fn record_of(alloc: Global, xid: u32, reply: &Reply<'_>) -> Result<Vec<u8>, Fault>
+    requires { tail_of reply.now ≡ [] }
+    ensures ok { IfOk result (λ bytes. bytes.items ≡ framed (reply_text xid (reply_view reply.now))) }
+    ensures err { IfErr result (λ fault. fault ≡ Memory) }
+{
+    let size = reply.size().saturating_add(HEADER_SIZE);
+    let Ok(out) = Writer::with_capacity(alloc, size) else {
+        return Err(Fault::Memory);
+    };
+    match write_reply(out, xid, reply) {
+        Ok(bytes) => Ok(bytes),
+        Err(_) => Err(Fault::Memory),
+    }
+}

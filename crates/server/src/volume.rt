@@ -1,0 +1,81 @@
+//! Making a volume, and serving one.
+
+use crate::server::{MOST_CONNECTIONS, Server};
+use disk::Device;
+use fs::{FormatFault, Fs, MountFault, Unmounted};
+use session::Table;
+use slab::Slab;
+use std::alloc::Global;
+
+#[tactic(auto, unfolding(crate::specs::Servers::world_of, crate::specs::Servers::volume_of, crate::specs::Servers::failures_of, crate::specs::Connections::connections_of))]
+impl<D: Device> Server<D> {
+    ghost use Rattle.std.specs.Prelude.{◌≡◌, ◌≤◌, ◌⊎◌, ◌+◌, ◌↔◌, ◌∷◌, [], ℕ, false, OnOk, IfOk, IfErr, IsErrOf};
+    ghost use Rattle.disk.specs.Calls.{zero_sector};
+    ghost use Rattle.disk.specs.Cause.{IsCounted};
+    ghost use Rattle.disk.specs.Moments.{Image, AddsOnly, Left, seen};
+    ghost use Rattle.fs.specs.FileSystem.{Holds, IsNew};
+    ghost use Rattle.fs.specs.Stands.{IsBase, StandsFor};
+    ghost use Rattle.fs.specs.Superblock.{is_size, verdict};
+    ghost use Rattle.fs.specs.declared.superblock.Verdict.TheVariants as verdicts;
+    ghost use Rattle.model.specs.Fresh.{fresh_tree};
+    ghost use Rattle.model.specs.Tree.{Tree};
+    ghost use Rattle.model.specs.World.{mounted_world};
+    ghost use Rattle.server.specs.Servers.{world_of, volume_of, failures_of, server_limits};
+
+    /// Makes the device a new volume of this many nodes, with an empty root: `Fs::format`.
+    pub fn format(alloc: Global, device: &mut D, nodes: u32) -> Result<(), FormatFault>
+        ensures any_moment { D.keeps_word → AddsOnly (λ image. (image 0 ≡ zero_sector) ⊎ StandsFor (D.size device.old) nodes 0 fresh_tree image)
+            (D.history device.old) (D.history device.new) }
+        ensures ok { D.keeps_word → OnOk result ((image : Image) → Left (D.history device.new).now image → StandsFor (D.size device.old) nodes 0 fresh_tree image) }
+        ensures size { IsErrOf result FormatFault.Size ↔ (is_size (D.size device.old) nodes ≡ false) }
+        ensures untouched { (IsErrOf result FormatFault.Size ⊎ IsErrOf result FormatFault.Memory) → D.history device.new ≡ D.history device.old }
+        ensures cause { IsErrOf result FormatFault.Device → IsCounted (D.failed device.old) (D.failed device.new) }
+        ensures later { D.failed device.old ≤ D.failed device.new }
+        ensures same_size { D.size device.new ≡ D.size device.old }
+    {
+        Fs::format(alloc, device, nodes)
+    }
+
+    /// Serves the volume on this device, without a client or a connection yet: `Fs::mount`. Every map that a stop leaves from then
+    /// on has the new restart count.
+    ///
+    /// # Errors
+    /// The device comes back with the reason. NotVolume, then Worn, by the first sector, and then nothing was written; then
+    /// Damaged exactly where no tree stands; Device where the device failed, and Memory.
+    pub fn mount(alloc: Global, device: D) -> Result<Server<D>, Unmounted<D>>
+        ensures world { IfOk result (λ server. world_of server ≡ mounted_world (server_limits (volume_of server).limits) (volume_of server).run (volume_of server).tree) }
+        ensures new { IfOk result (λ server. IsNew (D.size device) (volume_of server)) }
+        ensures moments { D.keeps_word → IfOk result (λ server. (nodes run : ℕ) (tree : Tree) → IsBase (D.size device) nodes run tree (seen (D.history device).now)
+            → AddsOnly (λ image. StandsFor (D.size device) nodes run tree image ⊎ StandsFor (D.size device) nodes (run + 1) tree image) (D.history device) (volume_of server).history) }
+        ensures found { D.keeps_word → IfOk result (λ server. (run : ℕ) → (volume_of server).run ≡ run + 1
+            → StandsFor (D.size device) (volume_of server).limits.nodes run (volume_of server).tree (seen (D.history device).now)) }
+        ensures holds { D.keeps_word → IfOk result (λ server. Holds (volume_of server)) }
+        ensures moments_refused { D.keeps_word → IfErr result (λ refused. (nodes run : ℕ) (tree : Tree) → IsBase (D.size device) nodes run tree (seen (D.history device).now)
+            → AddsOnly (λ image. StandsFor (D.size device) nodes run tree image ⊎ StandsFor (D.size device) nodes (run + 1) tree image) (D.history device) (D.history refused.device)) }
+        ensures not_volume { D.keeps_word → IfErr result (λ refused. refused.fault ≡ MountFault.NotVolume
+            → (verdict (D.size device) (seen (D.history device).now 0) ≡ verdicts.NotVolume) × (D.history refused.device ≡ D.history device)) }
+        ensures worn { D.keeps_word → IfErr result (λ refused. refused.fault ≡ MountFault.Worn
+            → (verdict (D.size device) (seen (D.history device).now 0) ≡ verdicts.Worn) × (D.history refused.device ≡ D.history device)) }
+        ensures damaged { D.keeps_word → IfErr result (λ refused. refused.fault ≡ MountFault.Damaged
+            → (nodes run : ℕ) (tree : Tree) → IsBase (D.size device) nodes run tree (seen (D.history device).now) → ⊥) }
+        ensures cause { IfErr result (λ refused. refused.fault ≡ MountFault.Device → IsCounted (D.failed device) (D.failed refused.device)) }
+    {
+        let connections = match Slab::with_capacity(alloc, MOST_CONNECTIONS) {
+            Ok(connections) => connections,
+            Err(_) => {
+                return Err(Unmounted {
+                    fault: MountFault::Memory,
+                    device,
+                });
+            }
+        };
+        let fs = Fs::mount(alloc, device)?;
+        let table = Table::new(alloc, fs.restart_count());
+        Ok(Server {
+            alloc,
+            fs,
+            table,
+            connections,
+        })
+    }
+}

@@ -1,0 +1,5 @@
+//! Long tests of the whole server.
+#![tactic(auto)]
+
+#[cfg(test)]
+mod tests;

@@ -1,0 +1,9 @@
+//! What no contract says of one run: that a script's calls are answered so, that what a stop leaves is mounted, and that the
+//! replies of many clients are those of a small model, byte for byte.
+
+mod calls;
+mod line;
+mod script;
+mod seed;
+mod simple;
+mod soak;

@@ -1,0 +1,169 @@
+//! Calls as a client sends them (RFC 5531, section 9; RFC 8881, section 18).
+
+use std::alloc::Global;
+use std::test::Fail;
+use wire::{
+    Argument, Attributes, Bitmap, CallbackSecurity, Channel, CreateArguments,
+    CreateSessionArguments, ExchangeIdArguments, SequenceArguments,
+};
+use wire_client::write_argument;
+use xdr::{Refusal, Writer};
+
+/// The mark of a record's last fragment.
+const LAST_FRAGMENT: u32 = 1 << 31;
+
+/// What a client asks of both channels of its session.
+const CHANNEL: Channel = Channel {
+    header_pad_size: 0,
+    max_request_size: 16_384,
+    max_response_size: 16_384,
+    max_response_size_cached: 16_384,
+    max_operations: 16,
+    max_requests: 8,
+    rdma_ird: None,
+};
+
+/// The attribute 33, the mode, alone.
+const MODE: [u32; 2] = [0, 2];
+
+/// The mode 755: the owner makes directories in it, everyone looks names up.
+const MODE_755: [u8; 4] = [0, 0, 1, 0xED];
+
+/// Who calls, under which number.
+#[derive(Clone, Copy, Debug)]
+pub(super) struct Caller {
+    pub(super) xid: u32,
+    pub(super) uid: u32,
+}
+
+/// An operation behind SEQUENCE. A name is one letter.
+#[derive(Clone, Copy, Debug, PartialEq, Eq)]
+pub(super) enum Operation {
+    Root,
+    Lookup(u8),
+    MakeDir(u8),
+    GetHandle,
+}
+
+impl Operation {
+    fn write(self, call: &mut Writer) -> Result<(), Refusal> {
+        match self {
+            Operation::Root => write_argument(call, &Argument::PutRootFh),
+            Operation::Lookup(name) => write_argument(call, &Argument::Lookup(&[name])),
+            Operation::MakeDir(name) => write_new_directory(call, name),
+            Operation::GetHandle => write_argument(call, &Argument::GetFh),
+        }
+    }
+}
+
+fn write_new_directory(call: &mut Writer, name: u8) -> Result<(), Refusal> {
+    let mut bitmap = Bitmap::new();
+    bitmap.push(MODE[0]);
+    bitmap.push(MODE[1]);
+    let asked = CreateArguments::NewDirectory {
+        name: &[name],
+        attributes: Attributes {
+            bitmap,
+            values: &MODE_755,
+        },
+    };
+    write_argument(call, &Argument::Create(asked))
+}
+
+/// A record with one EXCHANGE_ID, of an owner id of four bytes.
+pub(super) fn hello(alloc: Global, caller: Caller) -> Result<Vec<u8>, Fail> {
+    let mut call = begin_call(alloc, caller, 1)?;
+    let asked = ExchangeIdArguments {
+        verifier: [0; 8],
+        owner: &caller.uid.to_be_bytes(),
+        flags: 0,
+        implementation: None,
+    };
+    write_argument(&mut call, &Argument::ExchangeId(asked))?;
+    record_of(alloc, call)
+}
+
+/// A record with one CREATE_SESSION, the client's first.
+pub(super) fn session(alloc: Global, caller: Caller, client: u64) -> Result<Vec<u8>, Fail> {
+    let mut security = Vec::new(alloc);
+    security.push(CallbackSecurity::NoSecurity)?;
+    let mut call = begin_call(alloc, caller, 1)?;
+    let asked = CreateSessionArguments {
+        client,
+        sequence: 1,
+        flags: 0,
+        fore: CHANNEL,
+        back: CHANNEL,
+        callback_program: 0,
+        security,
+    };
+    write_argument(&mut call, &Argument::CreateSession(asked))?;
+    record_of(alloc, call)
+}
+
+/// A record with these operations behind a SEQUENCE.
+pub(super) fn compound(
+    alloc: Global,
+    caller: Caller,
+    sequence: SequenceArguments,
+    operations: &[Operation],
+) -> Result<Vec<u8>, Fail> {
+    let count = u32::try_from(operations.len())?.saturating_add(1);
+    let mut call = begin_call(alloc, caller, count)?;
+    write_argument(&mut call, &Argument::Sequence(sequence))?;
+    for operation in operations {
+        operation.write(&mut call)?;
+    }
+    record_of(alloc, call)
+}
+
+/// A request on a slot.
+pub(super) fn on_slot(session: [u8; 16], slot: u32, number: u32) -> SequenceArguments {
+    SequenceArguments {
+        session,
+        sequence: number,
+        slot,
+        highest_slot: 7,
+        cache_this: true,
+    }
+}
+
+/// A call up to its operations: RPC version 2, the program NFS of version 4, COMPOUND; AUTH_SYS; an empty tag, minor version 1.
+fn begin_call(alloc: Global, caller: Caller, count: u32) -> Result<Writer, Refusal> {
+    let mut call = Writer::new(alloc);
+    for number in [caller.xid, 0, 2, 100003, 4, 1] {
+        call.write_u32(number)?;
+    }
+    for number in [1, 20, 0, 0, caller.uid, caller.uid, 0, 0, 0] {
+        call.write_u32(number)?;
+    }
+    for number in [0, 1, count] {
+        call.write_u32(number)?;
+    }
+    Ok(call)
+}
+
+/// The call as a record of one fragment.
+fn record_of(alloc: Global, call: Writer) -> Result<Vec<u8>, Fail> {
+    let call = call.into_vec();
+    let len = u32::try_from(call.len())?;
+    let mut record_bytes = Writer::new(alloc);
+    record_bytes.write_u32(LAST_FRAGMENT | len)?;
+    let mut record_bytes = record_bytes.into_vec();
+    record_bytes.extend_from_slice(&call)?;
+    Ok(record_bytes)
+}
+
+/// A record of one fragment as one of two, the first of at most so many bytes.
+pub(super) fn in_two(alloc: Global, whole: &[u8], first: usize) -> Result<Vec<u8>, Fail> {
+    let call = whole.get(4..).ok_or("a short record")?;
+    let (front, back) = call.split_at(first.min(call.len()));
+    let mut parts = Vec::new(alloc);
+    let front_len = u32::try_from(front.len())?;
+    parts.extend_from_slice(&front_len.to_be_bytes())?;
+    parts.extend_from_slice(front)?;
+    let back_len = u32::try_from(back.len())?;
+    parts.extend_from_slice(&(LAST_FRAGMENT | back_len).to_be_bytes())?;
+    parts.extend_from_slice(back)?;
+    Ok(parts)
+}
