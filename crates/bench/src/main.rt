@@ -1,0 +1,44 @@
+//! The program `bench`: how much a second one core reads, writes and takes.
+#![tactic(auto)]
+
+mod calls;
+mod copying;
+mod figures;
+mod places;
+mod reading;
+mod replies;
+#[cfg(test)]
+mod tests;
+mod work;
+
+use std::process::ExitCode;
+use std::{env, io};
+
+/// The exit status where the words have no form.
+const USAGE: u8 = 2;
+
+fn main(rt: HostRuntime) -> ExitCode {
+    match run(&rt) {
+        Ok(status) => status,
+        Err(error) => {
+            let _ = eprintln!(rt; "refused: {error}");
+            ExitCode::FAILURE
+        }
+    }
+}
+
+/// Without words nothing is measured and nothing printed.
+fn run(rt: &HostRuntime) -> anyhow::Result<ExitCode> {
+    let words: Vec<String> = env::args(rt)?.skip(1).collect(rt.alloc())?;
+    match words.as_slice() {
+        [] => Ok(ExitCode::SUCCESS),
+        [word] if word.as_str() == "measure" => {
+            figures::print_figures(rt, rt.alloc())?;
+            Ok(ExitCode::SUCCESS)
+        }
+        _ => {
+            eprintln!(rt; "usage: bench [measure]")?;
+            Ok(ExitCode::from(USAGE))
+        }
+    }
+}

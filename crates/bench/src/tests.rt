@@ -1,0 +1,90 @@
+//! Each kind of work does what it counts.
+
+use crate::calls::{DATA_BYTES, Kind, stream_of};
+use crate::copying::Copies;
+use crate::places::{FillsPlaces, PLACES, TakesFarPlaces, fill};
+use crate::reading::{ReadsCalls, ReadsRecord, Tally};
+use crate::replies::WritesReplies;
+use crate::work::Work;
+use freemap::Bitmap;
+use std::alloc::Global;
+use std::test::Fail;
+
+// what is read of a stream that comes in such pieces
+fn tally_of(alloc: Global, kind: Kind, piece_size: usize) -> Result<Tally, Fail> {
+    let stream = stream_of(alloc, kind)?;
+    let mut reads = ReadsCalls {
+        alloc,
+        bytes: &stream.bytes,
+        piece_size,
+        tally: Tally::NONE,
+    };
+    reads.turn()?;
+    Ok(reads.tally)
+}
+
+#[test]
+fn calls_are_read(rt: HostRuntime) -> Result<(), Fail> {
+    let writes = Tally {
+        calls: 32,
+        operations: 96,
+        data_bytes: 32 * DATA_BYTES as u64,
+        words: 0,
+    };
+    let asks = Tally {
+        calls: 32,
+        operations: 96,
+        data_bytes: 0,
+        words: 64,
+    };
+    for piece_size in [4096, 1 << 20] {
+        assert_eq!(rt; tally_of(rt.alloc(), Kind::Write, piece_size)?, writes);
+        assert_eq!(rt; tally_of(rt.alloc(), Kind::GetAttr, piece_size)?, asks);
+    }
+    Ok(())
+}
+
+#[test]
+fn a_held_record_is_read(rt: HostRuntime) -> Result<(), Fail> {
+    let stream = stream_of(rt.alloc(), Kind::Write)?;
+    let mut held = ReadsRecord {
+        alloc: rt.alloc(),
+        record_bytes: stream.bytes.get(4..stream.record_size).ok_or("short")?,
+        tally: Tally::NONE,
+    };
+    assert_eq!(rt; held.turn()?, 32);
+    assert_eq!(rt; held.tally.data_bytes, 32 * DATA_BYTES as u64);
+    Ok(())
+}
+
+#[test]
+fn replies_and_copies_are_whole(rt: HostRuntime) -> Result<(), Fail> {
+    let mut replies = WritesReplies::new(rt.alloc(), 1024)?;
+    assert_eq!(rt; replies.turn()?, 32);
+    // header, accepted reply, head of the COMPOUND, SEQUENCE, PUTFH, GETATTR
+    assert_eq!(rt; replies.reply.len(), 4 + 24 + 12 + 44 + 8 + 136);
+    let mut copies = Copies {
+        bytes: &replies.reply,
+        record_size: 100,
+        copy: Vec::new(rt.alloc()),
+    };
+    assert_eq!(rt; copies.turn()?, 3);
+    assert_eq!(rt; copies.copy.len(), 28);
+    Ok(())
+}
+
+#[test]
+fn places_are_filled_and_emptied(rt: HostRuntime) -> Result<(), Fail> {
+    let mut fills = FillsPlaces {
+        places: Bitmap::new(rt.alloc(), PLACES)?,
+    };
+    assert_eq!(rt; fills.turn()?, 131_072);
+    assert_eq!(rt; fills.places.free_count(), PLACES);
+    fill(&mut fills.places)?;
+    let mut far = TakesFarPlaces {
+        places: fills.places,
+    };
+    assert_eq!(rt; far.turn()?, 2);
+    assert_eq!(rt; far.places.free_count(), 0);
+    Ok(())
+}
