@@ -1,5 +1,5 @@
 -- What contracts see of a server: its world, and what stands on its device.
-use Rattle.std.specs.Prelude.{ℕ, List, [], ◌∷◌, ◌≡◌}
+use Rattle.std.specs.Prelude.{ℕ, List, [], ◌∷◌}
 use Rattle.disk.specs.declared.device.Device.{Ghosts}
 use Rattle.disk.specs.Moments.{Image}
 use Rattle.fs.specs.FileSystem.{FileSystem}
@@ -54,7 +54,3 @@ up server = serving server ((world_of server).tree ∷ [])
 -- the map stands for a tree of these, in this run of the volume
 abbrev pub StandsForOne : FileSystem → (Tree → Type 0) → Image → Type 0
 StandsForOne fs may image = (tree : Tree) × may tree × StandsFor fs.sectors fs.limits.nodes fs.run tree image
-
--- no map was left but those that were left before: the device was not touched
-abbrev pub IsUntouched : (old new : FileSystem) → Type 0
-IsUntouched old new = new ≡ old

@@ -9,7 +9,7 @@ use std::alloc::Global;
 
 #[tactic(auto, unfolding(crate::specs::Servers::world_of, crate::specs::Servers::volume_of, crate::specs::Servers::failures_of, crate::specs::Connections::connections_of))]
 impl<D: Device> Server<D> {
-    ghost use Rattle.std.specs.Prelude.{◌≡◌, ◌≤◌, ◌⊎◌, ◌+◌, ◌↔◌, ◌∷◌, [], ℕ, false, OnOk, IfOk, IfErr, IsErrOf};
+    ghost use Rattle.std.specs.Prelude.{◌≡◌, ◌≤◌, ◌⊎◌, ◌+◌, ◌^◌, ◌↔◌, ◌∷◌, [], ℕ, false, OnOk, IfOk, IfErr, IsErrOf};
     ghost use Rattle.disk.specs.Calls.{zero_sector};
     ghost use Rattle.disk.specs.Cause.{IsCounted};
     ghost use Rattle.disk.specs.Moments.{Image, AddsOnly, Left, seen};
@@ -58,7 +58,13 @@ impl<D: Device> Server<D> {
             → (verdict (D.size device) (seen (D.history device).now 0) ≡ verdicts.Worn) × (D.history refused.device ≡ D.history device)) }
         ensures damaged { D.keeps_word → IfErr result (λ refused. refused.fault ≡ MountFault.Damaged
             → (nodes run : ℕ) (tree : Tree) → IsBase (D.size device) nodes run tree (seen (D.history device).now) → ⊥) }
+        ensures no_tree { D.keeps_word → IfErr result (λ refused. refused.fault ≡ MountFault.NotVolume
+            → (nodes run : ℕ) (tree : Tree) → IsBase (D.size device) nodes run tree (seen (D.history device).now) → ⊥) }
+        ensures full { D.keeps_word → IfErr result (λ refused. refused.fault ≡ MountFault.Worn
+            → (nodes run : ℕ) (tree : Tree) → IsBase (D.size device) nodes run tree (seen (D.history device).now) → run + 1 ≡ 2 ^ 32) }
         ensures cause { IfErr result (λ refused. refused.fault ≡ MountFault.Device → IsCounted (D.failed device) (D.failed refused.device)) }
+        ensures later { IfOk result (λ server. D.failed device ≤ failures_of server) }
+        ensures later_refused { IfErr result (λ refused. D.failed device ≤ D.failed refused.device) }
     {
         let connections = match Slab::with_capacity(alloc, MOST_CONNECTIONS) {
             Ok(connections) => connections,
