@@ -1,5 +1,4 @@
 use super::*;
-use std::alloc::Global;
 
 fn entry(kind: AceKind, who: Who, mask: u32) -> Ace {
     Ace {
@@ -10,26 +9,26 @@ fn entry(kind: AceKind, who: Who, mask: u32) -> Ace {
     }
 }
 
-fn caller(alloc: Global, uid: u32) -> Cred {
+fn caller(uid: u32) -> Cred {
     Cred {
         uid,
         gid: uid,
-        gids: Gids::new(alloc),
+        gids: Gids::new(),
     }
 }
 
 // Whether user `uid` has a mask on a node of owner 9 and group 9.
-fn asks(alloc: Global, acl: &[Ace], uid: u32, mask: u32) -> bool {
-    granted(acl, 9, 9, &caller(alloc, uid), Mask::from_bits_retain(mask))
+fn asks(acl: &[Ace], uid: u32, mask: u32) -> bool {
+    granted(acl, 9, 9, &caller(uid), Mask::from_bits_retain(mask))
 }
 
 #[test]
 fn the_first_entry_decides(rt: HostRuntime) {
     let deny = entry(AceKind::Deny, Who::User(7), 0x1);
     let allow = entry(AceKind::Allow, Who::Everyone, 0x1);
-    assert!(rt; !asks(rt.alloc(), &[deny, allow], 7, 0x1));
-    assert!(rt; asks(rt.alloc(), &[deny, allow], 8, 0x1));
-    assert!(rt; asks(rt.alloc(), &[allow, deny], 7, 0x1));
+    assert!(rt; !asks(&[deny, allow], 7, 0x1));
+    assert!(rt; asks(&[deny, allow], 8, 0x1));
+    assert!(rt; asks(&[allow, deny], 7, 0x1));
 }
 
 #[test]
@@ -40,7 +39,7 @@ fn each_right_is_decided_by_itself(rt: HostRuntime) {
         entry(AceKind::Deny, Who::User(7), 0x3),
     ];
     for (mask, want) in [(0x3, true), (0x7, false), (0x0, true)] {
-        assert_eq!(rt; asks(rt.alloc(), &acl, 7, mask), want, "mask {mask}");
+        assert_eq!(rt; asks(&acl, 7, mask), want, "mask {mask}");
     }
 }
 
@@ -49,7 +48,7 @@ fn the_owner_is_not_locked_out(rt: HostRuntime) {
     let deny = [entry(AceKind::Deny, Who::Everyone, 0x1F01E7)];
     for (uid, mask, want) in [(9, 0x60100, true), (9, 0x60101, false), (0, 0x20000, false)] {
         assert_eq!(rt;
-            asks(rt.alloc(), &deny, uid, mask),
+            asks(&deny, uid, mask),
             want,
             "user {uid}, mask {mask}"
         );
@@ -58,9 +57,9 @@ fn the_owner_is_not_locked_out(rt: HostRuntime) {
 
 #[test]
 fn groups_and_inherit_only(rt: HostRuntime) -> Result<(), std::test::Fail> {
-    let mut cred = caller(rt.alloc(), 7);
+    let mut cred = caller(7);
     assert!(rt; cred.gids.as_slice().len() < Gids::MOST);
-    cred.gids.push(9)?;
+    cred.gids.push(9);
     let group = entry(AceKind::Allow, Who::Group, 0x1);
     let number = entry(AceKind::Allow, Who::NamedGroup(9), 0x2);
     let silent = Ace {
@@ -75,6 +74,6 @@ fn groups_and_inherit_only(rt: HostRuntime) -> Result<(), std::test::Fail> {
             "mask {mask}"
         );
     }
-    assert!(rt; !asks(rt.alloc(), &acl, 7, 0x1));
+    assert!(rt; !asks(&acl, 7, 0x1));
     Ok(())
 }

@@ -34,7 +34,7 @@ impl Tally {
         let CallRead::Calls(call) = read_call(record)? else {
             return Ok(());
         };
-        match call.request(alloc)? {
+        match call.request() {
             Request::Answers(_) => {}
             Request::Runs(_caller, compound) => {
                 self.read_operations(alloc, &compound)?;
@@ -79,7 +79,7 @@ pub struct ReadsCalls<'a> {
 
 impl ReadsCalls<'_> {
     fn read_stream(&mut self) -> anyhow::Result<()> {
-        let mut assembler = Assembler::new(self.alloc);
+        let mut assembler = Assembler::new(self.alloc)?;
         for piece in self.bytes.chunks(self.piece_size.max(1)) {
             self.read_piece(&mut assembler, piece)?;
         }
@@ -94,7 +94,7 @@ impl ReadsCalls<'_> {
             rest = rest.get(taken..).unwrap_or(&[]);
             if let Some(record) = assembler.record() {
                 self.tally.read_record(self.alloc, record)?;
-                let _ = assembler.take();
+                assembler.release();
             }
             if rest.is_empty() {
                 break;

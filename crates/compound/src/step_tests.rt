@@ -184,7 +184,7 @@ fn begun(alloc: Global, fs: &Fs<MemDevice>, count: u32, words: &[u32]) -> Result
     let cred = Cred {
         uid: 7,
         gid: 7,
-        gids: Gids::new(alloc),
+        gids: Gids::new(),
     };
     let compound = Compound {
         tag: Tag { bytes: b"t" },

@@ -64,7 +64,7 @@ fn running(alloc: Global, count: u32, words: &[u32]) -> Result<Running, Fail>
     let cred = Cred {
         uid: 7,
         gid: 7,
-        gids: Gids::new(alloc),
+        gids: Gids::new(),
     };
     let compound = Compound {
         tag: Tag { bytes: b"t" },

@@ -17,11 +17,11 @@ const MODE: [u32; 2] = [0, 2];
 
 const MODE_755: [u8; 4] = [0, 0, 1, 0xED];
 
-fn caller(alloc: Global) -> Cred {
+fn caller() -> Cred {
     Cred {
         uid: 7,
         gid: 7,
-        gids: Gids::new(alloc),
+        gids: Gids::new(),
     }
 }
 
@@ -40,7 +40,7 @@ fn named(name: &[u8]) -> NewDirectory
 
 fn make_directories<R: AllocGlobal + Abort>(rt: &R, device: &mut MemDevice) -> Result<(), Fail> {
     let alloc = rt.alloc();
-    let cred = caller(alloc);
+    let cred = caller();
     let Ok(mut fs) = Fs::mount(alloc, device) else {
         return Err("not mounted".into());
     };
@@ -61,7 +61,7 @@ fn make_directories<R: AllocGlobal + Abort>(rt: &R, device: &mut MemDevice) -> R
 
 fn look_up_directories<R: AllocGlobal + Abort>(rt: &R, device: &mut MemDevice) -> Result<(), Fail> {
     let alloc = rt.alloc();
-    let cred = caller(alloc);
+    let cred = caller();
     let Ok(fs) = Fs::mount(alloc, device) else {
         return Err("not mounted".into());
     };

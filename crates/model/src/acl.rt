@@ -5,6 +5,7 @@ ghost use Rattle.std.specs.Prelude.{⊤, ◌≡◌, ◌<◌, ◌≤◌, ◌++◌
 use bitflags::{Flag, Flags, bitflag_items};
 use std::alloc::{AllocError, Global};
 use std::marker::Model;
+use xdr::Words;
 
 /// The rights that an entry names (RFC 8881, section 6.2.1.3, `acemask4`): a 32-bit word.
 #[derive(Clone, Copy, PartialEq, Eq, Debug)]
@@ -223,39 +224,35 @@ impl Acl {
 /// Contracts see the list of their numbers.
 #[derive(Drop, Debug)]
 pub struct Gids {
-    numbers: Vec<u32>,
+    numbers: Words<16>,
 }
 
 impl Model for Gids {
-    ghost use Rattle.std.specs.Prelude.{ℕ, List, length, ◌≤◌};
+    ghost use Rattle.std.specs.Prelude.{ℕ, List};
 
     ghost Value = { List ℕ };
 
-    ghost view = { λ gids. gids.numbers.items };
-
-    ghost invariant = { λ gids. length gids.numbers.items ≤ 16 };
+    ghost view = { λ gids. gids.numbers };
 }
 
 impl Gids {
     pub const MOST: usize = 16;
 
     /// No groups.
-    pub fn new(alloc: Global) -> Gids
+    pub fn new() -> Gids
         ensures { result ≡ [] }
     {
         Gids {
-            numbers: Vec::new(alloc),
+            numbers: Words::new(),
         }
     }
 
-    /// Puts a group at the end. Where no memory is had, the list stays as it is.
-    pub fn push(&mut self, gid: u32) -> Result<(), AllocError>
+    /// Puts a group at the end.
+    pub fn push(&mut self, gid: u32)
         requires { length self.old < 16 }
-        ensures added { OnOk result (self.new ≡ self.old ++ gid ∷ []) }
-        ensures kept { OnErr result (self.new ≡ self.old) }
+        ensures { self.new ≡ self.old ++ gid ∷ [] }
     {
-        self.numbers.push(gid)?;
-        Ok(())
+        self.numbers.push(gid);
     }
 
     /// The groups' numbers.
@@ -264,6 +261,14 @@ impl Gids {
         ensures few { length result.now ≤ 16 }
     {
         self.numbers.as_slice()
+    }
+}
+
+impl From<Words<16>> for Gids {
+    ghost from_gives = { λ words gids. gids ≡ words };
+
+    fn from(numbers: Words<16>) -> Gids {
+        Gids { numbers }
     }
 }
 

@@ -109,7 +109,7 @@ fn lookup_refuses_in_order(rt: HostRuntime) -> Result<(), Fail> {
     let caller = Cred {
         uid: 7,
         gid: 7,
-        gids: Gids::new(rt.alloc()),
+        gids: Gids::new(),
     };
     for (directory, name, want) in [
         (1, b"f".as_slice(), Ok(2)),

@@ -1,6 +1,6 @@
 -- Where a record ends: behind what had come before, and at the end of what is taken of the piece.
 use Rattle.std.proofs.Common.{◌≡◌, ℕ, ◌+◌, ◌-◌, ◌<◌, ◌≤◌, inl, inr, true, List, [], ◌++◌, length, take, drop, Some, None, cond, refl, ap, sym, subst, ◌∙◌, arith}
-use Rattle.std.proofs.lemmas.List.{length-append, take-append-le, take_at, take-append-drop, append-nil, get_or_append_left, get_or-append_right}
+use Rattle.std.proofs.lemmas.List.{length-append, length-drop, take-append-le, take_all, take_at, take-append-drop, append-nil, get_or_append_left, get_or-append_right}
 use Rattle.std.proofs.lemmas.Bool.{cases_lt}
 use Rattle.std.proofs.Math.Seq.{take-append-add}
 use Rattle.xdr.specs.Laws.{IsBytes}
@@ -73,6 +73,17 @@ found_in bytes end (Whole request rest) e is = record { request = request; rest 
 pub found : (bytes : List ℕ) (end : ℕ) → scans.Whole end ≡ scan_of bytes (front record_limits bytes) → Found bytes end
 found bytes end is = found_in bytes end (front record_limits bytes) refl is
 
+partial_in : (bytes : List ℕ) (front_is : Front) → scans.Partial ≡ scan_of bytes front_is → front_is ≡ Partial
+partial_in bytes Partial is = refl
+partial_in bytes (Refused fault) is = absurd cc
+partial_in bytes (Whole request rest) is = absurd cc
+
+-- a search that found no end, where the bytes before were read through a reference
+pub partial_by : (old read piece : List ℕ) → read ≡ old → scans.Partial ≡ scan_of (read ++ piece) (front record_limits (read ++ piece)) → front record_limits (old ++ piece) ≡ Partial
+partial_by old read piece same is =
+    partial_in (old ++ piece) (front record_limits (old ++ piece))
+    (subst (λ (all : List ℕ). scans.Partial ≡ scan_of (all ++ piece) (front record_limits (all ++ piece))) same is)
+
 -- the whole record, up to this place, and what it holds
 pub record Taken (old piece : List ℕ) (end : ℕ) : Type 0 where
   pub request : List ℕ
@@ -123,3 +134,7 @@ is_call request (reads.Calls call) is = ap is_call_read is
 pub no_call : (bytes request rest : List ℕ) → front record_limits bytes ≡ Whole request rest → read_call request ≡ NoCall → fault_in (front record_limits bytes) ≡ Some faults.NotACall
 no_call bytes request rest is none =
     ap fault_in is ∙ ap (λ (read : CallRead). cond (is_call_read read) None (Some faults.NotACall)) none
+
+-- a slice from a place on, as it is taken
+pub from_place : (bytes : List ℕ) (start : ℕ) → take (length bytes - start) (drop start bytes) ≡ drop start bytes
+from_place bytes start = take_all (length bytes - start) (drop start bytes) (omega (arith, length-drop start bytes))

@@ -1,16 +1,25 @@
 -- What a piece makes of a connection.
-use Rattle.std.proofs.Common.{◌≡◌, ℕ, Bool, true, false, cond, List, [], ◌++◌, length, Some, None, refl, ap, sym, ◌∙◌}
+use Rattle.std.proofs.Common.{◌≡◌, ℕ, ◌≤◌, Bool, true, false, cond, List, [], ◌++◌, length, drop, Some, None, refl, ap, sym, ◌∙◌, arith}
 use Rattle.model.specs.Record.{Front, Partial, Refused, Whole, front, front_from}
 use Rattle.model.specs.Rpc.{read_call, is_call_read}
 use Rattle.model.specs.World.{Waiting, Closed, arrived, arrives_at, taken_of, taken_at}
 use Rattle.rpc.specs.declared.fault.RecordFault.{RecordFault}
 use Rattle.rpc.specs.declared.fault.RecordFault.TheVariants as faults
 use Rattle.rpc.specs.declared.receive.Progress.TheVariants as progress
-use Rattle.rpc.specs.Assembly.{record_limits, Assembly, Gathers, Holds, Refuses, connection_of, fault_in, fault_at, is_partial, is_lasting, IsRefused, Refusal, Receives}
+use Rattle.rpc.specs.declared.state.State.TheVariants as states
+use Rattle.rpc.specs.Assembly.{record_limits, most_received, Stands, Assembly, Gathers, Holds, Refuses, connection_of, fault_in, fault_at, is_partial, IsRefused, Receives}
 
 pub nothing_yet : is_partial (front record_limits []) ≡ true
 unfolding front_from
 nothing_yet = refl
+
+-- an empty buffer that has room
+pub stands_empty : (bytes : List ℕ) (spare : ℕ) → bytes ≡ [] → most_received ≤ spare → Stands states.Gathers bytes spare
+stands_empty bytes spare is room = record {
+  sound = ap (λ (all : List ℕ). is_partial (front record_limits all)) is ∙ nothing_yet;
+  within = _;
+  room = omega arith;
+}
 
 partial_in : (f : Front) → is_partial f ≡ true → f ≡ Partial
 partial_in Partial is = refl
@@ -31,12 +40,12 @@ more_taken old bytes piece new is r =
     ap (λ (a : Assembly). taken_at record_limits piece (connection_of a)) is
     ∙ ap (λ (f : Front). taken_of piece f (arrived (bytes ++ piece) f)) r.0
 
-pub whole_taken : (old : Assembly) (bytes piece new : List ℕ) (n : ℕ) → old ≡ Gathers bytes → Receives bytes piece (progress.Whole n) new → taken_at record_limits piece (connection_of old) ≡ Some n
+pub whole_taken : (old : Assembly) (bytes piece new : List ℕ) (n start : ℕ) → old ≡ Gathers bytes → Receives bytes piece (progress.Whole n start) new → taken_at record_limits piece (connection_of old) ≡ Some n
 unfolding taken_at
-whole_taken old bytes piece new n is r =
+whole_taken old bytes piece new n start is r =
     ap (λ (a : Assembly). taken_at record_limits piece (connection_of a)) is
     ∙ ap (λ (f : Front). taken_of piece f (arrived (bytes ++ piece) f)) r.1
-    ∙ ap (λ (b : Bool). taken_of piece (Whole new r.0) (cond b (Waiting new) Closed)) r.3
+    ∙ ap (λ (b : Bool). taken_of piece (Whole (drop start new) r.0) (cond b (Waiting (drop start new)) Closed)) r.3
     ∙ ap Some (sym r.2)
 
 pub none_taken : (old : Assembly) (request piece : List ℕ) → old ≡ Holds request → taken_at record_limits piece (connection_of old) ≡ Some 0
@@ -59,7 +68,7 @@ none_by piece Partial = refl
 none_by piece (Refused why) = refl
 none_by piece (Whole request rest) = refl
 
-refused_by : (old : Assembly) (bytes piece : List ℕ) (fault : RecordFault) → old ≡ Gathers bytes → fault_in (front record_limits (bytes ++ piece)) ≡ Some fault → IsRefused piece old (Refuses fault) fault
+pub refused_by : (old : Assembly) (bytes piece : List ℕ) (fault : RecordFault) → old ≡ Gathers bytes → fault_in (front record_limits (bytes ++ piece)) ≡ Some fault → IsRefused piece old (Refuses fault) fault
 unfolding taken_at
 refused_by old bytes piece fault is why =
     let shut : arrived (bytes ++ piece) (front record_limits (bytes ++ piece)) ≡ Closed = closes (bytes ++ piece) (front record_limits (bytes ++ piece)) fault why in
@@ -72,7 +81,7 @@ refused_by old bytes piece fault is why =
       closes = ap (λ (a : Assembly). arrives_at record_limits piece (connection_of a)) is ∙ shut;
     }
 
-refused_before : (old : Assembly) (piece : List ℕ) (fault : RecordFault) → old ≡ Refuses fault → IsRefused piece old (Refuses fault) fault
+pub refused_before : (old : Assembly) (piece : List ℕ) (fault : RecordFault) → old ≡ Refuses fault → IsRefused piece old (Refuses fault) fault
 unfolding taken_at
 refused_before old piece fault is = record {
   reason = ap (fault_at piece) is;
@@ -80,15 +89,3 @@ refused_before old piece fault is = record {
   none_taken = ap (λ (a : Assembly). taken_at record_limits piece (connection_of a)) is;
   closes = ap (λ (a : Assembly). arrives_at record_limits piece (connection_of a)) is;
 }
-
-lasting : (piece : List ℕ) (old new : Assembly) (fault : RecordFault) → is_lasting fault ≡ true → IsRefused piece old new fault → Refusal piece old new fault
-lasting piece old new faults.RecordTooBig lasts is = is
-lasting piece old new faults.TooManyFragments lasts is = is
-lasting piece old new faults.NotACall lasts is = is
-lasting piece old new faults.Memory lasts is = absurd cc
-
-pub refusal_now : (old : Assembly) (bytes piece new : List ℕ) (fault : RecordFault) → old ≡ Gathers bytes → Receives bytes piece (progress.Refused fault) new → Refusal piece old (Refuses fault) fault
-refusal_now old bytes piece new fault is r = lasting piece old (Refuses fault) fault r.1 (refused_by old bytes piece fault is r.0)
-
-pub refusal_before : (old : Assembly) (piece : List ℕ) (fault : RecordFault) → old ≡ Refuses fault → is_lasting fault ≡ true → Refusal piece old (Refuses fault) fault
-refusal_before old piece fault is lasts = lasting piece old (Refuses fault) fault lasts (refused_before old piece fault is)

@@ -3,6 +3,7 @@ pub mod Feeds
 pub mod Fragments
 pub mod Joins
 pub mod Replies
+pub mod Rooms
 pub mod Tags
 pub mod Walks
 pub mod Words

@@ -27,10 +27,17 @@ pub data Assembly : Type 0 where
   -- refused for good
   Refuses : RecordFault → Assembly
 
-abbrev pub assembly_of : State → Assembly
-assembly_of (states.Gathers bytes) = Gathers bytes.items
-assembly_of (states.Holds request) = Holds request.items
-assembly_of (states.Refuses fault) = Refuses fault
+-- what the bytes in its buffer are
+abbrev pub assembly_of : State → List ℕ → Assembly
+assembly_of states.Gathers bytes = Gathers bytes
+assembly_of (states.Holds start) bytes = Holds (drop start bytes)
+assembly_of (states.Refuses fault) bytes = Refuses fault
+
+-- without the record that it holds
+abbrev pub released : Assembly → Assembly
+released (Gathers bytes) = Gathers bytes
+released (Holds request) = Gathers []
+released (Refuses fault) = Refuses fault
 
 -- the connection that an assembler stands for
 abbrev pub connection_of : Assembly → Connection
@@ -63,29 +70,31 @@ pub record IsRefused (piece : List ℕ) (old new : Assembly) (fault : RecordFaul
   pub none_taken : taken_at record_limits piece (connection_of old) ≡ None
   pub closes : arrives_at record_limits piece (connection_of old) ≡ Closed
 
--- where memory runs out nothing changes
-abbrev pub Refusal : (piece : List ℕ) → (old new : Assembly) → RecordFault → Type 0
-Refusal piece old new faults.RecordTooBig = IsRefused piece old new faults.RecordTooBig
-Refusal piece old new faults.TooManyFragments = IsRefused piece old new faults.TooManyFragments
-Refusal piece old new faults.NotACall = IsRefused piece old new faults.NotACall
-Refusal piece old new faults.Memory = new ≡ old
-
--- no more has come than a part of a record, a whole one holds a call, and what lasts is no want of memory
+-- no more has come than a part of a record, and a whole one holds a call
 abbrev pub is_partial : Front → Bool
 is_partial Partial = true
 is_partial (Refused fault) = false
 is_partial (Whole request rest) = false
 
-abbrev pub is_lasting : RecordFault → Bool
-is_lasting faults.RecordTooBig = true
-is_lasting faults.TooManyFragments = true
-is_lasting faults.NotACall = true
-is_lasting faults.Memory = false
-
 abbrev pub is_sound : Assembly → Bool
 is_sound (Gathers bytes) = is_partial (front record_limits bytes)
 is_sound (Holds request) = is_call_read (read_call request)
-is_sound (Refuses fault) = is_lasting fault
+is_sound (Refuses fault) = true
+
+-- what may come of one record: its bytes, a header for each fragment, and one that is not whole
+abbrev pub most_received : ℕ
+most_received = 16644
+
+abbrev pub IsWithin : State → List ℕ → Type 0
+IsWithin states.Gathers bytes = Unit {0}
+IsWithin (states.Holds start) bytes = start ≤ length bytes
+IsWithin (states.Refuses fault) bytes = Unit {0}
+
+-- the buffer has room for what may come
+pub record Stands (state : State) (bytes : List ℕ) (spare : ℕ) : Type 0 where
+  pub sound : is_sound (assembly_of state bytes) ≡ true
+  pub within : IsWithin state bytes
+  pub room : most_received ≤ length bytes + spare
 
 -- Steps
 
@@ -111,6 +120,7 @@ IsWhole bytes = (request : List ℕ) × (front record_limits bytes ≡ Whole req
 -- what a piece makes of the bytes before
 abbrev pub Receives : (old piece : List ℕ) → Progress → (new : List ℕ) → Type 0
 Receives old piece progress.More new = (front record_limits (old ++ piece) ≡ Partial) × (new ≡ old ++ piece)
-Receives old piece (progress.Whole n) new =
-    (rest : List ℕ) × (front record_limits (old ++ piece) ≡ Whole new rest) × (n ≡ length piece - length rest) × (is_call_read (read_call new) ≡ true)
-Receives old piece (progress.Refused fault) new = (fault_in (front record_limits (old ++ piece)) ≡ Some fault) × (is_lasting fault ≡ true)
+Receives old piece (progress.Whole taken start) new =
+    (rest : List ℕ) × (front record_limits (old ++ piece) ≡ Whole (drop start new) rest) × (taken ≡ length piece - length rest)
+    × (is_call_read (read_call (drop start new)) ≡ true) × (start ≤ length new)
+Receives old piece (progress.Refused fault) new = fault_in (front record_limits (old ++ piece)) ≡ Some fault

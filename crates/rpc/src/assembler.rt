@@ -3,72 +3,69 @@
 ghost use Rattle.std.specs.Prelude.{⊤, ◌≡◌, ◌↔◌, ℕ, List, [], true, Some, MatchOption, IfOk, IfErr, IsTrue};
 ghost use Rattle.model.specs.Rpc.{read_call, is_call_read};
 ghost use Rattle.model.specs.World.{Closed, arrives_at, taken_at};
-ghost use Rattle.rpc.specs.Assembly.{record_limits, Gathers, Holds, connection_of, Refusal};
+ghost use Rattle.rpc.specs.Assembly.{record_limits, Gathers, Holds, connection_of, released, IsRefused};
 
 use crate::fault::RecordFault;
+use crate::fragment::MOST_RECEIVED;
 use crate::receive::{Progress, receive_piece};
 use crate::state::State;
 use bytes::BytesMut;
-use std::alloc::Global;
+use std::alloc::{AllocError, Global};
 use std::marker::Model;
-use std::mem;
 
 /// What has come of a connection's next record, up to a whole one that holds a call.
 ///
-/// A record has at most 16,384 bytes in at most 64 fragments. Memory is taken only for bytes that have come.
+/// A record has at most 16,384 bytes in at most 64 fragments. The memory for one with its headers is taken once, and kept
+/// from record to record.
 #[derive(Drop)]
 pub struct Assembler {
-    alloc: Global,
+    buffer: BytesMut,
     state: State,
 }
 
 impl Model for Assembler {
-    ghost use Rattle.std.specs.Prelude.{◌≡◌, true};
-    ghost use Rattle.rpc.specs.Assembly.{Assembly, assembly_of, is_sound};
+    ghost use Rattle.rpc.specs.Assembly.{Assembly, assembly_of, Stands};
 
     ghost Value = { Assembly };
 
-    ghost view = { λ a. assembly_of a.state };
+    ghost view = { λ a. assembly_of a.state a.buffer.items };
 
-    ghost invariant = { λ a. is_sound (assembly_of a.state) ≡ true };
+    ghost invariant = { λ a. Stands a.state a.buffer.items a.buffer.spare };
 }
 
 impl Assembler {
-    /// Nothing has come.
-    pub fn new(alloc: Global) -> Assembler
-        ensures { result ≡ Gathers [] }
+    /// Nothing has come. All memory that records need is taken here.
+    pub fn new(alloc: Global) -> Result<Assembler, AllocError>
+        ensures { IfOk result (λ assembler. assembler ≡ Gathers []) }
     {
-        Assembler {
-            alloc,
-            state: State::Gathers(BytesMut::new(alloc)),
-        }
+        Ok(Assembler {
+            buffer: BytesMut::with_capacity(alloc, MOST_RECEIVED)?,
+            state: State::Gathers,
+        })
     }
 
     /// Takes the front of the piece, up to the end of the first whole record, and answers how many bytes that is; none
     /// while a whole record waits. `RecordTooBig` and `TooManyFragments` refuse a fragment's header as soon as it is
-    /// there, in this order, and `NotACall` a whole record; each is answered for good. After `Memory` nothing has
-    /// changed.
+    /// there, in this order, and `NotACall` a whole record; each is answered for good. It takes no memory.
     pub fn feed(&mut self, piece: &[u8]) -> Result<usize, RecordFault>
         ensures arrived { IfOk result (λ n. connection_of self.new ≡ arrives_at record_limits piece.now (connection_of self.old)) }
         ensures taken { IfOk result (λ n. taken_at record_limits piece.now (connection_of self.old) ≡ Some n) }
-        ensures refused { IfErr result (λ fault. Refusal piece.now self.old self.new fault) }
+        ensures refused { IfErr result (λ fault. IsRefused piece.now self.old self.new fault) }
     {
-        match &mut self.state {
-            State::Gathers(bytes) => match receive_piece(bytes, piece) {
-                Ok(Progress::More) => Ok(piece.len()),
-                Ok(Progress::Whole(taken)) => {
-                    let request = mem::replace(bytes, BytesMut::new(self.alloc));
-                    self.state = State::Holds(request);
+        match self.state {
+            State::Gathers => match receive_piece(&mut self.buffer, piece) {
+                Progress::More => Ok(piece.len()),
+                Progress::Whole { taken, start } => {
+                    self.state = State::Holds { start };
                     Ok(taken)
                 }
-                Ok(Progress::Refused(fault)) => {
+                Progress::Refused(fault) => {
                     self.state = State::Refuses(fault);
                     Err(fault)
                 }
-                Err(_) => Err(RecordFault::Memory),
             },
-            State::Holds(_) => Ok(0),
-            State::Refuses(fault) => Err(*fault),
+            State::Holds { .. } => Ok(0),
+            State::Refuses(fault) => Err(fault),
         }
     }
 
@@ -84,24 +81,20 @@ impl Assembler {
         ensures waits { MatchOption result ((request : List ℕ) → self.now ≡ Holds request → ⊥) (λ bytes. self.now ≡ Holds bytes.now) }
         ensures call { MatchOption result ⊤ (λ bytes. is_call_read (read_call bytes.now) ≡ true) }
     {
-        match &self.state {
-            State::Holds(request) => Some(request.as_slice()),
-            State::Gathers(_) | State::Refuses(_) => None,
+        match self.state {
+            State::Holds { start } => Some(&self.buffer[start..]),
+            State::Gathers | State::Refuses(_) => None,
         }
     }
 
-    /// Hands the whole record out that waits; what comes next begins another one. Where none waits, nothing changes.
-    pub fn take(&mut self) -> Option<BytesMut>
-        ensures request { MatchOption result ((request : List ℕ) → self.old ≡ Holds request → ⊥) (λ bytes. self.old ≡ Holds bytes.items) }
-        ensures call { MatchOption result ⊤ (λ bytes. is_call_read (read_call bytes.items) ≡ true) }
-        ensures after { MatchOption result (self.new ≡ self.old) (λ bytes. self.new ≡ Gathers []) }
+    /// Lets the whole record go that waits, and keeps its memory: what comes next begins another one. Where none waits,
+    /// nothing changes.
+    pub fn release(&mut self)
+        ensures { self.new ≡ released self.old }
     {
-        if !matches!(self.state, State::Holds(_)) {
-            return None;
-        }
-        match mem::replace(&mut self.state, State::Gathers(BytesMut::new(self.alloc))) {
-            State::Holds(request) => Some(request),
-            _ => None,
+        if matches!(self.state, State::Holds { .. }) {
+            self.buffer.clear();
+            self.state = State::Gathers;
         }
     }
 }

@@ -1,12 +1,11 @@
 //! The caller, as AUTH_SYS tells it (RFC 5531, appendix A).
 
-ghost use Rattle.std.specs.Prelude.{◌≡◌, Some, None, MatchOption, MatchResult, IfOk};
+ghost use Rattle.std.specs.Prelude.{◌≡◌, Some, None, MatchOption, MatchResult};
 ghost use Rattle.model.specs.Rpc.{cred_of, cred_by};
 ghost use Rattle.model.specs.WireTypes.{system_credential};
 ghost use Rattle.rpc.specs.Views.{auth_sys_cred};
 
-use model::acl::{Cred, Gids};
-use std::alloc::{AllocError, Global};
+use model::acl::Cred;
 use wire::SystemCredential;
 use xdr::Reader;
 
@@ -23,16 +22,12 @@ pub fn read_auth_sys(body: &[u8]) -> Option<SystemCredential<'_>>
 }
 
 /// The caller that the credential tells.
-pub fn cred_from(alloc: Global, found: &SystemCredential<'_>) -> Result<Cred, AllocError>
-    ensures { IfOk result (λ cred. cred ≡ auth_sys_cred found.now) }
+pub fn cred_from(found: SystemCredential<'_>) -> Cred
+    ensures { result ≡ auth_sys_cred found.entry }
 {
-    let mut gids = Gids::new(alloc);
-    for gid in found.gids.as_slice() {
-        gids.push(*gid)?;
-    }
-    Ok(Cred {
+    Cred {
         uid: found.uid,
         gid: found.gid,
-        gids,
-    })
+        gids: found.gids.into(),
+    }
 }

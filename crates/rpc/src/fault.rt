@@ -1,9 +1,5 @@
 //! Why a connection is not listened to any longer.
 
-ghost use Rattle.std.specs.Prelude.{◌≡◌};
-ghost use Rattle.rpc.specs.declared.fault.RecordFault.TheVariants.{Memory};
-
-use std::alloc::AllocError;
 use thiserror::Error;
 
 /// Why bytes of a stream are not taken.
@@ -18,15 +14,4 @@ pub enum RecordFault {
     /// A whole record that holds no call.
     #[error("a record that is no call")]
     NotACall,
-    /// Memory ran out. Nothing changed.
-    #[error("out of memory")]
-    Memory,
-}
-
-impl From<AllocError> for RecordFault {
-    ghost from_gives = { λ _ e. e ≡ Memory };
-
-    fn from(_error: AllocError) -> RecordFault {
-        RecordFault::Memory
-    }
 }

@@ -14,6 +14,8 @@ const LAST_FRAGMENT: u32 = 1 << 31;
 const MOST_BYTES: usize = 16384;
 
 const MOST_FRAGMENTS: usize = 64;
+/// The most bytes of a stream that are kept of one record: the record's, a header for each fragment, and one that is not whole.
+pub const MOST_RECEIVED: usize = MOST_BYTES + (MOST_FRAGMENTS + 1) * HEADER_BYTES;
 
 /// A place in a record, between two fragments.
 #[derive(Clone, Copy)]

@@ -1,22 +1,26 @@
 //! Joining the fragments of a record in place.
 
-ghost use Rattle.std.specs.Prelude.{◌≡◌, ◌≤◌, [], length, take};
+ghost use Rattle.std.specs.Prelude.{◌≡◌, ◌≤◌, ◌+◌, [], length, take, drop};
 ghost use Rattle.model.specs.Record.{Whole, front};
 ghost use Rattle.rpc.specs.Assembly.{record_limits, IsWhole};
 
 use crate::fragment::{Fragment, HEADER_BYTES, Place, fragment_at};
 use bytes::BytesMut;
 
-/// Leaves of a whole record what its fragments hold. Where there is one, no byte is moved.
-pub fn drop_headers(bytes: &mut BytesMut)
+/// Joins what the fragments of a whole record hold, and answers where it begins; it ends where the bytes end. Where there
+/// is one fragment, no byte is moved.
+pub fn drop_headers(bytes: &mut BytesMut) -> usize
     requires { IsWhole bytes.old.items }
-    ensures { front record_limits bytes.old.items ≡ Whole bytes.new.items [] }
+    ensures request { front record_limits bytes.old.items ≡ Whole (drop result bytes.new.items) [] }
+    ensures within { result ≤ length bytes.new.items }
+    ensures room { length bytes.new.items + bytes.new.spare ≡ length bytes.old.items + bytes.old.spare }
 {
     match fragment_at(bytes, &[], Place::START) {
-        Fragment::Brings { is_last: true, .. } => bytes.advance(HEADER_BYTES),
+        Fragment::Brings { is_last: true, .. } => HEADER_BYTES,
         _ => {
             let size = join_fragments(bytes);
             bytes.truncate(size);
+            0
         }
     }
 }

@@ -1,47 +1,48 @@
 //! What a piece makes of the bytes before it.
 
-ghost use Rattle.std.specs.Prelude.{◌≡◌, IfOk, OnErr};
+ghost use Rattle.std.specs.Prelude.{◌≡◌, ◌≤◌, ◌+◌, length};
 ghost use Rattle.model.specs.Record.{Partial, front};
-ghost use Rattle.rpc.specs.Assembly.{record_limits, Receives};
+ghost use Rattle.rpc.specs.Assembly.{record_limits, most_received, Receives};
 
 use crate::call::read_call;
 use crate::fault::RecordFault;
 use crate::join::drop_headers;
 use crate::scan::{Scan, scan_record};
 use bytes::BytesMut;
-use std::alloc::AllocError;
 
 /// What a piece made of the bytes before it.
 #[derive(Clone, Copy)]
 pub enum Progress {
     /// The whole piece was taken, and the record is not whole.
     More,
-    /// So many bytes were taken, and the record is whole and holds a call.
-    Whole(usize),
+    /// So many bytes were taken, and from `start` on stands a whole record that holds a call.
+    Whole { taken: usize, start: usize },
     /// A header or the record is refused.
     Refused(RecordFault),
 }
 
-/// Takes the front of the piece, up to the end of the record. Of a whole record what its fragments hold is left.
-pub fn receive_piece(bytes: &mut BytesMut, piece: &[u8]) -> Result<Progress, AllocError>
-    requires { front record_limits bytes.old.items ≡ Partial }
-    ensures ok { IfOk result (λ progress. Receives bytes.old.items piece.now progress bytes.new.items) }
-    ensures err { OnErr result (bytes.new.items ≡ bytes.old.items) }
+/// Takes the front of the piece, up to the end of the record, into memory that is there. Of a whole record what its
+/// fragments hold is left.
+pub fn receive_piece(bytes: &mut BytesMut, piece: &[u8]) -> Progress
+    requires partial { front record_limits bytes.old.items ≡ Partial }
+    requires room { most_received ≤ length bytes.old.items + bytes.old.spare }
+    ensures received { Receives bytes.old.items piece.now result bytes.new.items }
+    ensures kept { length bytes.new.items + bytes.new.spare ≡ length bytes.old.items + bytes.old.spare }
 {
     match scan_record(bytes, piece) {
         Scan::Partial => {
-            bytes.extend_from_slice(piece)?;
-            Ok(Progress::More)
+            bytes.extend_reserved(piece);
+            Progress::More
         }
-        Scan::Refused(fault) => Ok(Progress::Refused(fault)),
+        Scan::Refused(fault) => Progress::Refused(fault),
         Scan::Whole(end) => {
             let taken = end - bytes.len();
-            bytes.extend_from_slice(&piece[..taken])?;
-            drop_headers(bytes);
-            Ok(match read_call(bytes) {
-                Ok(_) => Progress::Whole(taken),
+            bytes.extend_reserved(&piece[..taken]);
+            let start = drop_headers(bytes);
+            match read_call(&bytes[start..]) {
+                Ok(_) => Progress::Whole { taken, start },
                 Err(_) => Progress::Refused(RecordFault::NotACall),
-            })
+            }
         }
     }
 }

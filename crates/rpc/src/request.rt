@@ -1,6 +1,6 @@
 //! The tests of a call, in their order (RFC 5531, section 9; RFC 8881, section 16.2).
 
-ghost use Rattle.std.specs.Prelude.{◌≡◌, [], IfOk};
+ghost use Rattle.std.specs.Prelude.{◌≡◌, []};
 ghost use Rattle.xdr.specs.Clauses.{Scans};
 ghost use Rattle.model.specs.Rpc.{request_of, compound_head, compound_request, by_head, Success, compound_text};
 ghost use Rattle.rpc.specs.Views.{head_view, call_view, reply_view, request_view, tail_of, IsBrief};
@@ -12,7 +12,6 @@ use crate::reply::{AuthStat, CompoundResult, Reply};
 use crate::tag::Tag;
 use model::acl::Cred;
 use model::status::Status;
-use std::alloc::{AllocError, Global};
 use xdr::{Reader, Refusal};
 
 /// The program NFS and its version.
@@ -53,16 +52,16 @@ impl<'a> Call<'a> {
     /// What the call asks for, by the tests in their order: program, version and procedure; the credential; the head of
     /// the COMPOUND, its minor version, and that no bytes follow where no operation is counted.
     #[tactic(auto, unfolding(model::specs::Rpc::request_of))]
-    pub fn request(self, alloc: Global) -> Result<Request<'a>, AllocError>
-        ensures request { IfOk result (λ request. request_of (call_view self.entry) ≡ request_view request) }
-        ensures brief { IfOk result IsBrief }
+    pub fn request(self) -> Request<'a>
+        ensures request { request_of (call_view self.entry) ≡ request_view result }
+        ensures brief { IsBrief result }
     {
         let reply = if self.program != PROGRAM {
             Reply::ProgramUnavailable
         } else if self.version != NFS_VERSION {
             Reply::ProgramMismatch
         } else if self.procedure == COMPOUND {
-            return self.compound(alloc);
+            return self.compound();
         } else if self.procedure != NULL {
             Reply::ProcedureUnavailable
         } else if self.body.is_empty() {
@@ -70,23 +69,22 @@ impl<'a> Call<'a> {
         } else {
             Reply::GarbageArguments
         };
-        Ok(Request::Answers(reply))
+        Request::Answers(reply)
     }
 
-    fn compound(self, alloc: Global) -> Result<Request<'a>, AllocError>
-        ensures request { IfOk result (λ request. compound_request (call_view self.entry) ≡ request_view request) }
-        ensures brief { IfOk result IsBrief }
+    fn compound(self) -> Request<'a>
+        ensures request { compound_request (call_view self.entry) ≡ request_view result }
+        ensures brief { IsBrief result }
     {
         if self.flavour == AUTH_NONE {
-            return Ok(Request::Answers(Reply::AuthRefused(AuthStat::TooWeak)));
+            return Request::Answers(Reply::AuthRefused(AuthStat::TooWeak));
         }
         if self.flavour == AUTH_SYS {
             if let Some(found) = read_auth_sys(self.credential) {
-                let cred = cred_from(alloc, &found)?;
-                return Ok(compound_of(cred, self.body));
+                return compound_of(cred_from(found), self.body);
             }
         }
-        Ok(Request::Answers(Reply::AuthRefused(AuthStat::BadCredential)))
+        Request::Answers(Reply::AuthRefused(AuthStat::BadCredential))
     }
 }
 

@@ -1,15 +1,14 @@
-//! What an assembler holds.
+//! How far an assembler is.
 
 use crate::fault::RecordFault;
-use bytes::BytesMut;
 
-/// What an assembler holds.
-#[derive(Drop)]
+/// How far an assembler is, and what the bytes in its buffer are.
+#[derive(Clone, Copy)]
 pub enum State {
     /// What has come of the next record, headers included.
-    Gathers(BytesMut),
-    /// A whole record that holds a call, without headers.
-    Holds(BytesMut),
-    /// Nothing: a header or a record was refused.
+    Gathers,
+    /// From this place on a whole record that holds a call, without headers.
+    Holds { start: usize },
+    /// Of no use: a header or a record was refused.
     Refuses(RecordFault),
 }

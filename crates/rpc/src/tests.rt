@@ -101,7 +101,7 @@ fn answer_to(alloc: Global, record: &[u8]) -> Result<Vec<u8>, Fail> {
         CallRead::OtherVersion { xid } => {
             Ok(write_reply(out, xid, &crate::Reply::VersionRefused)?)
         }
-        CallRead::Calls(call) => match call.request(alloc)? {
+        CallRead::Calls(call) => match call.request() {
             Request::Answers(reply) => Ok(write_reply(out, call.xid, &reply)?),
             Request::Runs(_, _) => Err("an operation runs".into()),
         },
@@ -123,16 +123,17 @@ fn null_is_answered(rt: HostRuntime) -> Result<(), Fail> {
     for words in [NULL_CALL.as_slice(), CUT_CALL.as_slice()] {
         let call = bytes_of(rt.alloc(), words)?;
         for size in [1, 7, 100] {
-            let mut assembler = Assembler::new(rt.alloc());
+            let mut assembler = Assembler::new(rt.alloc())?;
             feed_cut(&mut assembler, &call, size)?;
             assert_eq!(rt; assembler.feed(&call)?, 0);
             assert!(rt; assembler.record().is_some());
-            let record = assembler.take().ok_or("no record")?;
+            let record = assembler.record().ok_or("no record")?;
             assert_eq!(rt; record.len(), 40);
             assert_eq!(rt;
-                answer_to(rt.alloc(), &record)?.as_slice(),
+                answer_to(rt.alloc(), record)?.as_slice(),
                 expected.as_slice()
             );
+            assembler.release();
             assert!(rt; assembler.record().is_none());
         }
     }
@@ -157,7 +158,7 @@ fn an_operation_runs_for_its_caller(rt: HostRuntime) -> Result<(), Fail> {
         CallRead::Calls(call) => call,
         CallRead::OtherVersion { .. } => return Err("another version".into()),
     };
-    match call.request(rt.alloc())? {
+    match call.request() {
         Request::Runs(cred, compound) => {
             assert_eq!(rt; (cred.uid, cred.gid), (7, 8));
             assert_eq!(rt; cred.gids.as_slice(), [9].as_slice());
@@ -174,12 +175,12 @@ fn refusals_last(rt: HostRuntime) -> Result<(), Fail> {
     for (words, fault) in REFUSED {
         let bytes = bytes_of(rt.alloc(), words)?;
         for size in [1, 4, 100] {
-            let mut assembler = Assembler::new(rt.alloc());
+            let mut assembler = Assembler::new(rt.alloc())?;
             let met = feed_cut(&mut assembler, &bytes, size);
             assert_eq!(rt; met, Err(fault), "the bytes {words:?}");
             assert!(rt; assembler.is_refused());
             assert_eq!(rt; assembler.feed(&[]), Err(fault));
-            assert!(rt; assembler.take().is_none());
+            assert!(rt; assembler.record().is_none());
         }
     }
     Ok(())
@@ -190,7 +191,7 @@ fn a_record_has_sixteen_kibibytes(rt: HostRuntime) -> Result<(), Fail> {
     let mut bytes = bytes_of(rt.alloc(), &NULL_CALL)?;
     bytes.resize(16388, 1)?;
     let header = 0x8000_4000_u32.to_be_bytes();
-    let mut assembler = Assembler::new(rt.alloc());
+    let mut assembler = Assembler::new(rt.alloc())?;
     assert_eq!(rt; assembler.feed(&header)?, 4);
     let rest = bytes.get(4..).ok_or("short")?;
     let front = rest.get(..10000).ok_or("short")?;
@@ -205,17 +206,18 @@ fn a_record_has_sixteen_kibibytes(rt: HostRuntime) -> Result<(), Fail> {
 fn a_record_has_sixty_four_fragments(rt: HostRuntime) -> Result<(), Fail> {
     let empty = [0; 4];
     let call = bytes_of(rt.alloc(), &NULL_CALL)?;
-    let mut assembler = Assembler::new(rt.alloc());
+    let mut assembler = Assembler::new(rt.alloc())?;
     for _ in 0..63 {
         assert_eq!(rt; assembler.feed(&empty)?, 4);
     }
     assert_eq!(rt; assembler.feed(&call)?, 44);
-    assert_eq!(rt; assembler.take().ok_or("no record")?.len(), 40);
+    assert_eq!(rt; assembler.record().ok_or("no record")?.len(), 40);
+    assembler.release();
     for _ in 0..64 {
         assert_eq!(rt; assembler.feed(&empty)?, 4);
     }
     // the record's size is tested first
-    let mut other = Assembler::new(rt.alloc());
+    let mut other = Assembler::new(rt.alloc())?;
     for _ in 0..64 {
         assert_eq!(rt; other.feed(&empty)?, 4);
     }

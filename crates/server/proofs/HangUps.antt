@@ -13,11 +13,12 @@ use Rattle.model.specs.Runs.{Serving, Turns, Happens, MayLeave}
 use Rattle.model.specs.World as world
 use Rattle.model.specs.World.{World, InProgress, Busy, one, is_busy}
 use Rattle.model.proofs.RuledOutLaws.{one_a_turn}
-use Rattle.rpc.specs.Assembly.{Gathers, Holds, Refuses}
+use Rattle.rpc.specs.Assembly.{Assembly, Gathers, Holds, Refuses}
 use Rattle.server.specs.declared.connection.Connection.{Connection}
-use Rattle.server.specs.declared.connection.State.{State}
-use Rattle.server.specs.declared.connection.State.TheVariants as state
-use Rattle.server.specs.Connections.{state_view, connection_view, connections_of}
+use Rattle.server.specs.declared.stage.Stage.{Stage}
+use Rattle.server.specs.declared.stage.Stage.TheVariants as stage
+use Rattle.server.specs.Connections.{connection_view, connections_of}
+use Rattle.server.specs.Stages.{stage_view}
 use Rattle.server.specs.Servers.{StandsForOne}
 use Rattle.server.specs.Serves.{IsTurned, Stays, Goes_on, MayLeaveTurning}
 use Rattle.server.proofs.Moments.{adds_weaker, adds_joined}
@@ -34,23 +35,23 @@ abbrev pub turns_left : Option world.Connection → ℕ
 turns_left (Some (Busy request)) = suc (request.count - request.answered)
 turns_left _ = 0
 
-more_in : (kind : State) (request : InProgress) → state_view kind ≡ Busy request → request.answered ≤ request.count
+more_in : (assembly : Assembly) (kind : Stage) (request : InProgress) → stage_view assembly kind ≡ Busy request → request.answered ≤ request.count
 unfolding in_progress_of
-more_in (state.Receiving (Gathers bytes)) request is = let never : ⊥ = cc in absurd never
-more_in (state.Receiving (Holds bytes)) request is = let never : ⊥ = cc in absurd never
-more_in (state.Receiving (Refuses fault)) request is = let never : ⊥ = cc in absurd never
-more_in (state.Running running) request is =
+more_in (Gathers bytes) stage.Receiving request is = let never : ⊥ = cc in absurd never
+more_in (Holds bytes) stage.Receiving request is = let never : ⊥ = cc in absurd never
+more_in (Refuses fault) stage.Receiving request is = let never : ⊥ = cc in absurd never
+more_in assembly (stage.Running running) request is =
     let same : in_progress_of running ≡ request = cc in
     let more : running.answered ≤ running.count = omega (arith, running.more) in
     subst (λ (r : InProgress). r.answered ≤ r.count) same more
-more_in (state.Replied reply) request is = let never : ⊥ = cc in absurd never
+more_in assembly (stage.Replied reply) request is = let never : ⊥ = cc in absurd never
 
 -- a request has no more results than operations
 pub has_more : (slab : Slab Connection) (n : ℕ) (request : InProgress) → at n (connections_of slab) ≡ Some (Busy request) → request.answered ≤ request.count
 unfolding connection_view
 has_more slab n request is =
     let found = stands_some slab n (Busy request) is in
-    more_in found.0.state request found.2
+    more_in found.0.assembler found.0.stage request found.2
 
 fewer : (slab : Slab Connection) (n : ℕ) (request : InProgress) (left : Option world.Connection) → at n (connections_of slab) ≡ left → IsOneFurther request left
     → turns_left left < suc (request.count - request.answered)

@@ -95,13 +95,19 @@ module _ (now : ℕ) (before : Connection) (by : World → ℕ → Turned)
       subst (λ (t : Tree). AddsTrees fs t new) (sym (ap (λ (t : Turned). t.world.tree) (one_comes world number is))) (adds world number served)
 
 -- nothing is done
-pub idle_turn : (now : ℕ) (before : Connection) (fs : FileSystem) (table : Table)
+idle_turn : (now : ℕ) (before : Connection) (fs : FileSystem) (table : Table)
     → ((world : World) (number : ℕ) → turned world number now (Some before) ≡ idle world)
     → Turns now fs fs table table before before turn.Idle
 idle_turn now before fs table comes = λ world number served rising is. (
   ap (λ (t : Turned). t.turn) (one_comes now before (λ w n. idle w) comes world number is),
   ap (λ (t : Turned). t.world) (one_comes now before (λ w n. idle w) comes world number is) ∙ sym (still world fs table number before served rising is),
 )
+
+pub idle_turn_to : (now : ℕ) (before after : Connection) (fs : FileSystem) (table : Table) → before ≡ after
+    → ((world : World) (number : ℕ) → turned world number now (Some before) ≡ idle world)
+    → Turns now fs fs table table before after turn.Idle
+idle_turn_to now before after fs table same comes =
+    subst (λ (left : Connection). Turns now fs fs table table before left turn.Idle) same (idle_turn now before fs table comes)
 
 -- What it comes to
 

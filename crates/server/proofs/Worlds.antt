@@ -1,5 +1,5 @@
 -- Events of a server that keeps each change at once.
-use Rattle.std.proofs.Common.{◌≡◌, ◌⊎◌, ◌+◌, ◌<◌, ◌≤◌, ℕ, zero, suc, Bool, true, false, List, [], ◌∷◌, ◌++◌, length, get_or, None, Some, Result, Ok, Err, IfOk, IfErr, OnOk, OnErr, IsErrOf, refl, sym, ap, ◌∙◌, subst, inl, inr, cond, arith, lt-ltb}
+use Rattle.std.proofs.Common.{◌≡◌, ◌⊎◌, ◌+◌, ◌<◌, ◌≤◌, ℕ, zero, suc, Bool, true, false, List, [], ◌∷◌, ◌++◌, length, get_or, None, Some, Result, Ok, Err, IfOk, OnOk, OnErr, refl, sym, ap, ◌∙◌, subst, inl, inr, cond, arith, lt-ltb}
 use Rattle.std.specs.List.{IsAmong}
 use Rattle.std.proofs.lemmas.Bool.{cases_eq}
 use Rattle.fs.specs.FileSystem.{FileSystem}
@@ -14,8 +14,6 @@ use Rattle.model.specs.World.{World, Quiet, Closed, arrives, arrives_at, arrived
 use Rattle.model.proofs.KeyedLaws.{at-with_same, at-with_other, at-without_same, at-without_other}
 use Rattle.model.proofs.RuledOutLaws.{each_event_happens}
 use Rattle.rpc.specs.Assembly.{record_limits}
-use Rattle.rpc.specs.declared.fault.RecordFault.{RecordFault as RecordRefusal}
-use Rattle.rpc.specs.declared.fault.RecordFault.TheVariants as refusals
 use Rattle.slab.specs.Slab.{Slab, slab_len, Updates}
 use Rattle.server.specs.declared.connection.Connection.{Connection}
 use Rattle.server.specs.Connections.{IsOfRun, connections_of, connection_view}
@@ -201,15 +199,12 @@ module _ (fs : FileSystem) (table : Table) (old new : Keyed world.Connection) (n
   hung_up quiet written = ap (world_by fs table) written ∙ sym (hangs_up_is (world_by fs table old) number quiet)
 
 -- What a feed leaves of a connection
-pub feeds_of_run : (run : ℕ) (piece : List ℕ) (before after : world.Connection) (result : Result ℕ RecordRefusal)
+pub feeds_of_run : {E : Type 0} (run : ℕ) (piece : List ℕ) (before after : world.Connection) (result : Result ℕ E)
     → IfOk result (λ n. (after ≡ arrives_at record_limits piece before) × (taken_at record_limits piece before ≡ Some n))
-    → IfErr result (λ refusal. (refusal ≡ refusals.Memory → ⊥) → (after ≡ Closed) × (arrives_at record_limits piece before ≡ Closed) × (taken_at record_limits piece before ≡ None))
-    → (IsErrOf result refusals.Memory → after ≡ before) → IsOfRun run before → IsOfRun run after
-feeds_of_run run piece before after (Ok n) arrived closed memory here = subst (IsOfRun run) (sym arrived.0) (arrived_of_run run record_limits piece before here)
-feeds_of_run run piece before after (Err refusals.Memory) arrived closed memory here = subst (IsOfRun run) (sym (memory refl)) here
-feeds_of_run run piece before after (Err refusals.RecordTooBig) arrived closed memory here = subst (IsOfRun run) (sym (closed (λ e. let never : ⊥ = cc in absurd never)).0) (not_busy_of_run run Closed refl)
-feeds_of_run run piece before after (Err refusals.TooManyFragments) arrived closed memory here = subst (IsOfRun run) (sym (closed (λ e. let never : ⊥ = cc in absurd never)).0) (not_busy_of_run run Closed refl)
-feeds_of_run run piece before after (Err refusals.NotACall) arrived closed memory here = subst (IsOfRun run) (sym (closed (λ e. let never : ⊥ = cc in absurd never)).0) (not_busy_of_run run Closed refl)
+    → OnErr result ((after ≡ Closed) × (arrives_at record_limits piece before ≡ Closed) × (taken_at record_limits piece before ≡ None))
+    → IsOfRun run before → IsOfRun run after
+feeds_of_run run piece before after (Ok n) arrived closed here = subst (IsOfRun run) (sym arrived.0) (arrived_of_run run record_limits piece before here)
+feeds_of_run run piece before after (Err fault) arrived closed here = subst (IsOfRun run) (sym closed.0) (not_busy_of_run run Closed refl)
 
 -- A slab behind an insert that may have failed
 

@@ -9,22 +9,15 @@ use Rattle.model.specs.Rpc.{read_call}
 use Rattle.model.specs.Session.{Table}
 use Rattle.model.specs.World as world
 use Rattle.model.specs.World.{World, InProgress, Turned, Answered, Busy, Replied, one, called, with_connection}
-use Rattle.rpc.specs.Assembly.{connection_of}
 use Rattle.server.specs.declared.connection.Connection.{Connection}
-use Rattle.server.specs.declared.connection.State.{State}
-use Rattle.server.specs.declared.connection.State.TheVariants as state
+use Rattle.server.specs.Stages.{stage_view}
 use Rattle.server.specs.declared.request.Opened.{Opened}
 use Rattle.server.specs.declared.request.Opened.TheVariants as opened
 use Rattle.server.specs.declared.turn.Turn.{Turn}
 use Rattle.server.specs.declared.turn.Turn.TheVariants as turn
 
-abbrev pub state_view : State → world.Connection
-state_view (state.Receiving assembler) = connection_of assembler
-state_view (state.Running running) = Busy (in_progress_of running)
-state_view (state.Replied reply) = Replied reply.items
-
 unfoldable pub connection_view : Connection → world.Connection
-connection_view connection = state_view connection.state
+connection_view connection = stage_view connection.assembler connection.stage
 
 abbrev pub numbered : ℕ × Connection → ℕ × world.Connection
 numbered entry = (entry.0, connection_view entry.1)

@@ -3,3 +3,4 @@ pub mod Faults
 pub mod Headline
 pub mod Servers
 pub mod Serves
+pub mod Stages

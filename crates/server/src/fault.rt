@@ -1,12 +1,12 @@
 //! Why a server does not do what it is asked.
 
 ghost use Rattle.std.specs.Prelude.{◌≡◌};
-ghost use Rattle.server.specs.Faults.{feed_fault, turn_fault};
+ghost use Rattle.server.specs.Faults.{turn_fault};
 ghost use Rattle.server.specs.declared.fault.ServerFault.TheVariants as faults;
 
 use compound::Fault;
 use rpc::RecordFault;
-use std::alloc::AllocFailed;
+use std::alloc::{AllocError, AllocFailed};
 use thiserror::Error;
 
 /// Why a server does not do what it is asked.
@@ -29,6 +29,14 @@ pub enum ServerFault {
     Memory,
 }
 
+impl From<AllocError> for ServerFault {
+    ghost from_gives = { λ _ fault. fault ≡ faults.Memory };
+
+    fn from(_: AllocError) -> ServerFault {
+        ServerFault::Memory
+    }
+}
+
 impl<T: Drop> From<AllocFailed<T>> for ServerFault {
     ghost from_gives = { λ _ fault. fault ≡ faults.Memory };
 
@@ -38,15 +46,10 @@ impl<T: Drop> From<AllocFailed<T>> for ServerFault {
 }
 
 impl From<RecordFault> for ServerFault {
-    ghost from_gives = { λ fault gives. gives ≡ feed_fault fault };
+    ghost from_gives = { λ _ fault. fault ≡ faults.Closed };
 
-    fn from(fault: RecordFault) -> ServerFault {
-        match fault {
-            RecordFault::RecordTooBig | RecordFault::TooManyFragments | RecordFault::NotACall => {
-                ServerFault::Closed
-            }
-            RecordFault::Memory => ServerFault::Memory,
-        }
+    fn from(_: RecordFault) -> ServerFault {
+        ServerFault::Closed
     }
 }
 

@@ -4,9 +4,12 @@
 mod connection;
 mod fault;
 pub mod laws;
+mod receiving;
 mod request;
 mod server;
+mod stage;
 mod turn;
+mod turns;
 mod volume;
 
 pub use fault::ServerFault;

@@ -80,7 +80,7 @@ pub fn open(alloc: Global, run: u32, request: &[u8]) -> Result<Opened, Fault>
         }
         Err(_) => unreachable!(),
     };
-    match call.request(alloc)? {
+    match call.request() {
         Request::Answers(reply) => Ok(Opened::Answers(record_of(alloc, call.xid, &reply)?)),
         Request::Runs(cred, compound) => {
             let running = Running::begin(alloc, call.xid, run, cred, &compound)?;

@@ -72,7 +72,8 @@ impl<D: Device> Server<D> {
         if self.connections.len() >= MOST_CONNECTIONS {
             return Err(ServerFault::Full);
         }
-        Ok(self.connections.insert(Connection::new(self.alloc))?)
+        let connection = Connection::new(self.alloc)?;
+        Ok(self.connections.insert(connection)?)
     }
 
     /// Takes the front of a piece up to the end of the connection's first whole record, and answers how many bytes that is;
@@ -80,7 +81,7 @@ impl<D: Device> Server<D> {
     ///
     /// # Errors
     /// Device where the file system is down; NoConnection; Closed where the piece brings a refused header or ends a record that
-    /// is no call, and from then on; Memory, and then nothing changed.
+    /// is no call, and from then on. It takes no memory.
     pub fn feed(&mut self, conn: usize, piece: &[u8]) -> Result<usize, ServerFault>
         ensures ok { IfOk result (λ n. Happens (up self.old) (runs.Arrives conn piece.now) (up self.new)
             × ((connection : _) → at conn (world_of self.old).connections ≡ Some connection → taken_at record_limits piece.now connection ≡ Some n)) }
@@ -90,7 +91,7 @@ impl<D: Device> Server<D> {
         ensures no_connection { IsErrOf result ServerFault.NoConnection → at conn (world_of self.old).connections ≡ None }
         ensures is_none { (volume_of self.old).is_down ≡ false → at conn (world_of self.old).connections ≡ None → IsErrOf result ServerFault.NoConnection }
         ensures err { IfErr result (λ fault. (fault ≡ ServerFault.Closed → ⊥) → world_of self.new ≡ world_of self.old) }
-        ensures never_full { IsErrOf result ServerFault.Full → ⊥ }
+        ensures only { IfErr result (λ fault. (fault ≡ ServerFault.Full → ⊥) × (fault ≡ ServerFault.Memory → ⊥)) }
         ensures volume { volume_of self.new ≡ volume_of self.old }
     {
         if self.fs.is_down() {

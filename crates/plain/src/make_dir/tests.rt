@@ -83,11 +83,11 @@ fn tree(alloc: Global, ace: Ace) -> Result<Tree, Fail> {
     Ok(Tree { nodes })
 }
 
-fn caller(alloc: Global) -> Cred {
+fn caller() -> Cred {
     Cred {
         uid: 7,
         gid: 8,
-        gids: Gids::new(alloc),
+        gids: Gids::new(),
     }
 }
 
@@ -110,7 +110,7 @@ const REFUSED: [(u64, &[u8], [u32; 2], &[u8], Status); 10] = [
 fn refuses_in_order(rt: HostRuntime) -> Result<(), Fail> {
     let volume = Limits::of_volume(256, 3);
     let tree = tree(rt.alloc(), everyone(0, RIGHTS))?;
-    let caller = caller(rt.alloc());
+    let caller = caller();
     for (parent, name, bitmap, values, want) in REFUSED {
         let attributes = Attributes {
             bitmap: &bitmap,
@@ -142,7 +142,7 @@ const FULL: [(usize, u32, u32, Option<Status>); 5] = [
 #[test]
 fn room_is_tested_before_stamps(rt: HostRuntime) -> Result<(), Fail> {
     let tree = tree(rt.alloc(), everyone(0, RIGHTS))?;
-    let caller = caller(rt.alloc());
+    let caller = caller();
     for (nodes, run, changes, want) in FULL {
         let limits = Limits::of_volume(256, nodes.min(4));
         let moment = Moment {
@@ -180,7 +180,7 @@ fn make(alloc: Global, tree: &Tree, attributes: Attributes) -> Result<Tree, Fail
     let made = tree.make_dir(
         alloc,
         &Limits::of_volume(256, 16),
-        &caller(alloc),
+        &caller(),
         FIRST,
         asked,
     )?;

@@ -82,11 +82,11 @@ const NUMBERS: [u64; 6] = [
 
 const NAMES: [u8; 4] = [b'a', b'b', b'c', b'd'];
 
-fn caller(alloc: Global, uid: u32) -> Cred {
+fn caller(uid: u32) -> Cred {
     Cred {
         uid,
         gid: uid,
-        gids: Gids::new(alloc),
+        gids: Gids::new(),
     }
 }
 
@@ -116,7 +116,7 @@ impl Fronts {
         let Some(tree) = self.trees.last() else {
             return Err("no tree".into());
         };
-        let cred = caller(alloc, creation.uid);
+        let cred = caller(creation.uid);
         let made = self.trees.len().saturating_sub(1);
         let status = match made_in(alloc, tree, &cred, made, creation) {
             Ok(next) => {
@@ -298,7 +298,7 @@ impl Trial {
         if fs.restart_count() != 2 {
             return Err("another restart count".into());
         }
-        let cred = caller(alloc, 9);
+        let cred = caller(9);
         Ok(
             self.fronts
                 .trees

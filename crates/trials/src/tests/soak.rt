@@ -441,7 +441,7 @@ fn found_on(
     let cred = Cred {
         uid: 9,
         gid: 9,
-        gids: Gids::new(alloc),
+        gids: Gids::new(),
     };
     for count in bounds.least..bounds.most.saturating_add(1) {
         if is_front(&fs, &cred, tree, count) {

@@ -1,6 +1,6 @@
-use Rattle.std.proofs.Common.{◌≡◌, ◌++◌, Bool, true, List, ℕ, [], refl, ap, sym, subst, ◌∙◌, arith}
+use Rattle.std.proofs.Common.{◌≡◌, ◌++◌, Bool, true, List, ℕ, [], refl, subst, ◌∙◌, arith}
 use Rattle.std.proofs.lemmas.List.{append-nil}
-use Rattle.model.specs.Record.{Whole, nothing_gathered}
+use Rattle.model.specs.Record.{nothing_gathered}
 use Rattle.rpc.specs.declared.fragment.Fragment.TheVariants as fragments
 use Rattle.rpc.specs.Assembly.{Finds}
 use Rattle.rpc.proofs.Joins.{one_fragment}
@@ -13,15 +13,14 @@ found : (bytes read : List ℕ) (size : ℕ) (is_last : Bool) → read ≡ bytes
 found bytes read size is_last same last is =
     subst (λ (b : Bool). alone bytes size b) last (subst (λ (all : List ℕ). alone all size is_last) (append-nil read ∙ same) is)
 
-pub advance-requires : goal.advance-requires
-advance-requires c =
+pub returns-in-Brings-default-true-clause-request : goal.returns-in-Brings-default-true-clause-request
+returns-in-Brings-default-true-clause-request c =
+    one_fragment c.args.bytes.now.items c.in-Brings-default-true.size c.requires (found c.args.bytes.now.items c.deref.result.now c.in-Brings-default-true.size c.in-Brings-default-true.is_last c.deref.ensures
+    c.in-Brings-default-true.is_last-test (c.in-Brings-default-true.ensures nothing_gathered refl refl))
+
+pub returns-in-Brings-default-true-clause-within : goal.returns-in-Brings-default-true-clause-within
+returns-in-Brings-default-true-clause-within c =
     let is = found c.args.bytes.now.items c.deref.result.now c.in-Brings-default-true.size c.in-Brings-default-true.is_last c.deref.ensures c.in-Brings-default-true.is_last-test
     (c.in-Brings-default-true.ensures nothing_gathered refl refl) in
     let long = is.0 in
     omega arith
-
-pub returns-in-Brings-default-true : goal.returns-in-Brings-default-true
-returns-in-Brings-default-true c =
-    let is = found c.args.bytes.now.items c.deref.result.now c.in-Brings-default-true.size c.in-Brings-default-true.is_last c.deref.ensures c.in-Brings-default-true.is_last-test
-    (c.in-Brings-default-true.ensures nothing_gathered refl refl) in
-    one_fragment c.args.bytes.now.items c.in-Brings-default-true.size c.requires is ∙ ap (λ (request : List ℕ). Whole request []) (sym c.advance.ensures.items)

@@ -1,47 +1,66 @@
-use Rattle.std.proofs.Common.{◌≡◌, ◌++◌, true, List, ℕ, refl, ap, sym, ◌∙◌, arith}
+use Rattle.std.proofs.Common.{◌≡◌, ◌-◌, ◌++◌, true, List, ℕ, drop, ap, sym, ◌∙◌, arith}
 use Rattle.model.specs.Record.{Whole}
 use Rattle.model.specs.Rpc.{read_call, is_call_read, NoCall}
-use Rattle.rpc.proofs.Ends.{taken_by, whole_there, same_request, is_call, no_call}
+use Rattle.rpc.proofs.Ends.{taken_by, partial_by, whole_there, same_request, is_call, no_call, from_place}
+use Rattle.rpc.proofs.Rooms.{room_for_piece, room_for_front}
 use Rattle.rpc.proofs.receive.receive_piece.Goals as goal
 
 pub overflow_sub-taken : goal.overflow_sub-taken
 overflow_sub-taken c =
-    let t = taken_by c.args.bytes.now.items c.deref.result.now c.args.piece.now c.in-Whole.end c.deref.ensures c.scan_record.ensures.old_bytes c.scan_record.ensures.piece_bytes c.requires c.in-Whole.ensures.end in
+    let t = taken_by c.args.bytes.now.items c.deref.result.now c.args.piece.now c.in-Whole.end c.deref.ensures c.scan_record.ensures.old_bytes c.scan_record.ensures.piece_bytes c.requires.partial c.in-Whole.ensures.end in
     let behind = t.behind in
     omega arith
 
-pub drop_headers-requires : goal.drop_headers-requires
-drop_headers-requires c =
+pub drop_headers-start-requires : goal.drop_headers-start-requires
+drop_headers-start-requires c =
     let old = c.args.bytes.now.items in
-    let t = taken_by old c.deref.result.now c.args.piece.now c.in-Whole.end c.deref.ensures c.scan_record.ensures.old_bytes c.scan_record.ensures.piece_bytes c.requires c.in-Whole.ensures.end in
-    (t.request, whole_there old c.args.piece.now c.extend_from_slice-in-Whole.new.self.items c.in-Whole.end c.len.result t c.len.ensures.value (c.in_ok-extend_from_slice-in-Whole).ensures.ok)
+    let t = taken_by old c.deref.result.now c.args.piece.now c.in-Whole.end c.deref.ensures c.scan_record.ensures.old_bytes c.scan_record.ensures.piece_bytes c.requires.partial c.in-Whole.ensures.end in
+    (t.request, whole_there old c.args.piece.now c.extend_reserved-in-Whole.new.self.items c.in-Whole.end c.len.result t c.len.ensures.value c.extend_reserved-in-Whole.ensures.items)
 
-pub returns-in-Ok-clause-ok : goal.returns-in-Ok-clause-ok
-returns-in-Ok-clause-ok c =
+pub extend_reserved-requires : goal.extend_reserved-requires
+extend_reserved-requires c =
     let old = c.args.bytes.now.items in
-    let piece = c.args.piece.now in
-    let t = taken_by old c.deref.result.now piece c.in-Whole.end c.deref.ensures c.scan_record.ensures.old_bytes c.scan_record.ensures.piece_bytes c.requires c.in-Whole.ensures.end in
-    let after = c.extend_from_slice-in-Whole.new.self.items in
-    let left = c.drop_headers.new.bytes.items in
-    let whole = whole_there old piece after c.in-Whole.end c.len.result t c.len.ensures.value (c.in_ok-extend_from_slice-in-Whole).ensures.ok in
-    let same : t.request ≡ left = same_request after t.request left whole c.drop_headers.ensures in
+    room_for_piece old c.args.piece.now c.args.bytes.now.spare (partial_by old c.deref.result.now c.args.piece.now c.deref.ensures c.in-Partial.ensures.end) c.requires.room
+
+pub extend_reserved-requires-in-Whole : goal.extend_reserved-requires-in-Whole
+extend_reserved-requires-in-Whole c =
+    let old = c.args.bytes.now.items in
+    let t = taken_by old c.deref.result.now c.args.piece.now c.in-Whole.end c.deref.ensures c.scan_record.ensures.old_bytes c.scan_record.ensures.piece_bytes c.requires.partial c.in-Whole.ensures.end in
     let count = t.count in
     let len = c.len.ensures.value in
-    let call : is_call_read (read_call c.deref-in-Whole.result.now) ≡ true = is_call c.deref-in-Whole.result.now c.in-Ok.field-0 c.in-Ok.ensures in (
+    room_for_front old c.args.piece.now t.rest t.request (c.in-Whole.end - c.len.result) c.args.bytes.now.spare t.is c.requires.room (omega arith)
+
+pub returns-in-Ok-clause-received : goal.returns-in-Ok-clause-received
+returns-in-Ok-clause-received c =
+    let old = c.args.bytes.now.items in
+    let piece = c.args.piece.now in
+    let t = taken_by old c.deref.result.now piece c.in-Whole.end c.deref.ensures c.scan_record.ensures.old_bytes c.scan_record.ensures.piece_bytes c.requires.partial c.in-Whole.ensures.end in
+    let after = c.extend_reserved-in-Whole.new.self.items in
+    let start = c.drop_headers-start.result in
+    let left = drop start c.drop_headers-start.new.bytes.items in
+    let whole = whole_there old piece after c.in-Whole.end c.len.result t c.len.ensures.value c.extend_reserved-in-Whole.ensures.items in
+    let same : t.request ≡ left = same_request after t.request left whole c.drop_headers-start.ensures.request in
+    let count = t.count in
+    let len = c.len.ensures.value in
+    let read = drop start c.deref-in-Whole.result.now in
+    let call : is_call_read (read_call read) ≡ true = is_call read c.in-Ok.field-0 (ap read_call (sym (from_place c.deref-in-Whole.result.now start)) ∙ c.in-Ok.ensures) in (
       t.rest,
       t.is ∙ ap (λ (request : List ℕ). Whole request t.rest) same,
       omega arith,
-      ap (λ (request : List ℕ). is_call_read (read_call request)) (sym c.deref-in-Whole.ensures) ∙ call,
+      ap (λ (bytes : List ℕ). is_call_read (read_call (drop start bytes))) (sym c.deref-in-Whole.ensures) ∙ call,
+      c.drop_headers-start.ensures.within,
     )
 
-pub returns-in-Err-clause-ok : goal.returns-in-Err-clause-ok
-returns-in-Err-clause-ok c =
+pub returns-in-Err-clause-received : goal.returns-in-Err-clause-received
+returns-in-Err-clause-received c =
     let old = c.args.bytes.now.items in
     let piece = c.args.piece.now in
-    let t = taken_by old c.deref.result.now piece c.in-Whole.end c.deref.ensures c.scan_record.ensures.old_bytes c.scan_record.ensures.piece_bytes c.requires c.in-Whole.ensures.end in
-    let after = c.extend_from_slice-in-Whole.new.self.items in
-    let left = c.drop_headers.new.bytes.items in
-    let whole = whole_there old piece after c.in-Whole.end c.len.result t c.len.ensures.value (c.in_ok-extend_from_slice-in-Whole).ensures.ok in
-    let same : t.request ≡ left = same_request after t.request left whole c.drop_headers.ensures in
-    let none : read_call c.deref-in-Whole.result.now ≡ NoCall = c.in-Err.ensures.0 in
-    (no_call (old ++ piece) t.request t.rest t.is (ap read_call (same ∙ sym c.deref-in-Whole.ensures) ∙ none), refl)
+    let t = taken_by old c.deref.result.now piece c.in-Whole.end c.deref.ensures c.scan_record.ensures.old_bytes c.scan_record.ensures.piece_bytes c.requires.partial c.in-Whole.ensures.end in
+    let after = c.extend_reserved-in-Whole.new.self.items in
+    let start = c.drop_headers-start.result in
+    let left = drop start c.drop_headers-start.new.bytes.items in
+    let whole = whole_there old piece after c.in-Whole.end c.len.result t c.len.ensures.value c.extend_reserved-in-Whole.ensures.items in
+    let same : t.request ≡ left = same_request after t.request left whole c.drop_headers-start.ensures.request in
+    let read = drop start c.deref-in-Whole.result.now in
+    let none : read_call read ≡ NoCall = ap read_call (sym (from_place c.deref-in-Whole.result.now start)) ∙ c.in-Err.ensures.0 in
+    no_call (old ++ piece) t.request t.rest t.is (ap read_call (same ∙ ap (drop start) (sym c.deref-in-Whole.ensures)) ∙ none)

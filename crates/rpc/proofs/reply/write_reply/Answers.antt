@@ -1,4 +1,4 @@
-use Rattle.std.proofs.Common.{◌≡◌, ◌+◌, ◌<◌, ◌++◌, List, ℕ, length, ap, sym, subst, ◌∙◌, length-append, arith}
+use Rattle.std.proofs.Common.{◌≡◌, ◌+◌, ◌<◌, ◌++◌, List, ℕ, length, ap, subst, length-append, arith}
 use Rattle.std.specs.Prelude.{IfOk}
 use Rattle.model.specs.Record.{framed}
 use Rattle.model.specs.Rpc.{reply_text}

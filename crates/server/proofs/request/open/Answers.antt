@@ -11,14 +11,14 @@ returns-in-Ok-OtherVersion-clause-ok c =
 pub returns-in_ok-record_of-in-Answers-clause-ok : goal.returns-in_ok-record_of-in-Answers-clause-ok
 returns-in_ok-record_of-in-Answers-clause-ok c =
     call_answers c.args.request.now (call_view c.in-Ok-Calls.call) (reply_view c.in-Answers.reply) c.in_ok-record_of-in-Answers.field-0.items
-    (rw c.in-Ok-Calls.field-0-is at c.in-Ok-Calls.ensures) (rw c.in-Answers.is at c.in_ok-reply.ensures.request) c.in_ok-record_of-in-Answers.ensures.ok
+    (rw c.in-Ok-Calls.field-0-is at c.in-Ok-Calls.ensures) (rw c.in-Answers.is at c.request.ensures.request) c.in_ok-record_of-in-Answers.ensures.ok
 
 pub returns-in_ok-running-in-Runs-clause-ok : goal.returns-in_ok-running-in-Runs-clause-ok
 returns-in_ok-running-in-Runs-clause-ok c = (
   run_is c.args.run c.args.request.now (call_view c.in-Ok-Calls.call) c.in-Runs.cred (compound_view c.in-Runs.compound)
       (in_progress_of c.in_ok-running-in-Runs.running)
-      (rw c.in-Ok-Calls.field-0-is at c.in-Ok-Calls.ensures) (rw c.in-Runs.is at c.in_ok-reply.ensures.request) c.in_ok-running-in-Runs.ensures.ok,
+      (rw c.in-Ok-Calls.field-0-is at c.in-Ok-Calls.ensures) (rw c.in-Runs.is at c.request.ensures.request) c.in_ok-running-in-Runs.ensures.ok,
   call_runs c.args.run c.args.request.now (call_view c.in-Ok-Calls.call) c.in-Runs.cred (compound_view c.in-Runs.compound)
       (in_progress_of c.in_ok-running-in-Runs.running)
-      (rw c.in-Ok-Calls.field-0-is at c.in-Ok-Calls.ensures) (rw c.in-Runs.is at c.in_ok-reply.ensures.request) c.in_ok-running-in-Runs.ensures.ok,
+      (rw c.in-Ok-Calls.field-0-is at c.in-Ok-Calls.ensures) (rw c.in-Runs.is at c.request.ensures.request) c.in_ok-running-in-Runs.ensures.ok,
 )

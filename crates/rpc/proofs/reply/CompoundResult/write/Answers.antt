@@ -1,6 +1,5 @@
 use Rattle.std.proofs.Common.{◌≡◌, ◌+◌, ◌<◌, ◌++◌, List, ℕ, length, ap, sym, subst, ◌∙◌, append_assoc, length-append, arith}
 use Rattle.std.specs.Prelude.{IfOk}
-use Rattle.model.specs.Rpc.{compound_text}
 use Rattle.rpc.specs.Views.{compound_front}
 use Rattle.rpc.proofs.Replies.{compound_parts, err_more, err_any}
 use Rattle.rpc.proofs.reply.CompoundResult.write.Goals as goal

@@ -20,8 +20,8 @@ invariant_of-self g c =
     let run = (fs_of s.fs).run in
     record {
       few = omega (arith, inserted_count s.connections c.insert.new.self c.insert.result c.insert.ensures.len c.insert.ensures.err);
-      of_run = inserted_of_run run s.connections c.insert.new.self c.new.result c.insert.result c.insert.ensures.updates c.insert.ensures.err
-          (subst (IsOfRun run) (sym c.new.ensures) (quiet_of_run run [])) s.of_run;
+      of_run = inserted_of_run run s.connections c.insert.new.self c.in_ok-connection.connection c.insert.result c.insert.ensures.updates c.insert.ensures.err
+          (subst (IsOfRun run) (sym c.in_ok-connection.ensures) (quiet_of_run run [])) s.of_run;
     }
 
 pub returns-in_err-insert-clause-is_full : goal.returns-in_err-insert-clause-is_full
@@ -32,7 +32,7 @@ pub returns-in_err-insert-clause-err : goal.returns-in_err-insert-clause-err
 unfolding world_of
 returns-in_err-insert-clause-err g c =
     let s = c.args.self.now in
-    let told = told_by c.from_residual.result faults.Memory c.from_residual.ensures.1 in
+    let told = told_by c.from_residual-in_err-insert.result faults.Memory c.from_residual-in_err-insert.ensures.1 in
     let failed = rw c.in_err-insert.was at c.insert.ensures.err in
     rw told (ap (world_by (fs_of s.fs) (table_of s.table)) (grew s.connections c.insert.new.self failed))
 
@@ -48,10 +48,14 @@ returns-clause-ok g c =
     (omega (arith, count_of s.connections)) in (
       can,
       happens _ _ _ _ _ (sym c.if-is_down.ensures) (sym c.if-is_down.ensures)
-          (connected (fs_of s.fs) (table_of s.table) (connections_of s.connections) _ conn (connection_view c.new.result) can
-          (with_slot s.connections c.insert.new.self conn c.new.result updates) c.new.ensures),
+          (connected (fs_of s.fs) (table_of s.table) (connections_of s.connections) _ conn (connection_view c.in_ok-connection.connection) can
+          (with_slot s.connections c.insert.new.self conn c.in_ok-connection.connection updates) c.in_ok-connection.ensures),
     )
 
 pub returns-clause-is_full : goal.returns-clause-is_full
 unfolding world_of
 returns-clause-is_full g c = λ up full. absurd (omega (arith, count_of c.args.self.now.connections, full))
+
+pub returns-in_err-connection-clause-is_full : goal.returns-in_err-connection-clause-is_full
+unfolding world_of
+returns-in_err-connection-clause-is_full g c = λ up full. absurd (omega (arith, count_of c.args.self.now.connections, full))

@@ -1,0 +1,82 @@
+//! The bytes that come over a connection, and the reply that goes.
+
+ghost use Rattle.std.specs.Prelude.{◌≡◌};
+
+use crate::connection::Connection;
+use crate::stage::Stage;
+use rpc::{Assembler, RecordFault};
+use std::alloc::{AllocError, Global};
+use std::mem;
+
+/// What a server asks of a connection.
+#[tactic(auto, unfolding(crate::specs::Connections::connection_view))]
+impl Connection {
+    ghost use Rattle.std.specs.Prelude.{◌≡◌, ◌↔◌, Some, IsTrue};
+    ghost use Rattle.model.specs.World.{Closed, is_busy};
+    ghost use Rattle.server.specs.Connections.{connection_view};
+
+    /// Whether a refused header or record closed it.
+    pub(crate) fn is_closed(&self) -> bool
+        ensures { IsTrue result ↔ (connection_view self.now ≡ Closed) }
+    {
+        match &self.stage {
+            Stage::Receiving => self.assembler.is_refused(),
+            Stage::Running(_) | Stage::Replied(_) => false,
+        }
+    }
+
+    /// Whether its request has begun.
+    pub(crate) fn is_busy(&self) -> bool
+        ensures { result ≡ is_busy (Some (connection_view self.now)) }
+    {
+        matches!(self.stage, Stage::Running(_))
+    }
+}
+
+#[tactic(auto, unfolding(crate::specs::Connections::connection_view))]
+impl Connection {
+    ghost use Rattle.std.specs.Prelude.{◌≡◌, [], Some, None, option_map, IfOk, OnErr};
+    ghost use Rattle.model.specs.World.{Quiet, Closed, arrives_at, taken_at, reply_in, without_reply};
+    ghost use Rattle.rpc.specs.Assembly.{record_limits};
+    ghost use Rattle.server.specs.Connections.{connection_view};
+
+    /// Nothing has come. All memory that its records need is taken here.
+    pub fn new(alloc: Global) -> Result<Connection, AllocError>
+        ensures { IfOk result (λ connection. connection_view connection ≡ Quiet []) }
+    {
+        let assembler = Assembler::new(alloc)?;
+        Ok(Connection {
+            alloc,
+            assembler,
+            stage: Stage::Receiving,
+        })
+    }
+
+    /// Takes the front of a piece up to the end of the first whole record, and answers how many bytes that is; none while a
+    /// whole request or a reply waits. A refused header, and a whole record that is no call, close the connection.
+    #[tactic(auto, unfolding(crate::specs::Connections::connection_view, model::specs::World::taken_at))]
+    pub fn feed(&mut self, piece: &[u8]) -> Result<usize, RecordFault>
+        ensures arrived { IfOk result (λ n. (connection_view self.new ≡ arrives_at record_limits piece.now (connection_view self.old)) × (taken_at record_limits piece.now (connection_view self.old) ≡ Some n)) }
+        ensures closed { OnErr result ((connection_view self.new ≡ Closed)
+            × (arrives_at record_limits piece.now (connection_view self.old) ≡ Closed) × (taken_at record_limits piece.now (connection_view self.old) ≡ None)) }
+    {
+        match &self.stage {
+            Stage::Receiving => self.assembler.feed(piece),
+            Stage::Running(_) | Stage::Replied(_) => Ok(0),
+        }
+    }
+
+    /// The reply record, once.
+    pub fn take_output(&mut self) -> Option<Vec<u8>>
+        ensures given { option_map (λ reply. reply.items) result ≡ reply_in (Some (connection_view self.old)) }
+        ensures left { connection_view self.new ≡ without_reply (connection_view self.old) }
+    {
+        match mem::replace(&mut self.stage, Stage::Receiving) {
+            Stage::Replied(reply) => Some(reply),
+            stage => {
+                self.stage = stage;
+                None
+            }
+        }
+    }
+}
