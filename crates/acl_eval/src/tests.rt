@@ -47,11 +47,7 @@ fn each_right_is_decided_by_itself(rt: HostRuntime) {
 fn the_owner_is_not_locked_out(rt: HostRuntime) {
     let deny = [entry(AceKind::Deny, Who::Everyone, 0x1F01E7)];
     for (uid, mask, want) in [(9, 0x60100, true), (9, 0x60101, false), (0, 0x20000, false)] {
-        assert_eq!(rt;
-            asks(&deny, uid, mask),
-            want,
-            "user {uid}, mask {mask}"
-        );
+        assert_eq!(rt; asks(&deny, uid, mask), want, "user {uid}, mask {mask}");
     }
 }
 

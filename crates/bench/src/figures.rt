@@ -7,6 +7,7 @@ use crate::reading::{ReadsCalls, ReadsRecord, Tally};
 use crate::replies::{REPLIES, WritesReplies};
 use crate::work::{Work, best_rate};
 use freemap::Bitmap;
+use rpc::Assembler;
 use std::alloc::Global;
 use std::time::Clock;
 
@@ -34,6 +35,7 @@ fn print_reads<R: Clock + Print>(
     println!(rt; "{name}: a record of {} bytes", stream.record_size)?;
     let mut reads = ReadsCalls {
         alloc,
+        assembler: Assembler::new(alloc)?,
         bytes: &stream.bytes,
         piece_size: stream.bytes.len(),
         tally: Tally::NONE,

@@ -67,10 +67,11 @@ impl Tally {
     }
 }
 
-/// Reads a stream that comes in pieces.
+/// Reads a stream that comes in pieces, again and again over one connection.
 #[derive(Drop)]
 pub struct ReadsCalls<'a> {
     pub alloc: Global,
+    pub assembler: Assembler,
     pub bytes: &'a [u8],
     /// The most bytes of a piece.
     pub piece_size: usize,
@@ -79,22 +80,22 @@ pub struct ReadsCalls<'a> {
 
 impl ReadsCalls<'_> {
     fn read_stream(&mut self) -> anyhow::Result<()> {
-        let mut assembler = Assembler::new(self.alloc)?;
-        for piece in self.bytes.chunks(self.piece_size.max(1)) {
-            self.read_piece(&mut assembler, piece)?;
+        let bytes = self.bytes;
+        for piece in bytes.chunks(self.piece_size.max(1)) {
+            self.read_piece(piece)?;
         }
         Ok(())
     }
 
     /// Takes the whole piece, since no round of the loop takes nothing.
-    fn read_piece(&mut self, assembler: &mut Assembler, piece: &[u8]) -> anyhow::Result<()> {
+    fn read_piece(&mut self, piece: &[u8]) -> anyhow::Result<()> {
         let mut rest = piece;
         for _ in 0..piece.len() {
-            let taken = assembler.feed(rest)?;
+            let taken = self.assembler.feed(rest)?;
             rest = rest.get(taken..).unwrap_or(&[]);
-            if let Some(record) = assembler.record() {
+            if let Some(record) = self.assembler.record() {
                 self.tally.read_record(self.alloc, record)?;
-                assembler.release();
+                self.assembler.release();
             }
             if rest.is_empty() {
                 break;

@@ -7,6 +7,7 @@ use crate::reading::{ReadsCalls, ReadsRecord, Tally};
 use crate::replies::WritesReplies;
 use crate::work::Work;
 use freemap::Bitmap;
+use rpc::Assembler;
 use std::alloc::Global;
 use std::test::Fail;
 
@@ -15,6 +16,7 @@ fn tally_of(alloc: Global, kind: Kind, piece_size: usize) -> Result<Tally, Fail>
     let stream = stream_of(alloc, kind)?;
     let mut reads = ReadsCalls {
         alloc,
+        assembler: Assembler::new(alloc)?,
         bytes: &stream.bytes,
         piece_size,
         tally: Tally::NONE,

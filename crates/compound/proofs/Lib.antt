@@ -3,6 +3,7 @@ pub mod Current
 pub mod Firsts
 pub mod Refusals
 pub mod Replies
+pub mod Resuming
 pub mod Rests
 pub mod Rooms
 pub mod Sequencing

@@ -1,11 +1,11 @@
 -- One operation of a COMPOUND on a file system and on the table of clients and sessions, by the definition.
-use Rattle.std.specs.Prelude.{◌≡◌, ℕ, []}
+use Rattle.std.specs.Prelude.{◌≡◌, ℕ, Bool, true, []}
 use Rattle.fs.specs.FileSystem.{FileSystem}
 use Rattle.model.specs.Session.{Table}
 use Rattle.model.specs.World as world
 use Rattle.model.specs.World.{World, Connection, Busy, Replied, Turn, Turned, InProgress, next_operation, operates, with_connection}
 use Rattle.session.specs.Limits.{served}
-use Rattle.compound.specs.Views.{in_progress_of}
+use Rattle.compound.specs.Views.{Asked, resumed, fits}
 use Rattle.compound.specs.declared.step.Stepped.{Stepped}
 use Rattle.compound.specs.declared.step.Stepped.TheVariants as stepped
 
@@ -29,21 +29,27 @@ abbrev pub stepped_on : World → (number now : ℕ) → InProgress → Turned
 stepped_on world number now request = operates world number now request (next_operation request)
 
 abbrev pub turn_by : Stepped → Turn
-turn_by (stepped.Ran running) = world.Ran
+turn_by (stepped.Ran progress) = world.Ran
 turn_by (stepped.Answered reply) = world.Answered
 
-abbrev pub connection_by : Stepped → Connection
-connection_by (stepped.Ran running) = Busy (in_progress_of running)
-connection_by (stepped.Answered reply) = Replied reply.items
+-- the connection of this COMPOUND behind a step
+abbrev pub connection_by : Asked → Stepped → Connection
+connection_by asked (stepped.Ran progress) = Busy (resumed asked progress)
+connection_by asked (stepped.Answered reply) = Replied reply.items
 
 -- on each connection of each such world, the turn is this one, and leaves this world
-abbrev pub Steps : (now : ℕ) → (old new : FileSystem) → (old_table new_table : Table) → InProgress → Stepped → Type 0
-Steps now old new old_table new_table request done =
+abbrev pub Steps : (now : ℕ) → (old new : FileSystem) → (old_table new_table : Table) → Asked → InProgress → Stepped → Type 0
+Steps now old new old_table new_table asked request done =
     (world : World) (number : ℕ) → IsServed world old old_table
     → ((stepped_on world number now request).turn ≡ turn_by done)
-    × ((stepped_on world number now request).world ≡ with_connection (with_served world new new_table) number (connection_by done))
+    × ((stepped_on world number now request).world ≡ with_connection (with_served world new new_table) number (connection_by asked done))
 
 -- the request goes on in the same run of the server
 abbrev pub StaysInRun : (run : ℕ) → Stepped → Type 0
-StaysInRun run (stepped.Ran running) = (in_progress_of running).context.run ≡ run
+StaysInRun run (stepped.Ran progress) = progress.run ≡ run
 StaysInRun run (stepped.Answered reply) = Unit {0}
+
+-- the COMPOUND can be resumed behind a step
+abbrev pub still_fits : Asked → Stepped → Bool
+still_fits asked (stepped.Ran progress) = fits asked progress
+still_fits asked (stepped.Answered reply) = true

@@ -11,6 +11,7 @@ use Rattle.session.specs.Views.{reply_kept}
 use Rattle.wire.specs.OutcomeView.{outcome_view}
 use Rattle.compound.specs.Operates.{left_by}
 use Rattle.compound.specs.Runs.{with_rest}
+use Rattle.compound.specs.Views.{Asked}
 use Rattle.compound.specs.Steps.{IsServed, with_served, stepped_on, turn_by, connection_by}
 use Rattle.compound.specs.declared.operated.Operated.{Operated}
 use Rattle.compound.specs.declared.operated.Operated.TheVariants as operated
@@ -44,8 +45,8 @@ Turns now old new old_table new_table request rest (operated.Replays slot) =
     → stepped_on world number now request ≡ repeated world number request reply slot.session slot.slot)
 
 -- on each connection of each world with this table, this is what a result makes of the request
-abbrev pub StandsBehind : (old new : Table) → InProgress → model.Outcome → Stepped → Type 0
-StandsBehind old new request outcome done =
+abbrev pub StandsBehind : (old new : Table) → Asked → InProgress → model.Outcome → Stepped → Type 0
+StandsBehind old new asked request outcome done =
     (world : World) (number : ℕ) (executed : Option Entry) → world.table ≡ old
     → ((behind world number request outcome executed).turn ≡ turn_by done)
-    × ((behind world number request outcome executed).world ≡ with_connection (with_table world new) number (connection_by done))
+    × ((behind world number request outcome executed).world ≡ with_connection (with_table world new) number (connection_by asked done))

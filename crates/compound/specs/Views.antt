@@ -1,12 +1,17 @@
 -- What the code's values stand for.
-use Rattle.std.specs.Prelude.{ℕ, ◌≤◌, List, length, drop, Option, None, Some}
+use Rattle.std.specs.Prelude.{◌≡◌, ℕ, ◌+◌, ◌≤◌, ◌<◌, nat_lt, nat_le, Bool, true, ◌&&◌, List, length, drop, Option, None, Some}
 use Rattle.std.specs.Option.{option_map}
 use Rattle.model.specs.Context.{Context, Place}
+use Rattle.model.specs.Rpc.{Compound}
 use Rattle.model.specs.World as world
-use Rattle.model.specs.World.{InProgress}
+use Rattle.model.specs.World.{World, InProgress, in_progress}
+use Rattle.model.specs.declared.acl.Cred.{Cred}
+use Rattle.rpc.specs.Views.{compound_view}
+use Rattle.xdr.specs.Forms.{counted}
 use Rattle.wire.specs.ArgumentView.{argument_view}
 use Rattle.compound.specs.declared.running.Running.{Running}
-use Rattle.compound.specs.declared.running.SlotId.{SlotId}
+use Rattle.compound.specs.declared.progress.Progress.{Progress}
+use Rattle.compound.specs.declared.progress.SlotId.{SlotId}
 use Rattle.compound.specs.declared.next.Next.{Next}
 use Rattle.compound.specs.declared.next.Next.TheVariants as nexts
 use Rattle.model.specs.declared.status.Status.{Status}
@@ -18,26 +23,51 @@ place_of number = record { number = number; state = None }
 abbrev pub slot_of : SlotId → List ℕ × ℕ
 slot_of id = (id.session, id.slot)
 
-abbrev pub context_of : Running → Context
-context_of running = record {
-  cred = running.cred;
-  client = running.client;
-  run = running.run;
-  current = option_map place_of running.current;
-  saved = option_map place_of running.saved;
+-- whose COMPOUND a record holds, and of which call
+pub record Asked : Type 0 where
+  pub xid : ℕ
+  pub cred : Cred
+  pub compound : Compound
+
+abbrev pub context_of : Cred → Progress → Context
+context_of cred progress = record {
+  cred = cred;
+  client = progress.client;
+  run = progress.run;
+  current = option_map place_of progress.current;
+  saved = option_map place_of progress.saved;
 }
 
-unfoldable pub in_progress_of : Running → InProgress
-in_progress_of running = record {
-  xid = running.xid;
-  tag = running.tag.items;
-  count = running.count;
-  rest = drop running.position running.operations.items;
-  answered = running.answered;
-  results = running.results.bytes;
-  context = context_of running;
-  slot = option_map slot_of running.slot;
+-- a COMPOUND that is so far
+abbrev pub resumed : Asked → Progress → InProgress
+resumed asked progress = record {
+  xid = asked.xid;
+  tag = asked.compound.tag;
+  count = asked.compound.count;
+  rest = drop progress.position asked.compound.operations;
+  answered = progress.answered;
+  results = progress.results.bytes;
+  context = context_of asked.cred progress;
+  slot = option_map slot_of progress.slot;
 }
+
+-- operations are left, the next one stands within their bytes, and the reply has room for the results so far
+abbrev pub fits : Asked → Progress → Bool
+fits asked progress =
+    nat_lt progress.answered asked.compound.count && (nat_le progress.position (length asked.compound.operations)
+    && nat_le (32 + length (counted asked.compound.tag) + length progress.results.bytes) 16368)
+
+-- no operation was done in this run of the server, of whichever COMPOUND
+pub record IsBegin (run : ℕ) (progress : Progress) : Type 0 where
+  pub begun : (world : World) (asked : Asked) → world.run ≡ run → resumed asked progress ≡ in_progress world asked.xid asked.cred asked.compound
+  pub run_is : progress.run ≡ run
+  pub fit : (asked : Asked) → 0 < asked.compound.count → length asked.compound.tag ≤ 255 → fits asked progress ≡ true
+
+abbrev pub asked_of : Running → Asked
+asked_of running = record { xid = running.xid; cred = running.cred; compound = compound_view running.compound }
+
+unfoldable pub in_progress_of : Running → InProgress
+in_progress_of running = resumed (asked_of running) running.progress
 
 -- what comes next of these operations' bytes
 abbrev pub next_view : (operations : List ℕ) → Next → world.Next

@@ -1,57 +1,88 @@
-//! A COMPOUND before its first operation.
+//! A COMPOUND before its first operation, and between two.
 
-ghost use Rattle.std.specs.Prelude.{◌≡◌, IfOk, IfErr};
+ghost use Rattle.std.specs.Prelude.{◌≡◌};
 
 use crate::fault::Fault;
-use crate::running::{RECORD_BUFFER, RESULT_BUFFER, Running};
+use crate::progress::{Progress, RECORD_BUFFER, RESULT_BUFFER};
+use crate::running::Running;
 use model::acl::Cred;
 use rpc::Compound;
 use std::alloc::Global;
 use xdr::Writer;
 
-impl Running {
+impl Progress {
     ghost use Rattle.std.specs.Prelude.{◌≡◌, IfOk, IfErr};
-    ghost use Rattle.model.specs.World.{World, in_progress};
-    ghost use Rattle.rpc.specs.Views.{compound_view};
-    ghost use Rattle.compound.specs.Views.{in_progress_of};
+    ghost use Rattle.compound.specs.Views.{IsBegin};
     ghost use Rattle.compound.specs.declared.fault.Fault.TheVariants.{Memory};
 
-    /// Begins the COMPOUND of a call with this xid, by this caller, in this run of the server. All memory for its reply is
-    /// taken here.
-    #[tactic(auto, unfolding(crate::specs::Views::in_progress_of), using(crate::proofs::Replies::tag_brief))]
-    pub fn begin(
-        alloc: Global,
-        xid: u32,
-        run: u32,
-        cred: Cred,
-        compound: &Compound<'_>,
-    ) -> Result<Running, Fault>
-        ensures ok { IfOk result (λ running. (world : World) → world.run ≡ run → in_progress_of running ≡ in_progress world xid cred (compound_view compound.now)) }
-        ensures run { IfOk result (λ running. (in_progress_of running).context.run ≡ run) }
+    /// Before the first operation, in this run of the server. All memory for the reply is taken here.
+    pub(crate) fn begin(alloc: Global, run: u32) -> Result<Progress, Fault>
+        ensures ok { IfOk result (IsBegin run) }
         ensures err { IfErr result (λ fault. fault ≡ Memory) }
     {
-        let tag = Vec::from_slice(alloc, compound.tag.bytes)?;
-        let operations = Vec::from_slice(alloc, compound.operations)?;
         let results = Writer::from_vec(Vec::with_capacity(alloc, RESULT_BUFFER)?);
         let kept = Writer::from_vec(Vec::with_capacity(alloc, RESULT_BUFFER)?);
         let reply = Writer::from_vec(Vec::with_capacity(alloc, RECORD_BUFFER)?);
-        Ok(Running {
-            alloc,
-            xid,
-            tag,
-            count: compound.count,
-            operations,
+        Ok(Progress {
             position: 0,
             answered: 0,
             results,
             kept,
             reply,
-            cred,
             client: 0,
             run,
             current: None,
             saved: None,
             slot: None,
         })
+    }
+}
+
+impl<'a> Running<'a> {
+    ghost use Rattle.std.specs.Prelude.{◌≡◌, true, IfOk, IfErr};
+    ghost use Rattle.model.specs.World.{World, in_progress};
+    ghost use Rattle.rpc.specs.Views.{compound_view};
+    ghost use Rattle.compound.specs.Views.{in_progress_of, asked_of, resumed, fits};
+    ghost use Rattle.compound.specs.declared.fault.Fault.TheVariants.{Memory};
+
+    /// Begins the COMPOUND of a call with this xid, by this caller, in this run of the server. All memory for its reply is
+    /// taken here.
+    pub fn begin(
+        alloc: Global,
+        xid: u32,
+        run: u32,
+        cred: Cred,
+        compound: Compound<'a>,
+    ) -> Result<Running<'a>, Fault>
+        ensures asked { IfOk result (λ running. asked_of running ≡ record { xid = xid; cred = cred; compound = compound_view compound.entry }) }
+        ensures ok { IfOk result (λ running. (world : World) → world.run ≡ run → in_progress_of running ≡ in_progress world xid cred (compound_view compound.entry)) }
+        ensures run { IfOk result (λ running. (in_progress_of running).context.run ≡ run) }
+        ensures err { IfErr result (λ fault. fault ≡ Memory) }
+    {
+        let progress = Progress::begin(alloc, run)?;
+        Ok(Running::resume(alloc, xid, cred, compound, progress))
+    }
+
+    /// Goes on with the COMPOUND of a call with this xid, by this caller, from where it has come to.
+    #[tactic(auto, unfolding(crate::specs::Views::in_progress_of))]
+    pub fn resume(
+        alloc: Global,
+        xid: u32,
+        cred: Cred,
+        compound: Compound<'a>,
+        progress: Progress,
+    ) -> Running<'a>
+        requires { fits (record { xid = xid; cred = cred; compound = compound_view compound }) progress ≡ true }
+        ensures asked { asked_of result ≡ record { xid = xid; cred = cred; compound = compound_view compound.entry } }
+        ensures progress { result.progress ≡ progress }
+        ensures request { in_progress_of result ≡ resumed (record { xid = xid; cred = cred; compound = compound_view compound.entry }) progress }
+    {
+        Running {
+            alloc,
+            xid,
+            cred,
+            compound,
+            progress,
+        }
     }
 }

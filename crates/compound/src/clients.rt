@@ -9,7 +9,7 @@ use session::{Refusal, Table};
 use wire::{Answer, CreateSessionArguments, ExchangeIdArguments, Operation};
 
 #[tactic(auto, unfolding(crate::specs::Views::in_progress_of))]
-impl Running {
+impl Running<'_> {
     ghost use Rattle.std.specs.Prelude.{◌≡◌, ℕ, IfOk, IfErr};
     ghost use Rattle.fs.specs.FileSystem.{FileSystem};
     ghost use Rattle.model.specs.Operation as operations;

@@ -8,14 +8,15 @@ ghost use Rattle.model.specs.WireAnswers as answers;
 ghost use Rattle.session.specs.Views.{table_of};
 ghost use Rattle.wire.specs.OutcomeView.{outcome_view};
 
-use crate::running::{Running, SlotId};
+use crate::progress::{Progress, SlotId};
+use crate::running::Running;
 use model::status::Status;
-use rpc::{CompoundResult, Reply, Tag, write_reply};
+use rpc::{Compound, CompoundResult, Reply, Tag, write_reply};
 use session::Table;
 use wire::Outcome;
 use xdr::Writer;
 
-impl Running {
+impl Running<'_> {
     ghost use Rattle.std.specs.Prelude.{◌≡◌, ◌≤◌, ℕ, List, Some, length};
     ghost use Rattle.model.specs.Record.{framed};
     ghost use Rattle.model.specs.Rpc.{Success, reply_text};
@@ -30,22 +31,26 @@ impl Running {
     pub(crate) fn end(self, table: &mut Table, outcome: &Outcome<'_>) -> Vec<u8>
         requires fits { answers.outcome.Fits (outcome_view outcome.now) }
         requires room { length (reply_with (in_progress_of self) (outcome_view outcome.now)) ≤ 16384 }
-        ensures reply { result.items ≡ framed (reply_with (in_progress_of self) (outcome_view outcome.now)) }
-        ensures kept { table_of table.new ≡ kept_by (in_progress_of self).slot
-            (result_of (with_result (in_progress_of self) (outcome_view outcome.now)) (status_of (outcome_view outcome.now))) (table_of table.old) }
+        ensures reply { result.items ≡ framed (reply_with (in_progress_of self.entry) (outcome_view outcome.now)) }
+        ensures kept { table_of table.new ≡ kept_by (in_progress_of self.entry).slot
+            (result_of (with_result (in_progress_of self.entry) (outcome_view outcome.now)) (status_of (outcome_view outcome.now))) (table_of table.old) }
     {
         let Running {
             xid,
-            tag,
+            compound: Compound { tag, .. },
+            progress,
+            ..
+        } = self;
+        let Progress {
             answered,
             results,
             kept,
             reply,
             slot,
             ..
-        } = self;
+        } = progress;
         let results = with_outcome(results, outcome);
-        let compound = result_of(status_of(outcome), &tag, answered + 1, results.as_slice());
+        let compound = result_of(status_of(outcome), tag, answered + 1, results.as_slice());
         if let Some(id) = slot {
             keep(table, &id, &compound, kept);
         }
@@ -60,12 +65,14 @@ impl Running {
     pub(crate) fn repeat(self, table: &Table, id: &SlotId) -> Vec<u8>
         requires { (reply : List ℕ) × (reply_kept id.now.session id.now.slot (table_of table.now) ≡ Some reply) }
         ensures { (reply : List ℕ) → reply_kept id.now.session id.now.slot (table_of table.now) ≡ Some reply
-            → result.items ≡ framed (reply_text (in_progress_of self).xid (Success reply)) }
+            → result.items ≡ framed (reply_text (in_progress_of self.entry).xid (Success reply)) }
     {
         let Some(kept) = table.kept(&id.session, id.slot) else {
             unreachable!();
         };
-        match write_reply(self.reply, self.xid, &Reply::Success(kept)) {
+        let Running { xid, progress, .. } = self;
+        let Progress { reply, .. } = progress;
+        match write_reply(reply, xid, &Reply::Success(kept)) {
             Ok(reply) => reply,
             Err(_) => unreachable!(),
         }
@@ -87,14 +94,13 @@ fn with_outcome(results: Writer, outcome: &Outcome<'_>) -> Writer
 }
 
 /// The result of a COMPOUND.
-fn result_of<'a>(status: Status, tag: &'a [u8], count: u32, results: &'a [u8]) -> CompoundResult<'a>
-    requires { length tag.now ≤ 255 }
-    ensures text { compound_text result.status result.tag.bytes.now result.count result.results.now ≡ compound_text status tag.now count results.now }
+fn result_of<'a>(status: Status, tag: Tag<'a>, count: u32, results: &'a [u8]) -> CompoundResult<'a>
+    ensures text { compound_text result.status result.tag.bytes.now result.count result.results.now ≡ compound_text status tag.entry.bytes.now count results.now }
     ensures results { result.results.now ≡ results.now }
 {
     CompoundResult {
         status,
-        tag: Tag { bytes: tag },
+        tag,
         count,
         results,
     }

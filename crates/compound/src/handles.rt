@@ -14,7 +14,7 @@ use wire::{Answer, Operation, Outcome};
 const ROOT: u64 = 1;
 
 #[tactic(auto, unfolding(crate::specs::Views::in_progress_of, model::specs::World::outcome_text))]
-impl Running {
+impl Running<'_> {
     ghost use Rattle.std.specs.Prelude.{◌≡◌, ◌<◌, ◌^◌, ℕ, true, false, nat_le, length, IfOk, IfErr};
     ghost use Rattle.fs.specs.FileSystem.{FileSystem};
     ghost use Rattle.fs.specs.FileSystems.{fs_of};
@@ -97,7 +97,7 @@ impl Running {
         ensures ok { IfOk result (λ number. (has_current (in_progress_of self.now).context ≡ true) × (current_number (in_progress_of self.now).context ≡ number)) }
         ensures err { IfErr result (λ reason. (reason ≡ status.NoFileHandle) × (has_current (in_progress_of self.now).context ≡ false)) }
     {
-        match self.current {
+        match self.progress.current {
             Some(number) => Ok(number),
             None => Err(Status::NoFileHandle),
         }

@@ -1,6 +1,6 @@
 //! One operation of one COMPOUND (RFC 8881, section 16.2), which is the server's atomic step.
 //!
-//! `Running` is what is kept of a COMPOUND that has begun, from one operation to the next.
+//! `Running` is a COMPOUND over its record, made anew for each operation; `Progress` is what is kept of it from one to the next.
 #![tactic(auto)]
 
 mod begin;
@@ -11,6 +11,7 @@ mod handles;
 mod next;
 mod operate;
 mod operated;
+mod progress;
 mod results;
 mod running;
 mod sequence;
@@ -19,7 +20,8 @@ mod tree;
 
 pub use fault::Fault;
 pub use next::Next;
-pub use running::{RECORD_BUFFER, RESULT_BUFFER, Running, SlotId};
+pub use progress::{Progress, RECORD_BUFFER, RESULT_BUFFER, SlotId};
+pub use running::Running;
 pub use step::{Stepped, Undone};
 
 #[cfg(test)]

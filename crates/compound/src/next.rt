@@ -35,7 +35,7 @@ pub enum Next<'a> {
     },
 }
 
-impl Running {
+impl Running<'_> {
     ghost use Rattle.std.specs.Prelude.{◌≡◌, ◌≤◌, ℕ, ◌&&◌, not, List, length, drop, Ok, IfOk, IfErr};
     ghost use Rattle.model.specs.Rpc.{is_empty};
     ghost use Rattle.model.specs.Served.{looks_no_further};
@@ -45,7 +45,7 @@ impl Running {
     ghost use Rattle.model.specs.World as world;
     ghost use Rattle.model.specs.World.{next_operation, by_arguments, first_or, tests_of, is_last};
     ghost use Rattle.model.specs.WireArguments.{arguments_at};
-    ghost use Rattle.compound.specs.Views.{in_progress_of, next_view, refused_or, IsWithin};
+    ghost use Rattle.compound.specs.Views.{in_progress_of, asked_of, next_view, refused_or, IsWithin};
     ghost use Rattle.compound.specs.declared.fault.Fault.TheVariants.{Memory};
 
     /// The next operation with its arguments, or why it is refused before it is run.
@@ -55,11 +55,11 @@ impl Running {
     /// SEQUENCE_POS; arguments that cannot be read, and bytes behind the last operation, BADXDR.
     #[tactic(auto, unfolding(crate::specs::Views::in_progress_of, model::specs::World::next_operation))]
     pub fn next_operation(&self, alloc: Global) -> Result<Next<'_>, Fault>
-        ensures ok { IfOk result (λ next. next_operation (in_progress_of self.now) ≡ next_view self.now.operations.items next) }
-        ensures within { IfOk result (IsWithin self.now.operations.items) }
+        ensures ok { IfOk result (λ next. next_operation (in_progress_of self.now) ≡ next_view self.now.compound.operations.now next) }
+        ensures within { IfOk result (IsWithin self.now.compound.operations.now) }
         ensures err { IfErr result (λ fault. fault ≡ Memory) }
     {
-        let start = Reader::new(&self.operations[self.position..]);
+        let start = Reader::new(&self.compound.operations[self.progress.position..]);
         let mut at = start.fork();
         let Ok(number) = at.read_u32() else {
             return Ok(Next::Refuses {
@@ -82,8 +82,8 @@ impl Running {
     ) -> Result<Next<'a>, Fault>
         requires { start ≡ (in_progress_of self.now).rest }
         ensures ok { IfOk result (λ next. (bytes : List ℕ) → number_at w32 start.entry ≡ Ok (number, bytes)
-            → by_arguments (in_progress_of self.now) number (arguments_at number bytes) ≡ next_view self.now.operations.items next) }
-        ensures within { IfOk result (IsWithin self.now.operations.items) }
+            → by_arguments (in_progress_of self.now) number (arguments_at number bytes) ≡ next_view self.now.compound.operations.now next) }
+        ensures within { IfOk result (IsWithin self.now.compound.operations.now) }
         ensures err { IfErr result (λ fault. fault ≡ Memory) }
     {
         let mut at = start;
@@ -95,7 +95,7 @@ impl Running {
         if self.has_too_much(&argument, at.rest()) {
             return Ok(bad_arguments(number));
         }
-        let position = self.operations.len() - at.len();
+        let position = self.compound.operations.len() - at.len();
         Ok(Next::Reads { argument, position })
     }
 
@@ -111,16 +111,17 @@ impl Running {
     pub(crate) fn is_last(&self) -> bool
         ensures { result ≡ is_last (in_progress_of self.now) }
     {
-        self.count - self.answered == 1
+        self.compound.count - self.progress.answered == 1
     }
 
     /// Goes on behind an operation, to the bytes from this position on.
     #[tactic(auto, unfolding(crate::specs::Views::in_progress_of))]
     pub fn advance(&mut self, position: usize)
-        requires { position ≤ length self.old.operations.items }
-        ensures { in_progress_of self.new ≡ record (in_progress_of self.old) { rest = drop position self.old.operations.items } }
+        requires { position ≤ length self.old.compound.operations.now }
+        ensures asked { asked_of self.new ≡ asked_of self.old }
+        ensures request { in_progress_of self.new ≡ record (in_progress_of self.old) { rest = drop position self.old.compound.operations.now } }
     {
-        self.position = position;
+        self.progress.position = position;
     }
 
     /// Why an operation of this number is refused, and under which number, whatever its arguments.
@@ -128,8 +129,8 @@ impl Running {
     fn refusal(&self, number: u32) -> Option<(u32, Status)>
         ensures { (next : world.Next) → first_or (tests_of (in_progress_of self.now) number) next ≡ refused_or result next }
     {
-        if self.answered == 0 {
-            first_refusal(self.count, number)
+        if self.progress.answered == 0 {
+            first_refusal(self.compound.count, number)
         } else {
             later_refusal(number)
         }

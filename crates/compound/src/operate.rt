@@ -11,7 +11,7 @@ use model::status::Status;
 use session::Table;
 use wire::{Argument, Operation};
 
-impl Running {
+impl Running<'_> {
     ghost use Rattle.std.specs.Prelude.{◌≡◌, ◌≤◌, ℕ, List, true, false, IfOk, IfErr, OnErr, IsErrOf};
     ghost use Rattle.disk.specs.Cause.{IsCounted};
     ghost use Rattle.fs.specs.FileSystem.{AddsTrees, FileSystem};

@@ -1,6 +1,6 @@
 //! What an operation does.
 
-use crate::running::SlotId;
+use crate::progress::SlotId;
 use wire::Outcome;
 
 /// What an operation leaves of its COMPOUND, beside the result.

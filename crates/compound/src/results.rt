@@ -3,6 +3,7 @@
 ghost use Rattle.std.specs.Prelude.{◌≡◌};
 
 use crate::operated::{Effect, Operated};
+use crate::progress::Progress;
 use crate::running::Running;
 use model::status::Status;
 use wire::{Answer, Operation, Outcome};
@@ -16,13 +17,13 @@ const MOST_REPLY_BYTES: usize = 16_368;
 const AROUND_RESULTS: usize = 32;
 
 #[tactic(auto, unfolding(model::specs::World::outcome_text))]
-impl Running {
+impl Running<'_> {
     ghost use Rattle.std.specs.Prelude.{◌≡◌, ◌+◌, ◌<◌, ◌≤◌, ◌^◌, ℕ, nat_le, length};
     ghost use Rattle.fs.specs.FileSystem.{FileSystem};
     ghost use Rattle.model.specs.Answer.{Done, Refused};
     ghost use Rattle.model.specs.Operation.{Argument as Kind, operation_of};
     ghost use Rattle.model.specs.Session.{Table as Known};
-    ghost use Rattle.model.specs.World.{with_result, reply_with, outcome_text};
+    ghost use Rattle.model.specs.World.{reply_with, outcome_text};
     ghost use Rattle.model.specs.WireAnswers as answers;
     ghost use Rattle.wire.specs.OutcomeView.{answer_view, outcome_view};
     ghost use Rattle.wire.specs.Numbers.{number_of};
@@ -37,7 +38,10 @@ impl Running {
         requires small { length (outcome_text (outcome_view outcome.now)) < 2 ^ 63 }
         ensures { result ≡ nat_le (length (reply_with (in_progress_of self.now) (outcome_view outcome.now))) 16368 }
     {
-        let size = AROUND_RESULTS + opaque_size(&self.tag) + self.results.len() + outcome.size();
+        let size = AROUND_RESULTS
+            + opaque_size(self.compound.tag.bytes)
+            + self.progress.results.len()
+            + outcome.size();
         size <= MOST_REPLY_BYTES
     }
 
@@ -90,17 +94,27 @@ impl Running {
         outcome.tell_fits();
         Operated::Gives { outcome, effect }
     }
+}
+
+impl Progress {
+    ghost use Rattle.std.specs.Prelude.{◌≡◌, ◌+◌, ◌<◌, ◌≤◌, ◌^◌, ◌++◌, length};
+    ghost use Rattle.model.specs.World.{with_result, outcome_text};
+    ghost use Rattle.model.specs.WireAnswers as answers;
+    ghost use Rattle.wire.specs.OutcomeView.{outcome_view};
+    ghost use Rattle.compound.specs.Views.{Asked, resumed};
 
     /// Puts a result behind those so far.
-    #[tactic(auto, unfolding(crate::specs::Views::in_progress_of, model::specs::World::outcome_text), using(crate::proofs::Replies::room_length))]
-    pub fn push_result(&mut self, outcome: &Outcome<'_>)
+    #[tactic(auto, unfolding(model::specs::World::outcome_text))]
+    pub(crate) fn push_result(&mut self, outcome: &Outcome<'_>)
         requires fits { answers.outcome.Fits (outcome_view outcome.now) }
-        requires more { (in_progress_of self.old).answered + 1 < (in_progress_of self.old).count }
-        requires room { length (reply_with (in_progress_of self.old) (outcome_view outcome.now)) ≤ 16368 }
-        ensures { in_progress_of self.new ≡ with_result (in_progress_of self.old) (outcome_view outcome.now) }
+        requires more { self.old.answered + 1 < 2 ^ 32 }
+        requires room { length self.old.results.bytes + length (outcome_text (outcome_view outcome.now)) ≤ 16384 }
+        ensures request { (asked : Asked) → resumed asked self.new ≡ with_result (resumed asked self.old) (outcome_view outcome.now) }
+        ensures position { self.new.position ≡ self.old.position }
     {
+        self.answered += 1;
         match outcome.write(&mut self.results) {
-            Ok(()) => self.answered += 1,
+            Ok(()) => {}
             Err(_) => unreachable!(),
         }
     }

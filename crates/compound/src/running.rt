@@ -1,61 +1,22 @@
-//! What the server keeps of a COMPOUND that has begun.
+//! A COMPOUND over its record.
 
-ghost use Rattle.std.specs.Prelude.{◌≡◌, ◌≤◌, ◌<◌, ◌+◌, [], length};
+ghost use Rattle.std.specs.Prelude.{◌≤◌, ◌<◌, ◌+◌, length};
 ghost use Rattle.xdr.specs.Forms.{counted};
 
+use crate::progress::Progress;
 use model::acl::Cred;
+use rpc::Compound;
 use std::alloc::Global;
-use xdr::Writer;
 
-/// The bytes for which each COMPOUND has memory from its begin on: those of its longest result, which a slot keeps.
-pub const RESULT_BUFFER: usize = 16_384;
-
-/// Those of the longest reply's record: the record's header, and six words, stand round the result.
-pub const RECORD_BUFFER: usize = RESULT_BUFFER + 28;
-
-/// A slot of a session.
-#[derive(Clone, Copy, Debug, PartialEq, Eq)]
-pub struct SlotId {
-    pub session: [u8; 16],
-    pub slot: u32,
-}
-
-/// A COMPOUND of which an operation runs next.
+/// A COMPOUND of which an operation runs next. Its tag and its operations stand in its record.
 #[derive(Drop)]
-pub struct Running {
+pub struct Running<'a> {
     pub(crate) alloc: Global,
     pub(crate) xid: u32,
-    pub(crate) tag: Vec<u8>,
-    /// How many operations it has.
-    pub(crate) count: u32,
-    /// The bytes of all operations, and where those of the next one begin.
-    pub(crate) operations: Vec<u8>,
-    pub(crate) position: usize,
-    /// How many operations have their results.
-    pub(crate) answered: u32,
-    pub(crate) results: Writer,
-    /// Memory for the whole result, which the slot keeps.
-    pub(crate) kept: Writer,
-    /// Memory for the reply's record.
-    pub(crate) reply: Writer,
     pub(crate) cred: Cred,
-    /// The client of the session, 0 before SEQUENCE.
-    pub(crate) client: u64,
-    /// The restart count of the server.
-    pub(crate) run: u32,
-    /// The numbers of the nodes that the current and the saved filehandle name.
-    pub(crate) current: Option<u64>,
-    pub(crate) saved: Option<u64>,
-    /// The slot that runs it.
-    pub(crate) slot: Option<SlotId>,
-    ghost short: { length tag.items ≤ 255 },
-    ghost more: { answered < count },
-    ghost within: { position ≤ length operations.items },
-    ghost brief: { 32 + length (counted tag.items) + length results.bytes ≤ 16368 },
-    ghost first: { answered ≡ 0 → results.bytes ≡ [] },
-    ghost room: { 16384 ≤ results.capacity },
-    ghost kept_fresh: { kept.bytes ≡ [] },
-    ghost kept_room: { 16384 ≤ kept.capacity },
-    ghost reply_fresh: { reply.bytes ≡ [] },
-    ghost reply_room: { 16412 ≤ reply.capacity },
+    pub(crate) compound: Compound<'a>,
+    pub(crate) progress: Progress,
+    ghost more: { progress.answered < compound.count },
+    ghost within: { progress.position ≤ length compound.operations.now },
+    ghost brief: { 32 + length (counted compound.tag.bytes.now) + length progress.results.bytes ≤ 16368 },
 }

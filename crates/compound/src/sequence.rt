@@ -3,7 +3,8 @@
 ghost use Rattle.std.specs.Prelude.{◌≡◌};
 
 use crate::operated::{Effect, Operated};
-use crate::running::{Running, SlotId};
+use crate::progress::SlotId;
+use crate::running::Running;
 use disk::Device;
 use fs::Fs;
 use model::status::Status;
@@ -11,7 +12,7 @@ use session::{Begun, Table};
 use wire::{Answer, Operation, Outcome, SequenceArguments};
 
 #[tactic(auto, unfolding(crate::specs::Views::in_progress_of, model::specs::World::outcome_text))]
-impl Running {
+impl Running<'_> {
     ghost use Rattle.std.specs.Prelude.{◌≡◌, ◌<◌, ◌^◌, ℕ, true, false, nat_le, length, None};
     ghost use Rattle.fs.specs.FileSystem.{FileSystem};
     ghost use Rattle.fs.specs.FileSystems.{fs_of};
@@ -35,7 +36,7 @@ impl Running {
             session: arguments.session,
             slot: arguments.slot,
         };
-        match table.begin(self.cred.uid, self.count, arguments) {
+        match table.begin(self.cred.uid, self.compound.count, arguments) {
             Ok(Begun::Runs { client, answer }) => {
                 self.answer_first(Answer::Sequence(answer), Effect::Joins { slot, client })
             }
@@ -63,7 +64,7 @@ impl Running {
         ensures gives { (now : ℕ) (fs : FileSystem) → Operates now fs fs (table_of table.old) (table_of table.new) (in_progress_of self.now) (operations.Argument.ReclaimComplete false) result }
         ensures answered { IsAnswered (in_progress_of self.now) result }
     {
-        match table.check_reclaim(self.client) {
+        match table.check_reclaim(self.progress.client) {
             Ok(()) => self.reclaim_in_room(table),
             Err(status) => self.refuse(Operation::ReclaimComplete, status),
         }
@@ -78,7 +79,7 @@ impl Running {
         if !self.has_reclaim_room() {
             return self.refuse(Operation::ReclaimComplete, Status::RepTooBig);
         }
-        match table.reclaim_complete(self.client) {
+        match table.reclaim_complete(self.progress.client) {
             Ok(()) => Operated::Gives {
                 outcome: Outcome::Done(Answer::ReclaimComplete),
                 effect: Effect::Stays,

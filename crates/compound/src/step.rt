@@ -8,6 +8,7 @@ ghost use Rattle.compound.specs.declared.operated.Operated.TheVariants as operat
 use crate::fault::Fault;
 use crate::next::Next;
 use crate::operated::{Effect, Operated};
+use crate::progress::Progress;
 use crate::running::Running;
 use disk::Device;
 use fs::Fs;
@@ -18,8 +19,8 @@ use wire::{Answer, Outcome};
 /// What a step leaves.
 #[derive(Drop)]
 pub enum Stepped {
-    /// One operation ran, and more remain.
-    Ran(Running),
+    /// One operation ran, and more remain: how far the COMPOUND has come.
+    Ran(Progress),
     /// The last operation ran. The reply's whole record, its header included; its slot keeps the result.
     Answered(Vec<u8>),
 }
@@ -28,11 +29,11 @@ pub enum Stepped {
 #[derive(Drop)]
 pub struct Undone {
     pub fault: Fault,
-    /// The COMPOUND, given back as it was.
-    pub running: Running,
+    /// How far the COMPOUND had come, given back as it was.
+    pub progress: Progress,
 }
 
-impl Running {
+impl Running<'_> {
     ghost use Rattle.std.specs.Prelude.{◌≡◌, ◌≤◌, ℕ, true, false, length, drop, IfOk, IfErr, OnErr, IsErrOf};
     ghost use Rattle.disk.specs.Cause.{IsCounted};
     ghost use Rattle.fs.specs.FileSystem.{AddsTrees};
@@ -41,16 +42,16 @@ impl Running {
     ghost use Rattle.session.specs.Views.{table_of};
     ghost use Rattle.wire.specs.OutcomeView.{outcome_view};
     ghost use Rattle.compound.specs.Operates.{IsAnswered, IsSpelled, left_by};
-    ghost use Rattle.compound.specs.Steps.{IsServed, Steps, StaysInRun, stepped_on};
+    ghost use Rattle.compound.specs.Steps.{IsServed, Steps, StaysInRun, still_fits, stepped_on};
     ghost use Rattle.compound.specs.Turns.{Turns, StandsBehind};
-    ghost use Rattle.compound.specs.Views.{in_progress_of};
+    ghost use Rattle.compound.specs.Views.{in_progress_of, asked_of};
     ghost use Rattle.compound.specs.declared.fault.Fault.TheVariants as fault;
 
     /// Reads the next operation, tests it and runs it, at this moment in nanoseconds since 1970. A change is kept on the device
     /// before its result is there.
     ///
     /// # Errors
-    /// The COMPOUND comes back as it was. After `Memory` nothing changed; after `Device` the file system is down.
+    /// What was kept of the COMPOUND comes back as it was. After `Memory` nothing changed; after `Device` the file system is down.
     pub fn step<D: Device>(
         self,
         fs: &mut Fs<D>,
@@ -59,11 +60,12 @@ impl Running {
     ) -> Result<Stepped, Undone>
         requires up { (fs_of fs.old).is_down ≡ false }
         requires run { (in_progress_of self).context.run ≡ (fs_of fs.old).run }
-        ensures step { IfOk result (Steps now (fs_of fs.old) (fs_of fs.new) (table_of table.old) (table_of table.new) (in_progress_of self)) }
+        ensures step { IfOk result (Steps now (fs_of fs.old) (fs_of fs.new) (table_of table.old) (table_of table.new) (asked_of self.entry) (in_progress_of self.entry)) }
         ensures stays { IfOk result (StaysInRun (fs_of fs.old).run) }
+        ensures fits { IfOk result (λ done. still_fits (asked_of self.entry) done ≡ true) }
         ensures same { fs_of fs.new ≡ record (fs_of fs.old) { tree = (fs_of fs.new).tree; changes = (fs_of fs.new).changes; is_down = (fs_of fs.new).is_down; history = (fs_of fs.new).history } }
         ensures still_up { IfOk result (λ done. (fs_of fs.new).is_down ≡ false) }
-        ensures back { IfErr result (λ undone. in_progress_of undone.running ≡ in_progress_of self) }
+        ensures back { IfErr result (λ undone. undone.progress ≡ self.entry.progress) }
         ensures table { OnErr result (table_of table.new ≡ table_of table.old) }
         ensures memory { IfErr result (λ undone. undone.fault ≡ fault.Memory → fs_of fs.new ≡ fs_of fs.old) }
         ensures device { IfErr result (λ undone. undone.fault ≡ fault.Device
@@ -71,13 +73,13 @@ impl Running {
         ensures cause { IfErr result (λ undone. undone.fault ≡ fault.Device → IsCounted (fs_failures fs.old) (fs_failures fs.new)) }
         ensures later { fs_failures fs.old ≤ fs_failures fs.new }
         ensures moments { D.keeps_word → (world : World) (number : ℕ) → IsServed world (fs_of fs.old) (table_of table.old)
-            → AddsTrees (fs_of fs.old) (stepped_on world number now (in_progress_of self)).world.tree (fs_of fs.new).history }
+            → AddsTrees (fs_of fs.old) (stepped_on world number now (in_progress_of self.entry)).world.tree (fs_of fs.new).history }
     {
         let Ran { position, done } = match self.run_next(fs, table, now) {
             Ok(ran) => ran,
             Err(fault) => return Err(Undone {
                 fault,
-                running: self,
+                progress: self.progress,
             }),
         };
         let mut running = self;
@@ -99,8 +101,8 @@ impl Running {
     fn run_next<D: Device>(&self, fs: &mut Fs<D>, table: &mut Table, now: u64) -> Result<Ran, Fault>
         requires up { (fs_of fs.old).is_down ≡ false }
         requires run { (in_progress_of self.now).context.run ≡ (fs_of fs.old).run }
-        ensures turns { IfOk result (λ ran. Turns now (fs_of fs.old) (fs_of fs.new) (table_of table.old) (table_of table.new) (in_progress_of self.now) (drop ran.position self.now.operations.items) ran.done) }
-        ensures within { IfOk result (λ ran. ran.position ≤ length self.now.operations.items) }
+        ensures turns { IfOk result (λ ran. Turns now (fs_of fs.old) (fs_of fs.new) (table_of table.old) (table_of table.new) (in_progress_of self.now) (drop ran.position self.now.compound.operations.now) ran.done) }
+        ensures within { IfOk result (λ ran. ran.position ≤ length self.now.compound.operations.now) }
         ensures answered { IfOk result (λ ran. IsAnswered (in_progress_of self.now) ran.done) }
         ensures same { fs_of fs.new ≡ record (fs_of fs.old) { tree = (fs_of fs.new).tree; changes = (fs_of fs.new).changes; is_down = (fs_of fs.new).is_down; history = (fs_of fs.new).history } }
         ensures still_up { IfOk result (λ ran. (fs_of fs.new).is_down ≡ false) }
@@ -114,7 +116,7 @@ impl Running {
     {
         match self.next_operation(self.alloc)? {
             Next::Refuses { operation, status } => Ok(Ran {
-                position: self.position,
+                position: self.progress.position,
                 done: refused(operation, status),
             }),
             Next::Reads { argument, position } => {
@@ -127,14 +129,15 @@ impl Running {
     /// What an operation leaves of the COMPOUND, beside its result.
     #[tactic(auto, unfolding(crate::specs::Views::in_progress_of))]
     fn leave(&mut self, effect: Effect)
-        ensures { in_progress_of self.new ≡ left_by effect (in_progress_of self.old) }
+        ensures asked { asked_of self.new ≡ asked_of self.old }
+        ensures request { in_progress_of self.new ≡ left_by effect (in_progress_of self.old) }
     {
         match effect {
             Effect::Stays => {}
-            Effect::Moves(number) => self.current = Some(number),
+            Effect::Moves(number) => self.progress.current = Some(number),
             Effect::Joins { slot, client } => {
-                self.slot = Some(slot);
-                self.client = client;
+                self.progress.slot = Some(slot);
+                self.progress.client = client;
             }
         }
     }
@@ -142,15 +145,18 @@ impl Running {
     /// The COMPOUND behind this result: it goes on, or the reply is there, since this result is the last one or not OK.
     fn answer(self, table: &mut Table, outcome: &Outcome<'_>) -> Stepped
         requires { IsSpelled (in_progress_of self) (outcome_view outcome.now) }
-        ensures stands { StandsBehind (table_of table.old) (table_of table.new) (in_progress_of self) (outcome_view outcome.now) result }
-        ensures stays { StaysInRun (in_progress_of self).context.run result }
+        ensures stands { StandsBehind (table_of table.old) (table_of table.new) (asked_of self.entry) (in_progress_of self.entry) (outcome_view outcome.now) result }
+        ensures stays { StaysInRun (in_progress_of self.entry).context.run result }
+        ensures fits { still_fits (asked_of self.entry) result ≡ true }
     {
-        if matches!(outcome, Outcome::Done(_)) && !self.is_last() {
-            let mut running = self;
-            running.push_result(outcome);
-            return Stepped::Ran(running);
+        match outcome {
+            Outcome::Done(_) if !self.is_last() => {
+                let mut progress = self.progress;
+                progress.push_result(outcome);
+                Stepped::Ran(progress)
+            }
+            _ => Stepped::Answered(self.end(table, outcome)),
         }
-        Stepped::Answered(self.end(table, outcome))
     }
 }
 

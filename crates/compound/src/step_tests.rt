@@ -1,8 +1,10 @@
-ghost use Rattle.std.specs.Prelude.{◌≡◌, false, IfOk};
+ghost use Rattle.std.specs.Prelude.{◌≡◌, [], true, false, IfOk};
 ghost use Rattle.fs.specs.FileSystems.{fs_of};
-ghost use Rattle.compound.specs.Views.{in_progress_of};
+ghost use Rattle.rpc.specs.Views.{compound_view};
+ghost use Rattle.compound.specs.Steps.{StaysInRun, still_fits};
+ghost use Rattle.compound.specs.Views.{fits};
 
-use crate::{Running, Stepped};
+use crate::{Progress, Running, Stepped};
 use disk::MemDevice;
 use fs::Fs;
 use model::acl::{Cred, Gids};
@@ -174,24 +176,87 @@ fn table_of(alloc: Global) -> Result<Table, Fail> {
     Ok(table)
 }
 
-fn begun(alloc: Global, fs: &Fs<MemDevice>, count: u32, words: &[u32]) -> Result<Running, Fail>
-    ensures { IfOk result (λ running. (in_progress_of running).context.run ≡ (fs_of fs.now).run) }
-{
+// a COMPOUND of these operations
+fn compound_of(count: u32, operations: &[u8]) -> Result<Compound<'_>, Fail> {
     if count == 0 {
         return Err("no operation".into());
     }
-    let operations = bytes_of(alloc, words)?;
-    let cred = Cred {
+    Ok(Compound {
+        tag: Tag { bytes: b"t" },
+        count,
+        operations,
+    })
+}
+
+fn caller() -> Cred
+    ensures { result ≡ record { uid = 7; gid = 7; gids = [] } }
+{
+    Cred {
         uid: 7,
         gid: 7,
         gids: Gids::new(),
-    };
-    let compound = Compound {
-        tag: Tag { bytes: b"t" },
-        count,
-        operations: &operations,
-    };
-    Ok(Running::begin(alloc, 9, fs.restart_count(), cred, &compound)?)
+    }
+}
+
+// the first operation of user 7's COMPOUND
+fn begin(
+    alloc: Global,
+    compound: Compound<'_>,
+    fs: &mut Fs<MemDevice>,
+    table: &mut Table,
+) -> Result<Stepped, Fail>
+    requires { (fs_of fs.old).is_down ≡ false }
+    ensures fits { IfOk result (λ done. still_fits (record { xid = 9; cred = record { uid = 7; gid = 7; gids = [] }; compound = compound_view compound.entry }) done ≡ true) }
+    ensures up { IfOk result (λ done. (fs_of fs.new).is_down ≡ false) }
+    ensures run { IfOk result (StaysInRun (fs_of fs.new).run) }
+{
+    let running = Running::begin(alloc, 9, fs.restart_count(), caller(), compound)?;
+    match running.step(fs, table, 5) {
+        Ok(done) => Ok(done),
+        Err(_) => Err("the first operation fails".into()),
+    }
+}
+
+// its next one
+fn go_on(
+    alloc: Global,
+    compound: Compound<'_>,
+    progress: Progress,
+    fs: &mut Fs<MemDevice>,
+    table: &mut Table,
+) -> Result<Stepped, Fail>
+    requires fits { fits (record { xid = 9; cred = record { uid = 7; gid = 7; gids = [] }; compound = compound_view compound }) progress ≡ true }
+    requires up { (fs_of fs.old).is_down ≡ false }
+    requires run { progress.run ≡ (fs_of fs.old).run }
+    ensures fits { IfOk result (λ done. still_fits (record { xid = 9; cred = record { uid = 7; gid = 7; gids = [] }; compound = compound_view compound.entry }) done ≡ true) }
+    ensures up { IfOk result (λ done. (fs_of fs.new).is_down ≡ false) }
+    ensures run { IfOk result (StaysInRun (fs_of fs.new).run) }
+{
+    match Running::resume(alloc, 9, caller(), compound, progress).step(fs, table, 6) {
+        Ok(done) => Ok(done),
+        Err(_) => Err("it does not go on".into()),
+    }
+}
+
+// one that is not the last
+fn ran(
+    alloc: Global,
+    compound: Compound<'_>,
+    progress: Progress,
+    fs: &mut Fs<MemDevice>,
+    table: &mut Table,
+) -> Result<Progress, Fail>
+    requires fits { fits (record { xid = 9; cred = record { uid = 7; gid = 7; gids = [] }; compound = compound_view compound }) progress ≡ true }
+    requires up { (fs_of fs.old).is_down ≡ false }
+    requires run { progress.run ≡ (fs_of fs.old).run }
+    ensures fits { IfOk result (λ further. fits (record { xid = 9; cred = record { uid = 7; gid = 7; gids = [] }; compound = compound_view compound.entry }) further ≡ true) }
+    ensures up { IfOk result (λ further. (fs_of fs.new).is_down ≡ false) }
+    ensures run { IfOk result (λ further. further.run ≡ (fs_of fs.new).run) }
+{
+    match go_on(alloc, compound, progress, fs, table)? {
+        Stepped::Ran(further) => Ok(further),
+        Stepped::Answered(_) => Err("it ends early".into()),
+    }
 }
 
 // the reply of the first time, and of a retry, which is answered at once
@@ -201,16 +266,16 @@ fn replies<R: AllocGlobal + Abort>(rt: &R, fs: &mut Fs<MemDevice>) -> Result<(),
     let alloc = rt.alloc();
     let mut table = table_of(alloc)?;
     let wanted = bytes_of(alloc, &PUT_THE_ROOT)?;
-    let Ok(Stepped::Ran(running)) = begun(alloc, fs, 2, &PUTS_THE_ROOT)?.step(fs, &mut table, 5)
-    else {
+    let operations = bytes_of(alloc, &PUTS_THE_ROOT)?;
+    let compound = compound_of(2, &operations)?;
+    let Stepped::Ran(progress) = begin(alloc, compound, fs, &mut table)? else {
         return Err("SEQUENCE does not run".into());
     };
-    let Ok(Stepped::Answered(reply)) = running.step(fs, &mut table, 6) else {
+    let Stepped::Answered(reply) = go_on(alloc, compound, progress, fs, &mut table)? else {
         return Err("PUTROOTFH does not end it".into());
     };
     assert!(rt; reply == wanted);
-    let Ok(Stepped::Answered(again)) = begun(alloc, fs, 2, &PUTS_THE_ROOT)?.step(fs, &mut table, 7)
-    else {
+    let Stepped::Answered(again) = begin(alloc, compound, fs, &mut table)? else {
         return Err("the retry is not answered".into());
     };
     assert!(rt; again == wanted);
@@ -227,35 +292,25 @@ fn a_compound_runs_once(rt: HostRuntime) -> Result<(), Fail> {
     replies(&rt, &mut fs)
 }
 
-// one operation that is not the last one
-fn ran(running: Running, fs: &mut Fs<MemDevice>, table: &mut Table) -> Result<Running, Fail>
-    requires up { (fs_of fs.old).is_down ≡ false }
-    requires run { (in_progress_of running).context.run ≡ (fs_of fs.old).run }
-    ensures up { IfOk result (λ next. (fs_of fs.new).is_down ≡ false) }
-    ensures run { IfOk result (λ next. (in_progress_of next).context.run ≡ (fs_of fs.new).run) }
-{
-    match running.step(fs, table, 5) {
-        Ok(Stepped::Ran(next)) => Ok(next),
-        _ => Err("it does not go on".into()),
-    }
-}
-
 fn run_the_tree<R: AllocGlobal + Abort>(rt: &R, fs: &mut Fs<MemDevice>) -> Result<(), Fail>
     requires { (fs_of fs.old).is_down ≡ false }
 {
     let alloc = rt.alloc();
     let mut table = table_of(alloc)?;
-    let running = begun(alloc, fs, 10, &RUNS_THE_TREE)?;
-    let running = ran(running, fs, &mut table)?;
-    let running = ran(running, fs, &mut table)?;
-    let running = ran(running, fs, &mut table)?;
-    let running = ran(running, fs, &mut table)?;
-    let running = ran(running, fs, &mut table)?;
-    let running = ran(running, fs, &mut table)?;
-    let running = ran(running, fs, &mut table)?;
-    let running = ran(running, fs, &mut table)?;
-    let running = ran(running, fs, &mut table)?;
-    let Ok(Stepped::Answered(reply)) = running.step(fs, &mut table, 6) else {
+    let operations = bytes_of(alloc, &RUNS_THE_TREE)?;
+    let compound = compound_of(10, &operations)?;
+    let Stepped::Ran(progress) = begin(alloc, compound, fs, &mut table)? else {
+        return Err("SEQUENCE does not run".into());
+    };
+    let progress = ran(alloc, compound, progress, fs, &mut table)?;
+    let progress = ran(alloc, compound, progress, fs, &mut table)?;
+    let progress = ran(alloc, compound, progress, fs, &mut table)?;
+    let progress = ran(alloc, compound, progress, fs, &mut table)?;
+    let progress = ran(alloc, compound, progress, fs, &mut table)?;
+    let progress = ran(alloc, compound, progress, fs, &mut table)?;
+    let progress = ran(alloc, compound, progress, fs, &mut table)?;
+    let progress = ran(alloc, compound, progress, fs, &mut table)?;
+    let Stepped::Answered(reply) = go_on(alloc, compound, progress, fs, &mut table)? else {
         return Err("the last operation does not end it".into());
     };
     assert!(rt; reply == bytes_of(alloc, &RAN_THE_TREE)?);

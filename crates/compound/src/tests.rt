@@ -54,13 +54,12 @@ fn bytes_of(alloc: Global, words: &[u32]) -> Result<Vec<u8>, AllocError> {
 }
 
 #[tactic(auto, unfolding(crate::specs::Views::in_progress_of))]
-fn running(alloc: Global, count: u32, words: &[u32]) -> Result<Running, Fail>
+fn running(alloc: Global, count: u32, operations: &[u8]) -> Result<Running<'_>, Fail>
     ensures { IfOk result (λ running. (in_progress_of running).answered ≡ 0) }
 {
     if count == 0 {
         return Err("no operation".into());
     }
-    let operations = bytes_of(alloc, words)?;
     let cred = Cred {
         uid: 7,
         gid: 7,
@@ -69,10 +68,10 @@ fn running(alloc: Global, count: u32, words: &[u32]) -> Result<Running, Fail>
     let compound = Compound {
         tag: Tag { bytes: b"t" },
         count,
-        operations: &operations,
+        operations,
     };
-    let running = Running::begin(alloc, 1, 1, cred, &compound)?;
-    if running.answered != 0 {
+    let running = Running::begin(alloc, 1, 1, cred, compound)?;
+    if running.progress.answered != 0 {
         return Err("it has results".into());
     }
     Ok(running)
@@ -104,7 +103,8 @@ fn table_of(alloc: Global) -> Result<Table, Fail> {
 #[test]
 fn first_operations_are_tested_in_order(rt: HostRuntime) -> Result<(), Fail> {
     for (count, words, number, wanted) in REFUSED {
-        let begun = running(rt.alloc(), count, words)?;
+        let operations = bytes_of(rt.alloc(), words)?;
+        let begun = running(rt.alloc(), count, &operations)?;
         match begun.next_operation(rt.alloc())? {
             Next::Refuses { operation, status } => {
                 assert_eq!(rt; operation, number);

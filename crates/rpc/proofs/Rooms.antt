@@ -28,17 +28,17 @@ measured_behind gathered header bytes long =
     let size = header % 2 ^ 31 in
     let body = length-drop 4 bytes in
     by_test (Measured gathered bytes) (nat_lt 16384 (length gathered.bytes + size)) _ _ (λ big. _) (λ small.
-      let fits : length gathered.bytes + size ≤ 16384 = ltb-false 16384 (length gathered.bytes + size) small in
-      by_test (Measured gathered bytes) (nat_le 64 gathered.fragments) _ _ (λ many. _) (λ few.
-        let below : gathered.fragments < 64 = leb-false 64 gathered.fragments few in
-        by_test (Measured gathered bytes) (nat_lt (length (drop 4 bytes)) size) _ _
-        (λ short. let less : length (drop 4 bytes) < size = ltb-true (length (drop 4 bytes)) size short in omega arith)
-        (λ whole.
-          let enough : size ≤ length (drop 4 bytes) = ltb-false (length (drop 4 bytes)) size whole in
-          let part = length-take size (drop 4 bytes) in
-          let rest = length-drop size (drop 4 bytes) in
-          let both = length-append gathered.bytes (take size (drop 4 bytes)) in
-          (omega arith, record { size = omega arith; number = omega arith }))))
+    let fits : length gathered.bytes + size ≤ 16384 = ltb-false 16384 (length gathered.bytes + size) small in
+    by_test (Measured gathered bytes) (nat_le 64 gathered.fragments) _ _ (λ many. _) (λ few.
+    let below : gathered.fragments < 64 = leb-false 64 gathered.fragments few in
+    by_test (Measured gathered bytes) (nat_lt (length (drop 4 bytes)) size) _ _
+    (λ short. let less : length (drop 4 bytes) < size = ltb-true (length (drop 4 bytes)) size short in omega arith)
+    (λ whole.
+    let enough : size ≤ length (drop 4 bytes) = ltb-false (length (drop 4 bytes)) size whole in
+    let part = length-take size (drop 4 bytes) in
+    let rest = length-drop size (drop 4 bytes) in
+    let both = length-append gathered.bytes (take size (drop 4 bytes)) in
+    (omega arith, record { size = omega arith; number = omega arith }))))
 
 measured : (gathered : Gathered) (bytes : List ℕ) → Bounded gathered → Measured gathered bytes (fragment record_limits gathered bytes)
 unfolding fragment

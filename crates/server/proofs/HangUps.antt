@@ -4,7 +4,6 @@ use Rattle.std.proofs.lemmas.Bool.{cases_lt}
 use Rattle.slab.specs.Slab.{Slab}
 use Rattle.disk.specs.Cause.{IsCounted}
 use Rattle.disk.specs.Moments.{History, AddsOnly}
-use Rattle.compound.specs.Views.{in_progress_of}
 use Rattle.fs.specs.FileSystem.{FileSystem}
 use Rattle.fs.specs.Stands.{StandsFor}
 use Rattle.model.specs.Keyed.{Keyed, at}
@@ -18,7 +17,8 @@ use Rattle.server.specs.declared.connection.Connection.{Connection}
 use Rattle.server.specs.declared.stage.Stage.{Stage}
 use Rattle.server.specs.declared.stage.Stage.TheVariants as stage
 use Rattle.server.specs.Connections.{connection_view, connections_of}
-use Rattle.server.specs.Stages.{stage_view}
+use Rattle.server.specs.Stages.{stage_view, asked_held, is_ready}
+use Rattle.server.proofs.Resumptions.{no_more}
 use Rattle.server.specs.Servers.{StandsForOne}
 use Rattle.server.specs.Serves.{IsTurned, Stays, Goes_on, MayLeaveTurning}
 use Rattle.server.proofs.Moments.{adds_weaker, adds_joined}
@@ -35,23 +35,19 @@ abbrev pub turns_left : Option world.Connection → ℕ
 turns_left (Some (Busy request)) = suc (request.count - request.answered)
 turns_left _ = 0
 
-more_in : (assembly : Assembly) (kind : Stage) (request : InProgress) → stage_view assembly kind ≡ Busy request → request.answered ≤ request.count
-unfolding in_progress_of
-more_in (Gathers bytes) stage.Receiving request is = let never : ⊥ = cc in absurd never
-more_in (Holds bytes) stage.Receiving request is = let never : ⊥ = cc in absurd never
-more_in (Refuses fault) stage.Receiving request is = let never : ⊥ = cc in absurd never
-more_in assembly (stage.Running running) request is =
-    let same : in_progress_of running ≡ request = cc in
-    let more : running.answered ≤ running.count = omega (arith, running.more) in
-    subst (λ (r : InProgress). r.answered ≤ r.count) same more
-more_in assembly (stage.Replied reply) request is = let never : ⊥ = cc in absurd never
+more_in : (assembly : Assembly) (kind : Stage) (request : InProgress) → is_ready kind assembly ≡ true → stage_view assembly kind ≡ Busy request → request.answered ≤ request.count
+more_in (Gathers bytes) stage.Receiving request ready is = let never : ⊥ = cc in absurd never
+more_in (Holds bytes) stage.Receiving request ready is = let never : ⊥ = cc in absurd never
+more_in (Refuses fault) stage.Receiving request ready is = let never : ⊥ = cc in absurd never
+more_in assembly (stage.Running progress) request ready is = no_more (asked_held assembly) progress request ready is
+more_in assembly (stage.Replied reply) request ready is = let never : ⊥ = cc in absurd never
 
 -- a request has no more results than operations
 pub has_more : (slab : Slab Connection) (n : ℕ) (request : InProgress) → at n (connections_of slab) ≡ Some (Busy request) → request.answered ≤ request.count
 unfolding connection_view
 has_more slab n request is =
     let found = stands_some slab n (Busy request) is in
-    more_in found.0.assembler found.0.stage request found.2
+    more_in found.0.assembler found.0.stage request found.0.ready found.2
 
 fewer : (slab : Slab Connection) (n : ℕ) (request : InProgress) (left : Option world.Connection) → at n (connections_of slab) ≡ left → IsOneFurther request left
     → turns_left left < suc (request.count - request.answered)

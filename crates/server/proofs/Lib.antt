@@ -2,6 +2,7 @@ pub mod HangUps
 pub mod Moments
 pub mod Openings
 pub mod Refusals
+pub mod Resumptions
 pub mod ServedTurns
 pub mod SlabLaws
 pub mod Turning

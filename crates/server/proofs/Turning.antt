@@ -139,5 +139,5 @@ pub opened_moments : (fs : FileSystem) (table : Table) (run : ℕ) (request : Li
     → AddsTrees fs (called world number now (read_call request)).world.tree new
 opened_moments fs table run request running now new opens same adds world number served =
     let one : called world number now (read_call request) ≡ stepped_on world number now (in_progress_of running)
-    = opens.1 world number now (served.run ∙ sym same) in
+    = opens.2 world number now (served.run ∙ sym same) in
     subst (λ (t : Tree). AddsTrees fs t new) (sym (ap (λ (t : Turned). t.world.tree) one)) (adds world number served)

@@ -2,7 +2,7 @@
 use Rattle.std.specs.Prelude.{◌≡◌, ℕ, List, [], ◌∷◌, map, Some, None}
 use Rattle.slab.specs.Slab.{Slab, entries}
 use Rattle.compound.specs.Steps.{IsServed, with_served, stepped_on}
-use Rattle.compound.specs.Views.{in_progress_of}
+use Rattle.compound.specs.Views.{in_progress_of, asked_of}
 use Rattle.fs.specs.FileSystem.{FileSystem}
 use Rattle.model.specs.Keyed.{Keyed, at, IsAbove}
 use Rattle.model.specs.Rpc.{read_call}
@@ -10,7 +10,7 @@ use Rattle.model.specs.Session.{Table}
 use Rattle.model.specs.World as world
 use Rattle.model.specs.World.{World, InProgress, Turned, Answered, Busy, Replied, one, called, with_connection}
 use Rattle.server.specs.declared.connection.Connection.{Connection}
-use Rattle.server.specs.Stages.{stage_view}
+use Rattle.server.specs.Stages.{stage_view, asked_in}
 use Rattle.server.specs.declared.request.Opened.{Opened}
 use Rattle.server.specs.declared.request.Opened.TheVariants as opened
 use Rattle.server.specs.declared.turn.Turn.{Turn}
@@ -69,6 +69,7 @@ abbrev pub Opens : (run : ℕ) → (request : List ℕ) → Opened → Type 0
 Opens run request (opened.Answers reply) =
     (world : World) (number now : ℕ) → called world number now (read_call request) ≡ replied world number reply.items
 Opens run request (opened.Begins running) =
-    ((in_progress_of running).context.run ≡ run)
+    (asked_in request ≡ Some (asked_of running))
+    × ((in_progress_of running).context.run ≡ run)
     × ((world : World) (number now : ℕ) → world.run ≡ run
     → called world number now (read_call request) ≡ stepped_on world number now (in_progress_of running))

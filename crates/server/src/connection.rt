@@ -1,7 +1,7 @@
 //! What is kept of a connection.
 
 ghost use Rattle.std.specs.Prelude.{◌≡◌, true};
-ghost use Rattle.server.specs.Stages.{is_idle};
+ghost use Rattle.server.specs.Stages.{is_ready};
 
 use crate::stage::Stage;
 use rpc::Assembler;
@@ -11,8 +11,8 @@ use std::alloc::Global;
 #[derive(Drop)]
 pub struct Connection {
     pub(crate) alloc: Global,
-    /// Has the memory for each record that comes. It holds nothing while a request runs or a reply waits.
+    /// Has the memory for each record that comes. It holds the record while its request runs, and nothing while a reply waits.
     pub(crate) assembler: Assembler,
     pub(crate) stage: Stage,
-    ghost idle: { is_idle stage assembler ≡ true },
+    ghost ready: { is_ready stage assembler ≡ true },
 }

@@ -1,21 +1,23 @@
 //! A whole record: its call is answered at once, or its COMPOUND begins.
 
-ghost use Rattle.std.specs.Prelude.{◌≡◌, ◌≤◌, ℕ, [], true, false, IfOk, IfErr, OnOk, OnErr, IsErrOf};
+ghost use Rattle.std.specs.Prelude.{◌≡◌, ◌≤◌, ℕ, Some, [], true, false, IfOk, IfErr, OnOk, OnErr, IsErrOf};
 ghost use Rattle.disk.specs.Cause.{IsCounted};
 ghost use Rattle.fs.specs.FileSystem.{AddsTrees};
 ghost use Rattle.fs.specs.FileSystems.{fs_of, fs_failures};
 ghost use Rattle.model.specs.Record.{framed};
 ghost use Rattle.model.specs.Rpc as rpc;
 ghost use Rattle.model.specs.Rpc.{is_call_read, reply_text};
-ghost use Rattle.model.specs.World.{World, called};
+ghost use Rattle.model.specs.World.{World, Busy, called};
 ghost use Rattle.rpc.specs.Views.{reply_view, tail_of};
 ghost use Rattle.session.specs.Views.{table_of};
-ghost use Rattle.compound.specs.Steps.{IsServed, StaysInRun, connection_by, turn_by};
+ghost use Rattle.compound.specs.Steps.{IsServed, StaysInRun, turn_by};
 ghost use Rattle.compound.specs.declared.fault.Fault.TheVariants as fault;
 ghost use Rattle.compound.specs.declared.fault.Fault.TheVariants.{Memory};
+ghost use Rattle.compound.specs.Views.{in_progress_of, asked_of};
 ghost use Rattle.server.specs.Connections.{Opens, Leads};
+ghost use Rattle.server.specs.Stages.{asked_in, begun, left_by, can_go_on, can_follow};
 
-use compound::{Fault, Running, Stepped};
+use compound::{Fault, Progress, Running, Stepped};
 use disk::Device;
 use fs::Fs;
 use rpc::{CallRead, Reply, Request, read_call, write_reply};
@@ -28,11 +30,11 @@ const HEADER_SIZE: usize = 4;
 
 /// What a call comes to before an operation runs.
 #[derive(Drop)]
-pub enum Opened {
+pub enum Opened<'a> {
     /// The whole record of a reply.
     Answers(Vec<u8>),
     /// A COMPOUND whose first operation runs next.
-    Begins(Running),
+    Begins(Running<'a>),
 }
 
 /// The first turn of a whole record: its call is answered at once, or the first operation of its COMPOUND runs.
@@ -45,8 +47,9 @@ pub fn first_turn<D: Device>(
 ) -> Result<Stepped, Fault>
     requires up { (fs_of fs.old).is_down ≡ false }
     requires call { is_call_read (rpc.read_call request.now) ≡ true }
-    ensures turn { IfOk result (λ done. Leads (λ world number. called world number now (rpc.read_call request.now)) (fs_of fs.old) (fs_of fs.new) (table_of table.old) (table_of table.new) (connection_by done) (turn_by done)) }
+    ensures turn { IfOk result (λ done. Leads (λ world number. called world number now (rpc.read_call request.now)) (fs_of fs.old) (fs_of fs.new) (table_of table.old) (table_of table.new) (left_by (asked_in request.now) done) (turn_by done)) }
     ensures stays { IfOk result (StaysInRun (fs_of fs.old).run) }
+    ensures follows { IfOk result (λ done. can_follow (asked_in request.now) done ≡ true) }
     ensures same { fs_of fs.new ≡ record (fs_of fs.old) { tree = (fs_of fs.new).tree; changes = (fs_of fs.new).changes; is_down = (fs_of fs.new).is_down; history = (fs_of fs.new).history } }
     ensures still_up { OnOk result ((fs_of fs.new).is_down ≡ false) }
     ensures table { OnErr result (table_of table.new ≡ table_of table.old) }
@@ -67,7 +70,7 @@ pub fn first_turn<D: Device>(
 }
 
 /// Reads the call of a whole record, and tests it. All memory for its reply is taken here.
-pub fn open(alloc: Global, run: u32, request: &[u8]) -> Result<Opened, Fault>
+pub fn open(alloc: Global, run: u32, request: &[u8]) -> Result<Opened<'_>, Fault>
     requires { is_call_read (rpc.read_call request.now) ≡ true }
     ensures ok { IfOk result (Opens run request.now) }
     ensures err { IfErr result (λ fault. fault ≡ Memory) }
@@ -83,9 +86,29 @@ pub fn open(alloc: Global, run: u32, request: &[u8]) -> Result<Opened, Fault>
     match call.request() {
         Request::Answers(reply) => Ok(Opened::Answers(record_of(alloc, call.xid, &reply)?)),
         Request::Runs(cred, compound) => {
-            let running = Running::begin(alloc, call.xid, run, cred, &compound)?;
+            let running = Running::begin(alloc, call.xid, run, cred, compound)?;
             Ok(Opened::Begins(running))
         }
+    }
+}
+
+/// The COMPOUND that a whole record asks for, from where it has come to.
+pub fn resume(alloc: Global, request: &[u8], progress: Progress) -> Running<'_>
+    requires { can_go_on (asked_in request.now) progress ≡ true }
+    ensures asked { asked_in request.now ≡ Some (asked_of result) }
+    ensures progress { result.progress ≡ progress }
+    ensures request { begun (asked_in request.now) progress ≡ Busy (in_progress_of result) }
+{
+    let call = match read_call(request) {
+        Ok(CallRead::Calls(call)) => call,
+        Ok(CallRead::OtherVersion { .. }) => unreachable!(),
+        Err(_) => unreachable!(),
+    };
+    match call.request() {
+        Request::Runs(cred, compound) => {
+            Running::resume(alloc, call.xid, cred, compound, progress)
+        }
+        Request::Answers(_) => unreachable!(),
     }
 }
 

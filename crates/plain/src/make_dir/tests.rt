@@ -177,13 +177,7 @@ fn make(alloc: Global, tree: &Tree, attributes: Attributes) -> Result<Tree, Fail
         name: b"n",
         attributes,
     };
-    let made = tree.make_dir(
-        alloc,
-        &Limits::of_volume(256, 16),
-        &caller(),
-        FIRST,
-        asked,
-    )?;
+    let made = tree.make_dir(alloc, &Limits::of_volume(256, 16), &caller(), FIRST, asked)?;
     Ok(made.tree)
 }
 

@@ -1,6 +1,8 @@
+use Rattle.std.proofs.Common.{Some, ap, sym, ◌∙◌}
 use Rattle.rpc.specs.Views.{call_view, reply_view, compound_view}
 use Rattle.compound.specs.Views.{in_progress_of}
-use Rattle.server.proofs.Openings.{other_answers, call_answers, call_runs, run_is}
+use Rattle.server.proofs.Openings.{other_answers, call_answers, call_runs}
+use Rattle.server.proofs.Resumptions.{asked_is}
 use Rattle.server.proofs.request.open.Goals as goal
 
 pub returns-in-Ok-OtherVersion-clause-ok : goal.returns-in-Ok-OtherVersion-clause-ok
@@ -14,11 +16,12 @@ returns-in_ok-record_of-in-Answers-clause-ok c =
     (rw c.in-Ok-Calls.field-0-is at c.in-Ok-Calls.ensures) (rw c.in-Answers.is at c.request.ensures.request) c.in_ok-record_of-in-Answers.ensures.ok
 
 pub returns-in_ok-running-in-Runs-clause-ok : goal.returns-in_ok-running-in-Runs-clause-ok
-returns-in_ok-running-in-Runs-clause-ok c = (
-  run_is c.args.run c.args.request.now (call_view c.in-Ok-Calls.call) c.in-Runs.cred (compound_view c.in-Runs.compound)
-      (in_progress_of c.in_ok-running-in-Runs.running)
-      (rw c.in-Ok-Calls.field-0-is at c.in-Ok-Calls.ensures) (rw c.in-Runs.is at c.request.ensures.request) c.in_ok-running-in-Runs.ensures.ok,
-  call_runs c.args.run c.args.request.now (call_view c.in-Ok-Calls.call) c.in-Runs.cred (compound_view c.in-Runs.compound)
-      (in_progress_of c.in_ok-running-in-Runs.running)
-      (rw c.in-Ok-Calls.field-0-is at c.in-Ok-Calls.ensures) (rw c.in-Runs.is at c.request.ensures.request) c.in_ok-running-in-Runs.ensures.ok,
-)
+returns-in_ok-running-in-Runs-clause-ok c =
+    let call = call_view c.in-Ok-Calls.call in
+    let running = c.in_ok-running-in-Runs.running in
+    let is = rw c.in-Ok-Calls.field-0-is at c.in-Ok-Calls.ensures in
+    let asks = rw c.in-Runs.is at c.request.ensures.request in (
+      asked_is c.args.request.now call c.in-Runs.cred (compound_view c.in-Runs.compound) is asks ∙ ap Some (sym c.in_ok-running-in-Runs.ensures.asked),
+      c.in_ok-running-in-Runs.ensures.run,
+      call_runs c.args.run c.args.request.now call c.in-Runs.cred (compound_view c.in-Runs.compound) (in_progress_of running) is asks c.in_ok-running-in-Runs.ensures.ok,
+    )

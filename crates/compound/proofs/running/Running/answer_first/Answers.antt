@@ -12,12 +12,12 @@ unfolding in_progress_of outcome_text
 returns-clause-gives c = λ now old new old_table new_table kind runs.
     let request = in_progress_of c.args.self.now in
     gives_in_room now old new old_table new_table request (left_by c.args.effect request) kind (answer_view c.args.answer)
-    (room_true request (Done (answer_view c.args.answer)) (first_room request (Done (answer_view c.args.answer)) c.args.self.now.short (c.args.self.now.first c.requires.first) c.tell_fits.ensures.bound)) runs
+    (room_true request (Done (answer_view c.args.answer)) (first_room request (Done (answer_view c.args.answer)) c.args.self.now.compound.tag.short (c.args.self.now.progress.first c.requires.first) c.tell_fits.ensures.bound)) runs
 
 pub returns-clause-answered : goal.returns-clause-answered
 unfolding in_progress_of outcome_text
 returns-clause-answered c = record {
   fits = c.tell_fits.ensures.fits;
   small = omega (arith, c.tell_fits.ensures.bound);
-  room = first_room (in_progress_of c.args.self.now) (Done (answer_view c.args.answer)) c.args.self.now.short (c.args.self.now.first c.requires.first) c.tell_fits.ensures.bound;
+  room = first_room (in_progress_of c.args.self.now) (Done (answer_view c.args.answer)) c.args.self.now.compound.tag.short (c.args.self.now.progress.first c.requires.first) c.tell_fits.ensures.bound;
 }

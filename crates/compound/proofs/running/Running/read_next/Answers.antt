@@ -13,17 +13,15 @@ use Rattle.compound.proofs.running.Running.read_next.Goals as goal
 pub overflow_sub-position : goal.overflow_sub-position
 unfolding in_progress_of
 overflow_sub-position c =
-    let short = rest_short c.args.self.now.operations.items c.args.self.now.position _ c.read_numbered.new.r (sym c.requires ∙ c.in-Ok.ensures.accepts.1) in
+    let short = rest_short c.args.self.now.compound.operations.now c.args.self.now.progress.position _ c.read_numbered.new.r (sym c.requires ∙ c.in-Ok.ensures.accepts.1) in
     omega (arith, short)
 
 pub returns-clause-ok : goal.returns-clause-ok
 unfolding in_progress_of
 returns-clause-ok c = λ bytes e.
-    let behind = drop_rest c.args.self.now.operations.items c.args.self.now.position _ c.read_numbered.new.r (sym c.requires ∙ c.in-Ok.ensures.accepts.1) in
-    let whole : c.len.result ≡ length c.args.self.now.operations.items = omega arith in
+    let behind = drop_rest c.args.self.now.compound.operations.now c.args.self.now.progress.position _ c.read_numbered.new.r (sym c.requires ∙ c.in-Ok.ensures.accepts.1) in
     by_read (in_progress_of c.args.self.now) c.args.number (arguments_at c.args.number bytes) (argument_view c.in-Ok.argument) c.read_numbered.new.r _
     (sym (ap (λ (r : Result (ℕ × List ℕ) Refusal). r >>= λ n. arguments_at n.0 n.1) e) ∙ c.in-Ok.ensures.reads)
     (subst (λ (r : List ℕ). (is_last (in_progress_of c.args.self.now) && (not (looks_no_further (argument_view c.in-Ok.argument)) && not (is_empty r))) ≡ false)
     c.rest.ensures (sym c.has_too_much.ensures ∙ c.if-has_too_much.false))
-    (ap (λ (n : ℕ). drop (n - c.len-2.result) c.args.self.now.operations.items) whole
-    ∙ (ap (λ (n : ℕ). drop (length c.args.self.now.operations.items - n) c.args.self.now.operations.items) c.len-2.ensures ∙ behind))
+    (ap (λ (n : ℕ). drop (length c.args.self.now.compound.operations.now - n) c.args.self.now.compound.operations.now) c.len.ensures ∙ behind)

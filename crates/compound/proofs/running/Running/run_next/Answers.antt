@@ -13,7 +13,7 @@ use Rattle.compound.proofs.running.Running.run_next.Goals as goal
 pub returns-in_err-done-in-Reads-clause-moments : goal.returns-in_err-done-in-Reads-clause-moments
 returns-in_err-done-in-Reads-clause-moments g c = λ word world number served.
     let next = rw c.in-Reads.is at c.in_ok-operation.ensures.ok in
-    let rest = drop c.in-Reads.position c.args.self.now.operations.items in
+    let rest = drop c.in-Reads.position c.args.self.now.compound.operations.now in
     adds_read c.args.now (fs_of c.args.fs.now) world number (in_progress_of c.args.self.now) (argument_view c.in-Reads.argument) rest _ next
     (c.operate.ensures.moments word world rest served)
 
@@ -21,13 +21,13 @@ pub returns-in_ok-done-in-Reads-clause-turns : goal.returns-in_ok-done-in-Reads-
 returns-in_ok-done-in-Reads-clause-turns g c =
     let next = rw c.in-Reads.is at c.in_ok-operation.ensures.ok in
     turns_read c.args.now (fs_of c.args.fs.now) (fs_of c.operate.new.fs) (table_of c.args.table.now) (table_of c.operate.new.table) (in_progress_of c.args.self.now)
-    (argument_view c.in-Reads.argument) (drop c.in-Reads.position c.args.self.now.operations.items) c.in_ok-done-in-Reads.done next
+    (argument_view c.in-Reads.argument) (drop c.in-Reads.position c.args.self.now.compound.operations.now) c.in_ok-done-in-Reads.done next
     c.in_ok-done-in-Reads.ensures.gives
 
 pub returns-in_ok-done-in-Reads-clause-moments : goal.returns-in_ok-done-in-Reads-clause-moments
 returns-in_ok-done-in-Reads-clause-moments g c = λ word world number served.
     let next = rw c.in-Reads.is at c.in_ok-operation.ensures.ok in
-    let rest = drop c.in-Reads.position c.args.self.now.operations.items in
+    let rest = drop c.in-Reads.position c.args.self.now.compound.operations.now in
     adds_read c.args.now (fs_of c.args.fs.now) world number (in_progress_of c.args.self.now) (argument_view c.in-Reads.argument) rest _ next
     (c.operate.ensures.moments word world rest served)
 
@@ -40,4 +40,4 @@ returns-in-Refuses-clause-answered g c =
 pub operate-requires-clause-first : goal.operate-requires-clause-first
 operate-requires-clause-first g c =
     let next = rw c.in-Reads.is at c.in_ok-operation.ensures.ok in
-    first_alone (in_progress_of c.args.self.now) (argument_view c.in-Reads.argument) (drop c.in-Reads.position c.args.self.now.operations.items) next
+    first_alone (in_progress_of c.args.self.now) (argument_view c.in-Reads.argument) (drop c.in-Reads.position c.args.self.now.compound.operations.now) next

@@ -1,23 +1,19 @@
-use Rattle.std.proofs.Common.{◌≡◌, ℕ, List, Some, ap, sym, ◌∙◌}
-use Rattle.compound.specs.Views.{in_progress_of}
-use Rattle.compound.specs.Steps.{stepped_on, connection_by, turn_by}
-use Rattle.compound.specs.declared.running.Running.{Running}
+use Rattle.std.proofs.Common.{◌≡◌, ℕ, true, List, Some, ap, sym, subst, ◌∙◌}
+use Rattle.compound.specs.Steps.{turn_by}
 use Rattle.fs.specs.FileSystems.{fs_of}
 use Rattle.model.specs.Rpc.{read_call}
-use Rattle.model.specs.World.{Connection, Waiting, Busy, Replied, called, turned}
+use Rattle.model.specs.World.{Connection, Waiting, Replied, called, turned}
 use Rattle.rpc.specs.Assembly.{Assembly, Holds, connection_of}
 use Rattle.session.specs.Views.{table_of}
-use Rattle.server.specs.Connections.{connection_view}
-use Rattle.server.specs.Stages.{stage_view}
+use Rattle.server.specs.Connections.{connection_view, IsOfRun}
+use Rattle.server.specs.Stages.{stage_view, asked_in, asked_held, begun, left_by, is_ready}
 use Rattle.server.specs.declared.stage.Stage.{Stage}
 use Rattle.server.specs.declared.stage.Stage.TheVariants as stages
-use Rattle.server.proofs.Turning.{turns_by, turns_if, moments_by, idle_turn_to, replied_comes, no_record_comes, waiting_comes, busy_comes}
+use Rattle.server.proofs.Turning.{turns_by, turns_if, moments_by, idle_turn_to, replied_comes, no_record_comes, waiting_comes}
+use Rattle.server.proofs.Resumptions.{run_of}
 use Rattle.server.proofs.connection.Connection.turn.Goals as goal
 
 -- what the connection was, by its stage
-running_before : (assembly : Assembly) (stage : Stage) (running : Running) → stages.Running running ≡ stage → stage_view assembly stage ≡ Busy (in_progress_of running)
-running_before assembly stage running is = ap (stage_view assembly) (sym is)
-
 receiving_before : (assembly : Assembly) (stage : Stage) → stages.Receiving ≡ stage → stage_view assembly stage ≡ connection_of assembly
 receiving_before assembly stage is = ap (stage_view assembly) (sym is)
 
@@ -27,8 +23,10 @@ waits assembly stage request is holds = receiving_before assembly stage is ∙ a
 pub next_turn-requires-clause-run : goal.next_turn-requires-clause-run
 unfolding connection_view
 next_turn-requires-clause-run g c =
-    c.requires.run (in_progress_of c.in-Running.running)
-    (running_before c.args.self.now.assembler c.args.self.now.stage c.in-Running.running c.in-Running.ensures.value)
+    let assembly = c.args.self.now.assembler in
+    run_of (fs_of c.args.fs.now).run (asked_held assembly) c.in-Running.progress
+    (subst (λ (s : Stage). is_ready s assembly ≡ true) (sym c.in-Running.ensures.value) c.args.self.now.ready)
+    (subst (IsOfRun (fs_of c.args.fs.now).run) (ap (stage_view assembly) (sym c.in-Running.ensures.value)) c.requires.run)
 
 pub returns-in-Ok-clause-turn : goal.returns-in-Ok-clause-turn
 unfolding connection_view
@@ -37,8 +35,8 @@ returns-in-Ok-clause-turn g c =
     (waiting_comes c.args.now (connection_view c.args.self.now) c.in-Some.record.now
     (waits c.args.self.now.assembler c.args.self.now.stage c.in-Some.record.now c.in-Receiving.ensures.value c.in-Some.ensures.waits))
     (fs_of c.args.fs.now) (fs_of c.first_turn.new.fs) (table_of c.args.table.now) (table_of c.first_turn.new.table)
-    (connection_view c.settle.new.self) (connection_by c.in-Ok.done) c.settle.result (turn_by c.in-Ok.done)
-    c.settle.ensures.turn c.settle.ensures.state c.in-Ok.ensures.turn
+    (connection_view c.settle.new.self) (left_by (asked_in c.in-Some.record.now) c.in-Ok.done) c.settle.result (turn_by c.in-Ok.done)
+    c.settle.ensures.turn (c.settle.ensures.state ∙ ap (λ (a : Assembly). left_by (asked_held a) c.in-Ok.done) c.in-Some.ensures.waits) c.in-Ok.ensures.turn
 
 pub returns-in-Ok-clause-moments : goal.returns-in-Ok-clause-moments
 unfolding connection_view
@@ -68,18 +66,20 @@ returns-in-None-clause-turn g c =
 pub returns-in-Running-clause-turn : goal.returns-in-Running-clause-turn
 unfolding connection_view
 returns-in-Running-clause-turn g c =
-    turns_if c.args.now (connection_view c.args.self.now) (λ world number. stepped_on world number c.args.now (in_progress_of c.in-Running.running))
-    (busy_comes c.args.now (connection_view c.args.self.now) (in_progress_of c.in-Running.running)
-    (running_before c.args.self.now.assembler c.args.self.now.stage c.in-Running.running c.in-Running.ensures.value))
+    let assembly = c.args.self.now.assembler in
+    let before = ap (stage_view assembly) (sym c.in-Running.ensures.value) in
+    turns_if c.args.now (connection_view c.args.self.now) (λ world number. turned world number c.args.now (Some (begun (asked_held assembly) c.in-Running.progress)))
+    (λ world number. ap (λ (b : Connection). turned world number c.args.now (Some b)) before)
     (fs_of c.args.fs.now) (fs_of c.next_turn.new.fs) (table_of c.args.table.now) (table_of c.next_turn.new.table)
     (connection_view c.next_turn.new.self) c.next_turn.result c.next_turn.ensures.turn
 
 pub returns-in-Running-clause-moments : goal.returns-in-Running-clause-moments
 unfolding connection_view
 returns-in-Running-clause-moments g c keeps =
-    moments_by c.args.now (connection_view c.args.self.now) (λ world number. stepped_on world number c.args.now (in_progress_of c.in-Running.running))
-    (busy_comes c.args.now (connection_view c.args.self.now) (in_progress_of c.in-Running.running)
-    (running_before c.args.self.now.assembler c.args.self.now.stage c.in-Running.running c.in-Running.ensures.value))
+    let assembly = c.args.self.now.assembler in
+    let before = ap (stage_view assembly) (sym c.in-Running.ensures.value) in
+    moments_by c.args.now (connection_view c.args.self.now) (λ world number. turned world number c.args.now (Some (begun (asked_held assembly) c.in-Running.progress)))
+    (λ world number. ap (λ (b : Connection). turned world number c.args.now (Some b)) before)
     (fs_of c.args.fs.now) (table_of c.args.table.now) (fs_of c.next_turn.new.fs).history (c.next_turn.ensures.moments keeps)
 
 pub returns-in-Replied-clause-turn : goal.returns-in-Replied-clause-turn

@@ -1,0 +1,47 @@
+//! How far a COMPOUND has come.
+
+ghost use Rattle.std.specs.Prelude.{◌≡◌, ◌≤◌, []};
+
+use xdr::Writer;
+
+/// The bytes for which each COMPOUND has memory from its begin on: those of its longest result, which a slot keeps.
+pub const RESULT_BUFFER: usize = 16_384;
+
+/// Those of the longest reply's record: the record's header, and six words, stand round the result.
+pub const RECORD_BUFFER: usize = RESULT_BUFFER + 28;
+
+/// A slot of a session.
+#[derive(Clone, Copy, Debug, PartialEq, Eq)]
+pub struct SlotId {
+    pub session: [u8; 16],
+    pub slot: u32,
+}
+
+/// How far a COMPOUND has come: what is kept of it from turn to turn, beside its record.
+#[derive(Drop)]
+pub struct Progress {
+    /// Where the bytes of the next operation begin, among those of all.
+    pub(crate) position: usize,
+    /// How many operations have their results.
+    pub(crate) answered: u32,
+    pub(crate) results: Writer,
+    /// Memory for the whole result, which the slot keeps.
+    pub(crate) kept: Writer,
+    /// Memory for the reply's record.
+    pub(crate) reply: Writer,
+    /// The client of the session, 0 before SEQUENCE.
+    pub(crate) client: u64,
+    /// The restart count of the server.
+    pub(crate) run: u32,
+    /// The numbers of the nodes that the current and the saved filehandle name.
+    pub(crate) current: Option<u64>,
+    pub(crate) saved: Option<u64>,
+    /// The slot that runs it.
+    pub(crate) slot: Option<SlotId>,
+    ghost first: { answered ≡ 0 → results.bytes ≡ [] },
+    ghost room: { 16384 ≤ results.capacity },
+    ghost kept_fresh: { kept.bytes ≡ [] },
+    ghost kept_room: { 16384 ≤ kept.capacity },
+    ghost reply_fresh: { reply.bytes ≡ [] },
+    ghost reply_room: { 16412 ≤ reply.capacity },
+}

@@ -1,0 +1,44 @@
+-- The COMPOUND that a record asks for, between its turns.
+use Rattle.std.proofs.Common.{◌≡◌, ℕ, true, List, Option, Some, None, ◌≤◌, refl, subst, arith}
+use Rattle.compound.specs.Views.{Asked, resumed}
+use Rattle.compound.specs.declared.progress.Progress.{Progress}
+use Rattle.compound.proofs.Resuming.{fits_more}
+use Rattle.model.specs.Rpc.{Call, NoCall, OtherVersion, Calls, Compound, Reply, Answers, Runs, read_call, request_of}
+use Rattle.model.specs.World.{InProgress, Busy}
+use Rattle.model.specs.declared.acl.Cred.{Cred}
+use Rattle.server.specs.Connections.{IsOfRun}
+use Rattle.server.specs.Stages.{asked_in, begun, can_go_on}
+
+pub asked_is : (request : List ℕ) (call : Call) (cred : Cred) (compound : Compound) → read_call request ≡ Calls call → request_of call ≡ Runs cred compound
+    → asked_in request ≡ Some (record { xid = call.xid; cred = cred; compound = compound })
+unfolding asked_in
+asked_is request call cred compound is asks = rw (is, asks) refl
+
+pub none_answered : (request : List ℕ) (call : Call) (reply : Reply) → read_call request ≡ Calls call → request_of call ≡ Answers reply → asked_in request ≡ None
+unfolding asked_in
+none_answered request call reply is asks = rw (is, asks) refl
+
+pub none_of_another : (request : List ℕ) (xid : ℕ) → read_call request ≡ OtherVersion xid → asked_in request ≡ None
+unfolding asked_in
+none_of_another request xid is = rw is refl
+
+pub none_of_no_call : (request : List ℕ) → read_call request ≡ NoCall → asked_in request ≡ None
+unfolding asked_in
+none_of_no_call request is = rw is refl
+
+pub goes_nowhere : (asked : Option Asked) (progress : Progress) → asked ≡ None → can_go_on asked progress ≡ true → ⊥
+goes_nowhere None progress is can = let never : ⊥ = cc in never
+goes_nowhere (Some asked) progress is can = let never : ⊥ = cc in never
+
+-- it is of its run
+pub run_of : (run : ℕ) (asked : Option Asked) (progress : Progress) → can_go_on asked progress ≡ true → IsOfRun run (begun asked progress) → progress.run ≡ run
+run_of run None progress can here = let never : ⊥ = cc in absurd never
+run_of run (Some asked) progress can here = here (resumed asked progress) refl
+
+-- and it has no more results than operations
+pub no_more : (asked : Option Asked) (progress : Progress) (request : InProgress) → can_go_on asked progress ≡ true → begun asked progress ≡ Busy request → request.answered ≤ request.count
+no_more None progress request can is = let never : ⊥ = cc in absurd never
+no_more (Some asked) progress request can is =
+    let same : resumed asked progress ≡ request = cc in
+    let more : progress.answered ≤ asked.compound.count = omega (arith, fits_more asked progress can) in
+    subst (λ (r : InProgress). r.answered ≤ r.count) same more
