@@ -125,10 +125,6 @@ pub waiting_comes : (now : ℕ) (before : Connection) (request : List ℕ) → b
     → (world : World) (number : ℕ) → turned world number now (Some before) ≡ called world number now (read_call request)
 waiting_comes now before request is world number = rw is refl
 
-pub busy_comes : (now : ℕ) (before : Connection) (request : InProgress) → before ≡ Busy request
-    → (world : World) (number : ℕ) → turned world number now (Some before) ≡ stepped_on world number now request
-busy_comes now before request is world number = rw is refl
-
 -- The first turn
 
 pub opened_moments : (fs : FileSystem) (table : Table) (run : ℕ) (request : List ℕ) (running : Running) (now : ℕ) (new : History)
