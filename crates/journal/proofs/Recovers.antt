@@ -40,6 +40,20 @@ recover_moments size h h2 h3 to e small few fit gated w =
     (settles_once size (seen h2.now) (through to (seen h2.now)) settled small
     (gated_stage size to (seen h2.now) few fit gated.gate_is (seen h2.now) (λ n. refl)) (subst Q (sym same) t)) s) w)
 
+-- from the sync on
+pub recover_since : (size : ℕ) (h h2 h3 : History) (to : List ℕ) → h2 ≡ synced h → size < 2 ^ 32 → length to ≤ 96 → AreTargets size to → IsGated to h2
+    → KeepsShown size to h2 h3 → AddsOnly (SettlesAs size (seen h.now)) (synced h) h3
+recover_since size h h2 h3 to e small few fit gated w =
+    let P : Image → Type 0 = λ image. SettlesAs size (seen h.now) image in
+    let same : seen h2.now ≡ seen h.now = ap (λ (k : History). seen k.now) e in
+    subst (λ (k : History). AddsOnly P k h3) e
+    (AddsOnly-weaken (λ image. Settles size image (through to (seen h2.now))) P h2 h3
+    (λ image s settled t.
+    let Q : Image → Type 0 = λ seen_image. Settles size seen_image settled in
+    settles_same size image (through to (seen h2.now)) settled
+    (settles_once size (seen h2.now) (through to (seen h2.now)) settled small
+    (gated_stage size to (seen h2.now) few fit gated.gate_is (seen h2.now) (λ n. refl)) (subst Q (sym same) t)) s) w)
+
 pub keeps_shown_at : (old new : ℕ) (xs ys : List ℕ) (h h1 : History) → new ≡ old → xs ≡ ys → (IsGated xs h → KeepsShown new xs h h1) → IsGated ys h → KeepsShown old ys h h1
 keeps_shown_at old new xs ys h h1 e q f gated =
     let P : List ℕ → Type 0 = λ to. IsGated to h → KeepsShown new to h h1 in

@@ -1,7 +1,7 @@
 //! The journal: a base, and a list of transactions that go into it through the gate.
 
 ghost use Rattle.std.specs.Prelude.{◌≡◌, ◌≤◌, ◌<◌, ◌⊎◌, ℕ, [], length, get_or, false, is_err, vec_len, vec_capacity, OnOk, IfOk, IfErr, IsErrOf, ◌∷◌, ◌++◌};
-ghost use Rattle.disk.specs.Moments.{seen, put, AddsOnly, applied};
+ghost use Rattle.disk.specs.Moments.{seen, synced, put, AddsOnly, applied};
 ghost use Rattle.journal.specs.Layout.{AreTargets, gate, targets};
 ghost use Rattle.journal.specs.Settled.{AreSame, Settles, SettlesAs};
 ghost use Rattle.journal.specs.Recover.{LeavesOnlySynced};
@@ -77,6 +77,8 @@ impl<D: Device> Journal<D> {
         requires { 256 ≤ D.size device }
         ensures moments { D.keeps_word → IfOk result (λ journal.
             AddsOnly (SettlesAs (D.size device) (seen (D.history device).now)) (D.history device) (log_of journal).history) }
+        ensures since_sync { D.keeps_word → IfOk result (λ journal.
+            AddsOnly (SettlesAs (D.size device) (seen (D.history device).now)) (synced (D.history device)) (log_of journal).history) }
         ensures base { D.keeps_word → IfOk result (λ journal. Settles (D.size device) (seen (D.history device).now) (log_of journal).base) }
         ensures settled { D.keeps_word → IfOk result (λ journal. IsSettled (log_of journal)) }
         ensures list { IfOk result (λ journal. (log_of journal).list ≡ []) }
@@ -89,6 +91,7 @@ impl<D: Device> Journal<D> {
         ensures damaged { D.keeps_word → IfErr result (λ refused. refused.fault ≡ JournalFault.Damaged
             → LeavesOnlySynced (D.size device) (D.history device) (D.history refused.device)) }
         ensures memory { IfErr result (λ refused. refused.fault ≡ JournalFault.Memory → refused.device ≡ device) }
+        ensures refused_size { IfErr result (λ refused. D.size refused.device ≡ D.size device) }
         ensures later { IfErr result (λ refused. D.failed device ≤ D.failed refused.device) }
         ensures counted { IfErr result (λ refused. refused.fault ≡ JournalFault.Fault
             → IsCounted (D.failed device) (D.failed refused.device)) }

@@ -17,6 +17,8 @@ pub(crate) fn recover<D: Device>(device: &mut D, named: &mut Vec<u32>) -> Result
     ensures moments { D.keeps_word → AddsOnly (SettlesAs (D.size device.old) (seen (D.history device.old).now))
         (D.history device.old) (D.history device.new) }
     ensures ok { D.keeps_word → OnOk result (Recovers (D.size device.old) (D.history device.old) (D.history device.new)) }
+    ensures since_sync { D.keeps_word → OnOk result (AddsOnly (SettlesAs (D.size device.old) (seen (D.history device.old).now))
+        (synced (D.history device.old)) (D.history device.new)) }
     ensures closed { OnOk result (named.new.items ≡ []) }
     ensures damaged { D.keeps_word → IsErrOf result JournalFault.Damaged
         → LeavesOnlySynced (D.size device.old) (D.history device.old) (D.history device.new) }
