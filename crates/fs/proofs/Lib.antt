@@ -3,9 +3,12 @@ pub mod StandLaws
 pub mod ImageLaws
 pub mod NextLaws
 pub mod ReadLaws
+pub mod RemountLaws
 pub mod ToldLaws
 pub mod MountLaws
+pub mod MountedLaws
 pub mod FirstLaws
 pub mod FoundLaws
+pub mod FrontLaws
 pub mod FormatLaws
 pub mod OneTree

@@ -4,7 +4,8 @@ use Rattle.std.proofs.Math.Logic.{∥∥₁_map, ∥∥₁_elim, ∥∥₁_prop}
 use Rattle.std.proofs.Props.{props}
 use Rattle.std.proofs.lemmas.Bool.{and_parts, leb-true}
 use Rattle.std.specs.Prelude.{IsTrue, IsErrOf, Result, Err}
-use Rattle.std.specs.List.{AllByRecursion, AllByRecursion-prop}
+use Rattle.std.specs.List.{AllByRecursion, AllByRecursion-prop, IsAmong}
+use Rattle.std.specs.Prelude.{get_or}
 use Rattle.disk.specs.declared.update.Update.{Update}
 use Rattle.disk.specs.Moments.{Image, History, Left, AddsOnly, applied}
 use Rattle.image.specs.Imaged.{image_updates}
@@ -24,7 +25,7 @@ use Rattle.model.specs.Stamp.{stamp, next_stamp}
 use Rattle.model.specs.Tree.{Tree}
 use Rattle.model.specs.WellFormed.{IsWellFormed, IsBefore}
 use Rattle.fs.specs.Superblock.{is_size}
-use Rattle.fs.specs.FileSystem.{IsNext, IsServing}
+use Rattle.fs.specs.FileSystem.{FileSystem, IsNext, IsServing, StandsForOne, LeavesOne, IsRecent, Holds, MayAdd, AddsTrees, fronts_from}
 use Rattle.fs.specs.Stands.{Stands, StandsFor}
 use Rattle.fs.proofs.ImageLaws.{imaged-written, superblock-kept}
 
@@ -145,11 +146,49 @@ module _ (old : Log) (limits : Limits) (run changes : ℕ) (tree after : Tree) (
       stands = λ word is_up. ∥∥₁_map (serving.stands word up) (kept n word);
     }))
 
--- each map left stands for what the base does
-pub holds_base : (log : Log) (nodes run : ℕ) (tree : Tree) → IsSettled log → ∥ Stands log.size nodes log.base run tree ∥₁
-    → (image : Image) → Left log.history.now image → StandsFor log.size nodes run tree image
-holds_base log nodes run tree settled stands image left =
-    ∥∥₁_map stands (λ is. record { base = log.base; settles = settled image left; stands = is })
+among_one : {A : Type 0} (only other : A) → IsAmong (only ∷ []) other → other ≡ only
+among_one only other among = by_place among.0 among.1.0 among.1.1
+  where
+    by_place : (place : ℕ) → place < length (only ∷ []) → other ≡ get_or (only ∷ []) place other → other ≡ only
+    by_place zero less e = e
+    by_place (suc place) less e = absurd (omega arith)
+
+-- a journal with nothing left to flush: each map left stands for what the base does, and so does its only front
+pub holds_base : (fs : FileSystem) (log : Log) → fs.sectors ≡ log.size → fs.history ≡ log.history → fs.fronts ≡ fronts_from log.base log.list
+    → ((image : Image) → Left log.history.now image → ∥ Settles log.size image log.base ∥₁) → length log.list ≡ 0
+    → ∥ Stands log.size fs.limits.nodes log.base fs.run fs.tree ∥₁ → Holds fs
+holds_base fs log size history fronts settled listed stands =
+    let here : ∥ Stands fs.sectors fs.limits.nodes log.base fs.run fs.tree ∥₁ = subst (λ (s : ℕ). ∥ Stands s fs.limits.nodes log.base fs.run fs.tree ∥₁) (sym size) stands in
+    let only : fs.fronts ≡ log.base ∷ [] = fronts ∙ ap (fronts_from log.base) (empty_list log.list listed) in
+    record {
+      leaves = λ image left. (
+        fs.tree,
+        (0, (omega arith, refl)),
+        ∥∥₁_elim here ∥∥₁_prop (λ is. ∥∥₁_map (settled image (subst (λ (h : History). Left h.now image) history left)) (λ settles. record {
+          base = log.base;
+          settles = subst (λ (s : ℕ). Settles s image log.base) (sym size) settles;
+          stands = is;
+        })),
+      );
+      covers = λ front among. (
+        fs.tree,
+        (0, (omega arith, refl)),
+        subst (λ (i : Image). ∥ Stands fs.sectors fs.limits.nodes i fs.run fs.tree ∥₁) (sym (among_one log.base front (subst (λ (l : List Image). IsAmong l front) only among))) here,
+      );
+      newest = (0, (omega arith, refl));
+    }
+
+-- the tree before a change, or the one behind it
+pub adds_either : (fs : FileSystem) (after : Tree) (new : History)
+    → AddsOnly (λ image. StandsFor fs.sectors fs.limits.nodes fs.run fs.tree image ⊎ StandsFor fs.sectors fs.limits.nodes fs.run after image) fs.history new
+    → AddsTrees fs after new
+adds_either fs after new adds recent is = AddsOnly-weaken
+    (λ image. StandsFor fs.sectors fs.limits.nodes fs.run fs.tree image ⊎ StandsFor fs.sectors fs.limits.nodes fs.run after image)
+    (StandsForOne fs (MayAdd recent after)) fs.history new
+    (λ image either. elim either [
+      | inl stays ↦ (fs.tree, inl is.newest, stays)
+      | inr goes ↦ (after, inr refl, goes)
+    ]) adds
 
 -- only a failure of the device, which it counted, is left
 pub fault_counted : (old new : Log) (before after count : ℕ) (result : Result (Unit {0}) JournalFault) (fault : JournalFault) → result ≡ Err fault

@@ -1,6 +1,8 @@
 -- What contracts see of a file system. Where things stand on the device stays below.
-use Rattle.std.specs.Prelude.{ℕ, Bool, false, ◌≡◌, ◌⊎◌, ◌+◌}
-use Rattle.disk.specs.Moments.{History, Image, Left, AddsOnly}
+use Rattle.std.specs.Prelude.{ℕ, Bool, false, List, [], ◌∷◌, ◌≡◌, ◌⊎◌, ◌+◌}
+use Rattle.std.specs.List.{IsAmong}
+use Rattle.disk.specs.declared.update.Update.{Update}
+use Rattle.disk.specs.Moments.{History, Image, Left, AddsOnly, applied}
 use Rattle.image.specs.TreeRecords.{IsPlainTree}
 use Rattle.journal.specs.Log.{Log, IsSettled}
 use Rattle.model.specs.declared.limits.Limits.{Limits}
@@ -9,6 +11,11 @@ use Rattle.model.specs.Stamp.{next_stamp}
 use Rattle.model.specs.Tree.{Tree}
 use Rattle.model.specs.WellFormed.{IsWellFormed, IsBefore}
 use Rattle.fs.specs.Stands.{Stands, StandsFor}
+
+-- an image, and what it is behind each transaction
+abbrev pub fronts_from : Image → List (List Update) → List Image
+fronts_from base [] = base ∷ []
+fronts_from base (updates ∷ list) = base ∷ fronts_from (applied updates base) list
 
 pub record FileSystem : Type 0 where
   pub limits : Limits
@@ -19,6 +26,8 @@ pub record FileSystem : Type 0 where
   pub is_down : Bool
   pub sectors : ℕ
   pub history : History
+  -- what the sectors give with the flushed changes, and behind each change that is not flushed yet
+  pub fronts : List Image
 
 -- a file system that was just mounted
 pub record IsNew (sectors : ℕ) (fs : FileSystem) : Type 0 where
@@ -27,14 +36,30 @@ pub record IsNew (sectors : ℕ) (fs : FileSystem) : Type 0 where
   pub on_device : fs.sectors ≡ sectors
   pub limits : fs.limits ≡ limits_of sectors fs.limits.nodes
 
--- each map that a stop leaves now stands for the tree
-abbrev pub Holds : FileSystem → Type 0
-Holds fs = (image : Image) → Left fs.history.now image → StandsFor fs.sectors fs.limits.nodes fs.run fs.tree image
+-- the map stands for a tree of these, in this run of the volume
+abbrev pub StandsForOne : FileSystem → (Tree → Type 0) → Image → Type 0
+StandsForOne fs may image = (tree : Tree) × may tree × StandsFor fs.sectors fs.limits.nodes fs.run tree image
 
--- at every moment since, a map left is one left before, or stands for the one tree or the other
+-- each map that a stop leaves now stands for one of these trees
+abbrev pub LeavesOne : FileSystem → List Tree → Type 0
+LeavesOne fs recent = (image : Image) → Left fs.history.now image → StandsForOne fs (IsAmong recent) image
+
+-- The trees that a stop may leave, now and within a flush: those of its fronts. The one in memory is among them.
+pub record IsRecent (fs : FileSystem) (recent : List Tree) : Type 0 where
+  pub leaves : LeavesOne fs recent
+  pub covers : (front : Image) → IsAmong fs.fronts front → (tree : Tree) × IsAmong recent tree × ∥ Stands fs.sectors fs.limits.nodes front fs.run tree ∥₁
+  pub newest : IsAmong recent fs.tree
+
+-- a stop leaves the tree in memory
+abbrev pub Holds : FileSystem → Type 0
+Holds fs = IsRecent fs (fs.tree ∷ [])
+
+abbrev pub MayAdd : List Tree → (after : Tree) → Tree → Type 0
+MayAdd recent after tree = IsAmong recent tree ⊎ (tree ≡ after)
+
+-- at every moment since, a map left is one left before, or stands for one of the trees before or the one behind the change
 abbrev pub AddsTrees : FileSystem → (after : Tree) → History → Type 0
-AddsTrees fs after new =
-    AddsOnly (λ image. StandsFor fs.sectors fs.limits.nodes fs.run fs.tree image ⊎ StandsFor fs.sectors fs.limits.nodes fs.run after image) fs.history new
+AddsTrees fs after new = (recent : List Tree) → IsRecent fs recent → AddsOnly (StandsForOne fs (MayAdd recent after)) fs.history new
 
 -- a tree that may come after so many changes of a run and one more
 pub record IsNext (limits : Limits) (run changes : ℕ) (tree : Tree) : Type 0 where

@@ -2,7 +2,7 @@
 use Rattle.journal.specs.Journal.{log_of, failures_of}
 use Rattle.plain.specs.View.{tree_of}
 use Rattle.fs.specs.declared.fs.Fs.{Fs}
-use Rattle.fs.specs.FileSystem.{FileSystem}
+use Rattle.fs.specs.FileSystem.{FileSystem, fronts_from}
 use Rattle.std.specs.Prelude.{ℕ}
 
 unfoldable pub fs_of : {D : _} {g : _} → Fs D g → FileSystem
@@ -14,6 +14,7 @@ fs_of fs = record {
   is_down = fs.is_down;
   sectors = (log_of fs.journal).size;
   history = (log_of fs.journal).history;
+  fronts = fronts_from (log_of fs.journal).base (log_of fs.journal).list;
 }
 
 -- how often its device has failed

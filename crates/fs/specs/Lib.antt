@@ -1,7 +1,10 @@
 pub mod FileSystem
 pub mod FileSystems
+pub mod Fronts
+pub mod MountAnswers
 pub mod Mounts
 pub mod Operations
 pub mod Refusals
+pub mod Remounts
 pub mod Stands
 pub mod Superblock

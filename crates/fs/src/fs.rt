@@ -59,12 +59,11 @@ impl<D: Device> Fs<D> {
     ghost use Rattle.plain.specs.Given.{given_of};
     ghost use Rattle.plain.specs.View.{tree_of};
     ghost use Rattle.fs.specs.Operations.{IsOn, LooksUp, PutsHandle, GetsHandle, TestsCurrent, MakesDir, new_directory};
-    ghost use Rattle.disk.specs.Moments.{AddsOnly, seen};
     ghost use Rattle.journal.specs.Journal.{log_of, failures_of};
-    ghost use Rattle.model.specs.Tree.{Tree as NumberedTree};
     ghost use Rattle.fs.specs.FileSystem.{AddsTrees, Holds, IsNew, IsNext};
-    ghost use Rattle.fs.specs.Stands.{IsBase, Stands, StandsFor};
-    ghost use Rattle.fs.specs.Superblock.{is_size, superblock, verdict};
+    ghost use Rattle.fs.specs.MountAnswers.{HasMounted, IsRefused, ComesBack};
+    ghost use Rattle.fs.specs.Mounts.{HasBegun, IsNotBegun};
+    ghost use Rattle.fs.specs.Superblock.{is_size, superblock};
     ghost use Rattle.fs.specs.FileSystems.{fs_of, fs_failures};
 
     /// Mounts the volume: finds it by its first sector, copies home what an open gate shows, reads the tree, and raises the
@@ -76,26 +75,12 @@ impl<D: Device> Fs<D> {
     /// Damaged exactly where no tree stands; Device where the device failed, and Memory.
     pub fn mount(alloc: Global, device: D) -> Result<Fs<D>, Unmounted<D>>
         ensures new { IfOk result (λ fs. IsNew (D.size device) (fs_of fs)) }
-        ensures moments { D.keeps_word → IfOk result (λ fs. (nodes run : ℕ) (tree : NumberedTree) → IsBase (D.size device) nodes run tree (seen (D.history device).now)
-            → AddsOnly (λ image. StandsFor (D.size device) nodes run tree image ⊎ StandsFor (D.size device) nodes (run + 1) tree image) (D.history device) (fs_of fs).history) }
-        ensures found { D.keeps_word → IfOk result (λ fs. (run : ℕ) → (fs_of fs).run ≡ run + 1
-            → StandsFor (D.size device) (fs_of fs).limits.nodes run (fs_of fs).tree (seen (D.history device).now)) }
-        ensures holds { D.keeps_word → IfOk result (λ fs. Holds (fs_of fs)) }
-        ensures moments_refused { D.keeps_word → IfErr result (λ refused. (nodes run : ℕ) (tree : NumberedTree) → IsBase (D.size device) nodes run tree (seen (D.history device).now)
-            → AddsOnly (λ image. StandsFor (D.size device) nodes run tree image ⊎ StandsFor (D.size device) nodes (run + 1) tree image) (D.history device) (D.history refused.device)) }
-        ensures not_volume { D.keeps_word → IfErr result (λ refused. refused.fault ≡ MountFault.NotVolume
-            → (verdict (D.size device) (seen (D.history device).now 0) ≡ Verdict.NotVolume) × (D.history refused.device ≡ D.history device)) }
-        ensures worn { D.keeps_word → IfErr result (λ refused. refused.fault ≡ MountFault.Worn
-            → (verdict (D.size device) (seen (D.history device).now 0) ≡ Verdict.Worn) × (D.history refused.device ≡ D.history device)) }
-        ensures damaged { D.keeps_word → IfErr result (λ refused. refused.fault ≡ MountFault.Damaged
-            → (nodes run : ℕ) (tree : NumberedTree) → IsBase (D.size device) nodes run tree (seen (D.history device).now) → ⊥) }
-        ensures no_tree { D.keeps_word → IfErr result (λ refused. refused.fault ≡ MountFault.NotVolume
-            → (nodes run : ℕ) (tree : NumberedTree) → IsBase (D.size device) nodes run tree (seen (D.history device).now) → ⊥) }
-        ensures full { D.keeps_word → IfErr result (λ refused. refused.fault ≡ MountFault.Worn
-            → (nodes run : ℕ) (tree : NumberedTree) → IsBase (D.size device) nodes run tree (seen (D.history device).now) → run + 1 ≡ 2 ^ 32) }
-        ensures cause { IfErr result (λ refused. refused.fault ≡ MountFault.Device → IsCounted (D.failed device) (D.failed refused.device)) }
         ensures later { IfOk result (λ fs. D.failed device ≤ fs_failures fs) }
-        ensures later_refused { IfErr result (λ refused. D.failed device ≤ D.failed refused.device) }
+        ensures mounted { D.keeps_word
+            → IfOk result (λ fs. HasMounted (D.size device) (D.history device) (fs_of fs)) }
+        ensures back { IfErr result (ComesBack D.size D.failed device) }
+        ensures refused { D.keeps_word → IfErr result (λ refused.
+            IsRefused (D.size device) (D.history device) (D.history refused.device) refused.fault) }
     {
         let mut device = device;
         let found = match find(&mut device) {
@@ -118,22 +103,20 @@ impl<D: Device> Fs<D> {
         requires counted { found.run + 1 < 2 ^ 32 }
         requires up { (log_of journal).is_down ≡ false }
         requires listed { (log_of journal).list ≡ [] }
-        requires first { D.keeps_word → (log_of journal).base 0 ≡ superblock found.sectors found.nodes found.run }
+        requires first { D.keeps_word
+            → (log_of journal).base 0 ≡ superblock found.sectors found.nodes found.run }
         ensures new { IfOk result (λ fs. IsNew (log_of journal).size (fs_of fs)) }
-        ensures run { IfOk result (λ fs. (fs_of fs).run ≡ found.run + 1) }
-        ensures nodes { IfOk result (λ fs. (fs_of fs).limits.nodes ≡ found.nodes) }
-        ensures moments { D.keeps_word → IfOk result (λ fs. (tree : NumberedTree) → Stands found.sectors found.nodes (log_of journal).base found.run tree
-            → AddsOnly (λ image. StandsFor found.sectors found.nodes found.run tree image ⊎ StandsFor found.sectors found.nodes (found.run + 1) tree image) (log_of journal).history (fs_of fs).history) }
-        ensures found { D.keeps_word → IfOk result (λ fs. ∥ Stands found.sectors found.nodes (log_of journal).base found.run (fs_of fs).tree ∥₁) }
-        ensures holds { D.keeps_word → IfOk result (λ fs. Holds (fs_of fs)) }
-        ensures moments_refused { D.keeps_word → IfErr result (λ refused. (tree : NumberedTree) → Stands found.sectors found.nodes (log_of journal).base found.run tree
-            → AddsOnly (λ image. StandsFor found.sectors found.nodes found.run tree image ⊎ StandsFor found.sectors found.nodes (found.run + 1) tree image) (log_of journal).history (D.history refused.device)) }
-        ensures damaged { D.keeps_word → IfErr result (λ refused. refused.fault ≡ MountFault.Damaged
-            → (tree : NumberedTree) → Stands found.sectors found.nodes (log_of journal).base found.run tree → ⊥) }
-        ensures cause { IfErr result (λ refused. refused.fault ≡ MountFault.Device → IsCounted (failures_of journal) (D.failed refused.device)) }
         ensures later { IfOk result (λ fs. failures_of journal ≤ fs_failures fs) }
-        ensures later_refused { IfErr result (λ refused. failures_of journal ≤ D.failed refused.device) }
-        ensures only { IfErr result (λ refused. (refused.fault ≡ MountFault.Device) ⊎ ((refused.fault ≡ MountFault.Damaged) ⊎ (refused.fault ≡ MountFault.Memory))) }
+        ensures begun { D.keeps_word → IfOk result (λ fs.
+            HasBegun found (log_of journal).base (log_of journal).history (fs_of fs)) }
+        ensures refused_size { IfErr result (λ refused.
+            D.size refused.device ≡ (log_of journal).size) }
+        ensures later_refused { IfErr result (λ refused.
+            failures_of journal ≤ D.failed refused.device) }
+        ensures cause { IfErr result (λ refused. refused.fault ≡ MountFault.Device
+            → IsCounted (failures_of journal) (D.failed refused.device)) }
+        ensures refused { D.keeps_word → IfErr result (λ refused. IsNotBegun found
+            (log_of journal).base (log_of journal).history (D.history refused.device) refused.fault) }
     {
         let mut journal = journal;
         let limits = Limits::of_volume(found.sectors as usize, found.nodes as usize);
@@ -159,6 +142,15 @@ impl<D: Device> Fs<D> {
         ensures { result ≡ (fs_of self.now).run }
     {
         self.run
+    }
+
+    /// The device, as it is now. What stands on it is the next mount's.
+    pub fn into_device(self) -> D
+        ensures history { D.history result ≡ (fs_of self).history }
+        ensures size { D.size result ≡ (fs_of self).sectors }
+        ensures failures { D.failed result ≡ fs_failures self }
+    {
+        self.journal.into_device()
     }
 
     /// Whether the device failed: each operation is refused from then on.
@@ -248,10 +240,12 @@ impl<D: Device> Fs<D> {
           tree = (fs_of self.new).tree;
           changes = (fs_of self.old).changes + 1;
           history = (fs_of self.new).history;
+          fronts = (fs_of self.new).fronts;
         }) }
         ensures refused { OnErr result (fs_of self.new ≡ record (fs_of self.old) {
           is_down = (fs_of self.new).is_down;
           history = (fs_of self.new).history;
+          fronts = (fs_of self.new).fronts;
         }) }
         ensures unchanged { IfErr result (λ fault. (fault ≡ FsFault.Device → ⊥) → fs_of self.new ≡ fs_of self.old) }
         ensures room { OnOk result (has_room ≡ true) }
@@ -294,11 +288,13 @@ impl<D: Device> Fs<D> {
           tree = tree_of tree;
           changes = (fs_of self.old).changes + 1;
           history = (fs_of self.new).history;
+          fronts = (fs_of self.new).fronts;
         }) }
         ensures holds { D.keeps_word → OnOk result (Holds (fs_of self.new)) }
         ensures refused { OnErr result (fs_of self.new ≡ record (fs_of self.old) {
           is_down = (fs_of self.new).is_down;
           history = (fs_of self.new).history;
+          fronts = (fs_of self.new).fronts;
         }) }
         ensures memory { IsErrOf result FsFault.Memory → fs_of self.new ≡ fs_of self.old }
         ensures device { IsErrOf result FsFault.Device → (fs_of self.new).is_down ≡ true }

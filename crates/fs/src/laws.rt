@@ -1,6 +1,8 @@
 //! The laws of a volume: each is the contract of a function that does nothing.
 
 ghost use Rattle.std.specs.Prelude.{◌≡◌, ◌<◌, ◌^◌, ℕ};
+ghost use Rattle.fs.specs.Fronts.{KeepsFronts, AppliedRecent};
+ghost use Rattle.fs.specs.Remounts.{EveryRemount, StillStands};
 ghost use Rattle.fs.specs.Stands.{OneTreeStands};
 ghost use Rattle.fs.specs.Superblock.{superblock, word};
 
@@ -15,4 +17,18 @@ pub fn superblock_tells()
 #[tactic(auto, using(crate::proofs::OneTree::one_tree_stands))]
 pub fn one_tree_stands()
     ensures { OneTreeStands }
+{}
+
+/// However often a volume is mounted behind a stop, and wherever those mounts are stopped: the next one that serves has the tree that
+/// stood, under a greater restart count.
+#[tactic(auto, using(crate::proofs::RemountLaws::every_remount))]
+pub fn every_remount()
+    ensures next { EveryRemount }
+    ensures stands { StillStands }
+{}
+
+/// A journal that holds unflushed changes.
+pub fn fronts_law()
+    ensures keeps { KeepsFronts }
+    ensures applied { AppliedRecent }
 {}

@@ -2,14 +2,14 @@
 
 ghost use Rattle.std.specs.Prelude.{◌≡◌, ◌<◌, ◌≤◌, ◌+◌, ◌^◌, ◌⊎◌, [], false, OnOk, IfOk, IfErr, IsErrOf, IsTrue};
 ghost use Rattle.disk.specs.Cause.{IsCounted};
-ghost use Rattle.disk.specs.Moments.{AddsOnly, seen};
+ghost use Rattle.disk.specs.Moments.{seen};
 ghost use Rattle.journal.specs.Journal.{log_of, failures_of};
 ghost use Rattle.journal.specs.Log.{IsSettled};
 ghost use Rattle.model.specs.Limits.{limits_of};
 ghost use Rattle.model.specs.Tree.{Tree as NumberedTree};
 ghost use Rattle.plain.specs.View.{tree_of};
-ghost use Rattle.fs.specs.Mounts.{IsStart};
-ghost use Rattle.fs.specs.Stands.{Stands, StandsFor};
+ghost use Rattle.fs.specs.Mounts.{AddsRaised, IsStart};
+ghost use Rattle.fs.specs.Stands.{Stands};
 ghost use Rattle.fs.specs.Superblock.{is_size, superblock, verdict};
 
 use crate::fault::MountFault;
@@ -43,6 +43,7 @@ pub(crate) fn find<D: Device>(device: &mut D) -> Result<Superblock, MountFault>
     ensures not_volume { D.keeps_word → IsErrOf result MountFault.NotVolume → verdict (D.size device.old) (seen (D.history device.old).now 0) ≡ Verdict.NotVolume }
     ensures worn { D.keeps_word → IsErrOf result MountFault.Worn → verdict (D.size device.old) (seen (D.history device.old).now 0) ≡ Verdict.Worn }
     ensures damaged { D.keeps_word → IsErrOf result MountFault.Damaged → verdict (D.size device.old) (seen (D.history device.old).now 0) ≡ Verdict.Damaged }
+    ensures sound { D.keeps_word → OnOk result (verdict (D.size device.old) (seen (D.history device.old).now 0) ≡ Verdict.Sound) }
     ensures history { D.history device.new ≡ D.history device.old }
     ensures same_size { D.size device.new ≡ D.size device.old }
     ensures cause { IsErrOf result MountFault.Device → IsCounted (D.failed device.old) (D.failed device.new) }
@@ -83,8 +84,7 @@ pub(crate) fn start<D: Device>(
     requires up { (log_of journal.old).is_down ≡ false }
     requires listed { (log_of journal.old).list ≡ [] }
     requires first { D.keeps_word → (log_of journal.old).base 0 ≡ superblock found.sectors found.nodes found.run }
-    ensures moments { D.keeps_word → (tree : NumberedTree) → Stands found.sectors found.nodes (log_of journal.old).base found.run tree
-        → AddsOnly (λ image. StandsFor found.sectors found.nodes found.run tree image ⊎ StandsFor found.sectors found.nodes (found.run + 1) tree image)
+    ensures moments { D.keeps_word → AddsRaised found (log_of journal.old).base
         (log_of journal.old).history (log_of journal.new).history }
     ensures found { D.keeps_word → IfOk result (λ tree. ∥ Stands found.sectors found.nodes (log_of journal.old).base found.run (tree_of tree) ∥₁) }
     ensures stands { D.keeps_word → IfOk result (λ tree. ∥ Stands found.sectors found.nodes (log_of journal.new).base (found.run + 1) (tree_of tree) ∥₁) }
@@ -92,6 +92,7 @@ pub(crate) fn start<D: Device>(
     ensures sound { IfOk result (λ tree. ∥ IsStart limits.now found.run (tree_of tree) ∥₁) }
     ensures damaged { D.keeps_word → IsErrOf result MountFault.Damaged
         → (tree : NumberedTree) → Stands found.sectors found.nodes (log_of journal.old).base found.run tree → ⊥ }
+    ensures untouched { IfErr result (λ fault. (fault ≡ MountFault.Device → ⊥) → (log_of journal.new).history ≡ (log_of journal.old).history) }
     ensures list { (log_of journal.new).list ≡ [] }
     ensures same_size { (log_of journal.new).size ≡ (log_of journal.old).size }
     ensures still_up { OnOk result ((log_of journal.new).is_down ≡ false) }

@@ -13,7 +13,7 @@ use Rattle.plain.specs.View.{tree_of}
 use Rattle.fs.specs.FileSystems.{fs_of, fs_failures}
 use Rattle.fs.specs.Superblock.{is_size}
 use Rattle.fs.proofs.ImageLaws.{image_targets, image_length}
-use Rattle.fs.proofs.StandLaws.{size-least, records_plain, keep_moments, next_serving, holds_base, fault_counted}
+use Rattle.fs.proofs.StandLaws.{size-least, records_plain, keep_moments, next_serving, holds_base, adds_either, fault_counted}
 use Rattle.fs.proofs.fs.Fs.replace.Goals as goal
 
 pub updates_of-requires : goal.updates_of-requires
@@ -48,14 +48,14 @@ invariant_of-self-in-Err g c = record {
 pub returns-in-Err : goal.returns-in-Err
 unfolding fs_of fs_failures
 returns-in-Err g c = record {
-  moments = λ k.
+  moments = λ k. adds_either (fs_of c.args.self.now) _ _ (
       keep_moments (log_of c.args.self.now.journal) c.args.self.now.limits c.args.self.now.run c.args.self.now.changes
       (tree_of c.args.self.now.tree) (tree_of c.args.tree) c.args.self.now.sized c.args.self.now.limited c.requires.counted
       c.in_ok-updates.ensures.fit c.requires.next (c.args.self.now.listed c.requires.up)
       (∥∥₁_elim c.args.self.now.serves ∥∥₁_prop (λ s. s.stands k c.requires.up)) (log_of c.keep.new.journal).history
       (subst (λ (us : List Update). AddsOnly (StandsForFront (log_of c.args.self.now.journal).size (log_of c.args.self.now.journal).base
       ((log_of c.args.self.now.journal).list ++ us ∷ [])) (log_of c.args.self.now.journal).history (log_of c.keep.new.journal).history)
-      (c.deref.ensures.value ∙ c.in_ok-updates.ensures.image) (c.keep.ensures.moments k));
+      (c.deref.ensures.value ∙ c.in_ok-updates.ensures.image) (c.keep.ensures.moments k)));
   ok = search rules;
   holds = search rules;
   refused = search rules;
@@ -88,22 +88,26 @@ invariant_of-self-2 g c = record {
 
 pub returns-clause-moments : goal.returns-clause-moments
 unfolding fs_of
-returns-clause-moments g c = λ k.
+returns-clause-moments g c = λ k. adds_either (fs_of c.args.self.now) _ _ (
     keep_moments (log_of c.args.self.now.journal) c.args.self.now.limits c.args.self.now.run c.args.self.now.changes
     (tree_of c.args.self.now.tree) (tree_of c.args.tree) c.args.self.now.sized c.args.self.now.limited c.requires.counted
     c.in_ok-updates.ensures.fit c.requires.next (c.args.self.now.listed c.requires.up)
     (∥∥₁_elim c.args.self.now.serves ∥∥₁_prop (λ s. s.stands k c.requires.up)) (log_of c.keep.new.journal).history
     (subst (λ (us : List Update). AddsOnly (StandsForFront (log_of c.args.self.now.journal).size (log_of c.args.self.now.journal).base
     ((log_of c.args.self.now.journal).list ++ us ∷ [])) (log_of c.args.self.now.journal).history (log_of c.keep.new.journal).history)
-    (c.deref.ensures.value ∙ c.in_ok-updates.ensures.image) (c.keep.ensures.moments k))
+    (c.deref.ensures.value ∙ c.in_ok-updates.ensures.image) (c.keep.ensures.moments k)))
 
 pub returns-clause-holds : goal.returns-clause-holds
 unfolding fs_of
-returns-clause-holds g c = λ k. holds_base (log_of c.keep.new.journal) c.args.self.now.limits.nodes c.args.self.now.run (tree_of c.args.tree) (c.in-Ok.ensures.settled k)
-    (∥∥₁_elim (next_serving (log_of c.args.self.now.journal) c.args.self.now.limits c.args.self.now.run c.args.self.now.changes
-    (tree_of c.args.self.now.tree) (tree_of c.args.tree) c.args.self.now.sized c.args.self.now.limited c.requires.counted
-    g.D.Device.keeps_word (log_of c.keep.new.journal) c.keep.ensures.size c.in_ok-updates.ensures.fit
-    (c.args.self.now.listed c.requires.up) c.in-Ok.ensures.settled
-    (λ k. subst (λ (us : List Update). AreSame (log_of c.args.self.now.journal).size (applied_all ((log_of c.args.self.now.journal).list ++ us ∷ [])
-    (log_of c.args.self.now.journal).base) (log_of c.keep.new.journal).base) (c.deref.ensures.value ∙ c.in_ok-updates.ensures.image) (c.in-Ok.ensures.ok k))
-    c.requires.next c.args.self.now.is_down c.requires.up c.args.self.now.serves) ∥∥₁_prop (λ s. s.stands k refl))
+returns-clause-holds g c = λ k.
+    let was = c.args.self.now in
+    let log = log_of c.keep.new.journal in
+    let served = next_serving (log_of was.journal) was.limits was.run was.changes
+    (tree_of was.tree) (tree_of c.args.tree) was.sized was.limited c.requires.counted
+    g.D.Device.keeps_word log c.keep.ensures.size c.in_ok-updates.ensures.fit
+    (was.listed c.requires.up) c.in-Ok.ensures.settled
+    (λ k. subst (λ (us : List Update). AreSame (log_of was.journal).size (applied_all ((log_of was.journal).list ++ us ∷ [])
+    (log_of was.journal).base) log.base) (c.deref.ensures.value ∙ c.in_ok-updates.ensures.image) (c.in-Ok.ensures.ok k))
+    c.requires.next was.is_down c.requires.up was.serves in
+    holds_base _ log refl refl refl (λ image left. ∣ c.in-Ok.ensures.settled k image left ∣₁) (ap length c.in-Ok.ensures.list)
+    (∥∥₁_elim served ∥∥₁_prop (λ s. s.stands k refl))
