@@ -155,7 +155,7 @@ module _ (now : ℕ) (fs : FileSystem) (table : Table) (request : InProgress) (n
 
 pub adds_nothing : (old new : FileSystem) (after : Tree) → new ≡ old → AddsTrees old after new.history
 adds_nothing old new after same =
-    subst (λ (fs : FileSystem). AddsTrees old after fs.history) (sym same) (record { later = omega arith; added = λ t image l left. inl left })
+    subst (λ (fs : FileSystem). AddsTrees old after fs.history) (sym same) (λ recent is. record { later = omega arith; added = λ t image l left. inl left })
 
 pub adds_made : (old : FileSystem) (made after : Tree) (history : History) → after ≡ made → AddsTrees old made history → AddsTrees old after history
 adds_made old made after history same adds = subst (λ (tree : Tree). AddsTrees old tree history) (sym same) adds

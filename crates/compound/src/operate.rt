@@ -42,11 +42,11 @@ impl Running<'_> {
         requires first { comes_first (argument_view argument.now) ≡ true → (in_progress_of self.now).answered ≡ 0 }
         ensures gives { IfOk result (Operates now (fs_of fs.old) (fs_of fs.new) (table_of table.old) (table_of table.new) (in_progress_of self.now) (argument_view argument.now)) }
         ensures answered { IfOk result (IsAnswered (in_progress_of self.now)) }
-        ensures same { fs_of fs.new ≡ record (fs_of fs.old) { tree = (fs_of fs.new).tree; changes = (fs_of fs.new).changes; is_down = (fs_of fs.new).is_down; history = (fs_of fs.new).history } }
+        ensures same { fs_of fs.new ≡ record (fs_of fs.old) { tree = (fs_of fs.new).tree; changes = (fs_of fs.new).changes; is_down = (fs_of fs.new).is_down; history = (fs_of fs.new).history; fronts = (fs_of fs.new).fronts } }
         ensures still_up { IfOk result (λ done. (fs_of fs.new).is_down ≡ false) }
         ensures table { OnErr result (table_of table.new ≡ table_of table.old) }
         ensures memory { IsErrOf result fault.Memory → fs_of fs.new ≡ fs_of fs.old }
-        ensures device { IsErrOf result fault.Device → fs_of fs.new ≡ record (fs_of fs.old) { is_down = true; history = (fs_of fs.new).history } }
+        ensures device { IsErrOf result fault.Device → fs_of fs.new ≡ record (fs_of fs.old) { is_down = true; history = (fs_of fs.new).history; fronts = (fs_of fs.new).fronts } }
         ensures cause { IsErrOf result fault.Device → IsCounted (fs_failures fs.old) (fs_failures fs.new) }
         ensures later { fs_failures fs.old ≤ fs_failures fs.new }
         ensures moments { D.keeps_word → (world : World) (rest : List ℕ) → IsServed world (fs_of fs.old) (table_of table.old)

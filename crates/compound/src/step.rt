@@ -63,13 +63,13 @@ impl Running<'_> {
         ensures step { IfOk result (Steps now (fs_of fs.old) (fs_of fs.new) (table_of table.old) (table_of table.new) (asked_of self.entry) (in_progress_of self.entry)) }
         ensures stays { IfOk result (StaysInRun (fs_of fs.old).run) }
         ensures fits { IfOk result (λ done. still_fits (asked_of self.entry) done ≡ true) }
-        ensures same { fs_of fs.new ≡ record (fs_of fs.old) { tree = (fs_of fs.new).tree; changes = (fs_of fs.new).changes; is_down = (fs_of fs.new).is_down; history = (fs_of fs.new).history } }
+        ensures same { fs_of fs.new ≡ record (fs_of fs.old) { tree = (fs_of fs.new).tree; changes = (fs_of fs.new).changes; is_down = (fs_of fs.new).is_down; history = (fs_of fs.new).history; fronts = (fs_of fs.new).fronts } }
         ensures still_up { IfOk result (λ done. (fs_of fs.new).is_down ≡ false) }
         ensures back { IfErr result (λ undone. undone.progress ≡ self.entry.progress) }
         ensures table { OnErr result (table_of table.new ≡ table_of table.old) }
         ensures memory { IfErr result (λ undone. undone.fault ≡ fault.Memory → fs_of fs.new ≡ fs_of fs.old) }
         ensures device { IfErr result (λ undone. undone.fault ≡ fault.Device
-            → fs_of fs.new ≡ record (fs_of fs.old) { is_down = true; history = (fs_of fs.new).history }) }
+            → fs_of fs.new ≡ record (fs_of fs.old) { is_down = true; history = (fs_of fs.new).history; fronts = (fs_of fs.new).fronts }) }
         ensures cause { IfErr result (λ undone. undone.fault ≡ fault.Device → IsCounted (fs_failures fs.old) (fs_failures fs.new)) }
         ensures later { fs_failures fs.old ≤ fs_failures fs.new }
         ensures moments { D.keeps_word → (world : World) (number : ℕ) → IsServed world (fs_of fs.old) (table_of table.old)
@@ -104,11 +104,11 @@ impl Running<'_> {
         ensures turns { IfOk result (λ ran. Turns now (fs_of fs.old) (fs_of fs.new) (table_of table.old) (table_of table.new) (in_progress_of self.now) (drop ran.position self.now.compound.operations.now) ran.done) }
         ensures within { IfOk result (λ ran. ran.position ≤ length self.now.compound.operations.now) }
         ensures answered { IfOk result (λ ran. IsAnswered (in_progress_of self.now) ran.done) }
-        ensures same { fs_of fs.new ≡ record (fs_of fs.old) { tree = (fs_of fs.new).tree; changes = (fs_of fs.new).changes; is_down = (fs_of fs.new).is_down; history = (fs_of fs.new).history } }
+        ensures same { fs_of fs.new ≡ record (fs_of fs.old) { tree = (fs_of fs.new).tree; changes = (fs_of fs.new).changes; is_down = (fs_of fs.new).is_down; history = (fs_of fs.new).history; fronts = (fs_of fs.new).fronts } }
         ensures still_up { IfOk result (λ ran. (fs_of fs.new).is_down ≡ false) }
         ensures table { OnErr result (table_of table.new ≡ table_of table.old) }
         ensures memory { IsErrOf result fault.Memory → fs_of fs.new ≡ fs_of fs.old }
-        ensures device { IsErrOf result fault.Device → fs_of fs.new ≡ record (fs_of fs.old) { is_down = true; history = (fs_of fs.new).history } }
+        ensures device { IsErrOf result fault.Device → fs_of fs.new ≡ record (fs_of fs.old) { is_down = true; history = (fs_of fs.new).history; fronts = (fs_of fs.new).fronts } }
         ensures cause { IsErrOf result fault.Device → IsCounted (fs_failures fs.old) (fs_failures fs.new) }
         ensures later { fs_failures fs.old ≤ fs_failures fs.new }
         ensures moments { D.keeps_word → (world : World) (number : ℕ) → IsServed world (fs_of fs.old) (table_of table.old)

@@ -79,10 +79,10 @@ impl Running<'_> {
         requires run { (in_progress_of self.now).context.run ≡ (fs_of fs.old).run }
         ensures gives { IfOk result (λ done. (table : Table) → Operates now (fs_of fs.old) (fs_of fs.new) table table (in_progress_of self.now) (operations.Argument.Create (create_view arguments.now)) done) }
         ensures answered { IfOk result (IsAnswered (in_progress_of self.now)) }
-        ensures same { fs_of fs.new ≡ record (fs_of fs.old) { tree = (fs_of fs.new).tree; changes = (fs_of fs.new).changes; is_down = (fs_of fs.new).is_down; history = (fs_of fs.new).history } }
+        ensures same { fs_of fs.new ≡ record (fs_of fs.old) { tree = (fs_of fs.new).tree; changes = (fs_of fs.new).changes; is_down = (fs_of fs.new).is_down; history = (fs_of fs.new).history; fronts = (fs_of fs.new).fronts } }
         ensures still_up { IfOk result (λ done. (fs_of fs.new).is_down ≡ false) }
         ensures memory { IsErrOf result fault.Memory → fs_of fs.new ≡ fs_of fs.old }
-        ensures device { IsErrOf result fault.Device → fs_of fs.new ≡ record (fs_of fs.old) { is_down = true; history = (fs_of fs.new).history } }
+        ensures device { IsErrOf result fault.Device → fs_of fs.new ≡ record (fs_of fs.old) { is_down = true; history = (fs_of fs.new).history; fronts = (fs_of fs.new).fronts } }
         ensures cause { IsErrOf result fault.Device → IsCounted (fs_failures fs.old) (fs_failures fs.new) }
         ensures later { fs_failures fs.old ≤ fs_failures fs.new }
         ensures moments { D.keeps_word → (table : Table) (world : World) (rest : List ℕ) → IsServed world (fs_of fs.old) table
@@ -121,10 +121,10 @@ impl Running<'_> {
         requires run { (in_progress_of self.now).context.run ≡ (fs_of fs.old).run }
         ensures gives { IfOk result (λ done. (table : Table) → Operates now (fs_of fs.old) (fs_of fs.new) table table (in_progress_of self.now) (operations.Argument.Create (operations.NewDirectory name.now (attributes_view attributes.now))) done) }
         ensures answered { IfOk result (IsAnswered (in_progress_of self.now)) }
-        ensures same { fs_of fs.new ≡ record (fs_of fs.old) { tree = (fs_of fs.new).tree; changes = (fs_of fs.new).changes; is_down = (fs_of fs.new).is_down; history = (fs_of fs.new).history } }
+        ensures same { fs_of fs.new ≡ record (fs_of fs.old) { tree = (fs_of fs.new).tree; changes = (fs_of fs.new).changes; is_down = (fs_of fs.new).is_down; history = (fs_of fs.new).history; fronts = (fs_of fs.new).fronts } }
         ensures still_up { IfOk result (λ done. (fs_of fs.new).is_down ≡ false) }
         ensures memory { IsErrOf result fault.Memory → fs_of fs.new ≡ fs_of fs.old }
-        ensures device { IsErrOf result fault.Device → fs_of fs.new ≡ record (fs_of fs.old) { is_down = true; history = (fs_of fs.new).history } }
+        ensures device { IsErrOf result fault.Device → fs_of fs.new ≡ record (fs_of fs.old) { is_down = true; history = (fs_of fs.new).history; fronts = (fs_of fs.new).fronts } }
         ensures cause { IsErrOf result fault.Device → IsCounted (fs_failures fs.old) (fs_failures fs.new) }
         ensures later { fs_failures fs.old ≤ fs_failures fs.new }
         ensures moments { D.keeps_word → (table : Table) (world : World) (rest : List ℕ) → IsServed world (fs_of fs.old) table
