@@ -1,19 +1,21 @@
 -- The laws of what the definitions rule out.
-use Rattle.std.proofs.Common.{inr, get_or, ◌⊎◌, ◌≡◌, ◌≢◌, ℕ, zero, suc, ◌+◌, ◌-◌, ◌<◌, ◌≤◌, inl, Bool, true, false, cond, ◌==◌, nat_lt, List, [], ◌∷◌, ◌++◌, length, take, find, Option, None, Some, Result, Ok, Err, refl, sym, ap, ◌∙◌, subst, arith, eq-eqb}
+use Rattle.std.proofs.Common.{inr, get_or, ◌⊎◌, ◌≡◌, ◌≢◌, ℕ, zero, suc, ◌+◌, ◌-◌, ◌<◌, ◌≤◌, inl, Bool, true, false, cond, ◌==◌, nat_lt, List, [], ◌∷◌, ◌++◌, length, take, slice_get, find, Option, None, Some, Result, Ok, Err, refl, sym, ap, ◌∙◌, subst, arith, eq-eqb}
 use borrow.Author.Tests.{eqb-false}
+use Rattle.std.proofs.lemmas.Bool.{eqb-true}
 use Rattle.model.specs.declared.status.Status.{Status}
 use Rattle.model.specs.declared.status.Status.TheVariants as status
 use Rattle.model.specs.Answer.{Answer, Outcome, ExchangeIdAnswer, CreateSessionAnswer}
 use Rattle.model.specs.Keyed.{at}
 use Rattle.model.specs.Operation.{Argument, SequenceArguments, operation_of}
 use Rattle.model.specs.Record.{framed}
-use Rattle.model.specs.Rpc.{reply_text, Success}
+use Rattle.model.specs.Rpc as calls
+use Rattle.model.specs.Rpc.{CallRead, NoCall, OtherVersion, Calls, Request, Answers, read_call, request_of, reply_text, Success}
 use Rattle.model.specs.Session as sessions
 use Rattle.model.specs.Session.{Table, Session, Slot, SlotState, Kept, Begun, Runs, begin, begin_by, begin_slot, begin_new, finish, finished_slot, changed_where, is_session, slot_at, next_number}
 use Rattle.model.specs.Tree.{Tree}
-use Rattle.model.specs.World.{World, InProgress, Connection, Quiet, Waiting, Busy, Replied, Closed, HasRun, Gives, Replays, exchanged, created_by, created, tabled, started_in, begun, reclaimed, refuses, in_room, has_room, run, Turned, Entry, entry_of, behind, ends, with_table, kept_by, result_of, with_result, is_last, has_run, operates, Next, Refuses, Reads, next_operation, turned, one, with_connection, without_connection, hangs_up, hung_up, turns, operations_left, is_busy}
-use Rattle.model.specs.Runs.{tree_after, IsGoodPrefix, done_with, executed, executed_by, executed_of, effect_of, Event, Serving, IsAfter}
-use Rattle.model.specs.RuledOut.{IsChange, NoSkip, NoEarlyReply, NoTakingBack, NoSecondRun, NoForgetting, NoGap, IsOneFurther, OneATurn, HangsUpLast, after_turns, HangUpIsEvents, EachEventHappens}
+use Rattle.model.specs.World.{World, InProgress, Connection, Quiet, Waiting, Busy, Replied, Closed, HasRun, Gives, Replays, exchanged, created_by, created, tabled, started_in, begun, reclaimed, refuses, in_room, has_room, run, Turned, Entry, entry_of, behind, ends, goes_on, reply_with, status_of, requested, in_progress, called, with_result, is_last, has_run, operates, Next, Refuses, Reads, next_operation, turned, one, with_connection, without_connection, hangs_up, hung_up, turns, operations_left, is_busy}
+use Rattle.model.specs.Runs.{tree_after, IsGoodPrefix, done_with, executed, executed_by, executed_of, effect_of, Event, Serving, IsAfter, is_done}
+use Rattle.model.specs.RuledOut.{NoSkip, NoEarlyReply, NoTakingBack, NoSecondRun, NoForgetting, NoGap, IsOneFurther, OneATurn, HangsUpLast, request_by, request_in, request_at, after_turns, HangUpIsEvents, EachEventHappens}
 use Rattle.std.proofs.Common.{get_or-set_same, length-set, lt-ltb}
 use Rattle.std.specs.List.{IsAmong}
 use Rattle.model.proofs.Headline.{every_run}
@@ -34,21 +36,16 @@ no_early_reply old new event entry happens e lasts changes among = changes (happ
     before_of : Entry → Tree
     before_of entry = entry.state.tree
 
-taken_back : (start tree : Tree) (change : Entry) → IsChange change → IsGoodPrefix start (change ∷ []) (0 ∷ []) tree → tree ≡ change.after
-taken_back start tree change changes prefix =
-    let above : 0 < prefix.k = prefix.good 0 change (0, (omega arith, refl)) refl (inl changes) in
-    let within : prefix.k ≤ 1 = prefix.within in
-    let one : prefix.k ≡ 1 = omega arith in
-    prefix.holds ∙ ap (λ (n : ℕ). tree_after start (take n (change ∷ []))) one
+-- what stands at a place stands there with more behind it
+still_there : (done more : List Entry) (i : ℕ) (entry : Entry) → slice_get done i ≡ Some entry → slice_get (done ++ more) i ≡ Some entry
+still_there [] more i entry is = let never : ⊥ = cc in absurd never
+still_there (first ∷ done) more zero entry is = is
+still_there (first ∷ done) more (suc i) entry is = still_there done more i entry is
 
 pub no_taking_back : NoTakingBack
-no_taking_back limits run start serving history change event is_run done handed_out changes none may =
-    let prefix = every_run limits run start serving history is_run event change.state.tree may in
-    let all : done_with history (executed serving event) ≡ change ∷ [] =
-    ap (done_with history) none ∙ ap (λ (done : List Entry). done ++ []) done in
-    let first = subst (λ (done : List Entry). IsGoodPrefix start done history.handed_out change.state.tree) all prefix in
-    let second = subst (λ (names : List ℕ). IsGoodPrefix start (change ∷ []) names change.state.tree) handed_out first in
-    changes.0 (taken_back start change.state.tree change changes second)
+no_taking_back limits run start serving history i change is_run handed_out there durable event tree may =
+    let prefix = every_run limits run start serving history is_run event tree may in
+    (prefix.k, prefix.good i change handed_out (still_there history.done _ i change there) durable, prefix.holds)
 
 -- SEQUENCE
 
@@ -124,37 +121,48 @@ no_gap uid count arguments table session known e =
 
 -- One operation a turn
 
+-- the same request, but for its context, its slot and what stands behind
+record IsSameRequest (request left : InProgress) : Type 0 where
+  xid : left.xid ≡ request.xid
+  tag : left.tag ≡ request.tag
+  count : left.count ≡ request.count
+  answered : left.answered ≡ request.answered
+  results : left.results ≡ request.results
+
+same_request : (request : InProgress) → IsSameRequest request request
+same_request request = record { xid = refl; tag = refl; count = refl; answered = refl; results = refl }
+
 abbrev Keeps : InProgress → HasRun → Type 0
-Keeps request (Gives outcome after left) = (left.answered ≡ request.answered) × (left.count ≡ request.count)
+Keeps request (Gives outcome after left) = IsSameRequest request left
 Keeps request (Replays result session slot) = Unit {0}
 
 exchanged_keeps : (world : World) (request : InProgress) (outcome : Result ExchangeIdAnswer Status × Table) → Keeps request (exchanged world request outcome)
-exchanged_keeps world request (Err reason, table) = (refl, refl)
-exchanged_keeps world request (Ok answer, table) = (refl, refl)
+exchanged_keeps world request (Err reason, table) = same_request request
+exchanged_keeps world request (Ok answer, table) = same_request request
 
 created_by_keeps : (world : World) (request : InProgress) (outcome : sessions.CreateSessionOutcome) (answer : Result CreateSessionAnswer Status) → Keeps request (created_by world request outcome answer)
-created_by_keeps world request outcome (Err reason) = (refl, refl)
-created_by_keeps world request outcome (Ok answer) = (refl, refl)
+created_by_keeps world request outcome (Err reason) = same_request request
+created_by_keeps world request outcome (Ok answer) = same_request request
 
 created_keeps : (world : World) (request : InProgress) (outcome : sessions.CreateSessionOutcome) → Keeps request (created world request outcome)
 created_keeps world request outcome = created_by_keeps world request outcome outcome.answer
 
 tabled_keeps : (world : World) (request : InProgress) (number : ℕ) (answer : Answer) (outcome : Option Status × Table) → Keeps request (tabled world request number answer outcome)
-tabled_keeps world request number answer (Some reason, table) = (refl, refl)
-tabled_keeps world request number answer (None, table) = (refl, refl)
+tabled_keeps world request number answer (Some reason, table) = same_request request
+tabled_keeps world request number answer (None, table) = same_request request
 
 started_in_keeps : (world : World) (request : InProgress) (arguments : SequenceArguments) (known : Option Session) → Keeps request (started_in world request arguments known)
-started_in_keeps world request arguments None = (refl, refl)
-started_in_keeps world request arguments (Some session) = (refl, refl)
+started_in_keeps world request arguments None = same_request request
+started_in_keeps world request arguments (Some session) = record { xid = refl; tag = refl; count = refl; answered = refl; results = refl }
 
 begun_keeps : (world : World) (request : InProgress) (arguments : SequenceArguments) (begin : Begun) → Keeps request (begun world request arguments begin)
-begun_keeps world request arguments (sessions.Refuses reason) = (refl, refl)
+begun_keeps world request arguments (sessions.Refuses reason) = same_request request
 begun_keeps world request arguments (sessions.Replays reply) = tt
 begun_keeps world request arguments sessions.Runs = started_in_keeps world request arguments (find (is_session arguments.session) world.table.sessions)
 
 reclaimed_keeps : (world : World) (request : InProgress) (refusal : Option Status) → Keeps request (reclaimed world request refusal)
-reclaimed_keeps world request None = (refl, refl)
-reclaimed_keeps world request (Some reason) = (refl, refl)
+reclaimed_keeps world request None = same_request request
+reclaimed_keeps world request (Some reason) = same_request request
 
 run_keeps : (world : World) (request : InProgress) (now : ℕ) (operation : Argument) → Keeps request (run world request now operation)
 unfolding run
@@ -165,7 +173,7 @@ run_keeps world request now (Argument.DestroyClientId client) = tabled_keeps wor
 run_keeps world request now (Argument.Sequence arguments) = begun_keeps world request arguments _
 run_keeps world request now (Argument.ReclaimComplete true) = reclaimed_keeps world request _
 run_keeps world request now (Argument.ReclaimComplete false) = tabled_keeps world request 58 _ _
-run_keeps world request now operation = (refl, refl)
+run_keeps world request now operation = record { xid = refl; tag = refl; count = refl; answered = refl; results = refl }
 
 either_keeps : (request : InProgress) (b : Bool) (x y : HasRun) → Keeps request x → Keeps request y → Keeps request (cond b x y)
 either_keeps request true x y first second = first
@@ -174,57 +182,87 @@ either_keeps request false x y first second = second
 in_room_keeps : (world : World) (request : InProgress) (operation : ℕ) (ran : HasRun) → Keeps request ran → Keeps request (in_room world request operation ran)
 in_room_keeps world request operation (Gives (Outcome.Refused number reason) after left) keeps = keeps
 in_room_keeps world request operation (Gives (Outcome.Done answer) after left) keeps =
-    either_keeps request (has_room world request (Outcome.Done answer)) _ (refuses world request operation status.RepTooBig) keeps (refl, refl)
+    either_keeps request (has_room world request (Outcome.Done answer)) _ (refuses world request operation status.RepTooBig) keeps (same_request request)
 in_room_keeps world request operation (Replays result session slot) keeps = tt
 
 -- what stands at the connection then
 
 abbrev Further : InProgress → ℕ → Turned → Type 0
-Further request number turned = IsOneFurther request (at number turned.world.connections)
+Further request number turned = IsOneFurther request turned (at number turned.world.connections)
 
-replied_further : (request : InProgress) (world : World) (number : ℕ) (reply : List ℕ) → IsOneFurther request (at number (with_connection world number (Replied reply)).connections)
-replied_further request world number reply = subst (IsOneFurther request) (sym (at-with_same world.connections number (Replied reply))) tt
+same_reply : (request left : InProgress) (outcome : Outcome) → IsSameRequest request left → framed (reply_with left outcome) ≡ framed (reply_with request outcome)
+same_reply request left outcome same = rw (same.xid, same.tag, same.answered, same.results) refl
 
-busy_further : (request left : InProgress) (world : World) (number : ℕ) (outcome : Outcome) → left.answered ≡ request.answered → left.count ≡ request.count → is_last left ≡ false
-    → IsOneFurther request (at number (with_connection world number (Busy (with_result left outcome))).connections)
-busy_further request left world number outcome answered count more =
-    subst (IsOneFurther request) (sym (at-with_same world.connections number (Busy (with_result left outcome))))
-    (ap (λ (n : ℕ). n + 1) answered, count, λ last. eqb-false (left.answered + 1) left.count more (ap (λ (n : ℕ). n + 1) answered ∙ last ∙ sym count))
+busy_further : (request left : InProgress) (world : World) (number : ℕ) (outcome : Outcome) (entry : Option Entry) → IsSameRequest request left → is_last left ≡ false
+    → Further request number (goes_on world number (with_result left outcome) entry)
+busy_further request left world number outcome entry same more =
+    subst (IsOneFurther request (goes_on world number (with_result left outcome) entry)) (sym (at-with_same world.connections number (Busy (with_result left outcome))))
+    (ap (λ (n : ℕ). n + 1) same.answered, same.count, λ last. eqb-false (left.answered + 1) left.count more (ap (λ (n : ℕ). n + 1) same.answered ∙ last ∙ sym same.count))
 
-chosen_further : (request : InProgress) (number : ℕ) (b : Bool) (x y : Turned) → Further request number x → (b ≡ false → Further request number y)
+ends_further : (request left : InProgress) (world : World) (number : ℕ) (outcome : Outcome) (entry : Option Entry) → IsSameRequest request left
+    → (is_done outcome ≡ false) ⊎ (request.answered + 1 ≡ request.count) → Further request number (ends world number (with_result left outcome) (status_of outcome) entry)
+ends_further request left world number outcome entry same why =
+    subst (IsOneFurther request (ends world number (with_result left outcome) (status_of outcome) entry))
+    (sym (at-with_same world.connections number (Replied (framed (reply_with left outcome)))))
+    (inl (outcome, why, same_reply request left outcome same))
+
+chosen_further : (request : InProgress) (number : ℕ) (b : Bool) (x y : Turned) → (b ≡ true → Further request number x) → (b ≡ false → Further request number y)
     → Further request number (cond b x y)
-chosen_further request number true x y first second = first
+chosen_further request number true x y first second = first refl
 chosen_further request number false x y first second = second refl
 
-ends_further : (request left : InProgress) (world : World) (number : ℕ) (last : Status) (entry : Option Entry) → Further request number (ends world number left last entry)
-ends_further request left world number last entry =
-    replied_further request (with_table world (kept_by left.slot (result_of left last) world.table)) number
-    (framed (reply_text left.xid (Success (result_of left last))))
-
-behind_further : (request left : InProgress) (world : World) (number : ℕ) (outcome : Outcome) (entry : Option Entry) → left.answered ≡ request.answered → left.count ≡ request.count
+behind_further : (request left : InProgress) (world : World) (number : ℕ) (outcome : Outcome) (entry : Option Entry) → IsSameRequest request left
     → Further request number (behind world number left outcome entry)
-behind_further request left world number (Outcome.Refused operation reason) entry answered count =
-    ends_further request (with_result left (Outcome.Refused operation reason)) world number reason entry
-behind_further request left world number (Outcome.Done answer) entry answered count =
-    chosen_further request number (is_last left) _ _ (ends_further request (with_result left (Outcome.Done answer)) world number status.Ok entry)
-    (λ more. busy_further request left world number (Outcome.Done answer) answered count more)
+behind_further request left world number (Outcome.Refused operation reason) entry same =
+    ends_further request left world number (Outcome.Refused operation reason) entry same (inl refl)
+behind_further request left world number (Outcome.Done answer) entry same =
+    chosen_further request number (is_last left) _ _
+    (λ last. ends_further request left world number (Outcome.Done answer) entry same
+    (inr (ap (λ (n : ℕ). n + 1) (sym same.answered) ∙ eqb-true (left.answered + 1) left.count last ∙ same.count)))
+    (λ more. busy_further request left world number (Outcome.Done answer) entry same more)
 
 has_run_further : (request : InProgress) (world : World) (number : ℕ) (operation : Argument) (ran : HasRun) → Keeps request ran → Further request number (has_run world number request operation ran)
 has_run_further request world number operation (Gives outcome after left) keeps =
-    behind_further request left after number outcome (Some (entry_of world request operation outcome after)) keeps.0 keeps.1
-has_run_further request world number operation (Replays result session slot) keeps = replied_further request world number _
+    behind_further request left after number outcome (Some (entry_of world request operation outcome after)) keeps
+has_run_further request world number operation (Replays result session slot) keeps =
+    let reply : List ℕ = framed (reply_text request.xid (Success result)) in
+    subst (IsOneFurther request (has_run world number request operation (Replays result session slot))) (sym (at-with_same world.connections number (Replied reply)))
+    (inr (refl, refl))
 
 operates_further : (world : World) (number now : ℕ) (request : InProgress) (next : Next) → Further request number (operates world number now request next)
-operates_further world number now request (Refuses operation reason) = behind_further request request world number (Outcome.Refused operation reason) None refl refl
+operates_further world number now request (Refuses operation reason) =
+    behind_further request request world number (Outcome.Refused operation reason) None (same_request request)
 operates_further world number now request (Reads operation rest) =
     has_run_further (record request { rest = rest }) world number operation _
     (in_room_keeps world (record request { rest = rest }) (operation_of operation) _ (run_keeps world (record request { rest = rest }) now operation))
 
+begun_further : (world : World) (number now : ℕ) (request one : InProgress) → Some one ≡ Some request → Further request number (operates world number now one (next_operation one))
+begun_further world number now request one is =
+    let same : one ≡ request = cc in
+    subst (λ (r : InProgress). Further r number (operates world number now one (next_operation one))) same (operates_further world number now one (next_operation one))
+
+requested_further : (world : World) (number now xid : ℕ) (request : InProgress) (asked : Request) → request_by world xid asked ≡ Some request
+    → Further request number (requested world number now xid asked)
+requested_further world number now xid request (Answers reply) is = let never : ⊥ = cc in absurd never
+requested_further world number now xid request (calls.Runs cred compound) is = begun_further world number now request (in_progress world xid cred compound) is
+
+called_further : (world : World) (number now : ℕ) (request : InProgress) (call : CallRead) → request_in world call ≡ Some request → Further request number (called world number now call)
+called_further world number now request NoCall is = let never : ⊥ = cc in absurd never
+called_further world number now request (OtherVersion xid) is = let never : ⊥ = cc in absurd never
+called_further world number now request (Calls call) is = requested_further world number now call.xid request (request_of call) is
+
+turned_further : (world : World) (number now : ℕ) (request : InProgress) (connection : Option Connection) → request_at world connection ≡ Some request
+    → Further request number (turned world number now connection)
+turned_further world number now request None is = let never : ⊥ = cc in absurd never
+turned_further world number now request (Some (Quiet bytes)) is = let never : ⊥ = cc in absurd never
+turned_further world number now request (Some (Waiting bytes)) is = called_further world number now request (read_call bytes) is
+turned_further world number now request (Some (Busy one)) is = begun_further world number now request one is
+turned_further world number now request (Some (Replied reply)) is = let never : ⊥ = cc in absurd never
+turned_further world number now request (Some Closed) is = let never : ⊥ = cc in absurd never
+
 pub one_a_turn : OneATurn
 unfolding one
-one_a_turn world number now request is =
-    subst (λ (connection : Option Connection). Further request number (turned world number now connection)) (sym is)
-    (operates_further world number now request (next_operation request))
+one_a_turn world number now request is = turned_further world number now request (at number world.connections) is
 
 -- A hang-up
 
@@ -240,12 +278,12 @@ turns_end : (most : ℕ) (world : World) (number now : ℕ) (request : InProgres
     → request.answered < request.count → is_busy (at number (turns most world number now).connections) ≡ false
 turns_end zero world number now request is left some = absurd (omega arith)
 turns_end (suc most) world number now request is left some =
-    let further = one_a_turn world number now request is in
+    let further = one_a_turn world number now request (ap (request_at world) is) in
     let busy : is_busy (at number world.connections) ≡ true = ap is_busy is in
     subst (λ (after : World). is_busy (at number after.connections) ≡ false) (sym (busy_turns most world number now busy))
     (by_connection (at number (one world number now).world.connections) refl further (λ after at_after count some. turns_end most (one world number now).world number now after at_after count some))
   where
-    by_connection : (connection : Option Connection) → at number (one world number now).world.connections ≡ connection → IsOneFurther request connection
+    by_connection : (connection : Option Connection) → at number (one world number now).world.connections ≡ connection → IsOneFurther request (one world number now) connection
         → ((after : InProgress) → at number (one world number now).world.connections ≡ Some (Busy after) → after.count ≡ after.answered + most → after.answered < after.count
         → is_busy (at number (turns most (one world number now).world number now).connections) ≡ false)
         → is_busy (at number (turns most (one world number now).world number now).connections) ≡ false

@@ -1,9 +1,12 @@
 pub mod HangUps
 pub mod Moments
+pub mod Moves
 pub mod Openings
 pub mod Refusals
 pub mod Resumptions
 pub mod ServedTurns
+pub mod RunLaws
 pub mod SlabLaws
+pub mod Stops
 pub mod Turning
 pub mod Worlds

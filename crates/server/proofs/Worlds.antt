@@ -6,7 +6,7 @@ use Rattle.fs.specs.FileSystem.{FileSystem}
 use Rattle.model.specs.Keyed.{Keyed, at, with, without}
 use Rattle.model.specs.Record.{RecordLimits, Front, Partial, Refused, Whole, front}
 use Rattle.model.specs.Rpc.{is_call_read, read_call}
-use Rattle.model.specs.Runs.{Serving, Event, Happens, Fails, StaysDown, MayLeave, effect_of}
+use Rattle.model.specs.Runs.{Serving, Event, Happens, Fails, StaysDown, MayLeave, effect_of, executed_of, executed_by}
 use Rattle.model.specs.Session.{Table}
 use Rattle.model.specs.Tree.{Tree}
 use Rattle.model.specs.World as world
@@ -51,6 +51,64 @@ may_leave_after : (old : World) (event : Event) → MayLeave (served old) event 
 may_leave_after old event =
     let made = each_event_happens (served old) event refl (0, (omega arith, refl)) in
     subst (MayLeave (served old) event) (ap (λ (w : World). w.tree) made.1.world) (made.1.no_others made.0.world.tree made.2)
+
+-- from whichever trees it was that a stop might leave
+pub happened_from : (old new : World) (recent : List Tree) (old_down new_down : Bool) (event : Event) → IsAmong recent old.tree → old_down ≡ false → new_down ≡ false → new ≡ effect_of old event
+    → Happens (record { world = old; recent = recent; is_down = old_down }) event (record { world = new; recent = new.tree ∷ []; is_down = new_down })
+happened_from old new recent old_down new_down event newest up still is =
+    subst (λ (b : Bool). Happens (record { world = old; recent = recent; is_down = b }) event (record { world = new; recent = new.tree ∷ []; is_down = new_down })) (sym up)
+    (subst (λ (b : Bool). Happens (record { world = old; recent = recent; is_down = false }) event (record { world = new; recent = new.tree ∷ []; is_down = b })) (sym still) (
+    let made = each_event_happens (record { world = old; recent = recent; is_down = false }) event refl newest in
+    let same : made.0.world.tree ≡ new.tree = ap (λ (w : World). w.tree) (made.1.world ∙ sym is) in
+    record {
+      up = refl;
+      world = is;
+      still_up = refl;
+      no_others = λ tree left. made.1.no_others tree (subst (IsAmong made.0.recent) (same ∙ sym (among_one new.tree tree left)) made.2);
+      durable = λ entry e lasts tree left. made.1.durable entry e lasts tree (subst (IsAmong made.0.recent) (same ∙ sym (among_one new.tree tree left)) made.2);
+    }))
+
+-- an event that executes nothing leaves them
+pub happened_quietly : (old new : World) (recent : List Tree) (old_down new_down : Bool) (event : Event) → executed_of old event ≡ None → old_down ≡ false → new_down ≡ false → new ≡ effect_of old event
+    → Happens (record { world = old; recent = recent; is_down = old_down }) event (record { world = new; recent = recent; is_down = new_down })
+happened_quietly old new recent old_down new_down event none up still is = record {
+  up = up;
+  world = is;
+  still_up = still;
+  no_others = λ tree left. inl left;
+  durable = λ entry e lasts tree left.
+      let done : executed_of old event ≡ Some entry = subst (λ (b : Bool). executed_by old event b ≡ Some entry) up e in
+      let never : ⊥ = cc in absurd never;
+}
+
+pub may_leave_from : (old : World) (recent : List Tree) (down : Bool) (event : Event) → IsAmong recent old.tree → down ≡ false
+    → MayLeave (record { world = old; recent = recent; is_down = down }) event (effect_of old event).tree
+may_leave_from old recent down event newest up =
+    subst (λ (b : Bool). MayLeave (record { world = old; recent = recent; is_down = b }) event (effect_of old event).tree) (sym up) (
+    let made = each_event_happens (record { world = old; recent = recent; is_down = false }) event refl newest in
+    subst (MayLeave (record { world = old; recent = recent; is_down = false }) event) (ap (λ (w : World). w.tree) made.1.world) (made.1.no_others made.0.world.tree made.2))
+
+among_more : (more : Tree) (recent : List Tree) (tree : Tree) → IsAmong (more ∷ recent) tree → (tree ≡ more) ⊎ IsAmong recent tree
+among_more more recent tree among = by_place among.0 among.1.0 among.1.1
+  where
+    by_place : (place : ℕ) → place < length (more ∷ recent) → tree ≡ get_or (more ∷ recent) place tree → (tree ≡ more) ⊎ IsAmong recent tree
+    by_place zero less e = inl e
+    by_place (suc place) less e = inr (place, (omega (arith, less), e))
+
+pub among_rest : (more : Tree) (recent : List Tree) (tree : Tree) → IsAmong recent tree → IsAmong (more ∷ recent) tree
+among_rest more recent tree among = (suc among.0, (omega (arith, among.1.0), among.1.1))
+
+pub failed_from : (old new : World) (recent : List Tree) (old_down new_down : Bool) (event : Event) → IsAmong recent old.tree → old_down ≡ false → new_down ≡ true → new ≡ old
+    → Fails (record { world = old; recent = recent; is_down = old_down }) event (record { world = new; recent = (effect_of old event).tree ∷ recent; is_down = new_down })
+failed_from old new recent old_down new_down event newest up down is = record {
+  up = up;
+  world = is;
+  down = down;
+  no_others = λ tree left. elim (among_more (effect_of old event).tree recent tree left) [
+    | inl first ↦ subst (MayLeave (record { world = old; recent = recent; is_down = old_down }) event) (sym first) (may_leave_from old recent old_down event newest up)
+    | inr rest ↦ inl rest
+  ];
+}
 
 abbrev pub with_tree : World → Bool → Serving
 with_tree world is_down = record { world = world; recent = world.tree ∷ []; is_down = is_down }

@@ -1,6 +1,8 @@
 pub mod Connections
 pub mod Faults
 pub mod Headline
+pub mod Refused
+pub mod RunLaws
+pub mod Seen
 pub mod Servers
-pub mod Serves
 pub mod Stages

@@ -1,21 +1,22 @@
 -- What contracts see of a server: its world, and what stands on its device.
-use Rattle.std.specs.Prelude.{ℕ, List, [], ◌∷◌}
+use Rattle.std.specs.Prelude.{ℕ, List, [], ◌∷◌, Option, ◌≡◌}
+use Rattle.std.specs.Global.{Vec}
+use Rattle.std.specs.Option.{option_map}
 use Rattle.disk.specs.declared.device.Device.{Ghosts}
-use Rattle.disk.specs.Moments.{Image}
-use Rattle.fs.specs.FileSystem.{FileSystem}
+use Rattle.fs.specs.FileSystem.{FileSystem, IsRecent, LeavesOne}
 use Rattle.fs.specs.FileSystems.{fs_of, fs_failures}
-use Rattle.fs.specs.Stands.{StandsFor}
 use Rattle.model.specs.declared.limits.Limits.{Limits}
-use Rattle.model.specs.Runs.{Serving}
+use Rattle.model.specs.Runs.{Serving, Event}
 use Rattle.model.specs.Session.{Table}
 use Rattle.model.specs.Tree.{Tree}
 use Rattle.model.specs.World as world
-use Rattle.model.specs.World.{World, ServerLimits}
+use Rattle.model.specs.World.{World, ServerLimits, mounted_world}
 use Rattle.rpc.specs.Assembly.{record_limits}
 use Rattle.session.specs.Limits.{served}
 use Rattle.session.specs.Views.{table_of}
 use Rattle.server.specs.Connections.{connections_of}
 use Rattle.server.specs.declared.server.Server.{Server}
+use Rattle.server.specs.Seen.{Seen, Said, Gave, Does, Breaks, GivesDown, IsTurned}
 
 -- 64 clients, 32 sessions, 8 slots; records of 16,384 bytes; 16 connections; an OK result ends within 16,368 bytes of its reply
 abbrev pub server_limits : Limits → ServerLimits
@@ -39,6 +40,11 @@ world_of server = world_by (fs_of server.fs) (table_of server.table) (connection
 unfoldable pub volume_of : {D : Type 0} {g : Ghosts D} → Server D g → FileSystem
 volume_of server = fs_of server.fs
 
+-- it has the tree of its volume, and neither a client nor a connection
+abbrev pub BeginsEmpty : {D : Type 0} {g : Ghosts D} → Server D g → Type 0
+BeginsEmpty server = world_of server
+    ≡ mounted_world (server_limits (volume_of server).limits) (volume_of server).run (volume_of server).tree
+
 -- how often the device has failed
 unfoldable pub failures_of : {D : Type 0} {g : Ghosts D} → Server D g → ℕ
 failures_of server = fs_failures server.fs
@@ -47,10 +53,30 @@ failures_of server = fs_failures server.fs
 abbrev pub serving : {D : Type 0} {g : Ghosts D} → Server D g → List Tree → Serving
 serving server recent = record { world = world_of server; recent = recent; is_down = (volume_of server).is_down }
 
--- as long as the device has not failed, a stop leaves the tree in memory
-abbrev pub up : {D : Type 0} {g : Ghosts D} → Server D g → Serving
-up server = serving server ((world_of server).tree ∷ [])
+-- the same with the volume below it
+abbrev pub seen_with : {D : Type 0} {g : Ghosts D} → Server D g → List Tree → Seen
+seen_with server recent = record { serving = serving server recent; volume = volume_of server }
 
--- the map stands for a tree of these, in this run of the volume
-abbrev pub StandsForOne : FileSystem → (Tree → Type 0) → Image → Type 0
-StandsForOne fs may image = (tree : Tree) × may tree × StandsFor fs.sectors fs.limits.nodes fs.run tree image
+-- what is said by a reply's record, or by none
+abbrev pub gave : Option (Vec ℕ) → Said
+gave output = Gave (option_map (λ reply. reply.items) output)
+
+-- Whichever trees a stop may leave before a call: it does the event, and a stop may leave these trees after it.
+abbrev pub Serves : {D : Type 0} {g : Ghosts D} → (old new : Server D g) → Event → Said → Type 0
+Serves old new event said = (recent : List Tree) → IsRecent (volume_of old) recent
+    → (after : List Tree) × Does (seen_with old recent) event said (seen_with new after)
+
+-- the device fails in it
+abbrev pub Fails : {D : Type 0} {g : Ghosts D} → (old new : Server D g) → Event → Type 0
+Fails old new event = (recent : List Tree) → IsRecent (volume_of old) recent
+    → (after : List Tree) × Breaks (seen_with old recent) event (seen_with new after)
+
+-- a server that is down gives a reply
+abbrev pub Gives : {D : Type 0} {g : Ghosts D} → (old new : Server D g) → (connection : ℕ) → Said → Type 0
+Gives old new connection said = (recent : List Tree) → LeavesOne (volume_of old) recent
+    → GivesDown (seen_with old recent) connection said (seen_with new recent)
+
+-- so many turns of a connection, and then what comes
+abbrev pub Turning : {D : Type 0} {g : Ghosts D} → (old : Server D g) → (connection now : ℕ) → (Seen → Type 0) → Type 0
+Turning old connection now then = (recent : List Tree) → IsRecent (volume_of old) recent
+    → (between : Seen) × IsTurned connection now (seen_with old recent) between × then between

@@ -1,16 +1,26 @@
 //! What holds of every run of a server.
 
-ghost use Rattle.server.specs.Headline.{EveryServedRun};
+ghost use Rattle.server.specs.Headline.{EveryRun, EveryStop, EveryTrace, EveryLife};
+ghost use Rattle.server.specs.RunLaws.{HangUpIsCalls, NeverEmpty, OnlyIdle};
 
-/// Whatever bytes arrive on whatever connections, and wherever the server is stopped: the next mount of the volume finds the tree
-/// that a prefix of the executed operations gives. None of them is skipped and none is there in part; the prefix holds every
-/// change and COMMIT whose reply was handed out (an unstable write apart), and every change in it was permitted.
+/// Whatever bytes arrive on whatever connections, and wherever the server is stopped: however often the volume is mounted since,
+/// and those mounts are refused or stopped, the next mount that serves has the tree that a prefix of the executed operations
+/// gives, under a greater restart count. None of them is skipped and none is there in part; the prefix holds every change and
+/// COMMIT whose reply was handed out (an unstable write apart), and every change in it was permitted.
 ///
-/// `Server::{connect, feed, turn, hangup, take_output}` say that each call is an event of such a run, and what a stop at any moment
-/// of it leaves; `Server::mount` says with which tree a run begins, and which one it finds.
+/// `Server::mount` says that a run begins; `Server::{connect, feed, turn, hangup, take_output}` that each call is one of the run, or
+/// leaves all as it was; and a mount, served or refused, what it adds to what a stop may leave.
 pub fn every_run()
-    ensures { EveryServedRun }
-{
-    model::runs::every_run();
-    fs::one_tree_stands();
-}
+    ensures headline { EveryRun }
+    // what a stop leaves is such a tree, and no other
+    ensures stop { EveryStop }
+    // over every list of calls the world and each answer are the definition's
+    ensures trace { EveryTrace }
+    // runs behind one another: each begins with a good tree of the one before, and counts rise
+    ensures life { EveryLife }
+    // Idle only where no whole request waits, or a reply was not taken
+    ensures idle { OnlyIdle }
+    ensures hang_up { HangUpIsCalls }
+    // and no run claims that a stop leaves nothing
+    ensures empty { NeverEmpty }
+{}

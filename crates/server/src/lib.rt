@@ -15,6 +15,7 @@ mod volume;
 pub use fault::ServerFault;
 pub use fs::superblock::is_volume_size;
 pub use fs::{FormatFault, MountFault, Unmounted};
+pub use laws::every_run;
 pub use server::Server;
 pub use turn::Turn;
 

@@ -50,11 +50,11 @@ pub fn first_turn<D: Device>(
     ensures turn { IfOk result (λ done. Leads (λ world number. called world number now (rpc.read_call request.now)) (fs_of fs.old) (fs_of fs.new) (table_of table.old) (table_of table.new) (left_by (asked_in request.now) done) (turn_by done)) }
     ensures stays { IfOk result (StaysInRun (fs_of fs.old).run) }
     ensures follows { IfOk result (λ done. can_follow (asked_in request.now) done ≡ true) }
-    ensures same { fs_of fs.new ≡ record (fs_of fs.old) { tree = (fs_of fs.new).tree; changes = (fs_of fs.new).changes; is_down = (fs_of fs.new).is_down; history = (fs_of fs.new).history } }
+    ensures same { fs_of fs.new ≡ record (fs_of fs.old) { tree = (fs_of fs.new).tree; changes = (fs_of fs.new).changes; is_down = (fs_of fs.new).is_down; history = (fs_of fs.new).history; fronts = (fs_of fs.new).fronts } }
     ensures still_up { OnOk result ((fs_of fs.new).is_down ≡ false) }
     ensures table { OnErr result (table_of table.new ≡ table_of table.old) }
     ensures memory { IsErrOf result fault.Memory → fs_of fs.new ≡ fs_of fs.old }
-    ensures device { IsErrOf result fault.Device → fs_of fs.new ≡ record (fs_of fs.old) { is_down = true; history = (fs_of fs.new).history } }
+    ensures device { IsErrOf result fault.Device → fs_of fs.new ≡ record (fs_of fs.old) { is_down = true; history = (fs_of fs.new).history; fronts = (fs_of fs.new).fronts } }
     ensures cause { IsErrOf result fault.Device → IsCounted (fs_failures fs.old) (fs_failures fs.new) }
     ensures later { fs_failures fs.old ≤ fs_failures fs.new }
     ensures moments { D.keeps_word → (world : World) (number : ℕ) → IsServed world (fs_of fs.old) (table_of table.old)

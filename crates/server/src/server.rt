@@ -32,19 +32,14 @@ pub struct Server<D: Device> {
 
 #[tactic(auto, unfolding(crate::specs::Servers::world_of, crate::specs::Servers::volume_of, crate::specs::Servers::failures_of))]
 impl<D: Device> Server<D> {
-    ghost use Rattle.std.specs.Prelude.{◌≡◌, ◌≢◌, ◌≤◌, ◌<◌, ◌+◌, ◌-◌, ◌^◌, ◌↔◌, ◌⊎◌, ◌∷◌, [], ℕ, List, true, false, Some, None, length, option_map, OnOk, OnErr, IfOk, IfErr, IsErrOf};
-    ghost use Rattle.disk.specs.Cause.{IsCounted};
-    ghost use Rattle.disk.specs.Moments.{AddsOnly};
-    ghost use Rattle.fs.specs.FileSystem.{Holds};
-    ghost use Rattle.model.specs.Keyed.{at};
+    ghost use Rattle.std.specs.Prelude.{◌≡◌, ◌≤◌, ◌↔◌, List, true, false, Some, None, length, OnOk, OnErr, IfOk, IfErr, IsErrOf};
     ghost use Rattle.model.specs.Runs as runs;
-    ghost use Rattle.model.specs.Runs.{Serving, Happens, Fails, StaysDown, MayLeave, effect_of};
     ghost use Rattle.model.specs.Tree.{Tree};
-    ghost use Rattle.model.specs.World.{Closed, one, taken_at, reply_at, is_busy, mounted_world, can_connect};
-    ghost use Rattle.rpc.specs.Assembly.{record_limits};
+    ghost use Rattle.model.specs.World.{Closed, is_busy, can_connect};
     ghost use Rattle.server.specs.Connections.{turn_view};
-    ghost use Rattle.server.specs.Servers.{world_of, volume_of, failures_of, serving, up, server_limits, StandsForOne};
-    ghost use Rattle.server.specs.Serves.{IsTurned, MayLeaveTurning};
+    ghost use Rattle.server.specs.Refused.{view, IsUntouched, connection_at, HasTurned, RefusesTurn, RefusesHangUp};
+    ghost use Rattle.server.specs.Seen.{Does, Breaks, Took, Turned, Done};
+    ghost use Rattle.server.specs.Servers.{world_of, volume_of, failures_of, seen_with, gave, Serves, Fails, Gives, Turning};
 
     /// The run of this mount: the restart count that it wrote.
     pub fn restart_count(&self) -> u32
@@ -53,17 +48,32 @@ impl<D: Device> Server<D> {
         self.fs.restart_count()
     }
 
+    /// The device, as it is now: clients, sessions and connections are gone, and what stands on it is the next mount's.
+    pub fn into_device(self) -> D
+        ensures history { D.history result ≡ (volume_of self).history }
+        ensures size { D.size result ≡ (volume_of self).sectors }
+        ensures failures { D.failed result ≡ failures_of self }
+    {
+        self.fs.into_device()
+    }
+
     /// A new connection, and its number.
     ///
     /// # Errors
     /// Device where the file system is down; Full where there are 16 connections; Memory. Nothing changed then.
     pub fn connect(&mut self) -> Result<usize, ServerFault>
-        ensures ok { IfOk result (λ conn. (can_connect (world_of self.old) conn ≡ true) × Happens (up self.old) (runs.Connects conn) (up self.new)) }
+        ensures ok { D.keeps_word
+            → IfOk result (λ conn. Serves self.old self.new (runs.Connects conn) Done) }
+        ensures fresh { IfOk result (λ conn. can_connect (world_of self.old) conn ≡ true) }
+        // Refused
         ensures device { IsErrOf result ServerFault.Device ↔ ((volume_of self.old).is_down ≡ true) }
-        ensures full { IsErrOf result ServerFault.Full → length (world_of self.old).connections ≡ 16 }
-        ensures is_full { (volume_of self.old).is_down ≡ false → length (world_of self.old).connections ≡ 16 → IsErrOf result ServerFault.Full }
+        ensures full { IsErrOf result ServerFault.Full
+            → length (world_of self.old).connections ≡ 16 }
+        ensures is_full { (volume_of self.old).is_down ≡ false
+            → length (world_of self.old).connections ≡ 16 → IsErrOf result ServerFault.Full }
+        ensures only { IfErr result (λ fault.
+            (fault ≡ ServerFault.NoConnection → ⊥) × (fault ≡ ServerFault.Closed → ⊥)) }
         ensures err { OnErr result (world_of self.new ≡ world_of self.old) }
-        ensures only { IfErr result (λ fault. (fault ≡ ServerFault.NoConnection → ⊥) × (fault ≡ ServerFault.Closed → ⊥)) }
         ensures volume { volume_of self.new ≡ volume_of self.old }
     {
         if self.fs.is_down() {
@@ -83,15 +93,20 @@ impl<D: Device> Server<D> {
     /// Device where the file system is down; NoConnection; Closed where the piece brings a refused header or ends a record that
     /// is no call, and from then on. It takes no memory.
     pub fn feed(&mut self, conn: usize, piece: &[u8]) -> Result<usize, ServerFault>
-        ensures ok { IfOk result (λ n. Happens (up self.old) (runs.Arrives conn piece.now) (up self.new)
-            × ((connection : _) → at conn (world_of self.old).connections ≡ Some connection → taken_at record_limits piece.now connection ≡ Some n)) }
-        ensures closed { IsErrOf result ServerFault.Closed → Happens (up self.old) (runs.Arrives conn piece.now) (up self.new)
-            × ((connection : _) → at conn (world_of self.old).connections ≡ Some connection → taken_at record_limits piece.now connection ≡ None) }
+        ensures ok { D.keeps_word → IfOk result (λ n.
+            Serves self.old self.new (runs.Arrives conn piece.now) (Took (Some n))) }
+        ensures closed { D.keeps_word → IsErrOf result ServerFault.Closed
+            → Serves self.old self.new (runs.Arrives conn piece.now) (Took None) }
+        // Refused
         ensures device { IsErrOf result ServerFault.Device ↔ ((volume_of self.old).is_down ≡ true) }
-        ensures no_connection { IsErrOf result ServerFault.NoConnection → at conn (world_of self.old).connections ≡ None }
-        ensures is_none { (volume_of self.old).is_down ≡ false → at conn (world_of self.old).connections ≡ None → IsErrOf result ServerFault.NoConnection }
-        ensures err { IfErr result (λ fault. (fault ≡ ServerFault.Closed → ⊥) → world_of self.new ≡ world_of self.old) }
-        ensures only { IfErr result (λ fault. (fault ≡ ServerFault.Full → ⊥) × (fault ≡ ServerFault.Memory → ⊥)) }
+        ensures no_connection { IsErrOf result ServerFault.NoConnection
+            → connection_at (view self.old) conn ≡ None }
+        ensures is_none { (volume_of self.old).is_down ≡ false
+            → connection_at (view self.old) conn ≡ None → IsErrOf result ServerFault.NoConnection }
+        ensures only { IfErr result (λ fault.
+            (fault ≡ ServerFault.Full → ⊥) × (fault ≡ ServerFault.Memory → ⊥)) }
+        ensures err { IfErr result (λ fault.
+            (fault ≡ ServerFault.Closed → ⊥) → world_of self.new ≡ world_of self.old) }
         ensures volume { volume_of self.new ≡ volume_of self.old }
     {
         if self.fs.is_down() {
@@ -110,25 +125,23 @@ impl<D: Device> Server<D> {
     /// Device where the file system is down, or goes down in this call: then no reply tells of the operation. NoConnection; Closed
     /// where the connection was closed; Memory, and then nothing changed and the request stays.
     pub fn turn(&mut self, conn: usize, now: u64) -> Result<Turn, ServerFault>
-        ensures ok { IfOk result (λ turn. (turn_view turn ≡ (one (world_of self.old) conn now).turn) × Happens (up self.old) (runs.Turns conn now) (up self.new)) }
-        ensures fails { (volume_of self.old).is_down ≡ false → IsErrOf result ServerFault.Device
-            → Fails (up self.old) (runs.Turns conn now) (serving self.new ((world_of self.old).tree ∷ (one (world_of self.old) conn now).world.tree ∷ [])) }
-        ensures down { (volume_of self.old).is_down ≡ true → IsErrOf result ServerFault.Device × (volume_of self.new ≡ volume_of self.old) }
-        ensures cause { IsErrOf result ServerFault.Device → ((volume_of self.old).is_down ≡ true) ⊎ IsCounted (failures_of self.old) (failures_of self.new) }
-        ensures no_connection { IsErrOf result ServerFault.NoConnection → at conn (world_of self.old).connections ≡ None }
-        ensures is_none { (volume_of self.old).is_down ≡ false → at conn (world_of self.old).connections ≡ None → IsErrOf result ServerFault.NoConnection }
-        ensures closed { IsErrOf result ServerFault.Closed → at conn (world_of self.old).connections ≡ Some Closed }
-        ensures is_closed { (volume_of self.old).is_down ≡ false → at conn (world_of self.old).connections ≡ Some Closed → IsErrOf result ServerFault.Closed }
-        ensures err { OnErr result (world_of self.new ≡ world_of self.old) }
-        ensures untouched { IfErr result (λ fault. (fault ≡ ServerFault.Device → ⊥) → volume_of self.new ≡ volume_of self.old) }
-        ensures never_full { IsErrOf result ServerFault.Full → ⊥ }
-        ensures moments { D.keeps_word → (volume_of self.old).is_down ≡ false
-            → AddsOnly (StandsForOne (volume_of self.old) (MayLeave (up self.old) (runs.Turns conn now))) (volume_of self.old).history (volume_of self.new).history }
-        ensures holds { D.keeps_word → (volume_of self.new).is_down ≡ false → Holds (volume_of self.new) }
-        ensures same { volume_of self.new ≡ record (volume_of self.old) { tree = (volume_of self.new).tree; changes = (volume_of self.new).changes; is_down = (volume_of self.new).is_down; history = (volume_of self.new).history } }
+        // Done
+        ensures ok { D.keeps_word → IfOk result (λ turn.
+            Serves self.old self.new (runs.Turns conn now) (Turned (turn_view turn))) }
+        ensures turned { OnOk result (HasTurned (view self.old) (view self.new) conn now) }
+        // The device fails in it
+        ensures fails { D.keeps_word → (volume_of self.old).is_down ≡ false
+            → IsErrOf result ServerFault.Device → Fails self.old self.new (runs.Turns conn now) }
+        // Refused
+        ensures refused { IfErr result (RefusesTurn (view self.old) (view self.new) conn) }
+        ensures is_down { (volume_of self.old).is_down ≡ true
+            → IsErrOf result ServerFault.Device × IsUntouched (view self.old) (view self.new) }
+        ensures is_none { (volume_of self.old).is_down ≡ false
+            → connection_at (view self.old) conn ≡ None → IsErrOf result ServerFault.NoConnection }
+        ensures is_closed { (volume_of self.old).is_down ≡ false
+            → connection_at (view self.old) conn ≡ Some Closed → IsErrOf result ServerFault.Closed }
         ensures later { failures_of self.old ≤ failures_of self.new }
     {
-        self.fs.tell_holds();
         if self.fs.is_down() {
             return Err(ServerFault::Device);
         }
@@ -148,23 +161,25 @@ impl<D: Device> Server<D> {
     /// # Errors
     /// Device and NoConnection as in `turn`. After Memory what was run stays run, and the connection stays.
     pub fn hangup(&mut self, conn: usize, now: u64) -> Result<(), ServerFault>
-        ensures ok { OnOk result ((between : Serving) × IsTurned conn now (up self.old) between × Happens between (runs.HangsUp conn) (up self.new)) }
-        ensures gone { OnOk result (at conn (world_of self.new).connections ≡ None) }
-        ensures memory { IsErrOf result ServerFault.Memory → IsTurned conn now (up self.old) (up self.new) }
-        ensures fails { (volume_of self.old).is_down ≡ false → IsErrOf result ServerFault.Device
-            → (between : Serving) × (recent : List Tree) × IsTurned conn now (up self.old) between × Fails between (runs.Turns conn now) (serving self.new recent) }
-        ensures down { (volume_of self.old).is_down ≡ true → IsErrOf result ServerFault.Device × (world_of self.new ≡ world_of self.old) × (volume_of self.new ≡ volume_of self.old) }
-        ensures cause { IsErrOf result ServerFault.Device → ((volume_of self.old).is_down ≡ true) ⊎ IsCounted (failures_of self.old) (failures_of self.new) }
-        ensures no_connection { IsErrOf result ServerFault.NoConnection → (at conn (world_of self.old).connections ≡ None) × (world_of self.new ≡ world_of self.old) × (volume_of self.new ≡ volume_of self.old) }
-        ensures is_none { (volume_of self.old).is_down ≡ false → at conn (world_of self.old).connections ≡ None → IsErrOf result ServerFault.NoConnection }
-        ensures never { IfErr result (λ fault. (fault ≡ ServerFault.Full → ⊥) × (fault ≡ ServerFault.Closed → ⊥)) }
-        ensures moments { D.keeps_word → (volume_of self.old).is_down ≡ false
-            → AddsOnly (StandsForOne (volume_of self.old) (MayLeaveTurning conn now (up self.old))) (volume_of self.old).history (volume_of self.new).history }
-        ensures holds { D.keeps_word → (volume_of self.new).is_down ≡ false → Holds (volume_of self.new) }
-        ensures same { volume_of self.new ≡ record (volume_of self.old) { tree = (volume_of self.new).tree; changes = (volume_of self.new).changes; is_down = (volume_of self.new).is_down; history = (volume_of self.new).history } }
+        // Done
+        ensures ok { D.keeps_word → OnOk result (Turning self.old conn now (λ between.
+            (after : List Tree) × Does between (runs.HangsUp conn) Done (seen_with self.new after))) }
+        ensures gone { OnOk result (connection_at (view self.new) conn ≡ None) }
+        // Ended within its turns: no memory for one, or the device fails in one
+        ensures memory { D.keeps_word → IsErrOf result ServerFault.Memory
+            → Turning self.old conn now (λ between.
+            (after : List Tree) × (between ≡ seen_with self.new after)) }
+        ensures fails { D.keeps_word → (volume_of self.old).is_down ≡ false
+            → IsErrOf result ServerFault.Device → Turning self.old conn now (λ between.
+            (after : List Tree) × Breaks between (runs.Turns conn now) (seen_with self.new after)) }
+        // Refused
+        ensures refused { IfErr result (RefusesHangUp (view self.old) (view self.new) conn) }
+        ensures is_down { (volume_of self.old).is_down ≡ true
+            → IsErrOf result ServerFault.Device × IsUntouched (view self.old) (view self.new) }
+        ensures is_none { (volume_of self.old).is_down ≡ false
+            → connection_at (view self.old) conn ≡ None → IsErrOf result ServerFault.NoConnection }
         ensures later { failures_of self.old ≤ failures_of self.new }
     {
-        self.fs.tell_holds();
         if self.fs.is_down() {
             return Err(ServerFault::Device);
         }
@@ -180,7 +195,7 @@ impl<D: Device> Server<D> {
 
     /// Whether the connection's request has begun.
     fn is_busy(&self, conn: usize) -> bool
-        ensures { result ≡ is_busy (at conn (world_of self.now).connections) }
+        ensures { result ≡ is_busy (connection_at (view self.now) conn) }
     {
         match self.connections.get(conn) {
             Some(connection) => connection.is_busy(),
@@ -193,10 +208,13 @@ impl<D: Device> Server<D> {
     /// # Errors
     /// NoConnection.
     pub fn take_output(&mut self, conn: usize) -> Result<Option<Vec<u8>>, ServerFault>
-        ensures reply { IfOk result (λ output. option_map (λ reply. reply.items) output ≡ reply_at (world_of self.old) conn) }
-        ensures ok { (volume_of self.old).is_down ≡ false → OnOk result (Happens (up self.old) (runs.Takes conn) (up self.new)) }
-        ensures down { (volume_of self.old).is_down ≡ true → OnOk result ((recent : List Tree) → StaysDown (serving self.old recent) conn (serving self.new recent)) }
-        ensures no_connection { IsErrOf result ServerFault.NoConnection ↔ (at conn (world_of self.old).connections ≡ None) }
+        ensures ok { D.keeps_word → (volume_of self.old).is_down ≡ false
+            → IfOk result (λ output. Serves self.old self.new (runs.Takes conn) (gave output)) }
+        ensures down { D.keeps_word → (volume_of self.old).is_down ≡ true
+            → IfOk result (λ output. Gives self.old self.new conn (gave output)) }
+        // Refused
+        ensures no_connection { IsErrOf result ServerFault.NoConnection
+            ↔ (connection_at (view self.old) conn ≡ None) }
         ensures only { IfErr result (λ fault. fault ≡ ServerFault.NoConnection) }
         ensures err { OnErr result (world_of self.new ≡ world_of self.old) }
         ensures volume { volume_of self.new ≡ volume_of self.old }

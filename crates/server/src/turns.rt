@@ -38,11 +38,11 @@ impl Connection {
         requires run { IsOfRun (fs_of fs.old).run (connection_view self.old) }
         ensures turn { IfOk result (Turns now (fs_of fs.old) (fs_of fs.new) (table_of table.old) (table_of table.new) (connection_view self.old) (connection_view self.new)) }
         ensures run { IsOfRun (fs_of fs.old).run (connection_view self.new) }
-        ensures same { fs_of fs.new ≡ record (fs_of fs.old) { tree = (fs_of fs.new).tree; changes = (fs_of fs.new).changes; is_down = (fs_of fs.new).is_down; history = (fs_of fs.new).history } }
+        ensures same { fs_of fs.new ≡ record (fs_of fs.old) { tree = (fs_of fs.new).tree; changes = (fs_of fs.new).changes; is_down = (fs_of fs.new).is_down; history = (fs_of fs.new).history; fronts = (fs_of fs.new).fronts } }
         ensures still_up { OnOk result ((fs_of fs.new).is_down ≡ false) }
         ensures back { OnErr result ((connection_view self.new ≡ connection_view self.old) × (table_of table.new ≡ table_of table.old)) }
         ensures memory { IsErrOf result fault.Memory → fs_of fs.new ≡ fs_of fs.old }
-        ensures device { IsErrOf result fault.Device → fs_of fs.new ≡ record (fs_of fs.old) { is_down = true; history = (fs_of fs.new).history } }
+        ensures device { IsErrOf result fault.Device → fs_of fs.new ≡ record (fs_of fs.old) { is_down = true; history = (fs_of fs.new).history; fronts = (fs_of fs.new).fronts } }
         ensures cause { IsErrOf result fault.Device → IsCounted (fs_failures fs.old) (fs_failures fs.new) }
         ensures later { fs_failures fs.old ≤ fs_failures fs.new }
         ensures moments { D.keeps_word → (world : World) (number : ℕ) → IsServed world (fs_of fs.old) (table_of table.old) → at number world.connections ≡ Some (connection_view self.old)
@@ -77,11 +77,11 @@ impl Connection {
         requires run { progress.run ≡ (fs_of fs.old).run }
         ensures turn { IfOk result (λ done. Leads (λ world number. turned world number now (Some (begun (asked_held self.old.assembler) progress))) (fs_of fs.old) (fs_of fs.new) (table_of table.old) (table_of table.new) (connection_view self.new) (turn_view done)) }
         ensures run { IsOfRun (fs_of fs.old).run (connection_view self.new) }
-        ensures same { fs_of fs.new ≡ record (fs_of fs.old) { tree = (fs_of fs.new).tree; changes = (fs_of fs.new).changes; is_down = (fs_of fs.new).is_down; history = (fs_of fs.new).history } }
+        ensures same { fs_of fs.new ≡ record (fs_of fs.old) { tree = (fs_of fs.new).tree; changes = (fs_of fs.new).changes; is_down = (fs_of fs.new).is_down; history = (fs_of fs.new).history; fronts = (fs_of fs.new).fronts } }
         ensures still_up { OnOk result ((fs_of fs.new).is_down ≡ false) }
         ensures back { OnErr result ((connection_view self.new ≡ begun (asked_held self.old.assembler) progress) × (table_of table.new ≡ table_of table.old)) }
         ensures memory { IsErrOf result fault.Memory → fs_of fs.new ≡ fs_of fs.old }
-        ensures device { IsErrOf result fault.Device → fs_of fs.new ≡ record (fs_of fs.old) { is_down = true; history = (fs_of fs.new).history } }
+        ensures device { IsErrOf result fault.Device → fs_of fs.new ≡ record (fs_of fs.old) { is_down = true; history = (fs_of fs.new).history; fronts = (fs_of fs.new).fronts } }
         ensures cause { IsErrOf result fault.Device → IsCounted (fs_failures fs.old) (fs_failures fs.new) }
         ensures later { fs_failures fs.old ≤ fs_failures fs.new }
         ensures moments { D.keeps_word → (world : World) (number : ℕ) → IsServed world (fs_of fs.old) (table_of table.old)

@@ -9,18 +9,17 @@ use std::alloc::Global;
 
 #[tactic(auto, unfolding(crate::specs::Servers::world_of, crate::specs::Servers::volume_of, crate::specs::Servers::failures_of, crate::specs::Connections::connections_of))]
 impl<D: Device> Server<D> {
-    ghost use Rattle.std.specs.Prelude.{◌≡◌, ◌≤◌, ◌⊎◌, ◌+◌, ◌^◌, ◌↔◌, ◌∷◌, [], ℕ, false, OnOk, IfOk, IfErr, IsErrOf};
+    ghost use Rattle.std.specs.Prelude.{◌≡◌, ◌≤◌, ◌⊎◌, ◌↔◌, false, OnOk, IfOk, IfErr, IsErrOf};
     ghost use Rattle.disk.specs.Calls.{zero_sector};
     ghost use Rattle.disk.specs.Cause.{IsCounted};
-    ghost use Rattle.disk.specs.Moments.{Image, AddsOnly, Left, seen};
-    ghost use Rattle.fs.specs.FileSystem.{Holds, IsNew};
-    ghost use Rattle.fs.specs.Stands.{IsBase, StandsFor};
-    ghost use Rattle.fs.specs.Superblock.{is_size, verdict};
-    ghost use Rattle.fs.specs.declared.superblock.Verdict.TheVariants as verdicts;
+    ghost use Rattle.disk.specs.Moments.{Image, AddsOnly, Left};
+    ghost use Rattle.fs.specs.FileSystem.{IsNew};
+    ghost use Rattle.fs.specs.MountAnswers.{HasMounted, IsRefused, ComesBack};
+    ghost use Rattle.fs.specs.Stands.{StandsFor};
+    ghost use Rattle.fs.specs.Superblock.{is_size};
     ghost use Rattle.model.specs.Fresh.{fresh_tree};
-    ghost use Rattle.model.specs.Tree.{Tree};
-    ghost use Rattle.model.specs.World.{mounted_world};
-    ghost use Rattle.server.specs.Servers.{world_of, volume_of, failures_of, server_limits};
+    ghost use Rattle.server.specs.Headline.{Begins};
+    ghost use Rattle.server.specs.Servers.{BeginsEmpty, volume_of, failures_of};
 
     /// Makes the device a new volume of this many nodes, with an empty root: `Fs::format`.
     pub fn format(alloc: Global, device: &mut D, nodes: u32) -> Result<(), FormatFault>
@@ -43,28 +42,16 @@ impl<D: Device> Server<D> {
     /// The device comes back with the reason. NotVolume, then Worn, by the first sector, and then nothing was written; then
     /// Damaged exactly where no tree stands; Device where the device failed, and Memory.
     pub fn mount(alloc: Global, device: D) -> Result<Server<D>, Unmounted<D>>
-        ensures world { IfOk result (λ server. world_of server ≡ mounted_world (server_limits (volume_of server).limits) (volume_of server).run (volume_of server).tree) }
+        ensures world { IfOk result BeginsEmpty }
         ensures new { IfOk result (λ server. IsNew (D.size device) (volume_of server)) }
-        ensures moments { D.keeps_word → IfOk result (λ server. (nodes run : ℕ) (tree : Tree) → IsBase (D.size device) nodes run tree (seen (D.history device).now)
-            → AddsOnly (λ image. StandsFor (D.size device) nodes run tree image ⊎ StandsFor (D.size device) nodes (run + 1) tree image) (D.history device) (volume_of server).history) }
-        ensures found { D.keeps_word → IfOk result (λ server. (run : ℕ) → (volume_of server).run ≡ run + 1
-            → StandsFor (D.size device) (volume_of server).limits.nodes run (volume_of server).tree (seen (D.history device).now)) }
-        ensures holds { D.keeps_word → IfOk result (λ server. Holds (volume_of server)) }
-        ensures moments_refused { D.keeps_word → IfErr result (λ refused. (nodes run : ℕ) (tree : Tree) → IsBase (D.size device) nodes run tree (seen (D.history device).now)
-            → AddsOnly (λ image. StandsFor (D.size device) nodes run tree image ⊎ StandsFor (D.size device) nodes (run + 1) tree image) (D.history device) (D.history refused.device)) }
-        ensures not_volume { D.keeps_word → IfErr result (λ refused. refused.fault ≡ MountFault.NotVolume
-            → (verdict (D.size device) (seen (D.history device).now 0) ≡ verdicts.NotVolume) × (D.history refused.device ≡ D.history device)) }
-        ensures worn { D.keeps_word → IfErr result (λ refused. refused.fault ≡ MountFault.Worn
-            → (verdict (D.size device) (seen (D.history device).now 0) ≡ verdicts.Worn) × (D.history refused.device ≡ D.history device)) }
-        ensures damaged { D.keeps_word → IfErr result (λ refused. refused.fault ≡ MountFault.Damaged
-            → (nodes run : ℕ) (tree : Tree) → IsBase (D.size device) nodes run tree (seen (D.history device).now) → ⊥) }
-        ensures no_tree { D.keeps_word → IfErr result (λ refused. refused.fault ≡ MountFault.NotVolume
-            → (nodes run : ℕ) (tree : Tree) → IsBase (D.size device) nodes run tree (seen (D.history device).now) → ⊥) }
-        ensures full { D.keeps_word → IfErr result (λ refused. refused.fault ≡ MountFault.Worn
-            → (nodes run : ℕ) (tree : Tree) → IsBase (D.size device) nodes run tree (seen (D.history device).now) → run + 1 ≡ 2 ^ 32) }
-        ensures cause { IfErr result (λ refused. refused.fault ≡ MountFault.Device → IsCounted (D.failed device) (D.failed refused.device)) }
         ensures later { IfOk result (λ server. D.failed device ≤ failures_of server) }
-        ensures later_refused { IfErr result (λ refused. D.failed device ≤ D.failed refused.device) }
+        ensures mounted { D.keeps_word
+            → IfOk result (λ server. HasMounted (D.size device) (D.history device) (volume_of server)) }
+        ensures begins { D.keeps_word → IfOk result Begins }
+        // Refused
+        ensures back { IfErr result (ComesBack D.size D.failed device) }
+        ensures refused { D.keeps_word → IfErr result (λ refused.
+            IsRefused (D.size device) (D.history device) (D.history refused.device) refused.fault) }
     {
         let connections = match Slab::with_capacity(alloc, MOST_CONNECTIONS) {
             Ok(connections) => connections,

@@ -1,10 +1,12 @@
-use Rattle.std.proofs.Common.{◌<◌, [], sym, ap, subst, arith}
+use Rattle.std.proofs.Common.{◌<◌, [], refl, sym, ap, subst, arith}
 use Rattle.slab.specs.Slab.{slab_len}
 use Rattle.fs.specs.FileSystems.{fs_of}
 use Rattle.session.specs.Views.{table_of}
 use Rattle.server.specs.Connections.{connections_of, connection_view, IsOfRun}
 use Rattle.server.specs.declared.fault.ServerFault.TheVariants as faults
 use Rattle.server.specs.Servers.{world_of, volume_of, world_by}
+use Rattle.model.specs.Runs as runs
+use Rattle.server.proofs.Moves.{moves_none, does_quietly}
 use Rattle.server.proofs.Refusals.{told_by}
 use Rattle.server.proofs.SlabLaws.{count_of, with_slot, stands_none, grew}
 use Rattle.server.proofs.Worlds.{quiet_of_run, can_connect_by, connected, happens, inserted_of_run, inserted_count}
@@ -36,6 +38,16 @@ returns-in_err-insert-clause-err g c =
     let failed = rw c.in_err-insert.was at c.insert.ensures.err in
     rw told (ap (world_by (fs_of s.fs) (table_of s.table)) (grew s.connections c.insert.new.self failed))
 
+pub returns-clause-fresh : goal.returns-clause-fresh
+unfolding world_of
+returns-clause-fresh g c =
+    let s = c.args.self.now in
+    let conn = c.in_ok-insert.field-0 in
+    let vacant = rw c.in_ok-insert.was at c.insert.ensures.was_vacant in
+    let few : slab_len s.connections < 16 = omega arith in
+    can_connect_by (world_by (fs_of s.fs) (table_of s.table) (connections_of s.connections)) conn (stands_none s.connections conn (sym vacant))
+    (omega (arith, count_of s.connections))
+
 pub returns-clause-ok : goal.returns-clause-ok
 unfolding world_of volume_of
 returns-clause-ok g c =
@@ -45,12 +57,12 @@ returns-clause-ok g c =
     let vacant = rw c.in_ok-insert.was at c.insert.ensures.was_vacant in
     let few : slab_len s.connections < 16 = omega arith in
     let can = can_connect_by (world_by (fs_of s.fs) (table_of s.table) (connections_of s.connections)) conn (stands_none s.connections conn (sym vacant))
-    (omega (arith, count_of s.connections)) in (
-      can,
-      happens _ _ _ _ _ (sym c.if-is_down.ensures) (sym c.if-is_down.ensures)
-          (connected (fs_of s.fs) (table_of s.table) (connections_of s.connections) _ conn (connection_view c.in_ok-connection.connection) can
-          (with_slot s.connections c.insert.new.self conn c.in_ok-connection.connection updates) c.in_ok-connection.ensures),
-    )
+    (omega (arith, count_of s.connections)) in
+    let up = sym c.if-is_down.ensures in
+    λ keeps. does_quietly (fs_of s.fs) _ _ _ (runs.Connects conn) _ refl up
+    (connected (fs_of s.fs) (table_of s.table) (connections_of s.connections) _ conn (connection_view c.in_ok-connection.connection) can
+    (with_slot s.connections c.insert.new.self conn c.in_ok-connection.connection updates) c.in_ok-connection.ensures)
+    refl
 
 pub returns-clause-is_full : goal.returns-clause-is_full
 unfolding world_of

@@ -1,11 +1,11 @@
-use Rattle.std.proofs.Common.{◌≡◌, Some, None, sym, ◌∙◌, subst, arith}
+use Rattle.std.proofs.Common.{refl, sym, ap, ◌∙◌, subst, arith}
 use Rattle.fs.specs.FileSystems.{fs_of}
-use Rattle.model.specs.World as world
-use Rattle.model.specs.World.{arrives_at, taken_at}
-use Rattle.rpc.specs.Assembly.{record_limits}
+use Rattle.model.specs.Runs as runs
 use Rattle.session.specs.Views.{table_of}
 use Rattle.server.specs.Connections.{connections_of, connection_view}
-use Rattle.server.specs.Servers.{world_of, volume_of}
+use Rattle.server.specs.Seen.{Took, taken_on}
+use Rattle.server.specs.Servers.{world_of, volume_of, world_by}
+use Rattle.server.proofs.Moves.{moves_none, does_quietly}
 use Rattle.server.proofs.SlabLaws.{stands, stands_none, wrote, wrote_count}
 use Rattle.server.proofs.Worlds.{AllOfRun, all_of_run_with, fed, happens, feeds_of_run}
 use Rattle.server.proofs.server.Server.feed.Goals as goal
@@ -35,12 +35,12 @@ returns-in_err-feed-clause-closed g c =
     let before = c.in-Some.connection.now in
     let after = c.feed.new.self in
     let there = stands s.connections c.args.conn before c.in-Some.ensures.value in
-    let all = rw c.in_err-feed.was at c.feed.ensures.closed in λ is. (
-      happens _ _ _ _ _ (sym c.if-is_down.ensures) (sym c.if-is_down.ensures)
-          (fed (fs_of s.fs) (table_of s.table) (connections_of s.connections) _ c.args.conn c.args.piece.now (connection_view before) (connection_view after)
-          there (wrote s.connections c.args.conn before after c.in-Some.ensures.value) (all.0 ∙ sym all.1)),
-      λ connection at_is. (let same : connection_view before ≡ connection = cc in subst (λ (k : world.Connection). taken_at record_limits c.args.piece.now k ≡ None) same all.2),
-    )
+    let all = rw c.in_err-feed.was at c.feed.ensures.closed in
+    let up = sym c.if-is_down.ensures in
+    λ keeps is. does_quietly (fs_of s.fs) _ _ _ (runs.Arrives c.args.conn c.args.piece.now) _ refl up
+    (fed (fs_of s.fs) (table_of s.table) (connections_of s.connections) _ c.args.conn c.args.piece.now (connection_view before) (connection_view after)
+    there (wrote s.connections c.args.conn before after c.in-Some.ensures.value) (all.0 ∙ sym all.1))
+    (ap Took (sym (ap (taken_on (world_by (fs_of s.fs) (table_of s.table) (connections_of s.connections)) c.args.piece.now) there ∙ all.2)))
 
 pub returns-in_err-feed-clause-is_none : goal.returns-in_err-feed-clause-is_none
 unfolding world_of
@@ -55,12 +55,12 @@ returns-clause-ok g c =
     let before = c.in-Some.connection.now in
     let after = c.feed.new.self in
     let there = stands s.connections c.args.conn before c.in-Some.ensures.value in
-    let e = rw c.in_ok-feed.was at c.feed.ensures.arrived in (
-      happens _ _ _ _ _ (sym c.if-is_down.ensures) (sym c.if-is_down.ensures)
-          (fed (fs_of s.fs) (table_of s.table) (connections_of s.connections) _ c.args.conn c.args.piece.now (connection_view before) (connection_view after)
-          there (wrote s.connections c.args.conn before after c.in-Some.ensures.value) e.0),
-      λ connection at_is. (let same : connection_view before ≡ connection = cc in subst (λ (k : world.Connection). taken_at record_limits c.args.piece.now k ≡ Some c.in_ok-feed.field-0) same e.1),
-    )
+    let e = rw c.in_ok-feed.was at c.feed.ensures.arrived in
+    let up = sym c.if-is_down.ensures in
+    λ keeps. does_quietly (fs_of s.fs) _ _ _ (runs.Arrives c.args.conn c.args.piece.now) _ refl up
+    (fed (fs_of s.fs) (table_of s.table) (connections_of s.connections) _ c.args.conn c.args.piece.now (connection_view before) (connection_view after)
+    there (wrote s.connections c.args.conn before after c.in-Some.ensures.value) e.0)
+    (ap Took (sym (ap (taken_on (world_by (fs_of s.fs) (table_of s.table) (connections_of s.connections)) c.args.piece.now) there ∙ e.1)))
 
 pub returns-clause-is_none : goal.returns-clause-is_none
 unfolding world_of

@@ -1,43 +1,48 @@
-use Rattle.std.proofs.Common.{◌≡◌, false, refl, sym, ap, ◌∙◌, subst, arith}
-use Rattle.fs.specs.FileSystem.{FileSystem}
+use Rattle.std.proofs.Common.{◌≡◌, Err, inl, refl, sym, ap, ◌∙◌, subst, arith}
 use Rattle.fs.specs.FileSystems.{fs_of}
 use Rattle.model.specs.Runs as runs
 use Rattle.model.specs.World.{World}
 use Rattle.session.specs.Views.{table_of}
 use Rattle.server.specs.Connections.{connections_of}
-use Rattle.server.specs.Servers.{world_of, volume_of, up}
-use Rattle.server.specs.Serves.{Stays}
-use Rattle.server.proofs.HangUps.{turned_on, fewer_left, turning_on}
-use Rattle.server.proofs.Moments.{adds_none}
+use Rattle.server.specs.declared.fault.ServerFault.TheVariants as faults
+use Rattle.server.specs.Refused.{view, IsUntouched, RefusesTurn}
+use Rattle.server.specs.Seen.{Stays}
+use Rattle.server.proofs.Refusals.{told_by, hang_up_refused}
+use Rattle.server.specs.Servers.{world_of, volume_of, seen_with}
+use Rattle.server.proofs.HangUps.{turned_on, fewer_left}
+use Rattle.server.proofs.Moves.{does_quietly, same_seen}
 use Rattle.server.proofs.SlabLaws.{stands_none, without_slot, absent, present, removed_count}
 use Rattle.server.proofs.Worlds.{AllOfRun, all_of_run_without, happens, hung_up}
 use Rattle.server.proofs.server.Server.hangup.Goals as goal
 
-pub returns-then-not-contains-clause-no_connection : goal.returns-then-not-contains-clause-no_connection
-unfolding world_of
-returns-then-not-contains-clause-no_connection g c =
-    λ is. (absent c.args.self.now.connections c.args.conn c.contains.result c.contains.ensures.1 c.if-not-contains.true, refl, refl)
+pub returns-then-is_down-clause-refused : goal.returns-then-is_down-clause-refused
+unfolding volume_of
+returns-then-is_down-clause-refused g c = inl (sym c.if-is_down.ensures)
+
+pub returns-then-not-contains-clause-refused : goal.returns-then-not-contains-clause-refused
+unfolding world_of volume_of
+returns-then-not-contains-clause-refused g c =
+    (absent c.args.self.now.connections c.args.conn c.contains.result c.contains.ensures.1 c.if-not-contains.true, (refl, refl))
+
+pub returns-in_err-turn-clause-refused : goal.returns-in_err-turn-clause-refused
+returns-in_err-turn-clause-refused g c =
+    let mid = c.loop-self.self in
+    let inv = c.loop-self.invariant in
+    let fault = c.in_err-turn.field-0.0 in
+    let told = told_by c.from_residual.result fault c.from_residual.ensures.1 in
+    rw told (hang_up_refused (view c.args.self.now) (view mid) (view c.turn.new.self) c.args.conn fault inv.is_up inv.later (sym c.is_busy.ensures ∙ c.loop-self-test.true)
+    (rw c.in_err-turn.was at c.turn.ensures.refused))
 
 pub loop-self-init : goal.loop-self-init
 unfolding volume_of
-loop-self-init g c =
-    let is_up : (fs_of c.args.self.now.fs).is_down ≡ false = sym c.if-is_down.ensures in
-    record {
-      is_up = is_up;
-      turned = Stays;
-      same = refl;
-      moments = λ keeps. adds_none _ _;
-      holds = λ keeps. c.tell_holds.ensures keeps is_up;
-      later = omega arith;
-    }
+loop-self-init g c = record { is_up = sym c.if-is_down.ensures; turned = λ keeps recent ready. (recent, Stays, ready); later = omega arith }
 
 pub loop-self-smaller : goal.loop-self-smaller
 unfolding world_of
 loop-self-smaller g c =
     let mid = c.loop-self.self in
-    let made = rw c.in_ok-turn.was at c.turn.ensures.ok in
     fewer_left (world_of mid) c.turn.new.self.connections c.args.conn c.args.now (sym c.is_busy.ensures ∙ c.loop-self-test.true)
-    (ap (λ (w : World). w.connections) made.1.world)
+    (ap (λ (w : World). w.connections) (rw c.in_ok-turn.was at c.turn.ensures.turned).world)
 
 pub loop-self-preserved : goal.loop-self-preserved
 loop-self-preserved g c =
@@ -45,15 +50,14 @@ loop-self-preserved g c =
     let mid = c.loop-self.self in
     let new = c.turn.new.self in
     let inv = c.loop-self.invariant in
+    let still = (rw c.in_ok-turn.was at c.turn.ensures.turned).still_up in
     let made = rw c.in_ok-turn.was at c.turn.ensures.ok in
     record {
-      is_up = made.1.still_up;
-      turned = turned_on c.args.conn c.args.now (up old) (up mid) (up new) inv.turned (sym c.is_busy.ensures ∙ c.loop-self-test.true) made.1;
-      same = c.turn.ensures.same ∙ ap (λ (f : FileSystem). record f { tree = (volume_of new).tree; changes = (volume_of new).changes; is_down = (volume_of new).is_down; history = (volume_of new).history }) inv.same;
-      moments = λ keeps. turning_on c.args.conn c.args.now (up old) (up mid) (volume_of old) (volume_of mid) _
-          (ap (λ (f : FileSystem). f.sectors) inv.same) (ap (λ (f : FileSystem). f.limits.nodes) inv.same) (ap (λ (f : FileSystem). f.run) inv.same)
-          inv.turned (inv.moments keeps) (c.turn.ensures.moments keeps inv.is_up);
-      holds = λ keeps. c.turn.ensures.holds keeps made.1.still_up;
+      is_up = still;
+      turned = λ keeps recent ready.
+          let was = inv.turned keeps recent ready in
+          let does = made keeps was.0 was.2 in
+          (does.0, turned_on c.args.conn c.args.now (seen_with old recent) (seen_with mid was.0) (seen_with new does.0) _ was.1 (sym c.is_busy.ensures ∙ c.loop-self-test.true) does.1, does.1.ready);
       later = omega (arith, inv.later, c.turn.ensures.later);
     }
 
@@ -61,15 +65,6 @@ pub returns-in_err-turn-clause-is_none : goal.returns-in_err-turn-clause-is_none
 unfolding world_of
 returns-in_err-turn-clause-is_none g c =
     λ up free. absurd (present c.args.self.now.connections c.args.conn (c.contains.ensures.0 c.if-not-contains.false) free)
-
-pub returns-in_err-turn-clause-moments : goal.returns-in_err-turn-clause-moments
-returns-in_err-turn-clause-moments g c =
-    let old = c.args.self.now in
-    let mid = c.loop-self.self in
-    let inv = c.loop-self.invariant in
-    λ keeps was_up. turning_on c.args.conn c.args.now (up old) (up mid) (volume_of old) (volume_of mid) _
-    (ap (λ (f : FileSystem). f.sectors) inv.same) (ap (λ (f : FileSystem). f.limits.nodes) inv.same) (ap (λ (f : FileSystem). f.run) inv.same)
-    inv.turned (inv.moments keeps) (c.turn.ensures.moments keeps inv.is_up)
 
 pub invariant_of-self : goal.invariant_of-self
 invariant_of-self g c =
@@ -84,12 +79,14 @@ pub returns-clause-ok : goal.returns-clause-ok
 unfolding world_of volume_of
 returns-clause-ok g c =
     let mid = c.loop-self.self in
-    let inv = c.loop-self.invariant in (
-      up mid,
-      inv.turned,
-      happens _ _ _ _ (runs.HangsUp c.args.conn) inv.is_up inv.is_up
+    let inv = c.loop-self.invariant in
+    λ keeps recent ready.
+    let was = inv.turned keeps recent ready in (
+      seen_with mid was.0,
+      was.1,
+      does_quietly (fs_of mid.fs) _ _ _ (runs.HangsUp c.args.conn) _ refl inv.is_up
           (hung_up (fs_of mid.fs) (table_of mid.table) (connections_of mid.connections) _ c.args.conn (sym c.is_busy.ensures ∙ c.loop-self-test.false)
-          (without_slot mid.connections c.try_remove.new.self c.args.conn c.try_remove.ensures.updates)),
+          (without_slot mid.connections c.try_remove.new.self c.args.conn c.try_remove.ensures.updates)) refl was.0 was.2,
     )
 
 pub returns-clause-gone : goal.returns-clause-gone
@@ -100,3 +97,31 @@ pub returns-clause-is_none : goal.returns-clause-is_none
 unfolding world_of
 returns-clause-is_none g c =
     λ up free. absurd (present c.args.self.now.connections c.args.conn (c.contains.ensures.0 c.if-not-contains.false) free)
+
+pub returns-in_err-turn-clause-memory : goal.returns-in_err-turn-clause-memory
+returns-in_err-turn-clause-memory g c =
+    let mid = c.loop-self.self in
+    let fault = c.in_err-turn.field-0.0 in
+    let told = told_by c.from_residual.result fault c.from_residual.ensures.1 in
+    λ keeps is recent ready.
+    let memory : fault ≡ faults.Memory = cc in
+    let same : IsUntouched (view mid) (view c.turn.new.self) = subst (RefusesTurn (view mid) (view c.turn.new.self) c.args.conn) memory (rw c.in_err-turn.was at c.turn.ensures.refused) in
+    let was = c.loop-self.invariant.turned keeps recent ready in (
+      seen_with mid was.0,
+      was.1,
+      (
+        was.0,
+        same_seen (world_of mid) (world_of c.turn.new.self) was.0 (volume_of mid) (volume_of c.turn.new.self)
+            same.0 same.1,
+      ),
+    )
+
+pub returns-in_err-turn-clause-fails : goal.returns-in_err-turn-clause-fails
+returns-in_err-turn-clause-fails g c =
+    let mid = c.loop-self.self in
+    let fault = c.in_err-turn.field-0.0 in
+    let told = told_by c.from_residual.result fault c.from_residual.ensures.1 in
+    λ keeps up is recent ready.
+    let device : fault ≡ faults.Device = cc in
+    let was = c.loop-self.invariant.turned keeps recent ready in
+    (seen_with mid was.0, was.1, c.turn.ensures.fails keeps c.loop-self.invariant.is_up (c.in_err-turn.was ∙ ap Err device) was.0 was.2)

@@ -1,19 +1,17 @@
-use Rattle.std.proofs.Common.{◌≡◌, ◌≤◌, false}
-use Rattle.disk.specs.Moments.{AddsOnly}
-use Rattle.fs.specs.FileSystem.{Holds}
+use Rattle.std.proofs.Common.{◌≡◌, ◌≤◌, List, false}
+use Rattle.fs.specs.FileSystem.{IsRecent}
 use Rattle.model.specs.Keyed.{at}
-use Rattle.server.specs.Servers.{world_of, volume_of, failures_of, up, StandsForOne}
-use Rattle.server.specs.Serves.{IsTurned, MayLeaveTurning}
+use Rattle.model.specs.Tree.{Tree}
+use Rattle.server.specs.Seen.{IsTurned}
+use Rattle.server.specs.Servers.{world_of, volume_of, failures_of, seen_with}
 use Rattle.server.proofs.HangUps.{turns_left}
 use Rattle.server.proofs.server.Server.hangup.Given as goal
 
 abbrev pub invariant-loop-self : goal.invariant-loop-self
 invariant-loop-self g l = record {
   is_up : (volume_of l.self).is_down ≡ false;
-  turned : IsTurned l.conn l.now (up l.fn.self) (up l.self);
-  same : volume_of l.self ≡ record (volume_of l.fn.self) { tree = (volume_of l.self).tree; changes = (volume_of l.self).changes; is_down = (volume_of l.self).is_down; history = (volume_of l.self).history };
-  moments : g.D.Device.keeps_word → AddsOnly (StandsForOne (volume_of l.fn.self) (MayLeaveTurning l.conn l.now (up l.fn.self))) (volume_of l.fn.self).history (volume_of l.self).history;
-  holds : g.D.Device.keeps_word → Holds (volume_of l.self);
+  turned : g.D.Device.keeps_word → (recent : List Tree) → IsRecent (volume_of l.fn.self) recent
+      → (now : List Tree) × IsTurned l.conn l.now (seen_with l.fn.self recent) (seen_with l.self now) × IsRecent (volume_of l.self) now;
   later : failures_of l.fn.self ≤ failures_of l.self;
 }
 

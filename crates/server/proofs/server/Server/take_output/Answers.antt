@@ -1,9 +1,12 @@
 use Rattle.std.proofs.Common.{sym, refl, ap, ◌∙◌, subst, arith}
 use Rattle.fs.specs.FileSystems.{fs_of}
+use Rattle.model.specs.Runs as runs
 use Rattle.model.specs.World.{reply_in}
 use Rattle.session.specs.Views.{table_of}
 use Rattle.server.specs.Connections.{connections_of, connection_view, IsOfRun}
+use Rattle.server.specs.Seen.{Gave}
 use Rattle.server.specs.Servers.{world_of, volume_of}
+use Rattle.server.proofs.Moves.{moves_none, does_quietly}
 use Rattle.server.proofs.SlabLaws.{stands, stands_none, wrote, wrote_count}
 use Rattle.server.proofs.Worlds.{AllOfRun, all_of_run_with, taken_of_run, took, happens, stays_down}
 use Rattle.server.proofs.server.Server.take_output.Goals as goal
@@ -22,20 +25,17 @@ invariant_of-self g c =
           (taken_of_run run (connection_view before) (s.of_run c.args.conn (connection_view before) (stands s.connections c.args.conn before c.in-Some.ensures.value)))));
     }
 
-pub returns-in-Some-clause-reply : goal.returns-in-Some-clause-reply
-unfolding world_of
-returns-in-Some-clause-reply g c =
-    c.take_output.ensures.given ∙ ap reply_in (sym (stands c.args.self.now.connections c.args.conn c.in-Some.connection.now c.in-Some.ensures.value))
-
 pub returns-in-Some-clause-ok : goal.returns-in-Some-clause-ok
 unfolding world_of volume_of
 returns-in-Some-clause-ok g c =
     let s = c.args.self.now in
     let before = c.in-Some.connection.now in
     let after = c.take_output.new.self in
-    λ up. happens _ _ _ _ _ up up
+    let there = stands s.connections c.args.conn before c.in-Some.ensures.value in
+    λ keeps up. does_quietly (fs_of s.fs) _ _ _ (runs.Takes c.args.conn) _ refl up
     (took (fs_of s.fs) (table_of s.table) (connections_of s.connections) _ c.args.conn (connection_view before) (connection_view after)
-    (stands s.connections c.args.conn before c.in-Some.ensures.value) (wrote s.connections c.args.conn before after c.in-Some.ensures.value) c.take_output.ensures.left)
+    there (wrote s.connections c.args.conn before after c.in-Some.ensures.value) c.take_output.ensures.left)
+    (ap Gave (c.take_output.ensures.given ∙ ap reply_in (sym there)))
 
 pub returns-in-Some-clause-down : goal.returns-in-Some-clause-down
 unfolding world_of volume_of
@@ -43,9 +43,14 @@ returns-in-Some-clause-down g c =
     let s = c.args.self.now in
     let before = c.in-Some.connection.now in
     let after = c.take_output.new.self in
-    λ down recent. stays_down _ _ _ _ recent c.args.conn down down
-    (took (fs_of s.fs) (table_of s.table) (connections_of s.connections) _ c.args.conn (connection_view before) (connection_view after)
-    (stands s.connections c.args.conn before c.in-Some.ensures.value) (wrote s.connections c.args.conn before after c.in-Some.ensures.value) c.take_output.ensures.left)
+    let there = stands s.connections c.args.conn before c.in-Some.ensures.value in
+    λ keeps down recent leaves. record {
+      stays = stays_down _ _ _ _ recent c.args.conn down down
+          (took (fs_of s.fs) (table_of s.table) (connections_of s.connections) _ c.args.conn (connection_view before) (connection_view after)
+          there (wrote s.connections c.args.conn before after c.in-Some.ensures.value) c.take_output.ensures.left);
+      says = ap Gave (c.take_output.ensures.given ∙ ap reply_in (sym there));
+      moves = moves_none _ _ (runs.Takes c.args.conn) (fs_of s.fs) leaves;
+    }
 
 pub returns-in-Some-clause-no_connection : goal.returns-in-Some-clause-no_connection
 unfolding world_of

@@ -1,4 +1,4 @@
-use Rattle.std.proofs.Common.{◌≡◌, ℕ, Some, Err, true, refl, sym, ap, ◌∙◌, subst, arith}
+use Rattle.std.proofs.Common.{◌≡◌, ℕ, Some, Err, true, inl, inr, refl, sym, ap, ◌∙◌, subst, arith}
 use Rattle.compound.specs.declared.fault.Fault.TheVariants as turns
 use Rattle.slab.specs.Slab.{with_value}
 use Rattle.fs.specs.FileSystem.{FileSystem}
@@ -9,16 +9,22 @@ use Rattle.session.specs.Views.{table_of}
 use Rattle.server.specs.Connections.{connections_of, connection_view}
 use Rattle.server.specs.Faults.{turn_fault}
 use Rattle.server.specs.declared.fault.ServerFault.TheVariants as faults
-use Rattle.server.specs.Servers.{world_of, volume_of, world_by}
-use Rattle.server.proofs.Refusals.{told_by, device_told}
+use Rattle.server.specs.Seen.{Turned}
+use Rattle.server.specs.Servers.{world_of, volume_of, failures_of, world_by}
+use Rattle.server.proofs.Moves.{same_by, broken_leaves}
+use Rattle.server.proofs.Refusals.{told_by, device_told, turn_refused}
 use Rattle.server.proofs.SlabLaws.{stands, stands_none, wrote, wrote_count, rewrote, numbers_rise}
 use Rattle.server.proofs.ServedTurns.{served_by, turned, undone, turning_moments}
-use Rattle.server.proofs.Worlds.{AllOfRun, all_of_run_with, happens, fails}
+use Rattle.server.proofs.Worlds.{AllOfRun, all_of_run_with, happened_from, failed_from}
 use Rattle.server.proofs.server.Server.turn.Goals as goal
 
-pub returns-in_default-clause-no_connection : goal.returns-in_default-clause-no_connection
-unfolding world_of
-returns-in_default-clause-no_connection g c = λ is. stands_none c.args.self.now.connections c.args.conn c.in_default.ensures.value
+pub returns-in_default-clause-refused : goal.returns-in_default-clause-refused
+unfolding world_of volume_of
+returns-in_default-clause-refused g c = (stands_none c.args.self.now.connections c.args.conn c.in_default.ensures.value, (refl, refl))
+
+pub returns-then-is_down-clause-refused : goal.returns-then-is_down-clause-refused
+unfolding volume_of
+returns-then-is_down-clause-refused g c = (refl, inl (sym c.if-is_down.ensures))
 
 pub returns-in_default-clause-is_closed : goal.returns-in_default-clause-is_closed
 unfolding world_of
@@ -41,10 +47,14 @@ returns-then-is_closed-clause-is_none g c =
     let there = stands c.args.self.now.connections c.args.conn c.in-Some.connection.now c.in-Some.ensures.value in
     λ up free. let never : ⊥ = cc in absurd never
 
-pub returns-then-is_closed-clause-closed : goal.returns-then-is_closed-clause-closed
-unfolding world_of
-returns-then-is_closed-clause-closed g c =
-    λ is. stands c.args.self.now.connections c.args.conn c.in-Some.connection.now c.in-Some.ensures.value ∙ ap Some (c.is_closed.ensures.0 c.if-is_closed.true)
+pub returns-then-is_closed-clause-refused : goal.returns-then-is_closed-clause-refused
+unfolding world_of volume_of
+returns-then-is_closed-clause-refused g c =
+    let s = c.args.self.now in
+    let before = c.in-Some.connection.now in (
+      stands s.connections c.args.conn before c.in-Some.ensures.value ∙ ap Some (c.is_closed.ensures.0 c.if-is_closed.true),
+      (ap (world_by (fs_of s.fs) (table_of s.table)) (rewrote s.connections c.args.conn before before c.in-Some.ensures.value refl), refl),
+    )
 
 pub turn-requires-clause-run : goal.turn-requires-clause-run
 turn-requires-clause-run g c =
@@ -75,13 +85,26 @@ returns-in_err-turn-clause-fails g c =
     let refusal = c.in_err-turn.field-0.0 in
     let told = told_by c.from_residual.result (turn_fault refusal) c.from_residual.ensures.1 in
     let back = rw c.in_err-turn.was at c.turn.ensures.back in
-    λ up is.
+    λ keeps up is.
     let device : refusal ≡ turns.Device = device_told refusal (let told_is : turn_fault refusal ≡ faults.Device = cc in told_is) in
-    fails _ _ _ _ (runs.Turns c.args.conn c.args.now) up
-    (ap (λ (f : FileSystem). f.is_down) (c.turn.ensures.device (c.in_err-turn.was ∙ ap Err device)))
-    (undone (fs_of s.fs) (fs_of c.turn.new.fs) (table_of s.table) (table_of c.turn.new.table) (connections_of s.connections) _ refusal
-    (λ memory. c.turn.ensures.memory (c.in_err-turn.was ∙ ap Err memory)) (λ device. c.turn.ensures.device (c.in_err-turn.was ∙ ap Err device)) back.1
-    (rewrote s.connections c.args.conn before after c.in-Some.ensures.value back.0))
+    let adds = c.turn.ensures.moments keeps (world_by (fs_of s.fs) (table_of s.table) (connections_of s.connections)) c.args.conn (served_by _ _ _)
+    (stands s.connections c.args.conn before c.in-Some.ensures.value) in
+    let same = same_by (fs_of s.fs) (fs_of c.turn.new.fs) c.turn.ensures.same in
+    λ recent ready. (
+      _,
+      record {
+        fails = failed_from _ _ recent _ _ (runs.Turns c.args.conn c.args.now) ready.newest up
+            (ap (λ (f : FileSystem). f.is_down) (c.turn.ensures.device (c.in_err-turn.was ∙ ap Err device)))
+            (undone (fs_of s.fs) (fs_of c.turn.new.fs) (table_of s.table) (table_of c.turn.new.table) (connections_of s.connections) _ refusal
+            (λ memory. c.turn.ensures.memory (c.in_err-turn.was ∙ ap Err memory)) (λ device. c.turn.ensures.device (c.in_err-turn.was ∙ ap Err device)) back.1
+            (rewrote s.connections c.args.conn before after c.in-Some.ensures.value back.0));
+        moves = record {
+          moments = turning_moments (fs_of s.fs) (table_of s.table) (connections_of s.connections) c.args.conn c.args.now recent _ ready up adds;
+          leaves = broken_leaves (fs_of s.fs) (fs_of c.turn.new.fs) _ recent ready adds same;
+          same = same;
+        };
+      },
+    )
 
 pub returns-in_err-turn-clause-is_none : goal.returns-in_err-turn-clause-is_none
 unfolding world_of
@@ -98,27 +121,20 @@ returns-in_err-turn-clause-is_closed g c =
     let tested : c.is_closed.result ≡ true = c.is_closed.ensures.1 is in
     let never : ⊥ = cc in absurd never
 
-pub returns-in_err-turn-clause-err : goal.returns-in_err-turn-clause-err
-unfolding world_of
-returns-in_err-turn-clause-err g c =
+pub returns-in_err-turn-clause-refused : goal.returns-in_err-turn-clause-refused
+unfolding world_of volume_of failures_of
+returns-in_err-turn-clause-refused g c =
     let s = c.args.self.now in
     let before = c.in-Some.connection.now in
     let after = c.turn.new.self in
     let refusal = c.in_err-turn.field-0.0 in
     let told = told_by c.from_residual.result (turn_fault refusal) c.from_residual.ensures.1 in
     let back = rw c.in_err-turn.was at c.turn.ensures.back in
-    rw told (undone (fs_of s.fs) (fs_of c.turn.new.fs) (table_of s.table) (table_of c.turn.new.table) (connections_of s.connections) _ refusal
+    let same = undone (fs_of s.fs) (fs_of c.turn.new.fs) (table_of s.table) (table_of c.turn.new.table) (connections_of s.connections) _ refusal
     (λ memory. c.turn.ensures.memory (c.in_err-turn.was ∙ ap Err memory)) (λ device. c.turn.ensures.device (c.in_err-turn.was ∙ ap Err device)) back.1
-    (rewrote s.connections c.args.conn before after c.in-Some.ensures.value back.0))
-
-pub returns-in_err-turn-clause-moments : goal.returns-in_err-turn-clause-moments
-unfolding world_of volume_of
-returns-in_err-turn-clause-moments g c =
-    let s = c.args.self.now in
-    let before = c.in-Some.connection.now in
-    λ keeps up. turning_moments (fs_of s.fs) (table_of s.table) (connections_of s.connections) c.args.conn c.args.now _ up
-    (c.turn.ensures.moments keeps (world_by (fs_of s.fs) (table_of s.table) (connections_of s.connections)) c.args.conn (served_by _ _ _)
-    (stands s.connections c.args.conn before c.in-Some.ensures.value))
+    (rewrote s.connections c.args.conn before after c.in-Some.ensures.value back.0) in
+    rw told (turn_refused _ _ c.args.conn refusal same (λ memory. c.turn.ensures.memory (c.in_err-turn.was ∙ ap Err memory))
+    (λ device. inr (c.turn.ensures.cause (c.in_err-turn.was ∙ ap Err device))))
 
 pub returns-clause-ok : goal.returns-clause-ok
 unfolding world_of volume_of
@@ -130,7 +146,23 @@ returns-clause-ok g c =
     let made = turned (fs_of s.fs) (fs_of c.turn.new.fs) (table_of s.table) (table_of c.turn.new.table) (connections_of s.connections) _ c.args.conn c.args.now
     (connection_view before) (connection_view after) (wrote s.connections c.args.conn before after c.in-Some.ensures.value) c.in_ok-turn.turn
     (rw c.in_ok-turn.was at c.turn.ensures.turn) (numbers_rise s.connections) (stands s.connections c.args.conn before c.in-Some.ensures.value) c.turn.ensures.same in
-    (made.0, happens _ _ _ _ (runs.Turns c.args.conn c.args.now) (sym c.if-is_down.ensures) still made.1)
+    let up = sym c.if-is_down.ensures in
+    λ keeps recent ready.
+    let holds = c.tell_holds.ensures keeps still in (
+      _,
+      record {
+        happens = happened_from _ _ recent _ _ (runs.Turns c.args.conn c.args.now) ready.newest up still made.1;
+        says = ap Turned made.0;
+        moves = record {
+          moments = turning_moments (fs_of s.fs) (table_of s.table) (connections_of s.connections) c.args.conn c.args.now recent _ ready up
+              (c.turn.ensures.moments keeps (world_by (fs_of s.fs) (table_of s.table) (connections_of s.connections)) c.args.conn (served_by _ _ _)
+              (stands s.connections c.args.conn before c.in-Some.ensures.value));
+          leaves = holds.leaves;
+          same = same_by (fs_of s.fs) (fs_of c.turn.new.fs) c.turn.ensures.same;
+        };
+        ready = holds;
+      },
+    )
 
 pub returns-clause-is_none : goal.returns-clause-is_none
 unfolding world_of
@@ -147,11 +179,13 @@ returns-clause-is_closed g c =
     let tested : c.is_closed.result ≡ true = c.is_closed.ensures.1 is in
     let never : ⊥ = cc in absurd never
 
-pub returns-clause-moments : goal.returns-clause-moments
+pub returns-clause-turned : goal.returns-clause-turned
 unfolding world_of volume_of
-returns-clause-moments g c =
+returns-clause-turned g c =
     let s = c.args.self.now in
     let before = c.in-Some.connection.now in
-    λ keeps up. turning_moments (fs_of s.fs) (table_of s.table) (connections_of s.connections) c.args.conn c.args.now _ up
-    (c.turn.ensures.moments keeps (world_by (fs_of s.fs) (table_of s.table) (connections_of s.connections)) c.args.conn (served_by _ _ _)
-    (stands s.connections c.args.conn before c.in-Some.ensures.value))
+    let after = c.turn.new.self in
+    let made = turned (fs_of s.fs) (fs_of c.turn.new.fs) (table_of s.table) (table_of c.turn.new.table) (connections_of s.connections) _ c.args.conn c.args.now
+    (connection_view before) (connection_view after) (wrote s.connections c.args.conn before after c.in-Some.ensures.value) c.in_ok-turn.turn
+    (rw c.in_ok-turn.was at c.turn.ensures.turn) (numbers_rise s.connections) (stands s.connections c.args.conn before c.in-Some.ensures.value) c.turn.ensures.same in
+    record { up = sym c.if-is_down.ensures; still_up = rw c.in_ok-turn.was at c.turn.ensures.still_up; world = made.1 }

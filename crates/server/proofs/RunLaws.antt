@@ -1,0 +1,91 @@
+use Rattle.std.proofs.Common.{◌≡◌, ℕ, List, [], ◌∷◌, Option, Some, None, Bool, true, false, cond, refl, sym, ap, ◌∙◌, subst, arith}
+use Rattle.std.specs.List.{IsAmong}
+use Rattle.fs.proofs.RemountLaws.{seen_left}
+use Rattle.model.specs.declared.acl.Cred.{Cred}
+use Rattle.model.specs.Answer.{Answer, Outcome}
+use Rattle.model.specs.declared.status.Status.TheVariants as status
+use Rattle.model.specs.Keyed.{at}
+use Rattle.model.specs.Operation.{Argument, operation_of}
+use Rattle.model.specs.Rpc.{CallRead, NoCall, OtherVersion, Calls, Request, Answers, Runs, read_call, request_of}
+use Rattle.model.specs.Runs as runs
+use Rattle.model.specs.Tree.{Tree}
+use Rattle.model.specs.World as world
+use Rattle.model.specs.World.{World, Turn, Idle, Ran, Answered, InProgress, Next, Refuses, Reads, HasRun, Gives, Replays, Entry, Connection, Quiet, Waiting, Busy, Replied, Closed, one, turned, called, operates, behind, has_run, is_last, next_operation, in_room, run}
+use Rattle.disk.specs.Moments.{seen}
+use Rattle.server.specs.Headline.{IsMounted}
+use Rattle.server.specs.RunLaws.{IsReady, HangUpIsCalls, NeverEmpty, IsIdle, OnlyIdle}
+use Rattle.server.specs.Seen.{Seen, Call, Did, IsServed, IsTurned, Stays, LeavesNow}
+use Rattle.server.specs.Seen as served
+use Rattle.server.proofs.Stops.{joined}
+
+further_calls : (connection now : ℕ) (first old new : Seen) (calls : List Call) → IsServed first calls old → IsTurned connection now old new
+    → (more : List Call) × IsServed first more new
+further_calls connection now first old new calls before Stays = (calls, before)
+further_calls connection now first old new calls before (served.Goes_on {between = between} {said = said} busy does more) =
+    further_calls connection now first between new (Did (runs.Turns connection now) said ∷ calls)
+    (served.IsServed.Goes_on (runs.Turns connection now) said before does) more
+
+still_ready : (connection now : ℕ) (old new : Seen) → IsTurned connection now old new → IsReady old → IsReady new
+still_ready connection now old new Stays ready = ready
+still_ready connection now old new (served.Goes_on {between = between} busy does more) ready = still_ready connection now between new more does.ready
+
+pub hang_up_is_calls : HangUpIsCalls
+hang_up_is_calls connection now first old new calls before turned = (further_calls connection now first old new calls before turned, still_ready connection now old new turned)
+
+pub never_empty : NeverEmpty
+never_empty run start first last calls mounted served none =
+    let all = joined first last calls mounted.ready.leaves served in
+    let one = all.leaves (seen last.volume.history.now) (seen_left last.volume.history.now) in
+    let never = subst (λ (recent : List Tree). IsAmong recent one.0) none one.1 in
+    absurd (omega (arith, never.1.0))
+
+-- A step is not idle
+
+ends_or_goes : (old : World) (number : ℕ) (request : InProgress) (answer : Answer) (executed : Option Entry) (b : Bool)
+    → (cond b (world.ends old number (world.with_result request (Outcome.Done answer)) status.Ok executed)
+    (world.goes_on old number (world.with_result request (Outcome.Done answer)) executed)).turn ≡ Idle → ⊥
+ends_or_goes old number request answer executed true idle = let never : ⊥ = cc in never
+ends_or_goes old number request answer executed false idle = let never : ⊥ = cc in never
+
+behind_runs : (old : World) (number : ℕ) (request : InProgress) (outcome : Outcome) (executed : Option Entry) → (behind old number request outcome executed).turn ≡ Idle → ⊥
+behind_runs old number request (Outcome.Refused operation reason) executed idle = let never : ⊥ = cc in never
+behind_runs old number request (Outcome.Done answer) executed idle = ends_or_goes old number request answer executed (is_last request) idle
+
+has_runs : (old : World) (number : ℕ) (request : InProgress) (operation : Argument) (ran : HasRun) → (has_run old number request operation ran).turn ≡ Idle → ⊥
+has_runs old number request operation (Gives outcome after left) idle = behind_runs after number left outcome (Some (world.entry_of old request operation outcome after)) idle
+has_runs old number request operation (Replays result session slot) idle = let never : ⊥ = cc in never
+
+operates_runs : (old : World) (number now : ℕ) (request : InProgress) (next : Next) → (operates old number now request next).turn ≡ Idle → ⊥
+operates_runs old number now request (Refuses operation reason) idle = behind_runs old number request (Outcome.Refused operation reason) None idle
+operates_runs old number now request (Reads operation rest) idle = has_runs old number (record request { rest = rest }) operation
+    (in_room old (record request { rest = rest }) (operation_of operation) (run old (record request { rest = rest }) now operation)) idle
+
+requests_run : (old : World) (number now xid : ℕ) (request : Request) → (world.requested old number now xid request).turn ≡ Idle → ⊥
+requests_run old number now xid (Answers reply) idle = let never : ⊥ = cc in never
+requests_run old number now xid (Runs cred compound) idle =
+    operates_runs old number now (world.in_progress old xid cred compound) (next_operation (world.in_progress old xid cred compound)) idle
+
+calls_run : (old : World) (number now : ℕ) (call : CallRead) → (called old number now call).turn ≡ Idle → call ≡ NoCall
+calls_run old number now NoCall idle = refl
+calls_run old number now (OtherVersion xid) idle = let never : ⊥ = cc in absurd never
+calls_run old number now (Calls call) idle = absurd (requests_run old number now call.xid (request_of call) idle)
+
+turns_run : (old : World) (number now : ℕ) (connection : Option Connection) → (turned old number now connection).turn ≡ Idle → IsIdle connection
+turns_run old number now None idle = tt
+turns_run old number now (Some (Quiet bytes)) idle = tt
+turns_run old number now (Some (Waiting request)) idle = calls_run old number now (read_call request) idle
+turns_run old number now (Some (Busy request)) idle = operates_runs old number now request (next_operation request) idle
+turns_run old number now (Some (Replied reply)) idle = tt
+turns_run old number now (Some Closed) idle = tt
+
+idles : (old : World) (number now : ℕ) (connection : Option Connection) → IsIdle connection → (turned old number now connection).turn ≡ Idle
+idles old number now None is = refl
+idles old number now (Some (Quiet bytes)) is = refl
+idles old number now (Some (Waiting request)) is = ap (λ (call : CallRead). (called old number now call).turn) is
+idles old number now (Some (Busy request)) is = absurd is
+idles old number now (Some (Replied reply)) is = refl
+idles old number now (Some Closed) is = refl
+
+pub only_idle : OnlyIdle
+unfolding one
+only_idle old number now = (turns_run old number now (at number old.connections), idles old number now (at number old.connections))

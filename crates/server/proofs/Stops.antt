@@ -1,0 +1,137 @@
+-- The calls of a server are a run of the machine, and what a stop within one leaves stands for what the machine may leave.
+use Rattle.std.proofs.Common.{◌≡◌, ◌≤◌, ◌<◌, ℕ, List, [], ◌∷◌, length, Option, Some, None, refl, sym, ap, ◌∙◌, subst, inl, inr, ⊎_elim, arith}
+use Rattle.std.specs.List.{IsAmong}
+use Rattle.disk.specs.Moments.{Image, LeftSince, moment}
+use Rattle.fs.specs.FileSystem.{FileSystem}
+use Rattle.fs.specs.Stands.{StandsFor}
+use Rattle.fs.proofs.OneTree.{one_tree_stands}
+use Rattle.model.proofs.Headline.{every_run}
+use Rattle.model.specs.Runs as runs
+use Rattle.model.specs.Runs.{Serving, Event, Takes, Happens, Fails, StaysDown, MayLeave, History, IsRun, IsGoodPrefix, no_history, history_after, history_failing, effect_of, mounted, executed, done_with}
+use Rattle.model.specs.Tree.{Tree}
+use Rattle.model.specs.World.{World}
+use Rattle.fs.proofs.RemountLaws.{every_remount}
+use Rattle.server.specs.Headline.{IsMounted, IsGoodTree, IsKept, EveryStop, EveryRun, EveryTrace, Stopped, Follows, IsLater, Next, Then, EveryLife}
+use Rattle.fs.specs.FileSystem.{StandsForOne}
+use Rattle.server.specs.Seen.{Seen, LeavesNow, IsSameVolume, Moves, Does, Breaks, GivesDown, Call, Did, Failed, IsServed, Begins, Goes_on, Fails_at, Stays_down, world_after, history_of, AreTold, told, Said}
+use Rattle.server.specs.Servers.{server_limits}
+use Rattle.server.proofs.Moves.{left_now}
+
+-- a stop within a call
+stopped_in : (old new : Seen) (event : Event) → LeavesNow old → Moves old event new → (image : Image) → LeftSince new.volume.history (moment old.volume.history) image
+    → StandsForOne old.volume (MayLeave old.serving event) image
+stopped_in old new event leaves moves image left = ⊎_elim
+    (λ (before : LeftSince old.volume.history (moment old.volume.history) image).
+    let one = leaves image (left_now old.volume.history image before) in
+    (one.0, inl one.1, one.2))
+    (λ (added : StandsForOne old.volume (MayLeave old.serving event) image). added)
+    (moves.moments.added (moment old.volume.history) image (omega arith) left)
+
+-- The calls so far
+
+pub record IsJoined (first : Seen) (calls : List Call) (last : Seen) : Type 0 where
+  pub world : last.serving.world ≡ world_after first.serving.world calls
+  pub run : IsRun first.serving last.serving (history_of first.serving.world calls)
+  pub leaves : LeavesNow last
+  pub same : IsSameVolume first.volume last.volume
+
+same_on : (a b c : FileSystem) → IsSameVolume a b → IsSameVolume b c → IsSameVolume a c
+same_on a b c ab bc = record {
+  sectors = bc.sectors ∙ ab.sectors;
+  limits = bc.limits ∙ ab.limits;
+  run = bc.run ∙ ab.run;
+}
+
+pub joined : (first last : Seen) (calls : List Call) → LeavesNow first → IsServed first calls last → IsJoined first calls last
+joined first last calls leaves Begins = record {
+  world = refl;
+  run = runs.Begins;
+  leaves = leaves;
+  same = record { sectors = refl; limits = refl; run = refl };
+}
+joined first last calls leaves (Goes_on {calls = earlier} {old = old} {new = new} event said before does) =
+    let was = joined first old earlier leaves before in
+    let history = history_of first.serving.world earlier in
+    record {
+      world = does.happens.world ∙ ap (λ (w : World). effect_of w event) was.world;
+      run = subst (λ (w : World). IsRun first.serving new.serving (history_after history w event)) was.world (runs.Goes_on event was.run does.happens);
+      leaves = does.moves.leaves;
+      same = same_on first.volume old.volume new.volume was.same does.moves.same;
+    }
+joined first last calls leaves (Fails_at {calls = earlier} {old = old} {new = new} event before breaks) =
+    let was = joined first old earlier leaves before in
+    let history = history_of first.serving.world earlier in
+    record {
+      world = breaks.fails.world ∙ was.world;
+      run = subst (λ (w : World). IsRun first.serving new.serving (history_failing history w event)) was.world (runs.Fails_at event was.run breaks.fails);
+      leaves = breaks.moves.leaves;
+      same = same_on first.volume old.volume new.volume was.same breaks.moves.same;
+    }
+joined first last calls leaves (Stays_down {calls = earlier} {old = old} {new = new} connection said before gives) =
+    let was = joined first old earlier leaves before in
+    let history = history_of first.serving.world earlier in
+    record {
+      world = gives.stays.world ∙ ap (λ (w : World). effect_of w (Takes connection)) was.world;
+      run = subst (λ (w : World). IsRun first.serving new.serving (history_after history w (Takes connection))) was.world (runs.Stays_down connection was.run gives.stays);
+      leaves = gives.moves.leaves;
+      same = same_on first.volume old.volume new.volume was.same gives.moves.same;
+    }
+
+-- The laws
+
+pub every_stop : EveryStop
+every_stop stopped =
+    let first = stopped.first in
+    let old = stopped.old in
+    let history = history_of first.serving.world stopped.calls in
+    let all = joined first old stopped.calls stopped.mounted.ready.leaves stopped.served in
+    let found = stopped_in old stopped.new stopped.event all.leaves stopped.moves stopped.image stopped.left in
+    let stands : StandsFor first.volume.sectors first.volume.limits.nodes stopped.run found.0 stopped.image =
+    subst (λ (s : ℕ). StandsFor s first.volume.limits.nodes stopped.run found.0 stopped.image) all.same.sectors
+    (subst (λ (n : ℕ). StandsFor old.volume.sectors n stopped.run found.0 stopped.image) (ap (λ l. l.nodes) all.same.limits)
+    (subst (λ (r : ℕ). StandsFor old.volume.sectors old.volume.limits.nodes r found.0 stopped.image) (all.same.run ∙ stopped.mounted.counted) found.2)) in
+    record {
+      tree = found.0;
+      good = every_run (server_limits first.volume.limits) stopped.run stopped.start old.serving history
+          (subst (λ (s : Serving). IsRun s old.serving history) stopped.mounted.serves all.run) stopped.event found.0 found.1;
+      stands = stands;
+      no_other = λ nodes run other others. one_tree_stands _ _ _ _ _ other found.0 stopped.image others stands;
+    }
+
+pub every_run_again : EveryRun
+every_run_again stopped device again remounts found =
+    let is = every_stop stopped in
+    let same = every_remount stopped.first.volume.sectors stopped.first.volume.limits.nodes stopped.run is.tree stopped.image device again is.stands remounts found in
+    record { good = subst (IsGoodTree stopped) (sym same.0) is.good; nodes = same.1.0; counted = same.1.1 }
+
+follows_run : (old new : Stopped) → Follows old new → IsGoodTree old new.start × (old.run < new.run)
+follows_run old new follows =
+    let again = every_run_again old follows.device new.first.volume follows.remounts follows.found in
+    (subst (IsGoodTree old) new.mounted.begins again.good, subst (λ (r : ℕ). old.run < r) new.mounted.counted again.counted)
+
+later_run : (old new : Stopped) → IsLater old new → old.run < new.run
+later_run old new (Next follows) = (follows_run old new follows).1
+later_run old new (Then {between = between} later follows) =
+    let first = later_run old between later in
+    let second = (follows_run between new follows).1 in
+    omega (arith, first, second)
+
+pub every_life : EveryLife
+every_life = record { begins = λ old new follows. (follows_run old new follows).0; rises = later_run }
+
+-- What is told of worlds and answers needs nothing of the device
+traced : (first last : Seen) (calls : List Call) → IsServed first calls last
+    → (last.serving.world ≡ world_after first.serving.world calls) × AreTold first.serving.world calls
+traced first last calls Begins = (refl, tt)
+traced first last calls (Goes_on {calls = earlier} {old = old} {new = new} event said before does) =
+    let was = traced first old earlier before in
+    (does.happens.world ∙ ap (λ (w : World). effect_of w event) was.0, (does.says ∙ ap (λ (w : World). told w event) was.0, was.1))
+traced first last calls (Fails_at {calls = earlier} {old = old} {new = new} event before breaks) =
+    let was = traced first old earlier before in
+    (breaks.fails.world ∙ was.0, was.1)
+traced first last calls (Stays_down {calls = earlier} {old = old} {new = new} connection said before gives) =
+    let was = traced first old earlier before in
+    (gives.stays.world ∙ ap (λ (w : World). effect_of w (Takes connection)) was.0, (gives.says ∙ ap (λ (w : World). told w (Takes connection)) was.0, was.1))
+
+pub every_trace : EveryTrace
+every_trace first last calls served = traced first last calls served

@@ -1,0 +1,14 @@
+use Rattle.server.proofs.RunLaws.{hang_up_is_calls, never_empty, only_idle}
+use Rattle.server.proofs.Stops.{every_run_again, every_stop, every_trace, every_life}
+use Rattle.server.proofs.laws.every_run.Goals as goal
+
+pub returns : goal.returns
+returns c = record {
+  headline = every_run_again;
+  stop = every_stop;
+  trace = every_trace;
+  life = every_life;
+  idle = only_idle;
+  hang_up = hang_up_is_calls;
+  empty = never_empty;
+}

@@ -1,0 +1,28 @@
+use Rattle.std.proofs.Common.{refl, ap, ◌∙◌}
+use Rattle.fs.specs.FileSystems.{fs_of}
+use Rattle.fs.specs.declared.fault.MountFault.TheVariants as mounts
+use Rattle.fs.proofs.MountedLaws.{refused_untouched}
+use Rattle.model.specs.Session.{empty_table}
+use Rattle.session.specs.Views.{table_of}
+use Rattle.server.specs.Connections.{connections_of}
+use Rattle.server.specs.Servers.{world_of, volume_of}
+use Rattle.server.proofs.Moves.{mounted_by}
+use Rattle.server.proofs.Refusals.{told_err}
+use Rattle.server.proofs.server.Server.mount.Goals as goal
+
+pub returns-clause-begins : goal.returns-clause-begins
+unfolding world_of volume_of connections_of
+returns-clause-begins g c =
+    let new = c.in_ok-fs.ensures.new in
+    λ keeps. mounted_by (fs_of c.in_ok-fs.fs) (table_of c.new-table.result) (connections_of c.in-Ok.connections)
+    (c.new-table.ensures ∙ ap empty_table c.restart_count.ensures) (rw c.in-Ok.ensures.empty refl) new.no_change new.is_up (c.in_ok-fs.ensures.mounted keeps).holds
+
+-- no memory for the connections: the device was not asked
+pub returns-in-Err-clause-refused : goal.returns-in-Err-clause-refused
+returns-in-Err-clause-refused g c = λ keeps.
+    refused_untouched (g.D.Device.size c.args.device) (g.D.Device.history c.args.device) (g.D.Device.history c.args.device) mounts.Memory refl tt
+
+pub returns-in_err-fs-clause-refused : goal.returns-in_err-fs-clause-refused
+returns-in_err-fs-clause-refused g c = λ keeps.
+    let told = told_err c.from_residual.result c.in_err-fs.field-0.0 c.from_residual.ensures.1 in
+    rw told (rw c.in_err-fs.was at c.mount.ensures.refused keeps)

@@ -1,0 +1,52 @@
+-- What a call of the server that is refused leaves.
+use Rattle.std.specs.Prelude.{ℕ, ⊤, true, false, Option, Some, None, ◌≡◌, ◌⊎◌}
+use Rattle.disk.specs.Cause.{IsCounted}
+use Rattle.disk.specs.declared.device.Device.{Ghosts}
+use Rattle.model.specs.Keyed.{at}
+use Rattle.model.specs.World.{World, Connection, Closed, one}
+use Rattle.fs.specs.FileSystem.{FileSystem}
+use Rattle.server.specs.declared.fault.ServerFault.{ServerFault}
+use Rattle.server.specs.declared.fault.ServerFault.TheVariants as faults
+use Rattle.server.specs.declared.server.Server.{Server}
+use Rattle.server.specs.Servers.{world_of, volume_of, failures_of}
+
+-- what a caller can tell of a server between two calls
+pub record View : Type 0 where
+  pub world : World
+  pub volume : FileSystem
+  pub failures : ℕ
+
+abbrev pub view : {D : Type 0} {g : Ghosts D} → Server D g → View
+view server = record { world = world_of server; volume = volume_of server; failures = failures_of server }
+
+abbrev pub IsUntouched : (old new : View) → Type 0
+IsUntouched old new = (new.world ≡ old.world) × (new.volume ≡ old.volume)
+
+abbrev pub connection_at : View → (number : ℕ) → Option Connection
+connection_at server number = at number server.world.connections
+
+-- the server was down before, or the device counted a failure
+abbrev pub HasCause : (old new : View) → Type 0
+HasCause old new = (old.volume.is_down ≡ true) ⊎ IsCounted old.failures new.failures
+
+-- a turn, by why it is refused: it leaves the world in any case
+abbrev pub RefusesTurn : (old new : View) → (number : ℕ) → ServerFault → Type 0
+RefusesTurn old new number faults.NoConnection = (connection_at old number ≡ None) × IsUntouched old new
+RefusesTurn old new number faults.Closed = (connection_at old number ≡ Some Closed) × IsUntouched old new
+RefusesTurn old new number faults.Memory = IsUntouched old new
+RefusesTurn old new number faults.Device = (new.world ≡ old.world) × HasCause old new
+RefusesTurn old new number faults.Full = ⊥
+
+-- a hang-up; for want of memory it leaves what was run
+abbrev pub RefusesHangUp : (old new : View) → (number : ℕ) → ServerFault → Type 0
+RefusesHangUp old new number faults.NoConnection = (connection_at old number ≡ None) × IsUntouched old new
+RefusesHangUp old new number faults.Memory = ⊤
+RefusesHangUp old new number faults.Device = HasCause old new
+RefusesHangUp old new number faults.Closed = ⊥
+RefusesHangUp old new number faults.Full = ⊥
+
+-- a turn that was done, whether the device keeps its word or not
+pub record HasTurned (old new : View) (number now : ℕ) : Type 0 where
+  pub up : old.volume.is_down ≡ false
+  pub still_up : new.volume.is_down ≡ false
+  pub world : new.world ≡ (one old.world number now).world

@@ -1,0 +1,32 @@
+-- What follows of every run.
+use Rattle.std.specs.Prelude.{ℕ, List, [], Option, Some, None, ◌≡◌, ◌↔◌}
+use Rattle.fs.specs.FileSystem.{IsRecent}
+use Rattle.model.specs.Keyed.{at}
+use Rattle.model.specs.Rpc.{NoCall, read_call}
+use Rattle.model.specs.Tree.{Tree}
+use Rattle.model.specs.World.{World, Connection, Quiet, Waiting, Busy, Replied, Closed, Idle, one}
+use Rattle.server.specs.Headline.{IsMounted}
+use Rattle.server.specs.Seen.{Seen, Call, IsServed, IsTurned, LeavesNow}
+
+-- the next call can be made
+abbrev pub IsReady : Seen → Type 0
+IsReady seen = IsRecent seen.volume seen.serving.recent
+
+-- The turns of a hang-up are calls, as those of a run, and further calls can be made behind them, also where it was refused for memory
+abbrev pub HangUpIsCalls : Type 0
+HangUpIsCalls = (connection now : ℕ) (first old new : Seen) (calls : List Call) → IsServed first calls old → IsTurned connection now old new
+    → ((more : List Call) × IsServed first more new) × (IsReady old → IsReady new)
+
+-- one that claims that a stop leaves nothing
+abbrev pub NeverEmpty : Type 0
+NeverEmpty = (run : ℕ) (start : Tree) (first last : Seen) (calls : List Call) → IsMounted run start first → IsServed first calls last → last.serving.recent ≡ [] → ⊥
+
+-- nothing to do: no whole call waits, and no request has begun
+abbrev pub IsIdle : Option Connection → Type 0
+IsIdle (Some (Waiting request)) = read_call request ≡ NoCall
+IsIdle (Some (Busy request)) = ⊥
+IsIdle connection = Unit {0}
+
+-- Idle is told exactly then
+abbrev pub OnlyIdle : Type 0
+OnlyIdle = (world : World) (number now : ℕ) → ((one world number now).turn ≡ Idle) ↔ IsIdle (at number world.connections)

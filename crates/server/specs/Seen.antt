@@ -1,0 +1,106 @@
+-- A server as its caller sees it from call to call: the machine of the headline, and the volume below it.
+use Rattle.std.specs.Prelude.{ℕ, true, List, [], ◌∷◌, Option, Some, None, ◌≡◌}
+use Rattle.disk.specs.Moments.{AddsOnly}
+use Rattle.fs.specs.FileSystem.{FileSystem, StandsForOne, LeavesOne, IsRecent}
+use Rattle.model.specs.Keyed.{at}
+use Rattle.model.specs.Runs.{Serving, Event, Arrives, Turns, HangsUp, Connects, Takes, Happens, Fails, StaysDown, MayLeave, History, no_history, history_after, history_failing, effect_of}
+use Rattle.model.specs.Tree.{Tree}
+use Rattle.model.specs.World as world
+use Rattle.model.specs.World.{World, Turn, one, taken_at, reply_at, is_busy}
+
+pub record Seen : Type 0 where
+  pub serving : Serving
+  pub volume : FileSystem
+
+abbrev pub LeavesNow : Seen → Type 0
+LeavesNow seen = LeavesOne seen.volume seen.serving.recent
+
+-- the same volume, in the same run
+pub record IsSameVolume (old new : FileSystem) : Type 0 where
+  pub sectors : new.sectors ≡ old.sectors
+  pub limits : new.limits ≡ old.limits
+  pub run : new.run ≡ old.run
+
+-- what a call adds to what a stop may leave, at each moment of it: trees that the machine may leave while the event happens
+pub record Moves (old : Seen) (event : Event) (new : Seen) : Type 0 where
+  pub moments : AddsOnly (StandsForOne old.volume (MayLeave old.serving event)) old.volume.history new.volume.history
+  pub leaves : LeavesNow new
+  pub same : IsSameVolume old.volume new.volume
+
+-- What a call answers
+
+pub data Said : Type 0 where
+  -- so many bytes of the piece; none: Closed
+  Took : Option ℕ → Said
+  Turned : Turn → Said
+  -- the reply's record
+  Gave : Option (List ℕ) → Said
+  Done : Said
+
+abbrev pub taken_on : World → (piece : List ℕ) → Option world.Connection → Option ℕ
+taken_on world piece None = None
+taken_on world piece (Some connection) = taken_at world.limits.records piece connection
+
+-- by the definition
+abbrev pub told : World → Event → Said
+told world (Arrives connection piece) = Took (taken_on world piece (at connection world.connections))
+told world (Turns connection now) = Turned (one world connection now).turn
+told world (HangsUp connection) = Done
+told world (Connects connection) = Done
+told world (Takes connection) = Gave (reply_at world connection)
+
+-- Calls
+
+-- a call that did an event; one in which the device failed; and a reply given by a server that is down
+pub record Does (old : Seen) (event : Event) (said : Said) (new : Seen) : Type 0 where
+  pub happens : Happens old.serving event new.serving
+  pub says : said ≡ told old.serving.world event
+  pub moves : Moves old event new
+  -- so the next call can be made
+  pub ready : IsRecent new.volume new.serving.recent
+
+pub record Breaks (old : Seen) (event : Event) (new : Seen) : Type 0 where
+  pub fails : Fails old.serving event new.serving
+  pub moves : Moves old event new
+
+pub record GivesDown (old : Seen) (connection : ℕ) (said : Said) (new : Seen) : Type 0 where
+  pub stays : StaysDown old.serving connection new.serving
+  pub says : said ≡ told old.serving.world (Takes connection)
+  pub moves : Moves old (Takes connection) new
+
+-- what was done, the newest first
+pub data Call : Type 0 where
+  Did : Event → Said → Call
+  Failed : Event → Call
+
+pub data IsServed (first : Seen) : List Call → Seen → Type 0 where
+  Begins : IsServed first [] first
+  Goes_on : {calls : List Call} {old new : Seen} (event : Event) (said : Said) → IsServed first calls old → Does old event said new
+      → IsServed first (Did event said ∷ calls) new
+  Fails_at : {calls : List Call} {old new : Seen} (event : Event) → IsServed first calls old → Breaks old event new
+      → IsServed first (Failed event ∷ calls) new
+  Stays_down : {calls : List Call} {old new : Seen} (connection : ℕ) (said : Said) → IsServed first calls old → GivesDown old connection said new
+      → IsServed first (Did (Takes connection) said ∷ calls) new
+
+-- By the definition
+
+abbrev pub world_after : World → List Call → World
+world_after start [] = start
+world_after start (Did event said ∷ calls) = effect_of (world_after start calls) event
+world_after start (Failed event ∷ calls) = world_after start calls
+
+abbrev pub history_of : World → List Call → History
+history_of start [] = no_history
+history_of start (Did event said ∷ calls) = history_after (history_of start calls) (world_after start calls) event
+history_of start (Failed event ∷ calls) = history_failing (history_of start calls) (world_after start calls) event
+
+abbrev pub AreTold : World → List Call → Type 0
+AreTold start [] = Unit {0}
+AreTold start (Did event said ∷ calls) = (said ≡ told (world_after start calls) event) × AreTold start calls
+AreTold start (Failed event ∷ calls) = AreTold start calls
+
+-- A hang-up: the further turns of a request that has begun, and then the connection goes
+pub data IsTurned (connection now : ℕ) : Seen → Seen → Type 0 where
+  Stays : {seen : Seen} → IsTurned connection now seen seen
+  Goes_on : {old between new : Seen} {said : Said} → is_busy (at connection old.serving.world.connections) ≡ true → Does old (Turns connection now) said between
+      → IsTurned connection now between new → IsTurned connection now old new
