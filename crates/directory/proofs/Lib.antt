@@ -8,3 +8,4 @@ pub mod Apart
 pub mod MapLaws
 pub mod RecordMaps
 pub mod NamedByStamp
+pub mod ReadBack

@@ -13,7 +13,7 @@ use Rattle.directory.specs.Spelling.{record_bytes, name_bytes, directory_sector}
 length_of : (name zeros : List ℕ) → length zeros ≡ 255 → length (take 255 (name ++ zeros)) ≡ 255
 length_of name zeros long = omega (arith, length-take 255 (name ++ zeros), length-append name zeros)
 
-length-name_bytes : (name : List ℕ) → length (name_bytes name) ≡ 255
+pub length-name_bytes : (name : List ℕ) → length (name_bytes name) ≡ 255
 unfolding name_bytes
 length-name_bytes name = length_of name (replicate 255 0) refl
 

@@ -3,6 +3,7 @@
 
 mod entry;
 mod fault;
+mod laws;
 mod listing;
 mod names;
 mod paging;
@@ -10,6 +11,7 @@ mod sectors;
 
 pub use entry::Entry;
 pub use fault::{DirectoryFault, RecordsFault};
+pub use laws::reads_back;
 pub use listing::ListAfter;
 pub use names::Names;
 pub use paging::every_paging;

@@ -3,3 +3,4 @@ pub mod RunLemmas
 pub mod Making
 pub mod Laying
 pub mod SectorLemmas
+pub mod ReadBack

@@ -2,11 +2,13 @@
 #![tactic(auto)]
 
 mod fault;
+mod laws;
 mod list;
 mod run;
 mod sector_runs;
 
 pub use fault::ExtentsFault;
+pub use laws::reads_back;
 pub use list::BlockList;
 pub use run::Run;
 pub use sector_runs::{MOST_RUNS, read_run_sector, write_run_sector};

@@ -3,12 +3,14 @@
 
 mod entries;
 mod fault;
+mod laws;
 mod node;
 mod reading;
 mod writing;
 
 pub use entries::{ace_at, put_ace};
 pub use fault::InodeFault;
+pub use laws::reads_back;
 pub use node::{Form, Inode};
 pub use reading::from_sector;
 pub use writing::to_sector;

@@ -1,12 +1,17 @@
 -- Records of one width, end to end.
 use Rattle.std.specs.Prelude.{◌≡◌, ◌≤◌, ◌<◌, ◌+◌, ◌*◌, ℕ, zero, suc, List, [], ◌∷◌, ◌++◌, length, drop}
-use Rattle.std.specs.List.{flat_map}
-use Rattle.std.proofs.Common.{refl, sym, ap, ◌∙◌, arith, append_assoc, get_or}
+use Rattle.std.specs.List.{flat_map, AllByRecursion}
+use Rattle.std.proofs.Common.{refl, sym, ap, ap₂, ◌∙◌, arith, append_assoc, get_or}
 use Rattle.std.proofs.lemmas.List.{length-append, drop_at, drop-drop, drop_more}
 
 -- each record has this width
 abbrev pub AreWide : {A : Type 0} → (A → List ℕ) → ℕ → Type 0
 AreWide {A = A} spelling width = (record_ : A) → length (spelling record_) ≡ width
+
+-- The first records of these bytes, whatever the bytes are: each is read from its place on.
+abbrev pub records_at_front : {A : Type 0} → (List ℕ → A) → (width count : ℕ) → List ℕ → List A
+records_at_front read width zero bytes = []
+records_at_front read width (suc count) bytes = read bytes ∷ records_at_front read width count (drop width bytes)
 
 module _ {A : Type 0} (spelling : A → List ℕ) (width : ℕ) (wide : AreWide spelling width) where
   pub length-records : (xs : List A) → length (flat_map spelling xs) ≡ width * length xs
@@ -33,3 +38,12 @@ module _ {A : Type 0} (spelling : A → List ℕ) (width : ℕ) (wide : AreWide 
   -- behind the last one
   pub drop-records_all : (xs : List A) (rest : List ℕ) → drop (width * length xs) (flat_map spelling xs ++ rest) ≡ rest
   drop-records_all xs rest = drop_at (flat_map spelling xs) rest (width * length xs) (length-records xs)
+
+  -- where one record is read back, all are
+  pub records-back : (read : List ℕ → A) (P : A → Type 0) → ((x : A) (rest : List ℕ) → P x → read (spelling x ++ rest) ≡ x)
+      → (xs : List A) (rest : List ℕ) → AllByRecursion P xs → records_at_front read width (length xs) (flat_map spelling xs ++ rest) ≡ xs
+  records-back read P back [] rest all = refl
+  records-back read P back (x ∷ xs) rest all =
+      let apart : (spelling x ++ flat_map spelling xs) ++ rest ≡ spelling x ++ (flat_map spelling xs ++ rest) = append_assoc (spelling x) (flat_map spelling xs) rest in
+      rw apart (ap₂ (λ (y : A) (ys : List A). y ∷ ys) (back x (flat_map spelling xs ++ rest) all.0)
+      (ap (records_at_front read width (length xs)) (drop_at (spelling x) (flat_map spelling xs ++ rest) width (wide x)) ∙ records-back read P back xs rest all.1))

@@ -1,0 +1,8 @@
+//! What a run sector says, whatever its bytes.
+
+ghost use Rattle.extents.specs.Reading.{RunsReadBack};
+
+/// Reading, which takes any sector, gives back the runs that were spelled in one.
+pub fn reads_back()
+    ensures { RunsReadBack }
+{}

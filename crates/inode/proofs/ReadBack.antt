@@ -1,0 +1,68 @@
+-- What is read of a node's sector is what was spelled there.
+use Rattle.std.proofs.Common.{◌≡◌, ◌+◌, ◌/◌, ℕ, List, ◌++◌, length, drop, refl, sym, ap, ap₂, ◌∙◌, arith}
+use Rattle.std.specs.Int.{w16, w32, from_be_bytes}
+use Rattle.std.proofs.lemmas.Nat.{from_be_bytes-to_be_bytes_2, from_be_bytes-to_be_bytes_4, from_be_bytes-to_be_bytes_8}
+use Rattle.model.specs.declared.node.NodeKind.{NodeKind}
+use Rattle.model.specs.declared.node.NodeKind.TheVariants as node
+use Rattle.model.specs.declared.acl.Ace.{Ace}
+use Rattle.model.specs.declared.acl.AceKind.{AceKind}
+use Rattle.model.specs.declared.acl.AceKind.TheVariants as ace_kind
+use Rattle.model.specs.declared.acl.Who.{Who}
+use Rattle.model.specs.declared.acl.Who.TheVariants as who
+use Rattle.sector.specs.Records.{records_at_front, records-back}
+use Rattle.inode.specs.declared.node.Form.TheVariants.{One}
+use Rattle.inode.specs.Fields.{Fields, IsInode, IsAce, IsRunSector, id_of}
+use Rattle.inode.specs.Spelling.{inode_sector, kind_byte, ace_kind_byte, who_byte, number_bytes, ace_bytes}
+use Rattle.inode.specs.Reading.{fields_in, kind_of_byte, ace_kind_of_byte, who_of_byte, ace_in, run_sector_in, FieldsReadBack, OneNode}
+use Rattle.inode.proofs.Parts.{run_sectors_there, acl_there, rest_of_numbers, rest_of_acl, same_fields}
+use Rattle.inode.proofs.EntryLemmas.{same_ace, aces_wide, numbers_wide}
+
+kind-back : (kind : NodeKind) → kind_of_byte (kind_byte kind) ≡ kind
+kind-back node.File = refl
+kind-back node.Directory = refl
+
+ace_kind-back : (kind : AceKind) → ace_kind_of_byte (ace_kind_byte kind) ≡ kind
+ace_kind-back ace_kind.Allow = refl
+ace_kind-back ace_kind.Deny = refl
+
+who-back : (one : Who) → who_of_byte (who_byte one) (id_of one) ≡ one
+who-back who.Owner = refl
+who-back who.Group = refl
+who-back who.Everyone = refl
+who-back (who.User id) = refl
+who-back (who.NamedGroup id) = refl
+
+ace-back : (ace : Ace) (rest : List ℕ) → IsAce ace → ace_in (ace_bytes ace ++ rest) ≡ ace
+ace-back ace rest is = same_ace (ace_kind_of_byte (ace_kind_byte ace.kind)) ace.flags.0 (from_be_bytes w32 (drop 4 (ace_bytes ace ++ rest)))
+    (who_of_byte (who_byte ace.who) (from_be_bytes w32 (drop 8 (ace_bytes ace ++ rest)))) ace
+    (ace_kind-back ace.kind) refl (from_be_bytes-to_be_bytes_4 ace.mask.0 is.mask)
+    (ap (who_of_byte (who_byte ace.who)) (from_be_bytes-to_be_bytes_4 (id_of ace.who) is.id) ∙ who-back ace.who)
+
+number-back : (number : ℕ) (rest : List ℕ) → IsRunSector number → run_sector_in (number_bytes number ++ rest) ≡ number
+number-back number rest is = from_be_bytes-to_be_bytes_4 number is.fits
+
+runs_there : (fields : Fields) → IsInode fields → from_be_bytes w16 (drop 6 (inode_sector One fields)) ≡ fields.runs
+unfolding inode_sector
+runs_there fields is = from_be_bytes-to_be_bytes_2 fields.runs (omega (arith, is.runs))
+
+module _ (fields : Fields) (is : IsInode fields) where
+  run_sectors-back : records_at_front run_sector_in 4 ((from_be_bytes w16 (drop 6 (inode_sector One fields)) + 499) / 500) (drop 48 (inode_sector One fields)) ≡ fields.run_sectors
+  run_sectors-back =
+      let counted : (from_be_bytes w16 (drop 6 (inode_sector One fields)) + 499) / 500 ≡ length fields.run_sectors = ap (λ (n : ℕ). (n + 499) / 500) (runs_there fields is) ∙ sym is.run_sectors in
+      ap₂ (records_at_front run_sector_in 4) counted (run_sectors_there One fields (inode_sector One fields) refl)
+      ∙ records-back number_bytes 4 numbers_wide run_sector_in IsRunSector number-back fields.run_sectors (rest_of_numbers fields) is.each_run_sector
+
+  acl-back : records_at_front ace_in 16 (length fields.acl) (drop 128 (inode_sector One fields)) ≡ fields.acl
+  acl-back =
+      ap (records_at_front ace_in 16 (length fields.acl)) (acl_there One fields (inode_sector One fields) refl is)
+      ∙ records-back ace_bytes 16 aces_wide ace_in IsAce ace-back fields.acl (rest_of_acl fields) is.each_ace
+
+pub fields-back : FieldsReadBack
+unfolding fields_in inode_sector
+fields-back One fields is =
+    same_fields _ _ _ _ _ _ _ _ _ _ fields (kind-back fields.kind) (from_be_bytes-to_be_bytes_8 fields.number is.number) (from_be_bytes-to_be_bytes_4 fields.owner is.owner)
+    (from_be_bytes-to_be_bytes_4 fields.group is.group) (from_be_bytes-to_be_bytes_8 fields.change is.change) (from_be_bytes-to_be_bytes_8 fields.time_modify is.time_modify)
+    (from_be_bytes-to_be_bytes_8 fields.size is.size) (runs_there fields is) (run_sectors-back fields is) (acl-back fields is)
+
+pub one_node : OneNode
+one_node form a b is other same = sym (fields-back form a is) ∙ ap fields_in same ∙ fields-back form b other
