@@ -1,6 +1,6 @@
 -- Bitmaps without zero words at the end.
-use Rattle.std.proofs.Common.{◌≡◌, ℕ, true, cond, zero, suc, List, [], ◌∷◌, ◌++◌, refl, ap, ◌∙◌}
-use Rattle.std.specs.Prelude.{◌≢◌}
+use Rattle.std.proofs.Common.{◌≡◌, ℕ, ◌-◌, ◌<◌, true, cond, zero, suc, List, [], ◌∷◌, ◌++◌, length, get_or, eqb, refl, ap, sym, ◌∙◌, arith}
+use Rattle.std.specs.Prelude.{◌≢◌, not}
 use Rattle.std.proofs.lemmas.Bool.{ne_eqb}
 use Rattle.xdr.specs.Forms.{is_trimmed}
 use Rattle.model.specs.Attribute.{trimmed, word_before}
@@ -26,3 +26,22 @@ more_trimmed (suc word) (next ∷ words) e = e
 pub trimmed_is : (words : List ℕ) → is_trimmed (trimmed words) ≡ true
 trimmed_is [] = refl
 trimmed_is (word ∷ words) = more_trimmed word (trimmed words) (trimmed_is words)
+
+-- A bitmap has no zero word at its end where it is empty, or its last word is another number.
+
+-- of n or the last word
+by_last : (n : ℕ) (words : List ℕ) → is_trimmed (n ∷ words) ≡ not (eqb (get_or (n ∷ words) (length words) 0) 0)
+by_last zero [] = refl
+by_last (suc n) [] = let some : suc n ≢ 0 = omega arith in ap not (sym (ne_eqb (suc n) 0 some))
+by_last zero (m ∷ words) = by_last m words
+by_last (suc n) (m ∷ words) = by_last m words
+
+pub trimmed_empty : (words : List ℕ) → length words ≡ 0 → is_trimmed words ≡ true
+trimmed_empty [] none = refl
+trimmed_empty (n ∷ words) none = absurd (omega arith)
+
+pub trimmed_by_last : (words : List ℕ) (last : ℕ) → 0 < length words → last ≡ get_or words (length words - 1) 0 → is_trimmed words ≡ not (eqb last 0)
+trimmed_by_last [] last some is = absurd (omega arith)
+trimmed_by_last (n ∷ words) last some is =
+    let behind : length (n ∷ words) - 1 ≡ length words = omega arith in
+    by_last n words ∙ ap (λ (i : ℕ). not (eqb (get_or (n ∷ words) i 0) 0)) (sym behind) ∙ ap (λ (k : ℕ). not (eqb k 0)) (sym is)

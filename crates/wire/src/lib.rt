@@ -29,7 +29,7 @@ pub use outcome::{Answer, Outcome};
 pub use session::{CreateSessionArguments, ExchangeIdArguments, SequenceArguments};
 pub use small::{
     Attributes, Bitmap, CallbackSecurity, ChangeInfo, Channel, Implementation, StateId,
-    SystemCredential,
+    SystemCredential, read_trimmed,
 };
 
 #[cfg(test)]

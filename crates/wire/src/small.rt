@@ -1,10 +1,10 @@
 //! The small types (RFC 8881, section 3.3).
 
-ghost use Rattle.std.specs.Prelude.{◌<◌, ◌^◌, length};
+ghost use Rattle.std.specs.Prelude.{◌≡◌, ◌<◌, ◌^◌, length};
 ghost use Rattle.std.specs.Option.{option_map};
 ghost use Rattle.xdr.specs.Clauses.{Scans, Wrote};
 ghost use Rattle.xdr.specs.Grammar.{unsigned_int};
-ghost use Rattle.xdr.specs.Forms.{optional};
+ghost use Rattle.xdr.specs.Forms.{is_trimmed, optional, trimmed_bitmap};
 ghost use Rattle.model.specs.WireTypes.{state_id, attributes, change_info, channel, implementation, system_credential, callback_security};
 ghost use Rattle.wire.specs.SmallViews.{channel_rest, state_view, attributes_view, change_view, channel_view, implementation_view, credential_view, security_view};
 
@@ -12,6 +12,26 @@ use xdr::{Reader, Refusal, Words, Writer};
 
 /// Attribute n is bit n % 32 of word n / 32.
 pub type Bitmap = Words<8>;
+
+/// Reads a bitmap as results have it: without zero words at the end.
+pub fn read_trimmed(r: &mut Reader<'_>) -> Result<Bitmap, Refusal>
+    ensures { Scans (λ words. words) (trimmed_bitmap.read) r.old r.new result }
+{
+    let mut at = r.fork();
+    let words = Words::read(&mut at)?;
+    if !ends_in_a_bit(words.as_slice()) {
+        return Err(Refusal::Value);
+    }
+    *r = at;
+    Ok(words)
+}
+
+#[tactic(auto, using(crate::proofs::Trimmed::trimmed_by_last))]
+fn ends_in_a_bit(words: &[u32]) -> bool
+    ensures { result ≡ is_trimmed words.now }
+{
+    words.is_empty() || words[words.len() - 1] != 0
+}
 
 /// The length of a name, of data or of attribute values has no limit of its own.
 pub(crate) const ANY_LENGTH: u32 = u32::MAX;

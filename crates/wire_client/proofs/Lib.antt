@@ -3,4 +3,3 @@ pub mod Alone
 pub mod Chains
 pub mod Fitting
 pub mod Securities
-pub mod Trimmed

@@ -11,10 +11,10 @@ use crate::answers::{
     read_access, read_create, read_create_session, read_data, read_exchange_id, read_listing,
     read_open, read_rename, read_sequence, read_written,
 };
-use crate::small::{read_answered, read_change, read_trimmed};
+use crate::small::{read_answered, read_change};
 use crate::status::refusal_of_number;
 use std::alloc::Global;
-use wire::{Answer, Operation, Outcome, StateId};
+use wire::{Answer, Operation, Outcome, StateId, read_trimmed};
 use xdr::{Reader, Refusal};
 
 /// NFS4_FHSIZE: the most bytes of a filehandle.

@@ -1,17 +1,19 @@
 //! The small types (RFC 8881, section 3.3).
 
-ghost use Rattle.std.specs.Prelude.{◌≡◌};
 ghost use Rattle.std.specs.Option.{option_map};
 ghost use Rattle.xdr.specs.Clauses.{Scans, Wrote};
-ghost use Rattle.xdr.specs.Forms.{is_trimmed, optional, trimmed_bitmap};
+ghost use Rattle.xdr.specs.Forms.{optional};
 ghost use Rattle.model.specs.WireTypes.{change_info, implementation, system_credential, callback_security};
 ghost use Rattle.model.specs.WireAnswers.{answered_attributes};
 ghost use Rattle.wire.specs.SmallViews.{attributes_view, change_view, implementation_view, credential_view, security_view};
 ghost use Rattle.wire_client.specs.Rests.{credential_rest};
 ghost use Rattle.wire_client.specs.ArgumentFits.{ImplementationFits, MaybeImplementationFits, CredentialFits, SecurityFits};
 
-use wire::{Attributes, Bitmap, CallbackSecurity, ChangeInfo, Implementation, SystemCredential};
-use xdr::{Reader, Refusal, Words, Writer};
+use wire::{
+    Attributes, Bitmap, CallbackSecurity, ChangeInfo, Implementation, SystemCredential,
+    read_trimmed,
+};
+use xdr::{Reader, Refusal, Writer};
 
 /// The length of a name, of data or of attribute values has no limit of its own.
 pub(crate) const ANY_LENGTH: u32 = u32::MAX;
@@ -30,26 +32,6 @@ pub(crate) fn read_change(r: &mut Reader<'_>) -> Result<ChangeInfo, Refusal>
         before,
         after,
     })
-}
-
-/// Reads a bitmap that has no zero word at its end.
-pub(crate) fn read_trimmed(r: &mut Reader<'_>) -> Result<Bitmap, Refusal>
-    ensures { Scans (λ words. words) (trimmed_bitmap.read) r.old r.new result }
-{
-    let mut at = r.fork();
-    let words = Words::read(&mut at)?;
-    if !ends_in_a_bit(words.as_slice()) {
-        return Err(Refusal::Value);
-    }
-    *r = at;
-    Ok(words)
-}
-
-#[tactic(auto, using(crate::proofs::Trimmed::trimmed_by_last))]
-fn ends_in_a_bit(words: &[u32]) -> bool
-    ensures { result ≡ is_trimmed words.now }
-{
-    words.is_empty() || words[words.len() - 1] != 0
 }
 
 /// Reads attributes whose bitmap has no zero word at its end.
