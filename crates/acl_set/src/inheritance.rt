@@ -77,7 +77,8 @@ pub fn inherit(alloc: Global, parent: &[Ace], kind: NodeKind) -> Result<Acl, Acl
     Ok(list)
 }
 
-fn are_flags_for(kind: NodeKind, flags: AceFlags) -> bool
+/// Whether an entry of a node of this kind may have these flags.
+pub fn are_flags_for(kind: NodeKind, flags: AceFlags) -> bool
     ensures { result ≡ are_flags_for kind flags.0 }
 {
     let handed_down = AceFlags::FILE_INHERIT.union(AceFlags::DIRECTORY_INHERIT);

@@ -5,7 +5,7 @@
 
 pub use acl_eval::{Ace, AceFlags, AceKind, Acl, Cred, Gids, Mask, NodeKind, Who, granted};
 pub use fault::AclFault;
-pub use inheritance::{Given, at_creation, first_refused, inherit};
+pub use inheritance::{Given, are_flags_for, at_creation, first_refused, inherit};
 pub use modes::{mode_of, with_mode};
 
 mod fault;

@@ -5,7 +5,9 @@ use Rattle.fs.specs.Operations.{IsOn, LooksUp, PutsHandle, GetsHandle, TestsCurr
 use Rattle.fs.specs.declared.fault.FsFault.{FsFault}
 use Rattle.fs.specs.declared.fault.FsFault.TheVariants as fault
 use Rattle.model.specs.Answer.{Answer, Outcome, Done, Refused}
-use Rattle.model.specs.Attribute.{Value, Mode, attribute_refusals, value_refusals, values_of}
+use Rattle.std.proofs.lemmas.List.Concat.{flat_map-cons}
+use Rattle.model.specs.Attribute.{attribute_refusals, entry_refusals, value_refusals, values_of}
+use Rattle.model.specs.AttributeValue.{Value, Acl}
 use Rattle.model.specs.Context.{Context, has_current, current_number, at_node}
 use Rattle.model.specs.Keyed.{is_key}
 use Rattle.model.specs.declared.limits.Limits.{Limits}
@@ -134,9 +136,17 @@ append_bad (test ∷ front) rest bad others =
     let each = both (is_bad test.1) (all_bad front) bad in
     ap (λ (b : Bool). b && all_bad (front ++ rest)) each.0 ∙ append_bad front rest each.1 others
 
+each_bad : {X : Type 0} (tests : X → Refusals) → ((x : X) → all_bad (tests x) ≡ true) → (xs : List X) → all_bad (flat_map tests xs) ≡ true
+each_bad tests bad [] = refl
+each_bad tests bad (x ∷ xs) =
+    ap all_bad (flat_map-cons tests x xs) ∙ append_bad (tests x) (flat_map tests xs) (bad x) (each_bad tests bad xs)
+
+value_bad : (limits : Limits) (kind : NodeKind) (value : Value) → all_bad (value_refusals limits kind value) ≡ true
+value_bad limits kind (Acl entries) = each_bad (entry_refusals kind) (λ entry. refl) entries
+value_bad limits kind value = refl
+
 values_bad : (limits : Limits) (kind : NodeKind) (values : List Value) → all_bad (flat_map (value_refusals limits kind) values) ≡ true
-values_bad limits kind [] = refl
-values_bad limits kind (Mode mode ∷ values) = values_bad limits kind values
+values_bad limits kind values = each_bad (value_refusals limits kind) (value_bad limits kind) values
 
 done≢refused : (answer : Answer) (number : ℕ) (reason : Status) → Done answer ≡ Refused number reason → ⊥
 done≢refused answer number reason is = cc

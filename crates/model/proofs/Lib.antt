@@ -1,3 +1,6 @@
+pub mod AclTextLaws
+pub mod AttributeExact
+pub mod AttributeLaws
 pub mod RecordOnly
 pub mod ServedOnceLaws
 pub mod RuledOutLaws

@@ -10,6 +10,7 @@ use Rattle.model.specs.Acl.{first_of, granted}
 use Rattle.model.specs.Inherit.{inherited}
 use Rattle.model.specs.Mode.{moded}
 use Rattle.model.specs.Attribute.{attributes_of, attribute_refusals}
+use Rattle.model.specs.AttributeValue.{value_at, values_at}
 use Rattle.model.specs.Charge.{fits}
 use Rattle.model.specs.Fresh.{fresh_tree}
 use Rattle.model.specs.Limits.{limits_of}
@@ -56,7 +57,7 @@ unfolding arrives front_from fragment behind_header read_call number number_at p
 comes world connection bytes = arrives world connection bytes
 
 turned : ℕ → World → ℕ → World
-unfolding one framed read_call request_of reply_text compound_text arguments_at outcome_text next_operation run number number_at padded padded_at counted counted_at each_at elements elements_at exchange_id create_session destroy_session destroy_client_id reclaim_complete begin started finish session_id does effect refusals permitted granted first_of fits name_refusals attribute_refusals attributes_of inherited moded is_utf8 chars encode_utf8
+unfolding one framed read_call request_of reply_text compound_text arguments_at outcome_text next_operation run number number_at padded padded_at counted counted_at each_at elements elements_at exchange_id create_session destroy_session destroy_client_id reclaim_complete begin started finish session_id does effect refusals permitted granted first_of fits name_refusals attribute_refusals attributes_of value_at values_at inherited moded is_utf8 chars encode_utf8
 turned zero world connection = world
 turned (suc turns) world connection = turned turns (one world connection 0).world connection
 

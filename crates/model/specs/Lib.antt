@@ -1,8 +1,10 @@
 pub mod Acl
 pub mod AclExamples
 pub mod AclLaws
+pub mod AclText
 pub mod Answer
 pub mod Attribute
+pub mod AttributeValue
 pub mod Charge
 pub mod Context
 pub mod Directory
@@ -12,6 +14,7 @@ pub mod Keyed
 pub mod Limits
 pub mod Mode
 pub mod Name
+pub mod NodeAttributes
 pub mod Need
 pub mod Opens
 pub mod Operation

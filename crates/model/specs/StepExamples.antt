@@ -149,4 +149,4 @@ pub record StepExamples : Type 0 where
       ∷ charge_of_blocks (divided_up 364545 4096) ∷ charge_of_blocks (divided_up 16777216 4096) ∷ volume.data_sectors ∷ []
       ≡ 4 ∷ 90 ∷ 91 ∷ 4105 ∷ 92 ∷ []
   -- the bitmap of the supported attributes
-  pub bitmap : attributes_of (0xe8182fff ∷ 0x0020003a ∷ 0x00000800 ∷ []) ≡ supported
+  pub bitmap : attributes_of (0xe8183fff ∷ 0x0020003a ∷ 0x00000800 ∷ []) ≡ supported

@@ -5,6 +5,7 @@
 
 pub mod acl;
 pub mod acl_laws;
+pub mod attributes;
 pub mod limits;
 pub mod node;
 pub mod rpc;

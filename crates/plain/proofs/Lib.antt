@@ -1,4 +1,5 @@
 pub mod Creating
+pub mod EachTest
 pub mod Moving
 pub mod Putting
 pub mod Refusing

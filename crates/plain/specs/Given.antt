@@ -1,28 +1,14 @@
 -- Attributes that a client gives, as the definitions have them, and what a test of them says.
-use Rattle.std.specs.Prelude.{ℕ, List, Some, None, Result, ◌≡◌, map, MatchResult}
-use denote.Ref.{Bor}
+use Rattle.std.specs.Prelude.{Some, None, Result, ◌≡◌, MatchResult}
 use Rattle.model.specs.declared.status.Status.{Status}
-use Rattle.model.specs.Attribute as model
 use Rattle.model.specs.Operation as operation
 use Rattle.model.specs.Refusal.{Refusals, first_refusal}
 use Rattle.plain.specs.declared.attributes.Attributes.{Attributes}
-use Rattle.plain.specs.declared.attributes.Value.{Value}
-use Rattle.plain.specs.declared.attributes.Value.TheVariants as value
 use Rattle.plain.specs.declared.refusal.Refusal.{Refusal}
 use Rattle.plain.specs.declared.refusal.Refusal.TheVariants as refusal
 
 abbrev pub given_of : Attributes → operation.Attributes
 given_of given = record { bitmap = given.bitmap.now; values = given.values.now }
-
-abbrev pub value_of : Value → model.Value
-value_of (value.Mode mode) = model.Mode mode
-
-abbrev pub values_of : List Value → List model.Value
-values_of values = map value_of values
-
--- a value that was read, and the bytes behind it
-abbrev pub read_of : Value × Bor (List ℕ) → model.Value × List ℕ
-read_of read = (value_of read.0, read.1.now)
 
 -- a result that is refused by the first of these tests that holds, and by nothing else
 abbrev pub IsChecked : {T : Type 0} → Refusals → Result T Status → Type 0

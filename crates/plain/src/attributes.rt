@@ -1,17 +1,25 @@
 //! Attributes that a client sets (RFC 8881, sections 5 and 18.30).
 
-ghost use Rattle.std.specs.Prelude.{◌≡◌, ◌<◌, ◌≤◌, ◌++◌, Ok, Err, Some, None, length, map, option_map, unwrap_or, IfOk, OnOk, MatchResult};
+ghost use Rattle.std.specs.Prelude.{◌≡◌, ◌≤◌, ◌+◌, ◌==◌, not, length, map, IfOk, MatchResult};
 ghost use Rattle.std.specs.List.{flat_map};
-ghost use Rattle.std.specs.Option.{ForSome, option_copied};
-ghost use Rattle.model.specs.Attribute.{attributes_of, attributes_of_word, is_among, is_empty, has_one_outside, supported, settable_at_creation, trimmed, read_mode, read_value, read_values, values_of, mode_in, mode_given, value_refusals, attribute_refusals};
+ghost use Rattle.std.specs.Option.{ForSome};
+ghost use Rattle.model.specs.Acl.{every_right, inheritance, without};
+ghost use Rattle.model.specs.AclText.{identifier_group};
+ghost use Rattle.model.specs.Attribute.{attribute_refusals, entry_refusals, first_said, has_one_outside, is_among, is_empty, mode_given, mode_said, supported_beside, trimmed, value_refusals};
+ghost use Rattle.model.specs.AttributeValue.{Acl};
 ghost use Rattle.model.specs.Refusal.{first_refusal};
-ghost use Rattle.plain.specs.Given.{given_of, value_of, values_of as viewed_values, read_of, IsChecked, IsCheckedInMemory};
+ghost use Rattle.wire_attributes.specs.Views.{entry_view, value_view};
+ghost use Rattle.plain.specs.Given.{given_of, IsChecked, IsCheckedInMemory};
 
 use crate::refusal::Refusal;
+use acl_set::are_flags_for;
+use bitflags::Flags;
+use model::acl::{AceFlags, Mask};
 use model::limits::Limits;
 use model::node::NodeKind;
 use model::status::Status;
-use std::alloc::{AllocError, Global};
+use std::alloc::Global;
+use wire_attributes::{AclEntry, Value, number_of, numbers_of, read_values, who_of};
 
 /// Attributes as a client gives them (RFC 8881, section 3.3.9, `fattr4`).
 #[derive(Clone, Copy, Debug)]
@@ -22,48 +30,27 @@ pub struct Attributes<'a> {
     pub values: &'a [u8],
 }
 
-/// The value of an attribute.
-#[derive(Clone, Copy, Debug, PartialEq, Eq)]
-pub enum Value {
-    Mode(u32),
-}
+/// What this server supports, apart from acl.
+pub const SUPPORTED_BESIDE_ACL: [u32; 25] = [
+    0, 1, 2, 3, 4, 5, 6, 7, 8, 9, 10, 11, 13, 19, 20, 27, 29, 30, 31, 33, 35, 36, 37, 53, 75,
+];
 
 /// What this server supports.
-pub const SUPPORTED: [u32; 25] = [
-    0, 1, 2, 3, 4, 5, 6, 7, 8, 9, 10, 11, 13, 19, 20, 27, 29, 30, 31, 33, 35, 36, 37, 53, 75,
+pub const SUPPORTED: [u32; 26] = [
+    0, 1, 2, 3, 4, 5, 6, 7, 8, 9, 10, 11, ACL, 13, 19, 20, 27, 29, 30, 31, MODE, 35, 36, 37, 53, 75,
 ];
 
 /// What CREATE may set: the mode.
 pub const SETTABLE_AT_CREATION: [u32; 1] = [MODE];
 
+const ACL: u32 = 12;
+
 const MODE: u32 = 33;
 
-// Puts the attributes of a word behind others; the word's first bit stands for this one.
-fn push_attributes(attributes: &mut Vec<u32>, first: u32, word: u32) -> Result<(), AllocError>
-    requires { first < 256 }
-    ensures { OnOk result (attributes.new.items ≡ attributes.old.items ++ attributes_of_word first word) }
-{
-    for bit in 0..32 {
-        if (word >> bit) % 2 == 1 {
-            attributes.push(first + bit)?;
-        }
-    }
-    Ok(())
-}
+/// All flags that an entry on the wire may have.
+const KNOWN_FLAGS: u32 = 0x4F;
 
-/// The attributes of a bitmap, by rising number.
-pub fn attributes_of(alloc: Global, bitmap: &[u32]) -> Result<Vec<u32>, AllocError>
-    requires { length bitmap.now ≤ 8 }
-    ensures { IfOk result (λ attributes. attributes.items ≡ attributes_of bitmap.now) }
-{
-    let mut attributes = Vec::new(alloc);
-    let mut first = 0;
-    for word in bitmap {
-        push_attributes(&mut attributes, first, *word)?;
-        first += 32;
-    }
-    Ok(attributes)
-}
+const EVERY_RIGHT: u32 = 0x1F01E7;
 
 /// A bitmap as a result has it: without zero words at the end.
 pub fn trimmed(bitmap: &[u32]) -> &[u32]
@@ -81,6 +68,17 @@ fn is_among(numbers: &[u32], attribute: u32) -> bool
     numbers.iter().any(|&number| attribute == number)
 }
 
+// Whether one of the attributes is unsupported: a list is where it may not be set.
+fn has_unsupported(settable: &[u32], attributes: &[u32]) -> bool
+    ensures { result ≡ has_one_outside (supported_beside settable.now) attributes.now }
+{
+    if is_among(settable, ACL) {
+        has_one_outside(&SUPPORTED, attributes)
+    } else {
+        has_one_outside(&SUPPORTED_BESIDE_ACL, attributes)
+    }
+}
+
 /// Whether one of the attributes is not among these.
 pub fn has_one_outside(numbers: &[u32], attributes: &[u32]) -> bool
     ensures { result ≡ has_one_outside numbers.now attributes.now }
@@ -90,61 +88,94 @@ pub fn has_one_outside(numbers: &[u32], attributes: &[u32]) -> bool
         .any(|&attribute| !is_among(numbers, attribute))
 }
 
-// The value of an attribute at the front of the bytes, and the bytes behind it.
-fn read_value(attribute: u32, bytes: &[u8]) -> Option<(Value, &[u8])>
-    ensures { option_map read_of result ≡ read_value attribute bytes.entry.now }
-{
-    if attribute != MODE {
-        return None;
-    }
-    let (mode, rest) = bytes.split_first_chunk::<4>()?;
-    Some((Value::Mode(u32::from_be_bytes(*mode)), rest))
-}
-
-/// The values of these attributes, where the bytes are exactly they.
-pub fn read_values(
-    alloc: Global,
-    attributes: &[u32],
-    bytes: &[u8],
-) -> Result<Option<Vec<Value>>, AllocError>
-    ensures { IfOk result (λ read. option_map (λ values. viewed_values values.items) read ≡ read_values attributes.now bytes.now) }
-{
-    let Some((attribute, others)) = attributes.split_first() else {
-        return Ok(bytes.is_empty().then_some(Vec::new(alloc)));
-    };
-    let Some((value, rest)) = read_value(*attribute, bytes) else {
-        return Ok(None);
-    };
-    let Some(mut values) = read_values(alloc, others, rest)? else {
-        return Ok(None);
-    };
-    values.insert(0, value)?;
-    Ok(Some(values))
-}
-
 /// The mode that is set, if one is.
-pub fn mode_in(values: &[Value]) -> Option<u32>
-    ensures { result ≡ mode_in (viewed_values values.now) }
+pub fn mode_in(values: &[Value<'_>]) -> Option<u32>
+    ensures { result ≡ first_said mode_said (map value_view values.now) }
 {
-    let Value::Mode(mode) = values.first()?;
-    Some(*mode)
+    let (value, others) = values.split_first()?;
+    match value {
+        Value::Mode(mode) => Some(*mode),
+        _ => mode_in(others),
+    }
+}
+
+// An entry's type, flags, rights and name, and whether a node of this kind may have such flags.
+fn check_entry(kind: NodeKind, entry: &AclEntry<'_>) -> Result<(), Status>
+    ensures { IsChecked (entry_refusals kind (entry_view entry.now)) result }
+{
+    let flags = AceFlags::from_bits_retain(entry.flags);
+    if 1 < entry.kind {
+        return Err(Status::AttrNotSupp);
+    }
+    if has_flags_outside(flags) {
+        return Err(Status::AttrNotSupp);
+    }
+    if has_rights_outside(Mask::from_bits_retain(entry.mask)) {
+        return Err(Status::AttrNotSupp);
+    }
+    if who_of(entry.who, flags.intersects(AceFlags::IDENTIFIER_GROUP)).is_none() {
+        return Err(Status::BadOwner);
+    }
+    if !are_flags_for(kind, flags.difference(AceFlags::IDENTIFIER_GROUP)) {
+        return Err(Status::AttrNotSupp);
+    }
+    Ok(())
+}
+
+fn has_flags_outside(flags: AceFlags) -> bool
+    ensures { result ≡ not (without flags.0 (inheritance + identifier_group) == 0) }
+{
+    !flags
+        .difference(AceFlags::from_bits_retain(KNOWN_FLAGS))
+        .is_empty()
+}
+
+fn has_rights_outside(mask: Mask) -> bool
+    ensures { result ≡ not (without mask.0 every_right == 0) }
+{
+    !mask
+        .difference(Mask::from_bits_retain(EVERY_RIGHT))
+        .is_empty()
+}
+
+fn check_entries(kind: NodeKind, entries: &[AclEntry<'_>]) -> Result<(), Status>
+    ensures { IsChecked (flat_map (entry_refusals kind) (map entry_view entries.now)) result }
+{
+    for entry in entries {
+        check_entry(kind, entry)?;
+    }
+    Ok(())
+}
+
+fn check_list(limits: &Limits, kind: NodeKind, entries: &[AclEntry<'_>]) -> Result<(), Status>
+    ensures { IsChecked (value_refusals limits.now kind (Acl (map entry_view entries.now))) result }
+{
+    if limits.aces_set < entries.len() {
+        return Err(Status::Inval);
+    }
+    check_entries(kind, entries)
 }
 
 // A mode has nine bits: SUID, SGID and SVTX are left out.
-fn check_value(limits: &Limits, kind: NodeKind, value: Value) -> Result<(), Status>
-    ensures { IsChecked (value_refusals limits.now kind (value_of value)) result }
+fn check_value(limits: &Limits, kind: NodeKind, value: &Value<'_>) -> Result<(), Status>
+    ensures { IsChecked (value_refusals limits.now kind (value_view value.now)) result }
 {
     match value {
-        Value::Mode(mode) if 0o777 < mode => Err(Status::Inval),
-        Value::Mode(_) => Ok(()),
+        Value::Size(bytes) if (limits.file_bytes as u64) < *bytes => Err(Status::FBig),
+        Value::Acl(entries) => check_list(limits, kind, entries),
+        Value::Mode(mode) if 0o777 < *mode => Err(Status::Inval),
+        Value::Owner(text) | Value::OwnerGroup(text) if number_of(text).is_none() => {
+            Err(Status::BadOwner)
+        }
+        _ => Ok(()),
     }
 }
 
-fn check_values(limits: &Limits, kind: NodeKind, values: &[Value]) -> Result<(), Status>
-    ensures { IsChecked (flat_map (value_refusals limits.now kind) (viewed_values values.now)) result }
+fn check_values(limits: &Limits, kind: NodeKind, values: &[Value<'_>]) -> Result<(), Status>
+    ensures { IsChecked (flat_map (value_refusals limits.now kind) (map value_view values.now)) result }
 {
     for value in values {
-        check_value(limits, kind, *value)?;
+        check_value(limits, kind, value)?;
     }
     Ok(())
 }
@@ -159,7 +190,7 @@ pub struct Settings {
 }
 
 /// The tests of attributes that are set on a node of this kind, in their order, and what they set.
-#[tactic(auto, using(crate::proofs::Values::nine_bits), unfolding(model::specs::Attribute::attribute_refusals))]
+#[tactic(auto, unfolding(model::specs::Attribute::attribute_refusals))]
 pub fn check_attributes(
     alloc: Global,
     limits: &Limits,
@@ -173,15 +204,17 @@ pub fn check_attributes(
     ensures mode { IfOk result (λ set. set.mode ≡ mode_given (given_of given.entry)) }
     ensures nine_bits { IfOk result (λ set. ForSome set.mode (λ mode. mode ≤ 511)) }
 {
-    let attributes = attributes_of(alloc, given.bitmap)?;
-    if has_one_outside(&SUPPORTED, &attributes) {
+    let attributes = numbers_of(alloc, given.bitmap)?;
+    if has_unsupported(settable, &attributes) {
         return Err(Refusal::Status(Status::AttrNotSupp));
     }
     if has_one_outside(settable, &attributes) {
         return Err(Refusal::Status(Status::Inval));
     }
-    let Some(values) = read_values(alloc, &attributes, given.values)? else {
-        return Err(Refusal::Status(Status::BadXdr));
+    let values = match read_values(alloc, &attributes, given.values) {
+        Ok(values) => values,
+        Err(xdr::Refusal::Memory) => return Err(Refusal::Memory),
+        Err(_) => return Err(Refusal::Status(Status::BadXdr)),
     };
     check_values(limits, kind, &values)?;
     Ok(Settings {

@@ -1,9 +1,10 @@
 use crate::attributes::{
-    Attributes, SETTABLE_AT_CREATION, SUPPORTED, attributes_of, check_attributes, has_one_outside,
-    mode_in, read_values, trimmed,
+    Attributes, SETTABLE_AT_CREATION, SUPPORTED, check_attributes, has_one_outside, mode_in,
+    trimmed,
 };
 use crate::handles::without_current;
 use crate::names::{check_name, entry_named};
+use crate::refusal::Refusal;
 use crate::stamp::{filehandle_of, next_stamp, number_of};
 use crate::tree::{Content, DirEntry, Node, Tree};
 use acl_eval::{Ace, AceFlags, AceKind, Acl, Cred, Gids, Mask, NodeKind, Who};
@@ -12,6 +13,7 @@ use model::limits::Limits;
 use model::status::Status;
 use std::alloc::Global;
 use std::test::Fail;
+use wire_attributes::{numbers_of, read_values};
 
 const RIGHTS: u32 = 0x1F01E7;
 
@@ -176,7 +178,7 @@ fn a_fresh_tree_has_a_root(rt: HostRuntime) -> Result<(), Fail> {
 #[test]
 fn attributes_by_rising_number(rt: HostRuntime) -> Result<(), Fail> {
     let bitmap = [0x8000_0001, 2, 0];
-    let attributes = attributes_of(rt.alloc(), &bitmap)?;
+    let attributes = numbers_of(rt.alloc(), &bitmap)?;
     assert_eq!(rt; attributes.as_slice(), [0, 31, 33].as_slice());
     assert_eq!(rt; trimmed(&bitmap), [0x8000_0001, 2].as_slice());
     assert!(rt; trimmed(&[0, 0]).is_empty());
@@ -186,11 +188,10 @@ fn attributes_by_rising_number(rt: HostRuntime) -> Result<(), Fail> {
 }
 
 #[test]
-fn values_are_exactly_those(rt: HostRuntime) -> Result<(), Fail> {
-    let read = read_values(rt.alloc(), &SETTABLE_AT_CREATION, b"\0\0\x01\xED")?;
-    assert!(rt; read.is_some_and(|values| mode_in(&values) == Some(0o755)));
-    assert!(rt; read_values(rt.alloc(), &SETTABLE_AT_CREATION, b"\0\0\x01\xED\0")?.is_none());
-    assert!(rt; read_values(rt.alloc(), &[], b"")?.is_some_and(|values| values.is_empty()));
+fn the_mode_is_found(rt: HostRuntime) -> Result<(), Fail> {
+    let values = read_values(rt.alloc(), &[4, 33], b"\0\0\0\0\0\0\0\x07\0\0\x01\xED")?;
+    assert!(rt; mode_in(&values) == Some(0o755));
+    assert!(rt; mode_in(&[]).is_none());
     Ok(())
 }
 
@@ -208,6 +209,34 @@ fn attributes_are_checked(rt: HostRuntime) -> Result<(), Fail> {
         given,
     )?;
     assert!(rt; set.mode == Some(0o755) && !set.is_empty);
+    Ok(())
+}
+
+/// What a client may set on a directory whose attributes are set anew, and the statuses in their order.
+#[test]
+fn each_value_is_checked(rt: HostRuntime) -> Result<(), Fail> {
+    let settable = [4, 12, 33, 36, 37];
+    let limits = Limits::of_volume(256, 16);
+    let check = |bitmap: &[u32], values: &[u8]| {
+        let given = Attributes { bitmap, values };
+        check_attributes(rt.alloc(), &limits, NodeKind::File, &settable, given).err()
+    };
+    let status = |status| Some(Refusal::Status(status));
+    assert!(rt; check(&[0x4000], b"") == status(Status::AttrNotSupp));
+    assert!(rt; check(&[2], b"") == status(Status::Inval));
+    assert!(rt; check(&[0x10], b"\0\0\0\0\x01\0\0") == status(Status::BadXdr));
+    assert!(rt; check(&[0x10], b"\0\0\0\0\x01\0\0\x01") == status(Status::FBig));
+    assert!(rt; check(&[0x10], b"\0\0\0\0\x01\0\0\0").is_none());
+    assert!(rt; check(&[0, 0x10], b"\0\0\0\x017\0\0\0").is_none());
+    assert!(rt; check(&[0, 0x10], b"\0\0\0\x01x\0\0\0") == status(Status::BadOwner));
+    let entry = |flags, who| [
+        0, 0, 0, 1, 0, 0, 0, 0, 0, 0, 0, flags, 0, 0, 0, 1, 0, 0, 0, 1, who, 0, 0, 0,
+    ];
+    assert!(rt; check(&[0x1000], &entry(0, b'7')).is_none());
+    assert!(rt; check(&[0x1000], &entry(0x40, b'7')).is_none());
+    assert!(rt; check(&[0x1000], &entry(1, b'7')) == status(Status::AttrNotSupp));
+    assert!(rt; check(&[0x1000], &entry(1, b'x')) == status(Status::BadOwner));
+    assert!(rt; check(&[0x1000], &entry(0x80, b'x')) == status(Status::AttrNotSupp));
     Ok(())
 }
 

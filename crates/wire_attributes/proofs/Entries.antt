@@ -5,18 +5,18 @@ use Rattle.std.specs.Int.{w32}
 use Rattle.std.specs.List.{flat_map}
 use Rattle.xdr.specs.Grammar.{number}
 use Rattle.xdr.specs.Forms.{elements}
-use Rattle.wire_attributes.specs.Values.{acl_entry}
+use Rattle.model.specs.AttributeValue.{acl_entry}
 use Rattle.wire_attributes.specs.declared.entry.AclEntry.{AclEntry}
-use Rattle.wire_attributes.specs.Views.{entry_view, entry_text}
+use Rattle.wire_attributes.specs.Views.{entry_view, entry_spelling}
 
-each_text : (list : List AclEntry) → flat_map acl_entry.spelling (map entry_view list) ≡ flat_map entry_text list
+each_text : (list : List AclEntry) → flat_map acl_entry.spelling (map entry_view list) ≡ flat_map entry_spelling list
 each_text [] = refl
-each_text (e ∷ list) = ap (λ (t : List ℕ). entry_text e ++ t) (each_text list)
+each_text (e ∷ list) = ap (λ (t : List ℕ). entry_spelling e ++ t) (each_text list)
 
 count : (list : List AclEntry) → length (map entry_view list) ≡ length list
 count [] = refl
 count (e ∷ list) = ap suc (count list)
 
-pub entries_text : (list : List AclEntry) → elements acl_entry.spelling (map entry_view list) ≡ number w32 (length list) ++ flat_map entry_text list
+pub entries_text : (list : List AclEntry) → elements acl_entry.spelling (map entry_view list) ≡ number w32 (length list) ++ flat_map entry_spelling list
 unfolding elements
 entries_text list = rw (each_text list, count list) refl

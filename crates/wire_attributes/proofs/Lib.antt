@@ -1,7 +1,6 @@
 pub mod Alone
 pub mod Bits
 pub mod Entries
-pub mod Exact
 pub mod Loops
 pub mod Naming
 pub mod Whole

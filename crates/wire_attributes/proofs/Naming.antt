@@ -1,29 +1,15 @@
 -- Texts that name nobody, and texts that are numbers.
-use Rattle.std.proofs.Common.{◌≡◌, ◌≢◌, ℕ, zero, suc, ◌<◌, ◌^◌, ◌≤◌, ◌-◌, Bool, true, false, List, length, get_or, Result, Ok, Err, codes, refl, sym, ap, subst, ◌∙◌, arith}
-use Rattle.std.specs.Prelude.{decimal}
+use Rattle.std.proofs.Common.{◌≡◌, ◌≢◌, ℕ, zero, suc, ◌<◌, ◌^◌, Bool, true, false, List, length, get_or, Result, Ok, Err, bytes_eq, codes, refl, sym, ap, subst, ◌∙◌, arith}
+use Rattle.std.specs.Prelude.{Some, None, decimal, option_map}
+use Rattle.std.specs.Cmp.Lexicographic.{bytes_decides}
 use Rattle.std.specs.Str.{IsUtf8}
-use Rattle.std.specs.Prelude.{bit_and, bit_or, not}
-use Rattle.std.proofs.lemmas.Nat.{and_assoc, and_or_self, and_or_apart}
-use Rattle.std.specs.Int.Bits.{and_zero_r}
 use Rattle.std.specs.Str.Parse.{AllDigits, IsNumeral, ParsesUnsigned, digits_value, without_leading_plus}
 use Rattle.std.proofs.lemmas.Fmt.{decimal_is_IsNumeral, decimal_nonempty, first_decimal, IsAscii-decimal, decimal_digit, parse-decimal, decimal-digits_value}
 use Rattle.std.proofs.lemmas.Str.{IsUtf8-from_ascii}
 use Rattle.std.proofs.lemmas.Str.Parse.{IsNumeralModel, numerals_by_value, tells_digits, not_in_digits, without_leading_plus_none}
-use Rattle.model.specs.declared.acl.Who.{Who}
 use Rattle.model.specs.declared.acl.Who.TheVariants as who
-use Rattle.model.specs.declared.acl.Ace.{Ace}
-use Rattle.model.specs.declared.acl.AceKind.{AceKind}
-use Rattle.model.specs.Acl.{meets, without}
-use Rattle.wire_attributes.specs.Values.{AclEntry}
-use Rattle.wire_attributes.specs.Names.{Means, StandsFor, identifier_group, kind_number}
-
-pub names_none : (is_group : Bool) (text : List ℕ) → text ≢ codes "OWNER@" → text ≢ codes "GROUP@" → text ≢ codes "EVERYONE@"
-    → ((n : ℕ) → n < 2 ^ 32 → text ≢ decimal n) → (name : Who) → Means is_group text name → ⊥
-names_none is_group text o g e none who.Owner means = o means.0
-names_none is_group text o g e none who.Group means = g means.0
-names_none is_group text o g e none who.Everyone means = e means.0
-names_none is_group text o g e none (who.User n) means = none n means.1.1 means.0
-names_none is_group text o g e none (who.NamedGroup n) means = none n means.1.1 means.0
+use Rattle.model.specs.AclText.{number_in, numbered, who_in}
+use Rattle.model.proofs.AclTextLaws.{no_number, written_again}
 
 digits : IsNumeralModel (AllDigits 10) (digits_value 10)
 digits = numerals_by_value (AllDigits 10) tells_digits
@@ -61,24 +47,42 @@ is_number {E = E} text m r read parses plus lead =
     let small : digits_value 10 text < 2 ^ 64 = omega (arith, p.0.1, ap (digits_value 10) bare) in
     sym (ap decimal value ∙ decimal-digits_value digits text numeral.1 numeral.0 lead small)
 
--- ---- entries
+-- ---- what the definitions read
 
-pub other_kind : (entry : AclEntry) → ((kind : AceKind) → entry.kind ≢ kind_number kind) → (ace : Ace) → StandsFor entry ace → ⊥
-other_kind entry none ace stands = none ace.kind stands.kind
+pub unread : (text : List ℕ) → ((n : ℕ) → n < 2 ^ 32 → text ≢ decimal n) → None ≡ number_in text
+unread text none = sym (no_number text none)
 
-pub other_name : (entry : AclEntry) → ((name : Who) → Means (meets entry.flags identifier_group) entry.who name → ⊥) → (ace : Ace) → StandsFor entry ace → ⊥
-other_name entry none ace stands = none ace.who stands.who
+pub read : (text : List ℕ) (m : ℕ) → m < 2 ^ 32 → text ≡ decimal m → Some m ≡ number_in text
+read text m small is = sym (written_again text m is small)
 
--- the flag set, and no flag set
+-- special names, in their order
 
-pub group_is_told : (flags : ℕ) → meets (bit_or flags identifier_group) identifier_group ≡ true
-group_is_told flags = rw (and_or_self identifier_group flags) refl
+pub names_owner : (is_group : Bool) (text : List ℕ) → text ≡ codes "OWNER@" → Some who.Owner ≡ who_in is_group text
+unfolding who_in
+names_owner is_group text is = ap (who_in is_group) (sym is)
 
-pub told_taken_out : (flags : ℕ) → without (bit_or flags identifier_group) identifier_group ≡ without flags identifier_group
-told_taken_out flags = and_or_apart (2 ^ 32 - 1 - identifier_group) flags identifier_group refl
+pub names_group : (is_group : Bool) (text : List ℕ) → text ≡ codes "GROUP@" → Some who.Group ≡ who_in is_group text
+unfolding who_in
+names_group is_group text is = ap (who_in is_group) (sym is)
 
-pub group_is_not_told : (flags : ℕ) → without flags identifier_group ≡ flags → meets flags identifier_group ≡ false
-group_is_not_told flags bare =
-    let none : bit_and flags identifier_group ≡ 0 =
-    ap (λ (f : ℕ). bit_and f identifier_group) (sym bare) ∙ and_assoc identifier_group flags (2 ^ 32 - 1 - identifier_group) ∙ and_zero_r flags in
-    rw none refl
+pub names_everyone : (is_group : Bool) (text : List ℕ) → text ≡ codes "EVERYONE@" → Some who.Everyone ≡ who_in is_group text
+unfolding who_in
+names_everyone is_group text is = ap (who_in is_group) (sym is)
+
+other : (text special : List ℕ) → text ≢ special → bytes_eq text special ≡ false
+other text special differs = by_test (bytes_eq text special) refl
+  where
+    by_test : (holds : Bool) → bytes_eq text special ≡ holds → holds ≡ false
+    by_test true holds = absurd (differs ((bytes_decides text special).0 holds))
+    by_test false fails = refl
+
+module _ (is_group : Bool) (text : List ℕ) (owner : text ≢ codes "OWNER@") (group : text ≢ codes "GROUP@") (everyone : text ≢ codes "EVERYONE@") where
+  names_other : who_in is_group text ≡ option_map (numbered is_group) (number_in text)
+  unfolding who_in
+  names_other = rw (other text (codes "OWNER@") owner, other text (codes "GROUP@") group, other text (codes "EVERYONE@") everyone) refl
+
+  pub names_none : None ≡ number_in text → None ≡ who_in is_group text
+  names_none none = sym (names_other ∙ ap (option_map (numbered is_group)) (sym none))
+
+  pub names_number : (number : ℕ) → Some number ≡ number_in text → Some (numbered is_group number) ≡ who_in is_group text
+  names_number number is = sym (names_other ∙ ap (option_map (numbered is_group)) (sym is))

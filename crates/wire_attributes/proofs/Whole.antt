@@ -1,20 +1,11 @@
 -- Bytes that are exactly the values of attributes, and bytes that are none.
-use Rattle.std.proofs.Common.{◌≡◌, ◌≢◌, ℕ, ◌<◌, List, [], ◌∷◌, ◌++◌, length, Result, Ok, Err, refl, sym, ap, ◌∙◌, arith}
+use Rattle.std.proofs.Common.{◌≡◌, ◌≢◌, ℕ, List, [], ◌++◌, length, Result, Ok, Err, refl, sym, ap, ◌∙◌, eq-eqb, ne_eqb}
+use Rattle.std.specs.Prelude.{Some, None}
 use Rattle.std.proofs.lemmas.List.{append-nil}
 use Rattle.xdr.specs.declared.refusal.Refusal.{Refusal}
 use Rattle.xdr.specs.Laws.{IsBytes}
-use Rattle.wire_attributes.specs.Values.{Value, values, values_at}
-use Rattle.wire_attributes.proofs.Exact.{values_exact}
-
-empty_is : (rest : List ℕ) → length rest ≡ 0 → rest ≡ []
-empty_is [] none = refl
-empty_is (b ∷ rest) none = absurd (omega arith)
-
-pub are_values : (attributes bytes : List ℕ) (vs : List Value) (rest : List ℕ) → IsBytes bytes → values_at attributes bytes ≡ Ok (vs, rest) → length rest ≡ 0
-    → (values attributes).Fits vs × (bytes ≡ (values attributes).spelling vs)
-are_values attributes bytes vs rest fits read none =
-    let t = (values_exact attributes).takes bytes vs rest fits read in
-    (t.0, t.1 ∙ ap (λ (x : List ℕ). (values attributes).spelling vs ++ x) (empty_is rest none) ∙ append-nil ((values attributes).spelling vs))
+use Rattle.model.specs.AttributeValue.{Value, values, values_at, whole, whole_values}
+use Rattle.model.proofs.AttributeExact.{values_exact, are_values}
 
 again : (attributes : List ℕ) (vs : List Value) (bytes : List ℕ) → (values attributes).Fits vs → bytes ≡ (values attributes).spelling vs → values_at attributes bytes ≡ Ok (vs, [])
 again attributes vs bytes fits is =
@@ -34,3 +25,16 @@ pub too_many_bytes : (attributes bytes : List ℕ) (got : List Value) (rest : Li
 unfolding rest_of
 too_many_bytes attributes bytes got rest read some vs fits = λ is.
     some (ap (λ (r : Result (List Value × List ℕ) Refusal). length (rest_of r)) (sym read ∙ again attributes vs bytes fits is))
+
+-- what the definition reads of them
+
+pub read_whole : (attributes bytes : List ℕ) (vs : List Value) (rest : List ℕ) → values_at attributes bytes ≡ Ok (vs, rest) → length rest ≡ 0
+    → whole_values attributes bytes ≡ Some vs
+read_whole attributes bytes vs rest read none = ap whole read ∙ rw (eq-eqb (length rest) 0 none) refl
+
+pub no_whole : (attributes bytes : List ℕ) (e : Refusal) → values_at attributes bytes ≡ Err e → whole_values attributes bytes ≡ None
+no_whole attributes bytes e refused = ap whole refused
+
+pub not_whole : (attributes bytes : List ℕ) (vs : List Value) (rest : List ℕ) → values_at attributes bytes ≡ Ok (vs, rest) → length rest ≢ 0
+    → whole_values attributes bytes ≡ None
+not_whole attributes bytes vs rest read some = ap whole read ∙ rw (ne_eqb (length rest) 0 some) refl

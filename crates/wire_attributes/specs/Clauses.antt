@@ -1,10 +1,10 @@
 -- What readers of lists say.
-use Rattle.std.specs.Prelude.{◌≡◌, ◌≢◌, ◌⊎◌, ℕ, List, [], Result, Ok, Err, map}
+use Rattle.std.specs.Prelude.{◌≡◌, ◌≢◌, ◌⊎◌, ℕ, List, Option, Some, None, Result, Ok, Err, map}
 use Rattle.std.specs.Global.{Vec}
 use Rattle.xdr.specs.declared.refusal.Refusal.{Refusal}
 use Rattle.xdr.specs.declared.refusal.Refusal.TheVariants.{Memory}
 use Rattle.xdr.specs.Forms.{each_at}
-use Rattle.wire_attributes.specs.Values as spec
+use Rattle.model.specs.AttributeValue as spec
 use Rattle.wire_attributes.specs.declared.entry.AclEntry.{AclEntry}
 use Rattle.wire_attributes.specs.declared.value.Value.{Value}
 use Rattle.wire_attributes.specs.Views.{entry_view, value_view}
@@ -16,6 +16,11 @@ AreValues attributes bytes (Ok vs) =
     (spec.values attributes).Fits (map value_view vs.items) × (bytes ≡ (spec.values attributes).spelling (map value_view vs.items))
 AreValues attributes bytes (Err e) =
     (e ≡ Memory) ⊎ ((vs : List spec.Value) → (spec.values attributes).Fits vs → bytes ≢ (spec.values attributes).spelling vs)
+
+-- They are what the definition reads of the whole of the bytes.
+abbrev pub AreRead : (attributes bytes : List ℕ) → Result (Vec Value) Refusal → Type 0
+AreRead attributes bytes (Ok vs) = spec.whole_values attributes bytes ≡ Some (map value_view vs.items)
+AreRead attributes bytes (Err e) = (e ≡ Memory) ⊎ (spec.whole_values attributes bytes ≡ None)
 
 -- what a loop over `count` entries has read, and what is left
 abbrev pub ReadsEntries : ℕ → List ℕ → Result (Vec AclEntry × List ℕ) Refusal → Type 0

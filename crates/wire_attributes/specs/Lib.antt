@@ -1,4 +1,2 @@
-pub mod Values
 pub mod Views
 pub mod Clauses
-pub mod Names

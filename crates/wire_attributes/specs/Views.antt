@@ -1,6 +1,7 @@
 -- The values of the code as those of the definitions.
-use Rattle.std.specs.Prelude.{◌≢◌, ℕ, ◌<◌, ◌≤◌, ◌^◌, List, length, map, All}
-use Rattle.wire_attributes.specs.Values as spec
+use Rattle.std.specs.Prelude.{ℕ, ◌<◌, ◌≤◌, ◌^◌, IsTrue, List, length, map, All}
+use Rattle.xdr.specs.Forms.{is_trimmed}
+use Rattle.model.specs.AttributeValue as spec
 use Rattle.wire_attributes.specs.declared.entry.AclEntry.{AclEntry}
 use Rattle.wire_attributes.specs.declared.value.FileSystemId.{FileSystemId}
 use Rattle.wire_attributes.specs.declared.value.Time.{Time}
@@ -44,12 +45,13 @@ value_view (value.OwnerGroup v) = spec.OwnerGroup v.now
 value_view (value.TimeModify v) = spec.TimeModify (time_view v)
 value_view (value.SuppattrExclcreat v) = spec.SuppattrExclcreat v
 
--- which values have a spelling, as far as their types leave it open: the lengths of texts and lists
+-- which values have a spelling, as far as their types leave it open: the lengths of texts and lists, and bitmaps without zero
+-- words at the end
 abbrev pub EntryFits : AclEntry → Type 0
 EntryFits e = length e.who.now < 2 ^ 32
 
 abbrev pub ValueFits : Value → Type 0
-ValueFits (value.SupportedAttrs v) = Unit {0}
+ValueFits (value.SupportedAttrs v) = IsTrue (is_trimmed v)
 ValueFits (value.Kind v) = Unit {0}
 ValueFits (value.FhExpireType v) = Unit {0}
 ValueFits (value.Change v) = Unit {0}
@@ -74,11 +76,11 @@ ValueFits (value.NumLinks v) = Unit {0}
 ValueFits (value.Owner v) = length v.now < 2 ^ 32
 ValueFits (value.OwnerGroup v) = length v.now < 2 ^ 32
 ValueFits (value.TimeModify v) = Unit {0}
-ValueFits (value.SuppattrExclcreat v) = Unit {0}
+ValueFits (value.SuppattrExclcreat v) = IsTrue (is_trimmed v)
 
 -- an entry's spelling, and a value's
-abbrev pub entry_text : AclEntry → List ℕ
-entry_text e = spec.acl_entry.spelling (entry_view e)
+abbrev pub entry_spelling : AclEntry → List ℕ
+entry_spelling e = spec.acl_entry.spelling (entry_view e)
 
-abbrev pub value_text : Value → List ℕ
-value_text v = spec.text_of (value_view v)
+abbrev pub value_spelling : Value → List ℕ
+value_spelling v = spec.value_text (value_view v)

@@ -5,8 +5,8 @@ ghost use Rattle.model.specs.Attribute.{attributes_of, attributes_of_word};
 
 use std::alloc::{AllocError, Global};
 
-/// The numbers, rising.
-pub(crate) fn numbers_of(alloc: Global, bitmap: &[u32]) -> Result<Vec<u32>, AllocError>
+/// The numbers, rising: bit m of word n stands for attribute 32 n + m.
+pub fn numbers_of(alloc: Global, bitmap: &[u32]) -> Result<Vec<u32>, AllocError>
     requires { length bitmap.now ≤ 8 }
     ensures { IfOk result (λ numbers. numbers.items ≡ attributes_of bitmap.now) }
 {

@@ -6,14 +6,13 @@
 mod ace;
 mod bitmap;
 mod entry;
-mod laws;
 mod value;
 mod values;
 mod who;
 
 pub use ace::{ace_of, entry_of};
+pub use bitmap::numbers_of;
 pub use entry::AclEntry;
-pub use laws::values_are_exact;
 pub use value::{FileSystemId, Time, Value};
 pub use values::{read_values, values_of, write_values};
 pub use who::{number_of, text_of, who_of};

@@ -3,14 +3,14 @@
 ghost use Rattle.std.specs.Prelude.{◌≡◌, ◌<◌, ◌^◌, length, map, All};
 ghost use Rattle.std.specs.List.{flat_map};
 ghost use Rattle.xdr.specs.Clauses.{Scans, Reads, Wrote};
-ghost use Rattle.wire_attributes.specs.Values.{file_system_id, node_kind, number_of, time, value_at};
-ghost use Rattle.wire_attributes.specs.Views.{ValueFits, file_system_view, time_view, value_text, value_view};
+ghost use Rattle.model.specs.AttributeValue.{attribute_of, file_system_id, node_kind, time, value_at};
+ghost use Rattle.wire_attributes.specs.Views.{ValueFits, file_system_view, time_view, value_spelling, value_view};
 
 use crate::entry::{AclEntry, read_entries, write_entries};
 use model::node::NodeKind;
 use std::alloc::Global;
-use wire::Bitmap;
-use xdr::{Reader, Refusal, Words, Writer};
+use wire::{Bitmap, read_trimmed};
+use xdr::{Reader, Refusal, Writer};
 
 /// NFS4_FHSIZE: the most bytes of a filehandle.
 const MAX_HANDLE: u32 = 128;
@@ -133,7 +133,7 @@ pub enum Value<'a> {
 impl<'a> Value<'a> {
     /// The attribute's number.
     pub fn number(&self) -> u32
-        ensures { result ≡ number_of (value_view self.now) }
+        ensures { result ≡ attribute_of (value_view self.now) }
     {
         match self {
             Value::SupportedAttrs(_) => 0,
@@ -166,7 +166,7 @@ impl<'a> Value<'a> {
     }
 
     /// Reads the value of the attribute of this number.
-    #[tactic(auto, unfolding(crate::specs::Values::value_at))]
+    #[tactic(auto, unfolding(model::specs::AttributeValue::value_at))]
     pub(crate) fn read(
         alloc: Global,
         attribute: u32,
@@ -176,7 +176,7 @@ impl<'a> Value<'a> {
     {
         let mut at = r.fork();
         let value = match attribute {
-            0 => Value::SupportedAttrs(Words::read(&mut at)?),
+            0 => Value::SupportedAttrs(read_trimmed(&mut at)?),
             1 => Value::Kind(read_kind(&mut at)?),
             2 => Value::FhExpireType(at.read_u32()?),
             3 => Value::Change(at.read_u64()?),
@@ -201,7 +201,7 @@ impl<'a> Value<'a> {
             36 => Value::Owner(at.read_opaque(ANY_LENGTH)?),
             37 => Value::OwnerGroup(at.read_opaque(ANY_LENGTH)?),
             53 => Value::TimeModify(Time::read(&mut at)?),
-            75 => Value::SuppattrExclcreat(Words::read(&mut at)?),
+            75 => Value::SuppattrExclcreat(read_trimmed(&mut at)?),
             _ => return Err(Refusal::Value),
         };
         *r = at;
@@ -211,7 +211,7 @@ impl<'a> Value<'a> {
     /// Writes it. A refusal may leave a front of it.
     pub(crate) fn write(&self, w: &mut Writer) -> Result<(), Refusal>
         requires { ValueFits self.now }
-        ensures { Wrote w.old w.new result (value_text self.now) }
+        ensures { Wrote w.old w.new result (value_spelling self.now) }
     {
         match self {
             Value::SupportedAttrs(bitmap) | Value::SuppattrExclcreat(bitmap) => bitmap.write(w),

@@ -5,9 +5,9 @@ ghost use Rattle.std.specs.List.{flat_map};
 ghost use Rattle.xdr.specs.Clauses.{Reads, Wrote};
 ghost use Rattle.xdr.specs.Laws.{IsBytes};
 ghost use Rattle.model.specs.Attribute.{attributes_of};
-ghost use Rattle.wire_attributes.specs.Values.{values_at};
-ghost use Rattle.wire_attributes.specs.Views.{ValueFits, value_text};
-ghost use Rattle.wire_attributes.specs.Clauses.{AreValues, ReadsValues};
+ghost use Rattle.model.specs.AttributeValue.{values_at};
+ghost use Rattle.wire_attributes.specs.Views.{ValueFits, value_spelling};
+ghost use Rattle.wire_attributes.specs.Clauses.{AreRead, AreValues, ReadsValues};
 
 use crate::bitmap::numbers_of;
 use crate::value::Value;
@@ -18,13 +18,14 @@ use xdr::{Reader, Refusal, Writer};
 /// The values of the attributes of these numbers, where the bytes are exactly they.
 ///
 /// A refusal is `Short`, `Value` or `Long` where the bytes are no such values, and `Memory`.
-#[tactic(auto, using(crate::proofs::Whole::are_values, crate::proofs::Whole::no_values, crate::proofs::Whole::too_many_bytes))]
+#[tactic(auto, using(model::proofs::AttributeExact::are_values, crate::proofs::Whole::no_values, crate::proofs::Whole::too_many_bytes, crate::proofs::Whole::read_whole, crate::proofs::Whole::no_whole, crate::proofs::Whole::not_whole))]
 pub fn read_values<'a>(
     alloc: Global,
     attributes: &[u32],
     bytes: &'a [u8],
 ) -> Result<Vec<Value<'a>>, Refusal>
-    ensures { AreValues attributes.now bytes.now result }
+    ensures values { AreValues attributes.now bytes.now result }
+    ensures read { AreRead attributes.now bytes.now result }
 {
     let (values, rest) = each_value(alloc, attributes, Reader::new(bytes))?;
     if !rest.is_empty() {
@@ -35,7 +36,8 @@ pub fn read_values<'a>(
 
 /// The values of attributes as they were read, where the bytes behind the bitmap are exactly they.
 pub fn values_of<'a>(alloc: Global, given: &Attributes<'a>) -> Result<Vec<Value<'a>>, Refusal>
-    ensures { AreValues (attributes_of given.now.bitmap) given.now.values.now result }
+    ensures values { AreValues (attributes_of given.now.bitmap) given.now.values.now result }
+    ensures read { AreRead (attributes_of given.now.bitmap) given.now.values.now result }
 {
     let attributes = numbers_of(alloc, given.bitmap.as_slice())?;
     read_values(alloc, &attributes, given.values)
@@ -62,7 +64,7 @@ fn each_value<'a>(
 #[tactic(auto, using(xdr::proofs::Writing::wrote_undone, xdr::proofs::Writing::unchanged))]
 pub fn write_values(w: &mut Writer, values: &[Value<'_>]) -> Result<(), Refusal>
     requires { All ValueFits values.now }
-    ensures wrote { Wrote w.old w.new result (flat_map value_text values.now) }
+    ensures wrote { Wrote w.old w.new result (flat_map value_spelling values.now) }
     ensures err { OnErr result (w.new.bytes ≡ w.old.bytes) }
 {
     let mark = w.len();
@@ -72,7 +74,7 @@ pub fn write_values(w: &mut Writer, values: &[Value<'_>]) -> Result<(), Refusal>
 
 fn write_each_value(w: &mut Writer, values: &[Value<'_>]) -> Result<(), Refusal>
     requires { All ValueFits values.now }
-    ensures { Wrote w.old w.new result (flat_map value_text values.now) }
+    ensures { Wrote w.old w.new result (flat_map value_spelling values.now) }
 {
     for value in values {
         value.write(w)?;

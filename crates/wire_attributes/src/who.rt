@@ -1,9 +1,8 @@
 //! Whom an entry's text names (RFC 8881, section 6.2.1.5).
 
-ghost use Rattle.std.specs.Prelude.{◌≡◌, ◌≢◌, ◌<◌, ◌^◌, ℕ, IfOk, IfErr, IfSome, IfNone, decimal, string_bytes};
+ghost use Rattle.std.specs.Prelude.{◌≡◌, IfOk, IfErr, string_bytes};
 ghost use Rattle.xdr.specs.declared.refusal.Refusal.TheVariants.{Memory};
-ghost use Rattle.model.specs.declared.acl.Who.{Who};
-ghost use Rattle.wire_attributes.specs.Names.{Means, text_of};
+ghost use Rattle.model.specs.AclText.{number_in, who_in, who_text};
 
 use model::acl::Who;
 use std::alloc::Global;
@@ -13,8 +12,7 @@ use xdr::Refusal;
 /// `is_group` tells whether a number is a group's; a special name is the same with it and without.
 #[tactic(auto, using(crate::proofs::Naming::names_none))]
 pub fn who_of(text: &[u8], is_group: bool) -> Option<Who>
-    ensures some { IfSome result (λ name. Means is_group text.now name) }
-    ensures none { IfNone result ((name : Who) → Means is_group text.now name → ⊥) }
+    ensures { result ≡ who_in is_group text.now }
 {
     if text == b"OWNER@".as_slice() {
         return Some(Who::Owner);
@@ -34,10 +32,9 @@ pub fn who_of(text: &[u8], is_group: bool) -> Option<Who>
 }
 
 /// The number that a text writes in decimal digits without zeros in front.
-#[tactic(auto, using(crate::proofs::Naming::no_number_empty, crate::proofs::Naming::no_number_plus, crate::proofs::Naming::no_number_zero, crate::proofs::Naming::no_number_bytes, crate::proofs::Naming::no_number_digits, crate::proofs::Naming::is_number))]
+#[tactic(auto, using(crate::proofs::Naming::unread, crate::proofs::Naming::read, crate::proofs::Naming::no_number_empty, crate::proofs::Naming::no_number_plus, crate::proofs::Naming::no_number_zero, crate::proofs::Naming::no_number_bytes, crate::proofs::Naming::no_number_digits, crate::proofs::Naming::is_number))]
 pub fn number_of(text: &[u8]) -> Option<u32>
-    ensures some { IfSome result (λ number. text.now ≡ decimal number) }
-    ensures none { IfNone result ((number : ℕ) → number < 2 ^ 32 → text.now ≢ decimal number) }
+    ensures { result ≡ number_in text.now }
 {
     if text.is_empty() || text[0] == b'+' {
         return None;
@@ -56,7 +53,7 @@ pub fn number_of(text: &[u8]) -> Option<u32>
 
 /// The text that names this one.
 pub fn text_of(alloc: Global, name: Who) -> Result<String, Refusal>
-    ensures ok { IfOk result (λ text. string_bytes text ≡ text_of name) }
+    ensures ok { IfOk result (λ text. string_bytes text ≡ who_text name) }
     ensures err { IfErr result (λ e. e ≡ Memory) }
 {
     Ok(match name {

@@ -1,6 +1,8 @@
 use Rattle.std.proofs.Common.{refl}
+use Rattle.xdr.specs.Grammar.{number_at}
 use Rattle.model.specs.Acl.{first_of, granted}
 use Rattle.model.specs.Attribute.{attributes_of, attribute_refusals}
+use Rattle.model.specs.AttributeValue.{value_at, values_at}
 use Rattle.model.specs.Charge.{fits}
 use Rattle.model.specs.Inherit.{inherited}
 use Rattle.model.specs.Mode.{moded}
@@ -12,7 +14,7 @@ use Rattle.std.specs.Str.{is_utf8, chars}
 use Rattle.model.proofs.step.examples.Goals as goal
 
 pub returns : goal.returns
-unfolding first_of granted attributes_of attribute_refusals fits inherited moded name_refusals permitted refusals effect does is_utf8 chars encode_utf8
+unfolding first_of granted attributes_of attribute_refusals value_at values_at number_at fits inherited moded name_refusals permitted refusals effect does is_utf8 chars encode_utf8
 returns c = record {
   makes = refl;
   made = refl;

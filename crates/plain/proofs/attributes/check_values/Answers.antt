@@ -1,22 +1,23 @@
-use Rattle.std.proofs.Common.{◌≡◌, ◌∙◌, ap, get_or, drop, ◌+◌, Some, rules}
-use Rattle.std.proofs.lemmas.List.{at_drop_more}
+use Rattle.std.proofs.Common.{◌≡◌, ◌<◌, length, Some, arith, rules}
+use Rattle.std.proofs.lemmas.Result.{err_from_is_err_and}
+use Rattle.std.specs.Prelude.{map}
 use Rattle.std.specs.List.{flat_map}
 use Rattle.model.specs.Attribute.{value_refusals}
 use Rattle.model.specs.Refusal.{first_refusal}
-use Rattle.plain.specs.declared.attributes.Value.TheVariants as value
-use Rattle.plain.specs.Given.{value_of, values_of}
-use Rattle.plain.proofs.Refusing.{or_else, first-append}
+use Rattle.wire_attributes.specs.Views.{value_view}
+use Rattle.plain.proofs.EachTest.{refuses_here, passes_here}
 use Rattle.plain.proofs.attributes.check_values.Goals as goal
 
 pub returns-in_err-check_value : goal.returns-in_err-check_value
 returns-in_err-check_value c =
-    let values = c.args.values.now in
-    let i = c.loop-value.value-index in
     let tests = value_refusals c.args.limits.now c.args.kind in
-    let rest = flat_map tests (values_of (drop (i + 1) values)) in
-    let whole : first_refusal (flat_map tests (values_of values)) ≡ Some c.in_err-check_value.field-0.0 =
-    c.loop-value.invariant
-    ∙ (at_drop_more (λ l. first_refusal (flat_map tests (values_of l))) values i (value.Mode 0) c.loop-value-test.true
-    ∙ (first-append (tests (value_of (get_or values i (value.Mode 0)))) rest
-    ∙ ap (λ o. or_else o (first_refusal rest)) c.in_err-check_value.ensures)) in
+    let within : c.loop-value.value-index < length c.args.values.now = c.loop-value-test.true in
+    let first : first_refusal (flat_map tests (map value_view c.args.values.now)) ≡ Some c.in_err-check_value.field-0.0 =
+    refuses_here value_view tests c.args.values.now c.loop-value.value-index c.value-item.result c.in_err-check_value.field-0.0 within
+    c.value-item.is c.loop-value.invariant c.in_err-check_value.ensures in
     search rules
+
+pub loop-value-preserved : goal.loop-value-preserved
+loop-value-preserved c =
+    passes_here value_view (value_refusals c.args.limits.now c.args.kind) c.args.values.now c.loop-value.value-index c.value-item.result
+    c.loop-value-test.true c.value-item.is c.loop-value.invariant (c.in_ok-check_value.ensures)

@@ -1,11 +1,11 @@
-use Rattle.std.proofs.Common.{◌≡◌, drop}
+use Rattle.std.proofs.Common.{◌≡◌, drop, map}
 use Rattle.std.specs.List.{flat_map}
 use Rattle.model.specs.Attribute.{value_refusals}
 use Rattle.model.specs.Refusal.{first_refusal}
-use Rattle.plain.specs.Given.{values_of}
+use Rattle.wire_attributes.specs.Views.{value_view}
 use Rattle.plain.proofs.attributes.check_values.Given as goal
 
 abbrev pub invariant-loop-value : goal.invariant-loop-value
 invariant-loop-value l =
-    first_refusal (flat_map (value_refusals l.limits l.kind) (values_of l.values))
-    ≡ first_refusal (flat_map (value_refusals l.limits l.kind) (values_of (drop l.value-index l.values)))
+    first_refusal (flat_map (value_refusals l.limits l.kind) (map value_view l.values))
+    ≡ first_refusal (flat_map (value_refusals l.limits l.kind) (map value_view (drop l.value-index l.values)))

@@ -1,10 +1,10 @@
 use Rattle.std.proofs.Common.{◌≡◌, ◌≢◌, map, length, rules}
 use Rattle.wire_attributes.specs.Views.{value_view}
-use Rattle.wire_attributes.proofs.Whole.{are_values}
+use Rattle.model.proofs.AttributeExact.{are_values}
 use Rattle.wire_attributes.proofs.values.read_values.Goals as goal
 
-pub returns : goal.returns
-returns c =
+pub returns-clause-values : goal.returns-clause-values
+returns-clause-values c =
     let none : length c.in_ok-values.rest ≡ 0 = search rules in
     let fits = rw c.new.ensures at c.each_value.ensures.bytes in
     let read = rw c.new.ensures at c.in_ok-values.ensures.reads in

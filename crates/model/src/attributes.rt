@@ -1,0 +1,34 @@
+//! The values of attributes, and the entries of lists, on the wire: their laws.
+
+ghost use Rattle.std.specs.Prelude.{ℕ, List};
+ghost use Rattle.xdr.specs.Laws.{Exact, OneSpelling};
+ghost use Rattle.model.specs.AclText.{ReadsEntries, ReadsNames, ReadsNumbers, WritesEntries};
+ghost use Rattle.model.specs.Attribute.{GivenListsFit};
+ghost use Rattle.model.specs.AttributeValue.{ReadsWhole, values};
+ghost use Rattle.model.specs.NodeAttributes.{AnswersSupported};
+
+/// The values of any attributes are exact: so they have one spelling, and no spelling begins another.
+#[tactic(auto, using(crate::proofs::AttributeExact::values_exact, crate::proofs::AttributeExact::one_values))]
+pub fn values_are_exact()
+    ensures exact { (attributes : List ℕ) → Exact (values attributes) }
+    ensures one { (attributes : List ℕ) → OneSpelling (values attributes) }
+    ensures whole { ReadsWhole }
+{}
+
+/// Numbers, names and entries are read exactly where they are written (RFC 8881, sections 5.9 and 6.2.1).
+pub fn texts_are_exact()
+    ensures numbers { ReadsNumbers }
+    ensures names { ReadsNames }
+    ensures entries { ReadsEntries }
+    ensures written { WritesEntries }
+{}
+
+/// A list that a client gives, and that passes its tests, is one that a node of this kind may have.
+pub fn given_lists_fit()
+    ensures { GivenListsFit }
+{}
+
+/// A node has a value of each attribute that is supported, and of no other.
+pub fn each_has_a_value()
+    ensures { AnswersSupported }
+{}
