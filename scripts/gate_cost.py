@@ -1,0 +1,88 @@
+#!/usr/bin/env python3
+"""Runs rt and prints the processor seconds that it took for each crate.
+
+    scripts/gate_cost.py             at the top of the repository: the gate, rt ci
+    scripts/gate_cost.py WORD ..     other words of rt, as `check` in a crate's folder
+
+rt runs within this process. For each process that it starts, the system tells what that one took, with all that it
+started itself, once it has ended. The sum is what the whole run took; `rest` are rt itself, linking, the programs and the tests.
+"""
+import importlib.machinery
+import importlib.util
+import os
+import resource
+import shutil
+import subprocess
+import sys
+import time
+from collections import Counter
+
+COLUMNS = ("library", "tests", "edits", "rest")
+COPIED = bytes(268 * 1024)
+taken = Counter()
+started = subprocess.Popen.__init__
+
+
+def part_of(words, folder):
+    """Returns the crate and the column that a process belongs to."""
+    words = [str(it) for it in words]
+    if "--crate-name" not in words:
+        return "", "rest"
+    name = words[words.index("--crate-name") + 1]
+    if os.path.basename(folder or "").startswith("rt-edit-"):
+        return name, "edits"
+    return name, "tests" if "--test" in words else "library"
+
+
+def start(self, args, *more, **named):
+    self.part = part_of(args if isinstance(args, list) else [args], named.get("cwd"))
+    started(self, args, *more, **named)
+
+
+def wait_for(self, flags):
+    try:
+        pid, status, used = os.wait4(self.pid, flags)
+    except ChildProcessError:
+        return self.pid, 0
+    if pid:
+        taken[self.part] += used.ru_utime + used.ru_stime
+    return pid, status
+
+
+def run_rt(words):
+    subprocess.Popen.__init__, subprocess.Popen._try_wait = start, wait_for
+    file = os.path.realpath(shutil.which("rt"))
+    loader = importlib.machinery.SourceFileLoader("rt", file)
+    rt = importlib.util.module_from_spec(importlib.util.spec_from_loader("rt", loader))
+    loader.exec_module(rt)
+    return rt.main(words)
+
+
+def yardstick():
+    """Returns how many gigabytes a second one processor copies from cache to cache."""
+    to, best = bytearray(COPIED), 0
+    for _ in range(20):
+        begin = time.perf_counter()
+        for _ in range(200):
+            to[:] = COPIED
+        best = max(best, 200 * len(COPIED) / (time.perf_counter() - begin))
+    return best / 1e9
+
+
+def show(wall):
+    whole = sum(sum(resource.getrusage(it)[:2]) for it in (resource.RUSAGE_SELF, resource.RUSAGE_CHILDREN))
+    taken["", "rest"] = whole - sum(it for (name, _), it in taken.items() if name)
+    names = sorted({it for it, _ in taken if it}, key=lambda it: -sum(taken[it, kind] for kind in COLUMNS))
+    print("| processor seconds | library | tests | edits | rest | sum |\n|---|---|---|---|---|---|")
+    for name in [*names, "", "sum"]:
+        row = [sum(it for (of, k), it in taken.items() if k == kind and name in (of, "sum")) for kind in COLUMNS]
+        cells = " | ".join(f"{it:.0f}" if it else "" for it in [*row, sum(row)])
+        print(f"| {'`' + name + '`' if name not in ('', 'sum') else name or 'beside them'} | {cells} |")
+    print(f"{whole / 60:.1f} processor minutes, {wall / 60:.1f} minutes by the clock, {os.cpu_count()} processors; one copies {yardstick():.0f} GB a second")
+
+
+if __name__ == "__main__":
+    begin = time.monotonic()
+    status = run_rt(sys.argv[1:] or ["ci"])
+    show(time.monotonic() - begin)
+    sys.exit(status)
