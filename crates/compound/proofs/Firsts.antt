@@ -1,12 +1,12 @@
--- An operation that comes only first in a COMPOUND is read as no later one.
-use Rattle.std.proofs.Common.{◌≡◌, ℕ, Bool, true, false, not, ◌&&◌, ◌||◌, ◌==◌, if◌then◌else◌, List, Result, Ok, Err, refl, ap, sym, subst, ◌∙◌}
+-- An operation that comes only first in a COMPOUND is read as no later one, and each that is read is served.
+use Rattle.std.proofs.Common.{◌≡◌, ℕ, Bool, true, false, not, ◌&&◌, ◌||◌, ◌==◌, if◌then◌else◌, List, Result, Ok, Err, refl, ap, sym, subst, ◌∙◌, ◌⊎◌, inl, inr, nat_lt}
 use Rattle.std.proofs.lemmas.Bool.{eqb-true}
 use Rattle.std.specs.Int.{w32}
 use Rattle.xdr.specs.Forms.{boolean, bitmap}
 use Rattle.xdr.specs.Grammar.{Grammar, ◌>>=◌, number_at, void, unsigned_int, unsigned_hyper}
 use Rattle.xdr.specs.Union.{Choice, on, no_other}
 use Rattle.xdr.specs.declared.refusal.Refusal.{Refusal}
-use Rattle.model.specs.Operation.{Argument}
+use Rattle.model.specs.Operation.{Argument, operation_of}
 use Rattle.model.specs.Rpc.{is_empty}
 use Rattle.model.specs.Served.{is_served, looks_no_further}
 use Rattle.model.specs.WireArguments.{close_arguments, commit_arguments, create_arguments, open_arguments, read_arguments, read_dir_arguments, rename_arguments, set_attr_arguments, write_arguments, exchange_id_arguments, create_session_arguments, sequence_arguments, argument_choice, arguments_at}
@@ -22,7 +22,7 @@ is_first operation = stands_alone operation || is_sequence operation
 
 abbrev IsOf : (operation : ℕ) → Result (Argument × List ℕ) Refusal → Type 0
 IsOf operation (Err fault) = Unit {0}
-IsOf operation (Ok read) = comes_first read.0 ≡ is_first operation
+IsOf operation (Ok read) = operation_of read.0 ≡ operation
 
 by_test : (operation : ℕ) (test : Bool) (one other : Result (Argument × List ℕ) Refusal) → (test ≡ true → IsOf operation one) → IsOf operation other
     → IsOf operation (if test then one else other)
@@ -30,25 +30,25 @@ by_test operation true one other first second = first refl
 by_test operation false one other first second = second
 
 made_first : {V : Type 0} (operation : ℕ) (make : V → Argument) (read : Result (V × List ℕ) Refusal)
-    → ((v : V) → comes_first (make v) ≡ is_first operation) → IsOf operation (read >>= λ x. Ok (make x.0, x.1))
+    → ((v : V) → operation_of (make v) ≡ operation) → IsOf operation (read >>= λ x. Ok (make x.0, x.1))
 made_first operation make (Err fault) here = tt
 made_first operation make (Ok read) here = here read.0
 
 abbrev Firsts : Choice Argument → Type 0
 Firsts choice = (operation : ℕ) (bytes : List ℕ) (argument : Argument) (rest : List ℕ) → choice operation bytes ≡ Ok (argument, rest)
-    → comes_first argument ≡ is_first operation
+    → operation_of argument ≡ operation
 
 is_of : (operation : ℕ) (given : Result (Argument × List ℕ) Refusal)
-    → ((argument : Argument) (rest : List ℕ) → given ≡ Ok (argument, rest) → comes_first argument ≡ is_first operation) → IsOf operation given
+    → ((argument : Argument) (rest : List ℕ) → given ≡ Ok (argument, rest) → operation_of argument ≡ operation) → IsOf operation given
 is_of operation (Err fault) each = tt
 is_of operation (Ok read) each = each read.0 read.1 refl
 
 on_first : {V : Type 0} (number : ℕ) (form : Grammar V) (make : V → Argument) (otherwise : Choice Argument)
-    → ((v : V) → comes_first (make v) ≡ is_first number) → Firsts otherwise → Firsts (on number form make otherwise)
+    → ((v : V) → operation_of (make v) ≡ number) → Firsts otherwise → Firsts (on number form make otherwise)
 on_first number form make otherwise here others = λ operation bytes argument rest is.
     subst (IsOf operation) is
     (by_test operation (operation == number) (form.read bytes >>= λ x. Ok (make x.0, x.1)) (otherwise operation bytes)
-    (λ same. made_first operation make (form.read bytes) (λ v. here v ∙ ap is_first (sym (eqb-true operation number same))))
+    (λ same. made_first operation make (form.read bytes) (λ v. here v ∙ sym (eqb-true operation number same)))
     (is_of operation (otherwise operation bytes) (others operation bytes)))
 
 choice_first : Firsts argument_choice
@@ -83,15 +83,41 @@ arguments_first : Firsts arguments_at
 unfolding arguments_at
 arguments_first = choice_first
 
--- What is read comes first where it is to
+first_is : (argument : Argument) → comes_first argument ≡ is_first (operation_of argument)
+first_is (Argument.Access a) = refl
+first_is (Argument.Close a) = refl
+first_is (Argument.Commit a) = refl
+first_is (Argument.Create a) = refl
+first_is (Argument.GetAttr a) = refl
+first_is Argument.GetFh = refl
+first_is (Argument.Lookup a) = refl
+first_is Argument.LookupParent = refl
+first_is (Argument.Open a) = refl
+first_is (Argument.PutFh a) = refl
+first_is Argument.PutRootFh = refl
+first_is (Argument.Read a) = refl
+first_is (Argument.ReadDir a) = refl
+first_is (Argument.Remove a) = refl
+first_is (Argument.Rename a) = refl
+first_is Argument.RestoreFh = refl
+first_is Argument.SaveFh = refl
+first_is (Argument.SetAttr a) = refl
+first_is (Argument.Write a) = refl
+first_is (Argument.ExchangeId a) = refl
+first_is (Argument.CreateSession a) = refl
+first_is (Argument.DestroySession a) = refl
+first_is (Argument.Sequence a) = refl
+first_is (Argument.DestroyClientId a) = refl
+first_is (Argument.ReclaimComplete a) = refl
+
+-- What is read comes first where it is to, and is served
+
+abbrev Passed : InProgress → Argument → Type 0
+Passed request argument = (comes_first argument ≡ true → request.answered ≡ 0) × (is_served (operation_of argument) ≡ true)
 
 abbrev Alone : InProgress → Next → Type 0
 Alone request (Refuses operation reason) = Unit {0}
-Alone request (Reads argument rest) = comes_first argument ≡ true → request.answered ≡ 0
-
-at_first : (request : InProgress) (next : Next) → request.answered ≡ 0 → Alone request next
-at_first request (Refuses operation reason) first = tt
-at_first request (Reads argument rest) first = λ is. first
+Alone request (Reads argument rest) = Passed request argument
 
 otherwise : (request : InProgress) (test : Bool) (one other : Next) → Alone request one → (test ≡ false → Alone request other)
     → Alone request (if test then one else other)
@@ -108,12 +134,52 @@ none_first operation alone sequence = ap (λ (test : Bool). test || is_sequence 
 true_false : {T : Type 0} → true ≡ false → T
 true_false is = absurd cc
 
-read_alone : (request : InProgress) (operation : ℕ) (given : Result (Argument × List ℕ) Refusal) → IsOf operation given → is_first operation ≡ false
-    → Alone request (by_arguments request operation given)
-read_alone request operation (Err fault) of none = tt
-read_alone request operation (Ok read) of none =
+read_alone : (request : InProgress) (operation : ℕ) (given : Result (Argument × List ℕ) Refusal) → IsOf operation given
+    → (is_first operation ≡ true → request.answered ≡ 0) → is_served operation ≡ true → Alone request (by_arguments request operation given)
+read_alone request operation (Err fault) of first served = tt
+read_alone request operation (Ok read) of first served =
     otherwise request (is_last request && (not (looks_no_further read.0) && not (is_empty read.1))) (Refuses operation status.BadXdr) (Reads read.0 read.1) tt
-    (λ enough is. true_false (sym is ∙ (of ∙ none)))
+    (λ enough. (λ is. first (sym (first_is read.0 ∙ ap is_first of) ∙ is), ap is_served of ∙ served))
+
+is_not : (b : Bool) → not b ≡ false → b ≡ true
+is_not true is = refl
+is_not false is = sym is
+
+left_false : (left right : Bool) → (left || right) ≡ false → left ≡ false
+left_false true right is = is
+left_false false right is = refl
+
+one_of : (left right : Bool) → (left || right) ≡ true → (left ≡ true) ⊎ (right ≡ true)
+one_of true right is = inl refl
+one_of false right is = inr is
+
+-- each that may come first is served
+served_at : (operation number : ℕ) → (operation == number) ≡ true → is_served number ≡ true → is_served operation ≡ true
+served_at operation number same is = ap is_served (eqb-true operation number same) ∙ is
+
+first_served : (operation : ℕ) → (is_sequence operation || stands_alone operation) ≡ true → is_served operation ≡ true
+first_served operation is = elim (one_of (operation == 53) (stands_alone operation) is) [
+  | inl sequence ↦ served_at operation 53 sequence refl
+  | inr alone ↦ elim (one_of (operation == 42 || operation == 43 || operation == 44) (operation == 57) alone) [
+    | inl some ↦ elim (one_of (operation == 42 || operation == 43) (operation == 44) some) [
+      | inl two ↦ elim (one_of (operation == 42) (operation == 43) two) [
+        | inl exchange ↦ served_at operation 42 exchange refl
+        | inr create ↦ served_at operation 43 create refl
+      ]
+      | inr destroy ↦ served_at operation 44 destroy refl
+    ]
+    | inr client ↦ served_at operation 57 client refl
+  ]
+]
+
+begins_alone : (request : InProgress) (operation : ℕ) (given : Result (Argument × List ℕ) Refusal) → request.answered ≡ 0 → IsOf operation given
+    → Alone request (first_or (first_tests request.count operation) (by_arguments request operation given))
+begins_alone request operation given first of =
+    otherwise request (is_no_operation operation) (Refuses op_illegal status.OpIllegal) _ tt (λ some.
+    otherwise request (not (is_sequence operation || stands_alone operation)) (Refuses operation status.OpNotInSession) _ tt (λ known.
+    otherwise request (stands_alone operation && nat_lt 1 request.count) (Refuses operation status.NotOnlyOp) (by_arguments request operation given) tt (λ only.
+    read_alone request operation given of (λ is. first)
+    (first_served operation (is_not (is_sequence operation || stands_alone operation) known)))))
 
 later_alone : (request : InProgress) (operation : ℕ) (given : Result (Argument × List ℕ) Refusal) → IsOf operation given
     → Alone request (first_or (later_tests operation) (by_arguments request operation given))
@@ -122,12 +188,13 @@ later_alone request operation given of =
     otherwise request (not (is_served operation) || stands_alone operation) (Refuses operation status.NotSupp) _ tt (λ served.
     otherwise request (is_sequence operation) (Refuses operation status.SequencePos) (by_arguments request operation given) tt (λ sequence.
     read_alone request operation given of
-    (none_first operation (right_false (not (is_served operation)) (stands_alone operation) served) sequence))))
+    (λ is. true_false (sym is ∙ none_first operation (right_false (not (is_served operation)) (stands_alone operation) served) sequence))
+    (is_not (is_served operation) (left_false (not (is_served operation)) (stands_alone operation) served)))))
 
 tests_alone : (request : InProgress) (test : Bool) (operation : ℕ) (given : Result (Argument × List ℕ) Refusal)
     → (test ≡ true → request.answered ≡ 0) → IsOf operation given
     → Alone request (first_or (if test then first_tests request.count operation else later_tests operation) (by_arguments request operation given))
-tests_alone request true operation given first of = at_first request _ (first refl)
+tests_alone request true operation given first of = begins_alone request operation given (first refl) of
 tests_alone request false operation given first of = later_alone request operation given of
 
 number_alone : (request : InProgress) (given : Result (ℕ × List ℕ) Refusal) → Alone request (by_number request given)
@@ -140,6 +207,13 @@ next_alone : (request : InProgress) → Alone request (next_operation request)
 unfolding next_operation
 next_alone request = number_alone request (number_at w32 request.rest)
 
+passed_tests : (request : InProgress) (argument : Argument) (rest : List ℕ) → next_operation request ≡ Reads argument rest → Passed request argument
+passed_tests request argument rest is = subst (Alone request) is (next_alone request)
+
 pub first_alone : (request : InProgress) (argument : Argument) (rest : List ℕ) → next_operation request ≡ Reads argument rest
     → comes_first argument ≡ true → request.answered ≡ 0
-first_alone request argument rest is = subst (Alone request) is (next_alone request)
+first_alone request argument rest is = (passed_tests request argument rest is).0
+
+pub is_served_next : (request : InProgress) (argument : Argument) (rest : List ℕ) → next_operation request ≡ Reads argument rest
+    → is_served (operation_of argument) ≡ true
+is_served_next request argument rest is = (passed_tests request argument rest is).1

@@ -11,4 +11,3 @@ pub mod Stepping
 pub mod Tables
 pub mod Trees
 pub mod Turning
-pub mod Unserved

@@ -2,12 +2,13 @@
 use Rattle.std.proofs.Common.{◌≡◌, ℕ, Bool, true, false, ◌==◌, if◌then◌else◌, List, [], Option, Some, None, Result, Ok, Err, refl, ap, sym, ◌∙◌}
 use Rattle.model.specs.Answer.{Answer, Outcome, ExchangeIdAnswer, CreateSessionAnswer}
 use Rattle.model.specs.Operation.{Argument, ExchangeIdArguments, CreateSessionArguments}
-use Rattle.model.specs.Opens.{Opens}
+use Rattle.model.specs.Opens.{Opens, no_opens}
 use Rattle.model.specs.Session as sessions
 use Rattle.std.specs.List.{find}
 use Rattle.model.specs.Refusal.{first_refusal}
 use Rattle.model.specs.Session.{Table, SessionLimits, CreateSessionOutcome, Client, create_unless, create_again, create_by, create_refusals, next_number, is_client}
-use Rattle.model.specs.World.{World, InProgress, Gives, run, exchanged, created, created_by, tabled, gives, has_opens, with_table, without_clients}
+use Rattle.model.specs.StateIds.{has_opens, without_clients}
+use Rattle.model.specs.World.{World, InProgress, Gives, run, exchanged, created, created_by, tabled, gives, with_table}
 use Rattle.model.specs.declared.status.Status.{Status}
 use Rattle.session.specs.Limits.{served}
 use Rattle.session.specs.Views.{among}
@@ -39,11 +40,11 @@ ran_create world request now arguments old {fs} on =
     ∙ ap (sessions.create_session served uid arguments) on.table_is)
 
 -- no opens end where there are none
-no_opens_end : (world : World) (ended : List ℕ) → world.opens ≡ [] → without_clients ended world.opens ≡ world.opens
+no_opens_end : (world : World) (ended : List ℕ) → world.opens ≡ no_opens → without_clients ended world.opens ≡ world.opens
 no_opens_end world ended none = ap (without_clients ended) none ∙ sym none
 
 pub created_ok : (world : World) (request : InProgress) (outcome : CreateSessionOutcome) (answer : CreateSessionAnswer) (new : Table)
-    → world.opens ≡ [] → outcome.answer ≡ Ok answer → outcome.table ≡ new
+    → world.opens ≡ no_opens → outcome.answer ≡ Ok answer → outcome.table ≡ new
     → created world request outcome ≡ Gives (Outcome.Done (Answer.CreateSession answer)) (with_table world new) request
 created_ok world request outcome answer new none is table =
     ap (created_by world request outcome) is

@@ -12,12 +12,13 @@ use Rattle.model.specs.Context.{Context, has_current, current_number, at_node}
 use Rattle.model.specs.Keyed.{is_key}
 use Rattle.model.specs.declared.limits.Limits.{Limits}
 use Rattle.model.specs.Name.{name_refusals}
-use Rattle.model.specs.Need.{permitted}
+use Rattle.model.specs.Need.{need_first, need_then}
+use Rattle.model.specs.Opens.{no_opens}
 use Rattle.model.specs.Operation.{Argument, Attributes, NewDirectory, OtherType, operation_of}
 use Rattle.model.specs.Refusal.{Refusals, first_refusal, refused_or}
 use Rattle.model.specs.Session.{Table}
 use Rattle.model.specs.Status.{code_of}
-use Rattle.model.specs.Step.{State, Stepped, does, refused, refusals, effect, late, change_refusals, unless_refused, current, current_refusals}
+use Rattle.model.specs.Step.{State, Stepped, does, refused, refusals, effect, late, without_rights, change_refusals, unless_refused, current, current_refusals}
 use Rattle.model.specs.Tree.{root}
 use Rattle.model.specs.World.{World, InProgress, Gives, run, stepped, state_of, reclaimed}
 use Rattle.model.specs.declared.node.NodeKind.{NodeKind}
@@ -54,7 +55,7 @@ is_on fs request number state in_run has is there = record {
 
 -- some state is one
 abbrev pub of_request : FileSystem → InProgress → State
-of_request fs request = record { tree = fs.tree; changes = fs.changes; opens = []; context = request.context }
+of_request fs request = record { tree = fs.tree; changes = fs.changes; opens = no_opens; context = request.context }
 
 pub is_there : (fs : FileSystem) (request : InProgress) → IsHere fs request (of_request fs request)
 is_there fs request = record { tree_is = refl; changes_is = refl; context_is = refl }
@@ -192,8 +193,12 @@ pub create_bad : (limits : Limits) (state : State) (now : ℕ) (name : List ℕ)
 unfolding refusals name_refusals attribute_refusals effect
 create_bad limits state now name given reason is =
     let values = unwrap_or (values_of given) [] in
-    does_bad limits state now (Argument.Create (NewDirectory name given)) reason _
-    (append_bad (flat_map (value_refusals limits kind.Directory) values) ((not (permitted state.tree state.context (Argument.Create (NewDirectory name given))), status.Access) ∷ late limits state (Argument.Create (NewDirectory name given)))
+    let kind_of : Argument = Argument.Create (NewDirectory name given) in
+    does_bad limits state now kind_of reason _
+    (append_bad (flat_map (value_refusals limits kind.Directory) values)
+    ((without_rights state (need_first state.tree state.context kind_of), status.Access)
+    ∷ (without_rights state (need_then state.tree state.context kind_of), status.Access)
+    ∷ late limits state kind_of)
     (values_bad limits kind.Directory values) refl)
     refl is
 

@@ -80,18 +80,3 @@ comes_first (Argument.DestroySession id) = true
 comes_first (Argument.DestroyClientId client) = true
 comes_first (Argument.Sequence arguments) = true
 comes_first _ = false
-
--- the operations that are not served
-abbrev pub is_unserved : Argument → Bool
-is_unserved (Argument.Create arguments) = false
-is_unserved Argument.GetFh = false
-is_unserved (Argument.Lookup name) = false
-is_unserved (Argument.PutFh handle) = false
-is_unserved Argument.PutRootFh = false
-is_unserved (Argument.ExchangeId arguments) = false
-is_unserved (Argument.CreateSession arguments) = false
-is_unserved (Argument.DestroySession id) = false
-is_unserved (Argument.Sequence arguments) = false
-is_unserved (Argument.DestroyClientId client) = false
-is_unserved (Argument.ReclaimComplete one_fs) = false
-is_unserved _ = true

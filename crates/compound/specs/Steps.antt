@@ -1,6 +1,7 @@
 -- One operation of a COMPOUND on a file system and on the table of clients and sessions, by the definition.
-use Rattle.std.specs.Prelude.{◌≡◌, ℕ, Bool, true, []}
+use Rattle.std.specs.Prelude.{◌≡◌, ℕ, Bool, true}
 use Rattle.fs.specs.FileSystem.{FileSystem}
+use Rattle.model.specs.Opens.{no_opens}
 use Rattle.model.specs.Session.{Table}
 use Rattle.model.specs.World as world
 use Rattle.model.specs.World.{World, Connection, Busy, Replied, Turn, Turned, InProgress, next_operation, operates, with_connection}
@@ -17,7 +18,7 @@ pub record IsServed (world : World) (fs : FileSystem) (table : Table) : Type 0 w
   pub run : world.run ≡ fs.run
   pub tree : world.tree ≡ fs.tree
   pub changes : world.changes ≡ fs.changes
-  pub opens : world.opens ≡ []
+  pub opens : world.opens ≡ no_opens
   pub table_is : world.table ≡ table
 
 -- the world with what they are now

@@ -7,20 +7,20 @@ use crate::operated::Operated;
 use crate::running::Running;
 use disk::Device;
 use fs::Fs;
-use model::status::Status;
 use session::Table;
-use wire::{Argument, Operation};
+use wire::Argument;
 
 impl Running<'_> {
     ghost use Rattle.std.specs.Prelude.{◌≡◌, ◌≤◌, ℕ, List, true, false, IfOk, IfErr, OnErr, IsErrOf};
     ghost use Rattle.disk.specs.Cause.{IsCounted};
     ghost use Rattle.fs.specs.FileSystem.{AddsTrees, FileSystem};
     ghost use Rattle.fs.specs.FileSystems.{fs_of, fs_failures};
-    ghost use Rattle.model.specs.Session.{Table as Known};
+    ghost use Rattle.model.specs.Operation.{operation_of};
+    ghost use Rattle.model.specs.Served.{is_served};
     ghost use Rattle.model.specs.World.{World};
     ghost use Rattle.session.specs.Views.{table_of};
     ghost use Rattle.wire.specs.ArgumentView.{argument_view};
-    ghost use Rattle.compound.specs.Operates.{Operates, IsAnswered, comes_first, is_unserved, run_in_room, tree_by};
+    ghost use Rattle.compound.specs.Operates.{Operates, IsAnswered, comes_first, run_in_room, tree_by};
     ghost use Rattle.compound.specs.Runs.{with_rest};
     ghost use Rattle.compound.specs.Steps.{IsServed};
     ghost use Rattle.compound.specs.Views.{in_progress_of};
@@ -39,6 +39,7 @@ impl Running<'_> {
     ) -> Result<Operated, Fault>
         requires up { (fs_of fs.old).is_down ≡ false }
         requires run { (in_progress_of self.now).context.run ≡ (fs_of fs.old).run }
+        requires served { is_served (operation_of (argument_view argument.now)) ≡ true }
         requires first { comes_first (argument_view argument.now) ≡ true → (in_progress_of self.now).answered ≡ 0 }
         ensures gives { IfOk result (Operates now (fs_of fs.old) (fs_of fs.new) (table_of table.old) (table_of table.new) (in_progress_of self.now) (argument_view argument.now)) }
         ensures answered { IfOk result (IsAnswered (in_progress_of self.now)) }
@@ -64,53 +65,7 @@ impl Running<'_> {
             Argument::DestroyClientId(client) => Ok(self.destroy_clientid(table, *client)),
             Argument::Sequence(arguments) => Ok(self.sequence(table, arguments)),
             Argument::ReclaimComplete(one_fs) => Ok(self.reclaim(fs, table, *one_fs)),
-            _ => Ok(self.refuse_unserved(argument)),
+            _ => unreachable!(),
         }
-    }
-
-    /// Any other operation: NOTSUPP.
-    fn refuse_unserved(&self, argument: &Argument<'_>) -> Operated
-        requires { is_unserved (argument_view argument.now) ≡ true }
-        ensures gives { (now : ℕ) (fs : FileSystem) (table : Known) → Operates now fs fs table table (in_progress_of self.now) (argument_view argument.now) result }
-        ensures answered { IsAnswered (in_progress_of self.now) result }
-    {
-        self.refuse(kind_of(argument), Status::NotSupp)
-    }
-}
-
-ghost use Rattle.model.specs.Operation.{operation_of};
-ghost use Rattle.wire.specs.ArgumentView.{argument_view};
-ghost use Rattle.wire.specs.Numbers.{number_of};
-
-/// The operation of these arguments.
-fn kind_of(argument: &Argument<'_>) -> Operation
-    ensures { number_of result ≡ operation_of (argument_view argument.now) }
-{
-    match argument {
-        Argument::Access(_) => Operation::Access,
-        Argument::Close(_) => Operation::Close,
-        Argument::Commit(_) => Operation::Commit,
-        Argument::Create(_) => Operation::Create,
-        Argument::GetAttr(_) => Operation::GetAttr,
-        Argument::GetFh => Operation::GetFh,
-        Argument::Lookup(_) => Operation::Lookup,
-        Argument::LookupParent => Operation::LookupParent,
-        Argument::Open(_) => Operation::Open,
-        Argument::PutFh(_) => Operation::PutFh,
-        Argument::PutRootFh => Operation::PutRootFh,
-        Argument::Read(_) => Operation::Read,
-        Argument::ReadDir(_) => Operation::ReadDir,
-        Argument::Remove(_) => Operation::Remove,
-        Argument::Rename(_) => Operation::Rename,
-        Argument::RestoreFh => Operation::RestoreFh,
-        Argument::SaveFh => Operation::SaveFh,
-        Argument::SetAttr(_) => Operation::SetAttr,
-        Argument::Write(_) => Operation::Write,
-        Argument::ExchangeId(_) => Operation::ExchangeId,
-        Argument::CreateSession(_) => Operation::CreateSession,
-        Argument::DestroySession(_) => Operation::DestroySession,
-        Argument::Sequence(_) => Operation::Sequence,
-        Argument::DestroyClientId(_) => Operation::DestroyClientId,
-        Argument::ReclaimComplete(_) => Operation::ReclaimComplete,
     }
 }

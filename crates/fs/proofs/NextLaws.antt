@@ -9,6 +9,7 @@ use Rattle.journal.specs.Log.{Log}
 use Rattle.model.specs.declared.acl.Cred.{Cred}
 use Rattle.model.specs.declared.limits.Limits.{Limits}
 use Rattle.model.specs.Limits.{limits_of}
+use Rattle.model.specs.Opens.{no_opens}
 use Rattle.model.specs.Operation.{Argument, Attributes, NewDirectory}
 use Rattle.model.specs.Step.{State, Stepped}
 use Rattle.model.specs.StepLaws.{EveryStepIsLawful, IsSound}
@@ -26,7 +27,7 @@ module _ (keeps_word : Type 0) (log : Log) (limits : Limits) (run changes now nu
   on = record {
     tree = tree;
     changes = changes;
-    opens = [];
+    opens = no_opens;
     context = record { cred = cred; client = 0; run = run; current = Some (record { number = number; state = None }); saved = None };
   }
 

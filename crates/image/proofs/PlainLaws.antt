@@ -12,7 +12,9 @@ use Rattle.model.specs.declared.status.Status.{Status}
 use Rattle.model.specs.declared.node.NodeKind.TheVariants as node_kind
 use Rattle.model.specs.Acl.{meets}
 use Rattle.model.specs.Attribute.{is_empty, mode_given}
-use Rattle.model.specs.Directory.{acl_of, new_directory, with_names, with_child, with_child_of}
+use Rattle.model.specs.Changes.{touched, made_edits}
+use Rattle.model.specs.Directory.{acl_of, new_directory}
+use Rattle.model.specs.Edit.{altered, altered_at, showing, name_put, edited}
 use Rattle.model.specs.Inherit.{inherited, is_inherited_by, created, created_without_list}
 use Rattle.model.specs.Keyed.{Keyed, at, with, in_place_of, before_or_behind, IsAbove}
 use Rattle.model.specs.Mode.{moded, has_rights, entry, rights_of, rights_lacking, owner_bits, group_bits, other_bits}
@@ -109,21 +111,32 @@ few_of tree None plain none_given mode = created_without-few [] none_given mode 
 few_of tree (Some node) plain none_given mode =
     created_without-few node.acl none_given mode (inherited-none node.acl (plain node refl).own)
 
+-- the directory there has another content or shows another change: it is still one, with the same entries
+altered_all : (change : Node → Node) (tree : Tree) (number : ℕ) → ((node : Node) → IsPlainNode node → IsPlainNode (change node))
+    → IsPlainTree tree → IsPlainTree (altered change tree number)
+altered_all change tree number keeps plain = by_node (at number tree) (λ found is. all_at tree number found plain is) where
+  by_node : (node : Option Node) → ((found : Node) → node ≡ Some found → IsPlainNode found) → IsPlainTree (altered_at change tree number node)
+  by_node None is = plain
+  by_node (Some found) is = with_all tree number (change found) plain (keeps found (is found refl))
+
 pub plain_child : (tree : Tree) (directory stamp now : ℕ) (name : List ℕ) (cred : Cred) (given : Attributes) → IsPlainTree tree
-    → IsPlainTree (with_child tree directory name (new_directory cred (acl_of (at directory tree)) given stamp now) stamp now)
-plain_child tree directory stamp now name cred given plain = by_parent (at directory tree) (λ found is. all_at tree directory found plain is) where
-  by_parent : (parent : Option Node) → ((found : Node) → parent ≡ Some found → IsPlainNode found)
-      → IsPlainTree (with_child_of tree directory parent name (new_directory cred (acl_of parent) given stamp now) stamp now)
-  by_parent None is = plain
-  by_parent (Some parent) is =
-      let of : IsFewOwn (created parent.acl node_kind.Directory (is_empty given.bitmap) (mode_given given) None) =
-      few_of tree (Some parent) is (is_empty given.bitmap) (mode_given given) in
-      let was : IsPlainNode parent = is parent refl in
-      with_all (with tree directory (with_names parent (with (names_of parent.content) stamp (record { name = name; number = stamp })) stamp now)) stamp
-      (new_directory cred parent.acl given stamp now)
-      (with_all tree directory (with_names parent (with (names_of parent.content) stamp (record { name = name; number = stamp })) stamp now) plain
-      (record { directory = refl; few = was.few; own = was.own }))
-      (record { directory = refl; few = of.few; own = of.own })
+    → IsPlainTree (edited (made_edits tree directory name (new_directory cred (acl_of (at directory tree)) given stamp now) stamp now) tree)
+plain_child tree directory stamp now name cred given plain =
+    by_parent (at directory tree) (λ found is. all_at tree directory found plain is) where
+      acl_few : (parent : Option Node) → ((found : Node) → parent ≡ Some found → IsPlainNode found) → IsFewOwn (acl_of parent)
+      acl_few None is = record { few = omega arith; own = tt }
+      acl_few (Some found) is = record { few = (is found refl).few; own = (is found refl).own }
+
+      by_parent : (parent : Option Node) → ((found : Node) → parent ≡ Some found → IsPlainNode found)
+          → IsPlainTree (altered (showing (touched parent stamp now))
+          (altered (name_put stamp (record { name = name; number = stamp })) (with tree stamp (new_directory cred (acl_of parent) given stamp now)) directory) directory)
+      by_parent parent is =
+          let of : IsFewOwn (created (acl_of parent) node_kind.Directory (is_empty given.bitmap) (mode_given given) None) =
+          few_of tree parent is (is_empty given.bitmap) (mode_given given) in
+          let shown : IsFewOwn (acl_of parent) = acl_few parent is in
+          altered_all (showing (touched parent stamp now)) _ directory (λ node was. record { directory = was.directory; few = shown.few; own = shown.own })
+          (altered_all (name_put stamp (record { name = name; number = stamp })) _ directory (λ node was. record { directory = refl; few = was.few; own = was.own })
+          (with_all tree stamp (new_directory cred (acl_of parent) given stamp now) plain (record { directory = refl; few = of.few; own = of.own })))
 
 -- CREATE keeps the tree one that has an image
 pub plain_step : (limits : Limits) (state : State) (now : ℕ) (name : List ℕ) (given : Attributes) → IsPlainTree state.tree

@@ -7,8 +7,8 @@ use Rattle.model.specs.Charge.{fits}
 use Rattle.model.specs.Fresh.{fresh_root, fresh_tree, FreshIsWellFormed}
 use Rattle.model.specs.Keyed.{at, is_key}
 use Rattle.model.specs.Limits.{Limits}
-use Rattle.model.specs.Tree.{Node, names_of, kind_of}
-use Rattle.model.specs.WellFormed.{IsReached, TheRoot, IsNode, AreNames, IsWellFormed, IsBefore, links_to, links_owed}
+use Rattle.model.specs.Tree.{Node, names_of, kind_of, root}
+use Rattle.model.specs.WellFormed.{IsFrom, Start, IsNode, AreNames, IsWellFormed, IsBefore, links_to, links_owed}
 use Rattle.model.proofs.KeyedLaws.{at-first, at-rest}
 
 -- it has the root alone
@@ -24,8 +24,8 @@ key_is_root number is = elim (cases_eq number 1) [
   | inr other ↦ absurd (let no : is_key number fresh_tree ≡ false = ap is_some (at-rest 1 number fresh_root [] other) in cc)
 ]
 
-root_is_reached : (number : ℕ) → number ≡ 1 → IsReached fresh_tree number
-root_is_reached number one = subst (λ n. IsReached fresh_tree n) (sym one) TheRoot
+root_is_reached : (number : ℕ) → number ≡ 1 → IsFrom fresh_tree root number
+root_is_reached number one = subst (λ n. IsFrom fresh_tree root n) (sym one) Start
 
 no_links : (number : ℕ) → links_to fresh_tree number ≡ links_owed fresh_tree number
 no_links number = elim (cases_eq number 1) [

@@ -115,6 +115,75 @@ module _ {A : Type 0} where
     ]
   ]
 
+  -- Two changes of a map, one after the other: at one key the second stands, at two keys they change places
+
+  pub with-with_same : (entries : Keyed A) (key : ℕ) (value other : A) → with (with entries key value) key other ≡ with entries key other
+  with-with_same [] key value other = with-here (key, value) [] key other refl
+  with-with_same (entry ∷ rest) key value other = elim (cases_order key entry.0) [
+    | inl one ↦ ap (λ l. with l key other) (with-here entry rest key value one)
+        ∙ (with-here (key, value) rest key other refl ∙ sym (with-here entry rest key other one))
+    | inr apart ↦ elim apart [
+      | inl low ↦ ap (λ l. with l key other) (with-before entry rest key value low)
+          ∙ (with-here (key, value) (entry ∷ rest) key other refl ∙ sym (with-before entry rest key other low))
+      | inr high ↦ ap (λ l. with l key other) (with-behind entry rest key value high)
+          ∙ (with-behind entry (with rest key value) key other high
+          ∙ (ap (λ l. entry ∷ l) (with-with_same rest key value other) ∙ sym (with-behind entry rest key other high)))
+    ]
+  ]
+
+  in_front : (entry : ℕ × A) (rest : Keyed A) (key other : ℕ) (value more : A) → key < other → key < entry.0
+      → with (with (entry ∷ rest) other more) key value ≡ (key, value) ∷ with (entry ∷ rest) other more
+  in_front entry rest key other value more below low = elim (cases_order other entry.0) [
+    | inl one ↦
+        let is = with-here entry rest other more one in
+        ap (λ l. with l key value) is ∙ (with-before (other, more) rest key value below ∙ ap (λ l. (key, value) ∷ l) (sym is))
+    | inr apart ↦ elim apart [
+      | inl first ↦
+          let is = with-before entry rest other more first in
+          ap (λ l. with l key value) is
+          ∙ (with-before (other, more) (entry ∷ rest) key value below ∙ ap (λ l. (key, value) ∷ l) (sym is))
+      | inr behind ↦
+          let is = with-behind entry rest other more behind in
+          ap (λ l. with l key value) is
+          ∙ (with-before entry (with rest other more) key value low ∙ ap (λ l. (key, value) ∷ l) (sym is))
+    ]
+  ]
+
+  with-with_above : (entries : Keyed A) (key other : ℕ) (value more : A) → key < other
+      → with (with entries key value) other more ≡ with (with entries other more) key value
+  with-with_above [] key other value more below =
+      with-behind (key, value) [] other more below ∙ sym (with-before (other, more) [] key value below)
+  with-with_above (entry ∷ rest) key other value more below = elim (cases_order key entry.0) [
+    | inl one ↦
+        let high : entry.0 < other = omega arith in
+        ap (λ l. with l other more) (with-here entry rest key value one)
+        ∙ (with-behind (key, value) rest other more below
+        ∙ (sym (with-here entry (with rest other more) key value one)
+        ∙ ap (λ l. with l key value) (sym (with-behind entry rest other more high))))
+    | inr apart ↦ elim apart [
+      | inl low ↦ ap (λ l. with l other more) (with-before entry rest key value low)
+          ∙ (with-behind (key, value) (entry ∷ rest) other more below
+          ∙ sym (in_front entry rest key other value more below low))
+      | inr high ↦
+          let further : entry.0 < other = omega arith in
+          ap (λ l. with l other more) (with-behind entry rest key value high)
+          ∙ (with-behind entry (with rest key value) other more further
+          ∙ (ap (λ l. entry ∷ l) (with-with_above rest key other value more below)
+          ∙ (sym (with-behind entry (with rest other more) key value high)
+          ∙ ap (λ l. with l key value) (sym (with-behind entry rest other more further)))))
+    ]
+  ]
+
+  pub with-with_other : (entries : Keyed A) (key other : ℕ) (value more : A) → key ≢ other
+      → with (with entries key value) other more ≡ with (with entries other more) key value
+  with-with_other entries key other value more apart = elim (cases_order key other) [
+    | inl same ↦ absurd (apart same)
+    | inr off ↦ elim off [
+      | inl below ↦ with-with_above entries key other value more below
+      | inr above ↦ sym (with-with_above entries other key more value above)
+    ]
+  ]
+
   -- What `without` makes of a map
 
   without-here : (entry : ℕ × A) (rest : Keyed A) (key : ℕ) → key ≡ entry.0 → without (entry ∷ rest) key ≡ without rest key

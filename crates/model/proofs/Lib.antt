@@ -12,7 +12,10 @@ pub mod RpcRows
 pub mod RecordLaws
 pub mod SessionRows
 pub mod SlotLaw
-pub mod ChildLaws
+pub mod AncestorLaws
+pub mod ChangeLaws
+pub mod EditLaws
+pub mod EditViews
 pub mod FreshTree
 pub mod KeyedLaws
 pub mod LimitLaws

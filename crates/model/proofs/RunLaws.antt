@@ -3,11 +3,13 @@ use Rattle.std.proofs.Common.{◌≡◌, ◌≢◌, ℕ, Bool, true, false, not,
 use Rattle.model.specs.declared.status.Status.{Status}
 use Rattle.model.specs.declared.status.Status.TheVariants as status
 use Rattle.model.specs.Answer.{Answer, Outcome}
+use Rattle.model.specs.Context.{is_same_name}
 use Rattle.model.specs.Need.{permitted}
+use Rattle.model.proofs.StepCases.{passes_tests}
 use Rattle.model.specs.Operation.{Argument, NewDirectory}
 use Rattle.model.specs.Refusal.{Refusals, first_refusal, refused_or}
 use Rattle.model.specs.declared.limits.Limits.{Limits}
-use Rattle.model.specs.Step.{State, Stepped, alters, effect, refusals, early, late, change_refusals, unless_refused, does}
+use Rattle.model.specs.Step.{State, Stepped, alters, rename, effect, refusals, early, late, change_refusals, unless_refused, does}
 use Rattle.model.specs.Tree.{Tree}
 use Rattle.model.specs.Answer.{ExchangeIdAnswer, CreateSessionAnswer}
 use Rattle.model.specs.Operation.{SequenceArguments, operation_of}
@@ -28,6 +30,13 @@ effect_alters : (state : State) (now : ℕ) (operation : Argument) → state.tre
     → (alters state operation ≡ true) × (is_done (effect state now operation).outcome ≡ true)
 unfolding effect
 effect_alters state now (Argument.Create (NewDirectory name given)) differs = (refl, refl)
+effect_alters state now (Argument.Remove name) differs = (refl, refl)
+effect_alters state now (Argument.Rename arguments) differs = rename_alters (is_same_name state.context arguments) differs
+  where
+    rename_alters : (same : Bool) → state.tree ≢ (rename same state now arguments).state.tree
+        → (not same ≡ true) × (is_done (rename same state now arguments).outcome ≡ true)
+    rename_alters true differs = absurd (differs refl)
+    rename_alters false differs = (refl, refl)
 effect_alters state now _ differs = absurd (differs refl)
 
 no_test : (b : Bool) (reason : Status) (others : Option Status) → refused_or b reason others ≡ None → (b ≡ false) × (others ≡ None)
@@ -50,11 +59,7 @@ not_false false e = let never : ⊥ = cc in absurd never
 
 passes_permitted : (limits : Limits) (state : State) (operation : Argument) (more : Refusals) → first_refusal (refusals limits state operation ++ more) ≡ None
     → permitted state.tree state.context operation ≡ true
-unfolding refusals
-passes_permitted limits state operation more e =
-    let tests = front_passes (refusals limits state operation) more e in
-    let behind = back_passes (early limits state operation) ((not (permitted state.tree state.context operation), status.Access) ∷ late limits state operation) tests in
-    not_false _ (no_test _ status.Access (first_refusal (late limits state operation)) behind).0
+passes_permitted limits state operation more e = (passes_tests limits state operation (front_passes (refusals limits state operation) more e)).permitted
 
 unless_lawful : (state : State) (operation : Argument) (stepped : Stepped) (refusal : Option Status)
     → (refusal ≡ None → permitted state.tree state.context operation ≡ true)

@@ -10,7 +10,8 @@ use Rattle.model.specs.Session as sessions
 use Rattle.model.specs.Session.{Table, Session, begin, is_session, empty_table, next_number}
 use Rattle.model.specs.SessionRuns.{CountsFrom}
 use Rattle.model.specs.Tree.{Tree}
-use Rattle.model.specs.World.{World, ServerLimits, InProgress, Connection, Quiet, Waiting, Busy, Replied, Closed, HasRun, Gives, Replays, exchanged, created_by, tabled, started_in, begun, reclaimed, refuses, in_room, has_room, has_opens, run, Turned, Entry, entry_of, behind, ends, goes_on, kept_by, result_of, with_result, is_last, has_run, operates, Next, Refuses, Reads, next_operation, requested, in_progress, called, turned, one, changed, arrives, arrives_at, takes, without_reply, connects, can_connect, hangs_up, is_busy, reply_at}
+use Rattle.model.specs.StateIds.{has_opens}
+use Rattle.model.specs.World.{World, ServerLimits, InProgress, Connection, Quiet, Waiting, Busy, Replied, Closed, HasRun, Gives, Replays, exchanged, created_by, tabled, started_in, begun, reclaimed, refuses, in_room, has_room, run, Turned, Entry, entry_of, behind, ends, goes_on, kept_by, result_of, with_result, is_last, has_run, operates, Next, Refuses, Reads, next_operation, requested, in_progress, called, turned, one, changed, arrives, arrives_at, takes, without_reply, connects, can_connect, hangs_up, is_busy, reply_at}
 use Rattle.model.specs.Runs.{Event, Arrives, Turns, HangsUp, Connects, Takes, effect_of, executed_of, History, Serving, mounted, IsRun, Begins, Goes_on, Fails_at, Stays_down}
 use Rattle.model.specs.ServedOnce.{number_begun, number_by, numbers_in, EveryServedSlot}
 use Rattle.model.proofs.Headline.{Joined, done_behind, taken_done}

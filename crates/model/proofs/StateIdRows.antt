@@ -1,10 +1,10 @@
 -- Worked rows over stateids: file 9 of the first run, opened by client 5.
-use Rattle.std.proofs.Common.{◌≡◌, ℕ, refl, [], ◌∷◌, Option, None, Some, Ok, Err, codes, replicate}
+use Rattle.std.proofs.Common.{◌≡◌, ℕ, true, false, refl, [], ◌∷◌, Option, None, Some, codes, replicate}
 use Rattle.model.specs.declared.status.Status.TheVariants as status
 use Rattle.model.specs.Context.{Context}
-use Rattle.model.specs.Opens.{Opens, Open}
+use Rattle.model.specs.Opens.{Opens, Open, no_opens}
 use Rattle.model.specs.Operation.{StateId}
-use Rattle.model.specs.StateIds.{Anonymous, Refused, Names, found, opened, state_of, new_open, access_refusals, zeros, write_access}
+use Rattle.model.specs.StateIds.{Anonymous, Refused, Names, found, opened, is_table_full, without_number, without_clients, state_of, new_open, access_refusals, zeros, write_access}
 use Rattle.model.specs.Refusal.{first_refusal}
 
 abbrev context : (number : ℕ) → (carried : Option StateId) → Context
@@ -20,34 +20,54 @@ abbrev one : Open
 one = new_open 5 (codes "A") 9 1
 
 abbrev once : Opens
-once = (1, one) ∷ []
+once = record { given = 1; known = (1, one) ∷ [] }
 
 -- the same owner opens the file again, for writing
 abbrev twice : Opens
-twice = (1, record one { access = 3; seqid = 2 }) ∷ []
+twice = record { given = 1; known = (1, record one { access = 3; seqid = 2 }) ∷ [] }
 
 abbrev given : (seqid : ℕ) → StateId
 given seqid = record { seqid = seqid; other = 0 ∷ 0 ∷ 0 ∷ 1 ∷ 0 ∷ 0 ∷ 0 ∷ 0 ∷ 0 ∷ 0 ∷ 0 ∷ 1 ∷ [] }
 
 -- a first open has the serial 1 and the seqid 1; a second one by the same owner joins it
-opens : opened 256 0 [] 5 (codes "A") 9 1 ≡ Ok (1, once)
+opens : opened no_opens one ≡ (1, once)
 unfolding opened
 opens = refl
 
 told : state_of 1 1 1 ≡ given 1
 told = refl
 
-opens_again : opened 256 1 once 5 (codes "A") 9 2 ≡ Ok (1, twice)
+opens_again : opened once (new_open 5 (codes "A") 9 2) ≡ (1, twice)
 unfolding opened
 opens_again = refl
 
-full : opened 1 1 once 5 (codes "B") 9 1 ≡ Err status.Delay
+-- another owner has another serial, one that was not given before
+opens_another : (opened (record { given = 3; known = once.known }) (new_open 5 (codes "B") 9 1)).0 ≡ 4
 unfolding opened
+opens_another = refl
+
+-- a table of one is full then, but not for an open that joins
+full : is_table_full 1 once (new_open 5 (codes "B") 9 1) ≡ true
 full = refl
 
-joins_when_full : opened 1 1 once 5 (codes "A") 9 2 ≡ Ok (1, twice)
-unfolding opened
+joins_when_full : is_table_full 1 once (new_open 5 (codes "A") 9 2) ≡ false
 joins_when_full = refl
+
+no_serial_left : is_table_full 256 (record { given = 0xFFFFFFFFFFFFFFFF; known = [] }) one ≡ true
+no_serial_left = refl
+
+-- a removal ends the opens of its file, and a client its own; the count of serials stays
+removed : without_number 9 once ≡ record { given = 1; known = [] }
+removed = refl
+
+other_removed : without_number 8 once ≡ once
+other_removed = refl
+
+client_ended : without_clients (4 ∷ 5 ∷ []) once ≡ record { given = 1; known = [] }
+client_ended = refl
+
+other_ended : without_clients (4 ∷ []) once ≡ once
+other_ended = refl
 
 newest : found once (context 9 None) (given 1) ≡ Names 1 one
 unfolding found

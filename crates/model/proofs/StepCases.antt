@@ -1,15 +1,18 @@
 -- One operation is refused, or passes all its tests and has its effect.
 use Rattle.std.proofs.Common.{ℕ, Bool, true, false, [], ◌∷◌, ◌++◌, ◌≡◌, ◌⊎◌, ◌&&◌, not, inl, inr, refl, sym}
-use Rattle.std.specs.Prelude.{Option, Some, None}
+use Rattle.std.specs.Prelude.{List, Option, Some, None}
+use Rattle.std.specs.List.{list_any, list_all}
 use Rattle.model.specs.declared.status.Status.{Status}
 use Rattle.model.specs.declared.status.Status.TheVariants as status
 use Rattle.model.specs.Charge.{fits}
 use Rattle.model.specs.Limits.{Limits}
-use Rattle.model.specs.Need.{permitted}
+use Rattle.model.specs.Need.{Right, is_granted, need_first, need_then, are_granted, permitted}
+use Rattle.model.specs.Context.{Context}
 use Rattle.model.specs.Operation.{Argument}
 use Rattle.model.specs.Refusal.{Refusals, first_refusal, refused_or}
 use Rattle.model.specs.Stamp.{is_stamp_left}
-use Rattle.model.specs.Step.{State, Stepped, early, late, refusals, alters, effect, change_refusals, refused, unless_refused, does}
+use Rattle.model.specs.Tree.{Tree}
+use Rattle.model.specs.Step.{State, Stepped, early, middle, late, without_rights, refusals, alters, effect, change_refusals, refused, unless_refused, does}
 
 -- Refusals one after the other
 
@@ -34,6 +37,7 @@ none_in_both (test ∷ front) rest none =
 pub record Passes (limits : Limits) (state : State) (now : ℕ) (operation : Argument) : Type 0 where
   pub early : first_refusal (early limits state operation) ≡ None
   pub permitted : permitted state.tree state.context operation ≡ true
+  pub middle : first_refusal (middle limits state operation) ≡ None
   pub late : first_refusal (late limits state operation) ≡ None
   pub fitting : alters state operation ≡ true → fits limits (effect state now operation).state.tree ≡ true
   pub stamp_left : alters state operation ≡ true → is_stamp_left state.changes ≡ true
@@ -46,26 +50,66 @@ held_at : (a b : Bool) → (a && not b) ≡ false → a ≡ true → b ≡ true
 held_at true b not_false is = held b not_false
 held_at false b not_false is = absurd (cc)
 
+both_held : (a b : Bool) → a ≡ true → b ≡ true → (a && b) ≡ true
+both_held a b first second = rw (first, second) refl
+
+parts_held : (a b : Bool) → (a && b) ≡ true → (a ≡ true) × (b ≡ true)
+parts_held true true held = (refl, refl)
+parts_held true false held = absurd (cc)
+parts_held false b held = absurd (cc)
+
+granted_both : (tree : Tree) (context : Context) (first then : List (List Right)) → are_granted tree context first ≡ true
+    → are_granted tree context then ≡ true → are_granted tree context (first ++ then) ≡ true
+granted_both tree context [] then held others = others
+granted_both tree context (one ∷ first) then held others =
+    let parts = parts_held (list_any (is_granted tree context.cred) one) (are_granted tree context first) held in
+    both_held (list_any (is_granted tree context.cred) one) (are_granted tree context (first ++ then)) parts.0
+    (granted_both tree context first then parts.1 others)
+
+-- What passed every test but those of a change
+pub record PassesTests (limits : Limits) (state : State) (operation : Argument) : Type 0 where
+  pub early : first_refusal (early limits state operation) ≡ None
+  pub permitted : permitted state.tree state.context operation ≡ true
+  pub middle : first_refusal (middle limits state operation) ≡ None
+  pub late : first_refusal (late limits state operation) ≡ None
+
+pub passes_tests : (limits : Limits) (state : State) (operation : Argument) → first_refusal (refusals limits state operation) ≡ None
+    → PassesTests limits state operation
+unfolding refusals permitted
+passes_tests limits state operation none =
+    let first = need_first state.tree state.context operation in
+    let then = need_then state.tree state.context operation in
+    let before = none_in_both (early limits state operation)
+    (((without_rights state first, status.Access) ∷ middle limits state operation)
+    ++ ((without_rights state then, status.Access) ∷ late limits state operation)) none in
+    let between = none_in_both ((without_rights state first, status.Access) ∷ middle limits state operation)
+    ((without_rights state then, status.Access) ∷ late limits state operation) before.1 in
+    let rights = none_in_front (without_rights state first) status.Access (first_refusal (middle limits state operation)) between.0 in
+    let others = none_in_front (without_rights state then) status.Access (first_refusal (late limits state operation)) between.1 in
+    record {
+      early = before.0;
+      permitted = granted_both state.tree state.context first then (held (are_granted state.tree state.context first) rights.0)
+          (held (are_granted state.tree state.context then) others.0);
+      middle = rights.1;
+      late = others.1;
+    }
+
 passes : (limits : Limits) (state : State) (now : ℕ) (operation : Argument)
     → first_refusal (refusals limits state operation
     ++ change_refusals limits state operation (effect state now operation).state.tree) ≡ None
     → Passes limits state now operation
-unfolding refusals
 passes limits state now operation none =
-    let all = none_in_both (early limits state operation
-    ++ ((not (permitted state.tree state.context operation), status.Access) ∷ late limits state operation))
+    let all = none_in_both (refusals limits state operation)
     (change_refusals limits state operation (effect state now operation).state.tree) none in
-    let before = none_in_both (early limits state operation)
-    ((not (permitted state.tree state.context operation), status.Access) ∷ late limits state operation) all.0 in
-    let rights = none_in_front (not (permitted state.tree state.context operation)) status.Access
-    (first_refusal (late limits state operation)) before.1 in
+    let tests = passes_tests limits state operation all.0 in
     let room = none_in_front (alters state operation && not (fits limits (effect state now operation).state.tree)) status.NoSpc
     (first_refusal ((alters state operation && not (is_stamp_left state.changes), status.ServerFault) ∷ [])) all.1 in
     let stamp = none_in_front (alters state operation && not (is_stamp_left state.changes)) status.ServerFault None room.1 in
     record {
-      early = before.0;
-      permitted = held (permitted state.tree state.context operation) rights.0;
-      late = rights.1;
+      early = tests.early;
+      permitted = tests.permitted;
+      middle = tests.middle;
+      late = tests.late;
       fitting = held_at (alters state operation) (fits limits (effect state now operation).state.tree) room.0;
       stamp_left = held_at (alters state operation) (is_stamp_left state.changes) stamp.0;
     }

@@ -1,7 +1,8 @@
 -- The laws of one operation.
-use Rattle.std.proofs.Common.{ℕ, Bool, true, false, List, [], ◌++◌, ◌≡◌, ◌≢◌, ◌+◌, ◌<◌, ◌≤◌, not, inl, inr, refl, sym, ap, ◌∙◌, subst, arith, ltb-true, ◌^◌, le-leb, is_some}
+use Rattle.std.proofs.Common.{ℕ, Bool, true, false, List, [], ◌++◌, ◌≡◌, ◌≢◌, ◌+◌, ◌<◌, ◌≤◌, not, inl, inr, refl, sym, ap, ◌∙◌, subst, arith, ltb-true, lt-ltb, eqb, eq-eqb, ◌^◌, ◌∷◌, ◌⊎◌, ◌&&◌, ◌||◌, le-leb, is_some, length, bytes_eq, nat_lt}
 use Rattle.std.specs.Prelude.{Option, Some, None}
-use Rattle.std.proofs.lemmas.Bool.{true≢false}
+use Rattle.std.proofs.lemmas.Bool.{true≢false, cases_Bool}
+use Rattle.std.specs.Cmp.Lexicographic.{bytes_decides}
 use Rattle.model.specs.declared.acl.Ace.{Ace}
 use Rattle.model.specs.declared.node.NodeKind.TheVariants as kind
 use Rattle.model.specs.declared.status.Status.{Status}
@@ -11,19 +12,25 @@ use Rattle.model.specs.AclLaws.{ModesKeepLimits, InheritanceKeepsLimits}
 use Rattle.model.specs.Answer.{Answer, Outcome}
 use Rattle.model.specs.Attribute.{attribute_refusals, settable_at_creation, is_empty, mode_given}
 use Rattle.model.specs.Charge.{fits}
-use Rattle.model.specs.Directory.{new_directory, with_child_of, acl_of}
+use Rattle.model.specs.Directory.{new_directory, acl_of, number_named, number_of_entry, is_named}
+use Rattle.model.specs.Ancestors.{is_below}
+use Rattle.model.specs.Context.{Context, is_same_name, has_saved}
+use Rattle.model.specs.Edit.{edited}
+use Rattle.model.specs.Changes.{made_edits, removed_edits, renamed_edits}
 use Rattle.model.specs.Inherit.{created_without_list, inherited}
-use Rattle.model.specs.Keyed.{at}
+use Rattle.model.specs.Keyed.{Keyed, at, is_key}
 use Rattle.model.specs.Limits.{Limits}
 use Rattle.model.specs.Name.{name_refusals}
-use Rattle.model.specs.Operation.{Argument, Attributes, NewDirectory, OtherType, operation_of}
+use Rattle.model.specs.Operation.{Argument, Attributes, RenameArguments, NewDirectory, OtherType, operation_of}
 use Rattle.model.specs.Refusal.{first_refusal}
 use Rattle.model.specs.Stamp.{is_stamp_left}
-use Rattle.model.specs.Step.{State, current, stamp_of, current_refusals, named_refusals, is_name_there, alters, effect, made, refused, does}
+use Rattle.model.specs.Step.{State, current, saved, stamp_of, current_refusals, named_refusals, remove_refusals, rename_refusals, has_names, moved_number, target_number, late_at_rename, is_name_there, alters, effect, made, rename, refused, does}
 use Rattle.model.specs.StepLaws.{IsSound, IsLawful, EveryStepIsLawful, RunsBeginSound}
-use Rattle.model.specs.Tree.{Tree, Node, kind_of, names_of, names_at, names_of_node, is_directory, is_directory_node, is_directory_at, entry_of}
-use Rattle.model.specs.WellFormed.{IsNode, IsWellFormed, IsBefore}
-use Rattle.model.proofs.ChildLaws.{kind_of_directory, tree_after, well_formed_after, before_after, changes_tree}
+use Rattle.model.specs.Tree.{Tree, Node, Content, File, Directory, DirEntry, kind_of, names_of, names_at, names_of_node, is_directory, is_directory_node, is_directory_at, entry_of}
+use Rattle.model.specs.WellFormed.{IsNode, IsFrom, IsWellFormed, IsBefore}
+use Rattle.model.proofs.AncestorLaws.{below_is_reached}
+use Rattle.model.proofs.ChangeLaws.{IsChanged, removal_keeps, rename_keeps, creation_keeps, entry_found, names_in}
+use Rattle.model.proofs.EditLaws.{forest_of, from_leaf, kind_of_directory}
 use Rattle.model.proofs.FreshTree.{no_names, fresh_well_formed, fresh_before}
 use Rattle.model.proofs.StepCases.{Passes, none_in_front, none_in_both, does_cases}
 
@@ -34,10 +41,26 @@ not_both answer number reason same = cc
 
 -- Operations that are no changes
 
+is_true : (b : Bool) → not b ≡ false → b ≡ true
+is_true true told = refl
+is_true false told = sym told
+
+rename_leaves : (same : Bool) (state : State) (now : ℕ) (arguments : RenameArguments) → same ≡ true
+    → ((rename same state now arguments).state.tree ≡ state.tree) × ((rename same state now arguments).state.changes ≡ state.changes)
+rename_leaves true state now arguments is = (refl, refl)
+rename_leaves false state now arguments is = absurd (true≢false (sym is))
+
+rename_caller : (same : Bool) (state : State) (now : ℕ) (arguments : RenameArguments) → (rename same state now arguments).state.context ≡ state.context
+rename_caller true state now arguments = refl
+rename_caller false state now arguments = refl
+
 effect_leaves : (state : State) (now : ℕ) (operation : Argument) → alters state operation ≡ false
     → ((effect state now operation).state.tree ≡ state.tree) × ((effect state now operation).state.changes ≡ state.changes)
 unfolding effect
 effect_leaves state now (Argument.Create arguments) no_change = absurd (true≢false no_change)
+effect_leaves state now (Argument.Remove name) no_change = absurd (true≢false no_change)
+effect_leaves state now (Argument.Rename arguments) no_change =
+    rename_leaves (is_same_name state.context arguments) state now arguments (is_true (is_same_name state.context arguments) no_change)
 effect_leaves state now _ no_change = (refl, refl)
 
 effect_caller : (state : State) (now : ℕ) (operation : Argument)
@@ -47,6 +70,9 @@ effect_caller : (state : State) (now : ℕ) (operation : Argument)
 unfolding effect
 effect_caller state now (Argument.Create (NewDirectory name given)) = (refl, refl, refl)
 effect_caller state now (Argument.Create (OtherType number)) = (refl, refl, refl)
+effect_caller state now (Argument.Rename arguments) =
+    let same = rename_caller (is_same_name state.context arguments) state now arguments in
+    (ap (λ (c : Context). c.cred) same, ap (λ (c : Context). c.client) same, ap (λ (c : Context). c.run) same)
 effect_caller state now _ = (refl, refl, refl)
 
 -- A new directory
@@ -60,10 +86,6 @@ pub record Creates (limits : Limits) (state : State) (name : List ℕ) (given : 
   pub directory : is_directory_at state.tree (current state) ≡ true
   pub allowed : first_refusal (name_refusals limits name) ≡ None
   pub new : entry_of name (names_at state.tree (current state)) ≡ None
-
-is_true : (b : Bool) → not b ≡ false → b ≡ true
-is_true true told = refl
-is_true false told = sym told
 
 is_nothing : {A : Type 0} (o : Option A) → is_some o ≡ false → o ≡ None
 is_nothing None told = refl
@@ -89,6 +111,100 @@ directory_node : (o : Option Node) → is_directory_node o ≡ true → (node : 
 directory_node None is = absurd (true≢false (sym is))
 directory_node (Some node) is = (node, refl, is)
 
+-- What REMOVE passed
+
+no_names_there : (names : Keyed DirEntry) → nat_lt 0 (length names) ≡ false → names ≡ []
+no_names_there [] told = refl
+no_names_there (entry ∷ rest) told = absurd (true≢false (sym (lt-ltb 0 (length (entry ∷ rest)) (omega arith)) ∙ told))
+
+is_something : {A : Type 0} (o : Option A) → is_some o ≡ true → (x : A) × (o ≡ Some x)
+is_something None told = absurd (true≢false (sym told))
+is_something (Some x) told = (x, refl)
+
+removed_changed : (limits : Limits) (state : State) (now : ℕ) (name : List ℕ) → Passes limits state now (Argument.Remove name) → IsSound limits state
+    → IsChanged limits (stamp_of state) state.tree (edited (removed_edits state.tree (current state) name (stamp_of state) now) state.tree)
+removed_changed limits state now name passes sound =
+    let tests = none_in_both (current_refusals state) (remove_refusals limits state name) passes.early in
+    let named = none_in_both (named_refusals limits state name) ((not (is_name_there state name), status.NoEnt) ∷ []) tests.1 in
+    let place = none_in_front (not (is_directory_at state.tree (current state))) status.NotDir (first_refusal (name_refusals limits name)) named.0 in
+    let there = none_in_front (not (is_name_there state name)) status.NoEnt None named.1 in
+    let found = is_something (entry_of name (names_at state.tree (current state))) (is_true (is_name_there state name) there.0) in
+    let empty = none_in_front (has_names state.tree (number_named state.tree (current state) name)) status.NotEmpty None passes.late in
+    let number : number_named state.tree (current state) name ≡ found.0.1.number = ap number_of_entry found.1 in
+    removal_keeps limits state.tree sound.well_formed (stamp_of state) sound.before now (current state) name found.0
+    (is_true (is_directory_at state.tree (current state)) place.0) found.1
+    (sym (ap (names_at state.tree) number) ∙ no_names_there (names_at state.tree (number_named state.tree (current state) name)) empty.0)
+
+-- What RENAME passed
+
+second_false : (a b : Bool) → (a && b) ≡ false → a ≡ true → b ≡ false
+second_false true b none is = none
+second_false false b none is = absurd (true≢false (sym is))
+
+neither : (a b : Bool) → (a || b) ≡ false → b ≡ false
+neither true b none = absurd (true≢false none)
+neither false b none = none
+
+other_way : (a b : List ℕ) → bytes_eq a b ≡ false → bytes_eq b a ≡ false
+other_way a b apart = elim (cases_Bool (bytes_eq b a)) [
+  | inl same ↦ absurd (true≢false (sym ((bytes_decides a b).1 (sym ((bytes_decides b a).0 same))) ∙ apart))
+  | inr off ↦ off
+]
+
+no_directory_names : (o : Option Node) → is_directory_node o ≡ false → names_of_node o ≡ []
+no_directory_names None told = refl
+no_directory_names (Some node) told = by_content node.content told
+  where
+    by_content : (content : Content) → is_directory content ≡ false → names_of content ≡ []
+    by_content (File bytes) told = refl
+    by_content (Directory names) told = absurd (true≢false told)
+
+renamed_changed : (limits : Limits) (state : State) (now : ℕ) (arguments : RenameArguments) → Passes limits state now (Argument.Rename arguments)
+    → IsSound limits state → is_same_name state.context arguments ≡ false
+    → IsChanged limits (stamp_of state) state.tree
+    (edited (renamed_edits state.tree (saved state) (current state) arguments.old_name arguments.new_name (stamp_of state) now) state.tree)
+renamed_changed limits state now arguments passes sound another =
+    let tree = state.tree in
+    let from = saved state in
+    let to = current state in
+    let well = sound.well_formed in
+    let tests = none_in_both (current_refusals state) (rename_refusals limits state arguments) passes.early in
+    let handle = none_in_front (not (has_saved state.context)) status.NoFileHandle _ tests.1 in
+    let stale = none_in_front (not (is_key from tree)) status.Stale _ handle.1 in
+    let is_from = none_in_front (not (is_directory_at tree from)) status.NotDir _ stale.1 in
+    let is_to = none_in_front (not (is_directory_at tree to)) status.NotDir _ is_from.1 in
+    let old_tests = none_in_both (name_refusals limits arguments.old_name) (name_refusals limits arguments.new_name
+    ++ ((not (is_named tree from arguments.old_name), status.NoEnt) ∷ [])) is_to.1 in
+    let new_tests = none_in_both (name_refusals limits arguments.new_name)
+    ((not (is_named tree from arguments.old_name), status.NoEnt) ∷ []) old_tests.1 in
+    let there = none_in_front (not (is_named tree from arguments.old_name)) status.NoEnt None new_tests.1 in
+    let directory = is_true (is_directory_at tree to) is_to.0 in
+    let found = is_something (entry_of arguments.old_name (names_at tree from)) (is_true (is_named tree from arguments.old_name) there.0) in
+    let number : moved_number state arguments ≡ found.0.1.number = ap number_of_entry found.1 in
+    let stands = entry_found arguments.old_name (names_at tree from) 0 (names_in limits tree (forest_of limits tree well) from).rising found.0 found.1 in
+    let late : first_refusal (late_at_rename state arguments) ≡ None = rw another at passes.late in
+    let below = none_in_front (is_directory_at tree (moved_number state arguments) && is_below tree (moved_number state arguments) to) status.Inval _ late in
+    let exists = none_in_front _ status.Exist None below.1 in
+    rename_keeps limits tree well (stamp_of state) sound.before now from to arguments.old_name arguments.new_name found.0
+    (is_true (is_directory_at tree from) is_from.0) directory found.1 (omega arith) new_tests.0
+    (λ same. subst (λ n. bytes_eq arguments.new_name n ≡ false) ((bytes_decides arguments.old_name found.0.1.name).0 stands.1)
+    (other_way arguments.old_name arguments.new_name
+    (second_false (eqb from to) (bytes_eq arguments.old_name arguments.new_name) another (eq-eqb from to same))))
+    (λ target is. sym (ap (λ (o : Option (ℕ × DirEntry)). names_at tree (number_of_entry o)) is)
+    ∙ no_names_there (names_at tree (target_number state arguments)) (neither _ (has_names tree (target_number state arguments))
+    (second_false (is_name_there state arguments.new_name) _ exists.0 (ap is_some is))))
+    (λ from_moved.
+    let reached : IsFrom tree (moved_number state arguments) to = subst (λ n. IsFrom tree n to) (sym number) from_moved in
+    elim (cases_Bool (is_directory_at tree (moved_number state arguments))) [
+      | inl is_directory_moved ↦ true≢false
+          (sym ((below_is_reached limits tree well (moved_number state arguments) to (ap is_some (directory_node (at to tree) directory).1)).1 reached)
+          ∙ second_false _ (is_below tree (moved_number state arguments) to) below.0 is_directory_moved)
+      | inr is_file ↦
+          let same : to ≡ moved_number state arguments
+          = from_leaf tree (moved_number state arguments) (no_directory_names (at (moved_number state arguments) tree) is_file) to reached in
+          true≢false (sym directory ∙ (ap (is_directory_at tree) same ∙ is_file))
+    ])
+
 module _ (modes : ModesKeepLimits) (inheritance : InheritanceKeepsLimits) where
   list_created : (limits : Limits) → limits.aces_set + 5 ≤ limits.aces → (parent : List Ace)
       → is_list_for limits.aces_set limits.aces kind.Directory parent ≡ true → (nothing_given : Bool) (mode : Option ℕ)
@@ -105,13 +221,6 @@ module _ (modes : ModesKeepLimits) (inheritance : InheritanceKeepsLimits) where
     abbrev child : Node
     child = new_directory state.context.cred parent.acl given (stamp_of state) now
 
-    tree_is : (made state now name given).tree ≡ tree_after state.tree (current state) parent name child (stamp_of state) now
-    tree_is = ap (λ (o : Option Node). with_child_of state.tree (current state) o name
-        (new_directory state.context.cred (acl_of o) given (stamp_of state) now) (stamp_of state) now) there
-
-    new : entry_of name (names_of parent.content) ≡ None
-    new = sym (ap (λ (o : Option Node). entry_of name (names_of_node o)) there) ∙ passed.new
-
     child_is_node : IsNode limits child
     child_is_node = record {
       entries = list_created limits sound.room_for_mode parent.acl
@@ -124,47 +233,73 @@ module _ (modes : ModesKeepLimits) (inheritance : InheritanceKeepsLimits) where
             → is_list_for limits.aces_set limits.aces kind.Directory parent.acl ≡ true
         directory_list list = rw (kind_of_directory parent.content is) at list
 
-    made_sound : fits limits (made state now name given).tree ≡ true → is_stamp_left state.changes ≡ true → IsSound limits (made state now name given)
-    made_sound fitting left = record {
-      well_formed = subst (IsWellFormed limits) (sym tree_is)
-          (well_formed_after limits state.tree sound.well_formed (stamp_of state) sound.before (current state) parent there is
-          name now child passed.allowed new child_is_node refl (sym (ap (fits limits) tree_is) ∙ fitting));
-      before = subst (IsBefore (stamp_of (made state now name given))) (sym tree_is)
-          (before_after limits state.tree sound.well_formed (stamp_of state) sound.before (current state) parent there is
-          name now child (stamp_of (made state now name given)) (omega arith) (omega arith) refl);
-      counted = ltb-true (state.changes + 1) (2 ^ 32) left;
-      room_for_mode = sound.room_for_mode;
-    }
-
-    made_another : (made state now name given).tree ≡ state.tree → ⊥
-    made_another same = changes_tree limits state.tree sound.well_formed (stamp_of state) sound.before (current state) parent
-        there is name now child (sym tree_is ∙ same)
+    made_changed : IsChanged limits (stamp_of state) state.tree (made state now name given).tree
+    made_changed = subst (λ (o : Option Node). IsChanged limits (stamp_of state) state.tree (edited (made_edits state.tree (current state) name
+        (new_directory state.context.cred (acl_of o) given (stamp_of state) now) (stamp_of state) now) state.tree)) (sym there)
+        (creation_keeps limits state.tree sound.well_formed (stamp_of state) sound.before now (current state) name child
+        passed.directory passed.new (omega arith) passed.allowed child_is_node refl refl)
 
   -- Each effect
 
-  effect_sound : (limits : Limits) (state : State) (now : ℕ) (operation : Argument) → Passes limits state now operation
-      → IsSound limits state → IsSound limits (effect state now operation).state
-  unfolding effect
-  effect_sound limits state now (Argument.Create (NewDirectory name given)) passes sound =
-      let passed = creates limits state now name given passes in
-      let parent = directory_node (at (current state) state.tree) passed.directory in
-      made_sound limits state now name given sound passed parent.0 parent.1 parent.2 (passes.fitting refl) (passes.stamp_left refl)
-  effect_sound limits state now (Argument.Create (OtherType number)) passes sound = sound
-  effect_sound limits state now _ passes sound =
-      record { well_formed = sound.well_formed; before = sound.before; counted = sound.counted; room_for_mode = sound.room_for_mode }
+  rename_changed : (limits : Limits) (state : State) (now : ℕ) (arguments : RenameArguments) (same : Bool) → is_same_name state.context arguments ≡ same
+      → same ≡ false → Passes limits state now (Argument.Rename arguments) → IsSound limits state
+      → IsChanged limits (stamp_of state) state.tree (rename same state now arguments).state.tree
+  rename_changed limits state now arguments true is another passes sound = absurd (true≢false another)
+  rename_changed limits state now arguments false is another passes sound = renamed_changed limits state now arguments passes sound is
 
-  effect_alters : (limits : Limits) (state : State) (now : ℕ) (operation : Argument) → Passes limits state now operation
+  rename_counts : (state : State) (now : ℕ) (arguments : RenameArguments) (same : Bool) → same ≡ false
+      → (rename same state now arguments).state.changes ≡ state.changes + 1
+  rename_counts state now arguments true another = absurd (true≢false another)
+  rename_counts state now arguments false another = refl
+
+  is_false : (b : Bool) → not b ≡ true → b ≡ false
+  is_false true told = sym told
+  is_false false told = refl
+
+  -- what is answered to a change is one
+  effect_changes : (limits : Limits) (state : State) (now : ℕ) (operation : Argument) → Passes limits state now operation
       → IsSound limits state → alters state operation ≡ true → (answer : Answer)
       → (effect state now operation).outcome ≡ Outcome.Done answer
-      → ((effect state now operation).state.tree ≢ state.tree) × ((effect state now operation).state.changes ≡ state.changes + 1)
+      → IsChanged limits (stamp_of state) state.tree (effect state now operation).state.tree
+      × ((effect state now operation).state.changes ≡ state.changes + 1)
   unfolding effect
-  effect_alters limits state now (Argument.Create (NewDirectory name given)) passes sound is answer done =
+  effect_changes limits state now (Argument.Create (NewDirectory name given)) passes sound is answer done =
       let passed = creates limits state now name given passes in
       let parent = directory_node (at (current state) state.tree) passed.directory in
-      (made_another limits state now name given sound passed parent.0 parent.1 parent.2, refl)
-  effect_alters limits state now (Argument.Create (OtherType number)) passes sound is answer done =
+      (made_changed limits state now name given sound passed parent.0 parent.1 parent.2, refl)
+  effect_changes limits state now (Argument.Create (OtherType number)) passes sound is answer done =
       absurd (not_both answer 6 status.BadType (sym done))
-  effect_alters limits state now _ passes sound is answer done = absurd (true≢false (sym is))
+  effect_changes limits state now (Argument.Remove name) passes sound is answer done = (removed_changed limits state now name passes sound, refl)
+  effect_changes limits state now (Argument.Rename arguments) passes sound is answer done =
+      let another = is_false (is_same_name state.context arguments) is in (
+        rename_changed limits state now arguments (is_same_name state.context arguments) refl another passes sound,
+        rename_counts state now arguments (is_same_name state.context arguments) another,
+      )
+  effect_changes limits state now _ passes sound is answer done = absurd (true≢false (sym is))
+
+  -- a change leaves a sound state, and so does what is none
+  sound_then : (limits : Limits) (state then : State) → IsSound limits state → IsChanged limits (stamp_of state) state.tree then.tree
+      → then.changes ≡ state.changes + 1 → then.context.run ≡ state.context.run → fits limits then.tree ≡ true → is_stamp_left state.changes ≡ true
+      → IsSound limits then
+  sound_then limits state then sound changed counts run fitting left = record {
+    well_formed = changed.well_formed fitting;
+    before = changed.before (stamp_of then) (rw (counts, run) (omega arith));
+    counted = rw counts (ltb-true (state.changes + 1) (2 ^ 32) left);
+    room_for_mode = sound.room_for_mode;
+  }
+
+  sound_still : (limits : Limits) (state then : State) → IsSound limits state → then.tree ≡ state.tree → then.changes ≡ state.changes
+      → then.context.run ≡ state.context.run → IsSound limits then
+  sound_still limits state then sound tree changes run = record {
+    well_formed = subst (IsWellFormed limits) (sym tree) sound.well_formed;
+    before = rw (tree, changes, run) sound.before;
+    counted = rw changes sound.counted;
+    room_for_mode = sound.room_for_mode;
+  }
+
+  outcome_cases : (outcome : Outcome) → ((answer : Answer) × (outcome ≡ Outcome.Done answer)) ⊎ ((number : ℕ) × (reason : Status) × (outcome ≡ Outcome.Refused number reason))
+  outcome_cases (Outcome.Done answer) = inl (answer, refl)
+  outcome_cases (Outcome.Refused number reason) = inr (number, reason, refl)
 
   effect_refused : (state : State) (now : ℕ) (operation : Argument) (number : ℕ) (reason : Status)
       → (effect state now operation).outcome ≡ Outcome.Refused number reason → (effect state now operation).state ≡ state
@@ -175,7 +310,29 @@ module _ (modes : ModesKeepLimits) (inheritance : InheritanceKeepsLimits) where
   effect_refused state now (Argument.Lookup name) number reason is = absurd (cc)
   effect_refused state now (Argument.PutFh handle) number reason is = absurd (cc)
   effect_refused state now Argument.PutRootFh number reason is = absurd (cc)
+  effect_refused state now Argument.LookupParent number reason is = absurd (cc)
+  effect_refused state now (Argument.Remove name) number reason is = absurd (cc)
+  effect_refused state now (Argument.Rename arguments) number reason is = rename_answers (is_same_name state.context arguments) is
+    where
+      rename_answers : (same : Bool) → (rename same state now arguments).outcome ≡ Outcome.Refused number reason → (rename same state now arguments).state ≡ state
+      rename_answers true is = absurd (cc)
+      rename_answers false is = absurd (cc)
   effect_refused state now _ number reason is = refl
+
+  effect_sound : (limits : Limits) (state : State) (now : ℕ) (operation : Argument) → Passes limits state now operation
+      → IsSound limits state → IsSound limits (effect state now operation).state
+  effect_sound limits state now operation passes sound = elim (cases_Bool (alters state operation)) [
+    | inr no_change ↦
+        let leaves = effect_leaves state now operation no_change in
+        sound_still limits state (effect state now operation).state sound leaves.0 leaves.1 (effect_caller state now operation).2
+    | inl is ↦ elim (outcome_cases (effect state now operation).outcome) [
+      | inl done ↦
+          let changes = effect_changes limits state now operation passes sound is done.0 done.1 in
+          sound_then limits state (effect state now operation).state sound changes.0 changes.1 (effect_caller state now operation).2
+          (passes.fitting is) (passes.stamp_left is)
+      | inr not_done ↦ subst (IsSound limits) (sym (effect_refused state now operation not_done.0 not_done.1 not_done.2)) sound
+    ]
+  ]
 
   -- The laws
 
@@ -187,6 +344,7 @@ module _ (modes : ModesKeepLimits) (inheritance : InheritanceKeepsLimits) where
     refusal_changes_nothing = λ number of is. refl;
     only_changes_alter = λ no_change. (refl, refl);
     changes_alter = λ answer sound is done. absurd (not_both answer (operation_of operation) reason (sym done));
+    stamps = λ answer sound is done. absurd (not_both answer (operation_of operation) reason (sym done));
     keeps_caller = (refl, refl, refl);
     keeps_soundness = λ sound. sound;
   }
@@ -198,7 +356,9 @@ module _ (modes : ModesKeepLimits) (inheritance : InheritanceKeepsLimits) where
     change_is_permitted = λ changed. passes.permitted;
     refusal_changes_nothing = effect_refused state now operation;
     only_changes_alter = effect_leaves state now operation;
-    changes_alter = λ answer sound is done. effect_alters limits state now operation passes sound is answer done;
+    changes_alter = λ answer sound is done.
+        let changes = effect_changes limits state now operation passes sound is answer done in (changes.0.differs, changes.1);
+    stamps = λ answer sound is done. (effect_changes limits state now operation passes sound is answer done).0.stamped;
     keeps_caller = effect_caller state now operation;
     keeps_soundness = effect_sound limits state now operation passes;
   }

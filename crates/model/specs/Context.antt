@@ -1,7 +1,7 @@
 -- What a COMPOUND hands from one operation to the next: RFC 8881, section 16.2.3.1 (current and saved filehandle and stateid).
-use Rattle.std.specs.Prelude.{ℕ, Bool, Option, Some, None, is_some}
+use Rattle.std.specs.Prelude.{ℕ, Bool, Option, Some, None, is_some, ◌==◌, ◌&&◌, bytes_eq}
 use Rattle.model.specs.declared.acl.Cred.{Cred}
-use Rattle.model.specs.Operation.{StateId}
+use Rattle.model.specs.Operation.{StateId, RenameArguments}
 
 -- a filehandle, as the number of its node, and the stateid that goes with it
 pub record Place : Type 0 where
@@ -29,3 +29,14 @@ current_number context = number_at context.current
 -- the context with this node as the current one: that clears the current stateid
 abbrev pub at_node : Context → ℕ → Context
 at_node context number = record context { current = Some (record { number = number; state = None }) }
+
+abbrev pub has_saved : Context → Bool
+has_saved context = is_some context.saved
+
+abbrev pub saved_number : Context → ℕ
+saved_number context = number_at context.saved
+
+-- whether RENAME gives a name to itself: that is no change, and asks for no rights
+abbrev pub is_same_name : Context → RenameArguments → Bool
+is_same_name context arguments =
+    saved_number context == current_number context && bytes_eq arguments.old_name arguments.new_name

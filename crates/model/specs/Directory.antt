@@ -1,5 +1,5 @@
 -- Names in directories, and new directories: RFC 8881, sections 18.4 (CREATE) and 18.13 (LOOKUP).
-use Rattle.std.specs.Prelude.{ℕ, List, [], Option, Some, None}
+use Rattle.std.specs.Prelude.{ℕ, Bool, List, [], Option, Some, None, is_some}
 use Rattle.model.specs.declared.acl.Ace.{Ace}
 use Rattle.model.specs.declared.acl.Cred.{Cred}
 use Rattle.model.specs.declared.node.NodeKind.TheVariants as kind
@@ -17,6 +17,9 @@ number_of_entry (Some entry) = entry.1.number
 abbrev pub number_named : Tree → (directory : ℕ) → (name : List ℕ) → ℕ
 number_named tree directory name = number_of_entry (entry_of name (names_at tree directory))
 
+abbrev pub is_named : Tree → (directory : ℕ) → (name : List ℕ) → Bool
+is_named tree directory name = is_some (entry_of name (names_at tree directory))
+
 -- what a directory has of a change, and what it hands down: 0 and nothing where there is no such node
 
 abbrev pub change_of : Option Node → ℕ
@@ -26,10 +29,6 @@ change_of (Some node) = node.change
 abbrev pub acl_of : Option Node → List Ace
 acl_of None = []
 acl_of (Some node) = node.acl
-
--- a directory whose names a change alters
-abbrev pub with_names : Node → Keyed DirEntry → (stamp now : ℕ) → Node
-with_names node names stamp now = record node { change = stamp; time_modify = now; content = Directory names }
 
 -- A new directory is the caller's. A list of entries cannot be given yet: it has those of the mode, those handed down, or none
 -- where no attribute is given (section 6.4.3).
@@ -42,16 +41,3 @@ new_directory cred parent given stamp now = record {
   time_modify = now;
   content = Directory [];
 }
-
--- The tree in which a directory has a new name, with the change's stamp as its entry stamp, that leads to a new node, with the
--- stamp as its number
-abbrev pub with_child_of : Tree → (directory : ℕ) → Option Node → (name : List ℕ) → Node → (stamp now : ℕ) → Tree
-with_child_of tree directory None name node stamp now = tree
-with_child_of tree directory (Some parent) name node stamp now =
-    with
-    (with tree directory
-    (with_names parent (with (names_of parent.content) stamp (record { name = name; number = stamp })) stamp now))
-    stamp node
-
-abbrev pub with_child : Tree → (directory : ℕ) → (name : List ℕ) → Node → (stamp now : ℕ) → Tree
-with_child tree directory name node stamp now = with_child_of tree directory (at directory tree) name node stamp now

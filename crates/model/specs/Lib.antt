@@ -2,12 +2,15 @@ pub mod Acl
 pub mod AclExamples
 pub mod AclLaws
 pub mod AclText
+pub mod Ancestors
 pub mod Answer
 pub mod Attribute
 pub mod AttributeValue
+pub mod Changes
 pub mod Charge
 pub mod Context
 pub mod Directory
+pub mod Edit
 pub mod Fresh
 pub mod Inherit
 pub mod Keyed

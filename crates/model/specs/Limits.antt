@@ -12,4 +12,6 @@ limits_of sectors nodes = record {
   file_bytes = 16777216;
   aces_set = 32;
   aces = 40;
+  transfer_bytes = 8192;
+  opens = 256;
 }

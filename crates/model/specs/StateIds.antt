@@ -1,11 +1,12 @@
 -- Stateids of opens, and the map of opens behind them: RFC 8881, sections 8.2.2 to 8.2.4, 16.2.3.1.2, 18.2 (CLOSE) and 18.16 (OPEN).
 -- Seqids compare as plain numbers, after they wrapped too; which of two refusals comes first is this server's profile.
-use Rattle.std.specs.Prelude.{ℕ, ◌+◌, ◌-◌, ◌^◌, Bool, true, ◌&&◌, ◌||◌, ◌==◌, nat_lt, nat_le, List, [], ◌∷◌, ◌++◌, length, take, drop, replicate, find, Option, None, Some, option_and_then, Result, Ok, Err, if◌then◌else◌, bit_or, bit_and, bytes_eq}
+use Rattle.std.specs.Prelude.{ℕ, ◌+◌, ◌-◌, ◌^◌, Bool, true, not, ◌&&◌, ◌||◌, ◌==◌, nat_lt, nat_le, List, [], ◌∷◌, ◌++◌, length, take, drop, replicate, find, filter, Option, None, Some, option_and_then, is_none, if◌then◌else◌, bit_or, bit_and, bytes_eq}
+use Rattle.std.specs.List.{list_any}
 use Rattle.std.specs.Int.{w32, w64, to_be_bytes, from_be_bytes}
 use Rattle.model.specs.declared.status.Status.{Status}
 use Rattle.model.specs.declared.status.Status.TheVariants as status
 use Rattle.model.specs.Context.{Context, Place, current_number}
-use Rattle.model.specs.Keyed.{at, with}
+use Rattle.model.specs.Keyed.{at, with, without}
 use Rattle.model.specs.Opens.{Opens, Open}
 use Rattle.model.specs.Operation.{StateId}
 use Rattle.model.specs.Refusal.{Refusals}
@@ -57,7 +58,7 @@ meant context state = if is_current state then carried context.current else Some
 abbrev pub open_named : Opens → (run : ℕ) → (other : List ℕ) → Option Open
 open_named opens run other =
     if bytes_eq (take 4 other) (to_be_bytes w32 run) && length other == 12
-    then at (from_be_bytes w64 (drop 4 other)) opens else None
+    then at (from_be_bytes w64 (drop 4 other)) opens.known else None
 
 -- seqid 0 means the newest; a lower one is old, a higher one was never given
 abbrev pub by_seqid : StateId → Open → Found
@@ -99,9 +100,13 @@ close_refusals (Names serial known) = []
 
 -- The map
 
--- the open of this client and owner on the file
-abbrev pub is_of : (client : ℕ) → (owner : List ℕ) → (number : ℕ) → ℕ × Open → Bool
-is_of client owner number entry = entry.1.client == client && (bytes_eq entry.1.owner owner && entry.1.number == number)
+-- an open of the same client and owner on the same file
+abbrev pub is_like : Open → ℕ × Open → Bool
+is_like asked entry =
+    entry.1.client == asked.client && (bytes_eq entry.1.owner asked.owner && entry.1.number == asked.number)
+
+abbrev pub open_like : Opens → Open → Option (ℕ × Open)
+open_like opens asked = find (is_like asked) opens.known
 
 -- after 2^32 - 1 comes 1: 0 means the newest
 abbrev pub next_seqid : ℕ → ℕ
@@ -114,20 +119,34 @@ joined access known = record known { access = bit_or known.access access; seqid 
 abbrev pub new_open : (client : ℕ) → (owner : List ℕ) → (number access : ℕ) → Open
 new_open client owner number access = record { client = client; owner = owner; number = number; access = access; seqid = 1 }
 
--- the serial, and the opens behind it
-abbrev pub open_by : (most made : ℕ) → Opens → Open → Option (ℕ × Open) → Result (ℕ × Opens) Status
-open_by most made opens asked (Some entry) = Ok (entry.0, with opens entry.0 (joined asked.access entry.1))
-open_by most made opens asked None =
-    if nat_le most (length opens) || nat_le (2 ^ 64 - 1) made then Err status.Delay
-    else Ok (made + 1, with opens (made + 1) asked)
+-- A full table, or no serial left, is answered DELAY; but an open that joins another needs neither
+abbrev pub is_table_full : (most : ℕ) → Opens → Open → Bool
+is_table_full most opens asked =
+    is_none (open_like opens asked) && (nat_le most (length opens.known) || nat_le (2 ^ 64 - 1) opens.given)
 
--- `made` is the serial given last in the run; a full table, or no serial left, is answered DELAY, but a joined open needs neither
-unfoldable pub opened : (most made : ℕ) → Opens → (client : ℕ) → (owner : List ℕ) → (number access : ℕ) → Result (ℕ × Opens) Status
-opened most made opens client owner number access =
-    open_by most made opens (new_open client owner number access) (find (is_of client owner number) opens)
+-- the serial, and the opens behind it: the next serial is given where none is joined
+abbrev pub opened_by : Opens → Open → Option (ℕ × Open) → ℕ × Opens
+opened_by opens asked (Some entry) =
+    (entry.0, record opens { known = with opens.known entry.0 (joined asked.access entry.1) })
+opened_by opens asked None =
+    (opens.given + 1, record { given = opens.given + 1; known = with opens.known (opens.given + 1) asked })
+
+unfoldable pub opened : Opens → Open → ℕ × Opens
+opened opens asked = opened_by opens asked (open_like opens asked)
+
+-- CLOSE ends one
+abbrev pub without_open : (serial : ℕ) → Opens → Opens
+without_open serial opens = record opens { known = without opens.known serial }
 
 -- a file that is removed ends its opens
 abbrev pub without_number : (number : ℕ) → Opens → Opens
-without_number number [] = []
-without_number number (entry ∷ rest) =
-    if entry.1.number == number then without_number number rest else entry ∷ without_number number rest
+without_number number opens = record opens { known = filter (λ (entry : ℕ × Open). not (entry.1.number == number)) opens.known }
+
+-- a client that ends takes its opens along
+abbrev pub has_opens : Opens → (client : ℕ) → Bool
+has_opens opens client = list_any (λ (entry : ℕ × Open). entry.1.client == client) opens.known
+
+abbrev pub without_clients : List ℕ → Opens → Opens
+without_clients clients opens = record opens {
+  known = filter (λ (entry : ℕ × Open). not (list_any (λ client. entry.1.client == client) clients)) opens.known;
+}

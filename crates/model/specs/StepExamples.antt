@@ -12,10 +12,12 @@ use Rattle.model.specs.Fresh.{fresh_root, fresh_tree}
 use Rattle.model.specs.Limits.{Limits, limits_of}
 use Rattle.model.specs.Mode.{entry}
 use Rattle.model.specs.Name.{name_refusals}
-use Rattle.model.specs.Operation.{Argument, Attributes, NewDirectory, OtherType}
+use Rattle.model.specs.Opens.{no_opens}
+use Rattle.model.specs.Operation.{Argument, Attributes, ChangeInfo, NewDirectory, OtherType}
 use Rattle.model.specs.Refusal.{first_refusal}
 use Rattle.model.specs.Step.{State, does}
-use Rattle.model.specs.Tree.{Tree, Directory}
+use Rattle.model.specs.Tree.{Tree, Directory, names_at}
+use Rattle.model.specs.World.{Next, Refuses, first_or, later_tests}
 
 abbrev pub volume : Limits
 volume = limits_of 256 16
@@ -28,7 +30,7 @@ abbrev pub begun : (uid : ℕ) → Tree → (changes : ℕ) → State
 begun uid tree changes = record {
   tree = tree;
   changes = changes;
-  opens = [];
+  opens = no_opens;
   context = record { cred = caller uid; client = 4294967297; run = 1; current = None; saved = None };
 }
 
@@ -95,6 +97,30 @@ at_root = Outcome.Done Answer.PutRootFh
 abbrev pub name_refusal : List ℕ → Option Status
 name_refusal name = first_refusal (name_refusals volume name)
 
+-- the root is the saved filehandle, and a directory the current one
+abbrev pub renaming : (to : ℕ) → State
+renaming to = record {
+  tree = with_a;
+  changes = 1;
+  opens = no_opens;
+  context = record {
+    cred = caller 7;
+    client = 4294967297;
+    run = 1;
+    current = Some (record { number = to; state = None });
+    saved = Some (record { number = 1; state = None });
+  };
+}
+
+abbrev pub rename_to : (letter : ℕ) → Argument
+rename_to letter = Argument.Rename (record { old_name = 97 ∷ []; new_name = letter ∷ [] })
+
+abbrev pub unchanged : ChangeInfo
+unchanged = record { is_atomic = true; before = 4294967297; after = 4294967297 }
+
+abbrev pub altered : ChangeInfo
+altered = record { is_atomic = true; before = 4294967297; after = 4294967298 }
+
 pub record StepExamples : Type 0 where
   -- "a" is made in the root, mode 755: its number is the first change's stamp, and its filehandle that number
   pub makes : outcomes volume (begun 7 fresh_tree 0) (Argument.PutRootFh ∷ make_a ∷ Argument.GetFh ∷ [])
@@ -142,8 +168,14 @@ pub record StepExamples : Type 0 where
   -- after 2^32 - 1 changes no stamp is left
   pub no_stamp_left : outcomes volume (begun 7 fresh_tree (2 ^ 32 - 1)) (Argument.PutRootFh ∷ make_a ∷ [])
       ≡ at_root ∷ Outcome.Refused 6 status.ServerFault ∷ []
-  -- what is not served yet
-  pub not_served : in_root 7 (Argument.Remove (97 ∷ [])) ≡ at_root ∷ Outcome.Refused 28 status.NotSupp ∷ []
+  -- a name of the root goes to a directory: the same name stays, another is a change, and none goes below itself
+  pub same_name : (does volume (renaming 1) 1000 (rename_to 97)).outcome ≡ Outcome.Done (Answer.Rename (record { source = unchanged; target = unchanged }))
+  pub another_name : (does volume (renaming 1) 1000 (rename_to 99)).outcome ≡ Outcome.Done (Answer.Rename (record { source = altered; target = altered }))
+  pub moved_tree : names_at (does volume (renaming 1) 1000 (rename_to 99)).state.tree 1
+      ≡ (4294967298, record { name = 99 ∷ []; number = 4294967297 }) ∷ []
+  pub below_itself : (does volume (renaming 4294967297) 1000 (rename_to 99)).outcome ≡ Outcome.Refused 29 status.Inval
+  -- what is not served yet: the test stands around the operation
+  pub not_served : (next : Next) → first_or (later_tests 9) next ≡ Refuses 9 status.NotSupp
   -- charges of 8,200, 364,543, 364,545 and 16,777,216 bytes; the data region
   pub charges : charge_of_blocks (divided_up 8200 4096) ∷ charge_of_blocks (divided_up 364544 4096)
       ∷ charge_of_blocks (divided_up 364545 4096) ∷ charge_of_blocks (divided_up 16777216 4096) ∷ volume.data_sectors ∷ []

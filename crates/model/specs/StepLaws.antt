@@ -2,6 +2,7 @@
 use Rattle.std.specs.Prelude.{ℕ, ◌≡◌, ◌≢◌, ◌+◌, ◌^◌, ◌<◌, ◌≤◌, IsTrue, IsFalse}
 use Rattle.model.specs.declared.status.Status.{Status}
 use Rattle.model.specs.Answer.{Answer, Outcome}
+use Rattle.model.specs.Changes.{IsStamped}
 use Rattle.model.specs.Fresh.{fresh_tree}
 use Rattle.model.specs.Limits.{Limits}
 use Rattle.model.specs.Need.{permitted}
@@ -33,6 +34,9 @@ pub record IsLawful (limits : Limits) (state : State) (operation : Argument) (st
   pub changes_alter : (answer : Answer) → IsSound limits state → IsTrue (alters state operation)
       → stepped.outcome ≡ Outcome.Done answer
       → (stepped.state.tree ≢ state.tree) × (stepped.state.changes ≡ state.changes + 1)
+  -- and what it makes or alters has its stamp
+  pub stamps : (answer : Answer) → IsSound limits state → IsTrue (alters state operation)
+      → stepped.outcome ≡ Outcome.Done answer → IsStamped (stamp_of state) state.tree stepped.state.tree
   -- it is the same caller's COMPOUND, in the same run
   pub keeps_caller : (stepped.state.context.cred ≡ state.context.cred)
       × (stepped.state.context.client ≡ state.context.client)

@@ -40,11 +40,11 @@ stamped_in tree stamp = total (is_stamped stamp) tree
 abbrev pub times_named : (name : List ℕ) → Keyed DirEntry → ℕ
 times_named name names = total (λ entry. one_if (bytes_eq name entry.name)) names
 
--- Reached from the root: the root, and what a name in a reached directory leads to
-pub data IsReached (tree : Tree) : ℕ → Type 0 where
-  TheRoot : IsReached tree root
-  Named : (directory stamp : ℕ) (entry : DirEntry) → IsReached tree directory → at stamp (names_at tree directory) ≡ Some entry
-      → IsReached tree entry.number
+-- Reached from a node: the node, and what a name in a reached directory leads to
+pub data IsFrom (tree : Tree) (start : ℕ) : ℕ → Type 0 where
+  Start : IsFrom tree start start
+  Named : (directory stamp : ℕ) (entry : DirEntry) → IsFrom tree start directory → at stamp (names_at tree directory) ≡ Some entry
+      → IsFrom tree start entry.number
 
 -- One node
 
@@ -67,7 +67,7 @@ pub record IsWellFormed (limits : Limits) (tree : Tree) : Type 0 where
   pub numbered : IsAbove 0 tree
   pub rooted : IsTrue (is_directory_at tree root)
   pub linked : (number : ℕ) → links_to tree number ≡ links_owed tree number
-  pub reached : (number : ℕ) → IsTrue (is_key number tree) → IsReached tree number
+  pub reached : (number : ℕ) → IsTrue (is_key number tree) → IsFrom tree root number
   pub stamped : (stamp : ℕ) → stamped_in tree stamp ≤ 1
   pub nodes : (number : ℕ) (node : Node) → at number tree ≡ Some node → IsNode limits node
   pub fitting : IsTrue (fits limits tree)

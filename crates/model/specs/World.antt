@@ -1,7 +1,6 @@
 -- All that the server is between two calls, and what each event makes of it, on bytes: RFC 8881, sections 2.10.6 and 16.2; RFC 5531, section 9.
 -- A turn reads and runs one operation of one COMPOUND. The order of tests around the operations is this server's profile.
 use Rattle.std.specs.Prelude.{ℕ, zero, suc, ◌+◌, ◌-◌, Bool, true, false, not, ◌&&◌, ◌||◌, ◌==◌, nat_lt, nat_le, List, [], ◌∷◌, ◌++◌, length, find, Option, None, Some, Result, Ok, Err, if◌then◌else◌}
-use Rattle.std.specs.List.{list_any}
 use Rattle.std.specs.Int.{w32}
 use Rattle.xdr.specs.declared.refusal.Refusal.{Refusal}
 use Rattle.xdr.specs.Grammar.{number_at}
@@ -12,7 +11,7 @@ use Rattle.model.specs.Answer.{Answer, Outcome, ExchangeIdAnswer, CreateSessionA
 use Rattle.model.specs.Context.{Context}
 use Rattle.model.specs.Keyed.{Keyed, at, is_key, with, without}
 use Rattle.model.specs.declared.limits.Limits.{Limits}
-use Rattle.model.specs.Opens.{Opens, Open}
+use Rattle.model.specs.Opens.{Opens, no_opens}
 use Rattle.model.specs.Operation.{Argument, SequenceArguments, operation_of}
 use Rattle.model.specs.Record.{RecordLimits, Front, Partial, Refused, Whole, front, framed}
 use Rattle.model.specs.Refusal.{first_refusal}
@@ -20,6 +19,7 @@ use Rattle.model.specs.Rpc.{CallRead, NoCall, OtherVersion, Calls, read_call, is
 use Rattle.model.specs.Served.{is_served, looks_no_further}
 use Rattle.model.specs.Session as sessions
 use Rattle.model.specs.Session.{SessionLimits, Table, Session}
+use Rattle.model.specs.StateIds.{has_opens, without_clients}
 use Rattle.model.specs.Step.{State, Stepped, does, current_refusals}
 use Rattle.model.specs.Tree.{Tree}
 use Rattle.model.specs.WireAnswers as answers
@@ -71,7 +71,7 @@ mounted_world limits run tree = record {
   run = run;
   tree = tree;
   changes = 0;
-  opens = [];
+  opens = no_opens;
   table = sessions.empty_table run;
   connections = [];
 }
@@ -153,16 +153,6 @@ pub data HasRun : Type 0 where
 abbrev pub status_of : Outcome → Status
 status_of (Outcome.Done answer) = status.Ok
 status_of (Outcome.Refused operation reason) = reason
-
-abbrev pub has_opens : Opens → (client : ℕ) → Bool
-has_opens opens client = list_any (λ (entry : ℕ × Open). entry.1.client == client) opens
-
--- the opens but those of these clients
-abbrev pub without_clients : List ℕ → Opens → Opens
-without_clients clients [] = []
-without_clients clients (entry ∷ rest) =
-    if list_any (λ client. entry.1.client == client) clients then without_clients clients rest
-    else entry ∷ without_clients clients rest
 
 abbrev pub refuses : World → InProgress → (operation : ℕ) → Status → HasRun
 refuses world request operation reason = Gives (Outcome.Refused operation reason) world request

@@ -16,6 +16,10 @@ pub struct Limits {
     pub aces_set: usize,
     /// Entries of the list that a node has.
     pub aces: usize,
+    /// Bytes that one READ gives or one WRITE takes.
+    pub transfer_bytes: usize,
+    /// Opens of all clients.
+    pub opens: usize,
 }
 
 impl Limits {
@@ -34,6 +38,8 @@ impl Limits {
             file_bytes: 16_777_216,
             aces_set: 32,
             aces: 40,
+            transfer_bytes: 8192,
+            opens: 256,
         }
     }
 }

@@ -1,5 +1,6 @@
 //! The laws of the tree: each is the contract of a function that does nothing.
 
+ghost use Rattle.model.specs.Ancestors.{IsBelowIsReached};
 ghost use Rattle.model.specs.Fresh.{FreshIsWellFormed};
 ghost use Rattle.model.specs.Keyed.{OnlyMap, ReadsBack, KeepsOrder};
 ghost use Rattle.model.specs.Limits.{Limits};
@@ -30,4 +31,9 @@ pub fn stamps()
 /// The tree of a fresh volume is well formed.
 pub fn fresh()
     ensures { (limits : Limits) → FreshIsWellFormed limits }
+{}
+
+/// A node is below another exactly where it is reached from it.
+pub fn below()
+    ensures { IsBelowIsReached }
 {}

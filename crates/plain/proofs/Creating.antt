@@ -11,15 +11,17 @@ use Rattle.model.specs.Answer.{Answer}
 use Rattle.model.specs.Attribute.{attribute_refusals, settable_at_creation, is_empty, mode_given, trimmed}
 use Rattle.model.specs.Charge.{fits}
 use Rattle.model.specs.Context.{has_current, at_node}
-use Rattle.model.specs.Directory.{change_of, new_directory, with_child}
-use Rattle.model.specs.Keyed.{at}
+use Rattle.model.specs.Changes.{made_edits}
+use Rattle.model.specs.Directory.{change_of, new_directory}
+use Rattle.model.specs.Edit.{edited}
+use Rattle.model.specs.Keyed.{at, is_key}
 use Rattle.model.specs.Name.{name_refusals}
-use Rattle.model.specs.Need.{permitted, granted_on}
+use Rattle.model.specs.Need.{granted_on, need_first, need_then}
 use Rattle.model.specs.Operation.{Argument, Attributes, NewDirectory}
 use Rattle.model.specs.Refusal.{Refusals, first_refusal, refused_or}
 use Rattle.model.specs.Stamp.{next_stamp, is_stamp_left}
-use Rattle.model.specs.Step.{State, current, stamp_of, refusals, change_refusals, effect, does, refused, answered, made, create, unless_refused}
-use Rattle.model.specs.Tree.{Tree, Node, is_directory, names_of, entry_of}
+use Rattle.model.specs.Step.{State, current, stamp_of, late, without_rights, refusals, change_refusals, effect, does, refused, answered, made, create, unless_refused}
+use Rattle.model.specs.Tree.{Tree, Node, is_directory, is_directory_at, names_of, names_at, entry_of}
 use Rattle.plain.specs.Put.{put_child, empty_directory}
 use Rattle.plain.specs.Step.{IsState, new_directory_refusals}
 use Rattle.plain.proofs.Refusing.{or_else, first-append}
@@ -75,13 +77,32 @@ module _ (limits : Limits) (state : State) (now : ℕ) (name : List ℕ) (given 
   abbrev own_tests : Refusals
   own_tests = new_directory_refusals limits state.tree state.context.cred (current state) name given
 
-  permitted_is : permitted state.tree state.context (create_of name given) ≡ granted_on (at (current state) state.tree) state.context.cred append_data
-  unfolding permitted
-  permitted_is = alone (granted_on (at (current state) state.tree) state.context.cred append_data)
+  abbrev arguments : Refusals
+  arguments = name_refusals limits name ++ attribute_refusals limits kind.Directory settable_at_creation given
+
+  -- the tests of rights and behind them, as the definitions have them, and these
+  abbrev behind : Refusals
+  behind = (without_rights state (need_first state.tree state.context (create_of name given)), status.Access)
+      ∷ (without_rights state (need_then state.tree state.context (create_of name given)), status.Access)
+      ∷ late limits state (create_of name given)
+
+  abbrev own_behind : Refusals
+  own_behind = (not (granted_on (at (current state) state.tree) state.context.cred append_data), status.Access)
+      ∷ (is_some (entry_of name (names_at state.tree (current state))), status.Exist) ∷ []
+
+  behind_is : first_refusal behind ≡ first_refusal own_behind
+  behind_is = ap (λ (b : Bool). refused_or (not b) status.Access
+      (refused_or (is_some (entry_of name (names_at state.tree (current state)))) status.Exist None))
+      (alone (granted_on (at (current state) state.tree) state.context.cred append_data))
 
   own_first : first_refusal (refusals limits state (create_of name given)) ≡ first_refusal own_tests
   unfolding refusals
-  own_first = rw (has, permitted_is) refl
+  own_first =
+      let front : Option Status → Option Status = λ o. refused_or (not (is_key (current state) state.tree)) status.Stale
+      (refused_or (not (is_directory_at state.tree (current state))) status.NotDir o) in
+      ap (λ (b : Bool). refused_or (not b) status.NoFileHandle (front (first_refusal (arguments ++ behind)))) has
+      ∙ ap front (first-append arguments behind
+      ∙ (ap (or_else (first_refusal arguments)) behind_is ∙ sym (first-append arguments own_behind)))
 
   does_is : (o : Option Status)
       → or_else (first_refusal own_tests) (first_refusal (change_refusals limits state (create_of name given) (made state now name given).tree)) ≡ o
@@ -129,7 +150,7 @@ module _ (limits : Limits) (tree : Tree) (cred : Cred) (number : ℕ) (name : Li
     after = put_child tree number parent name child stamp kept now
 
     abbrev wanted : Tree
-    wanted = with_child tree number name (new_directory cred parent.acl given stamp now) stamp now
+    wanted = edited (made_edits tree number name (new_directory cred parent.acl given stamp now) stamp now) tree
 
     made_is : (made state now name given).tree ≡ wanted
     made_is = rw (is.tree_is, is.cred_is, is.current_is, run_is, changes_is, there) refl

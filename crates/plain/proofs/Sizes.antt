@@ -1,11 +1,14 @@
 -- What a tree takes does not hang on the numbers in it.
-use Rattle.std.proofs.Common.{ℕ, Bool, true, false, List, [], ◌∷◌, ◌≡◌, ◌+◌, ◌∙◌, ◌&&◌, ◌==◌, refl, sym, ap, map, length, nat_lt, nat_le, Some, suc}
+use Rattle.std.proofs.Common.{ℕ, Bool, true, false, List, [], ◌∷◌, ◌≡◌, ◌+◌, ◌∙◌, ◌&&◌, ◌==◌, refl, sym, ap, map, length, nat_lt, nat_le, Some, suc, inl, inr, ◌≢◌, eq-eqb, ne_eqb}
+use Rattle.std.proofs.lemmas.Bool.{cases_eq}
 use Rattle.model.specs.Charge.{blocks, charge, charge_of_blocks, divided_up, few_names, fits}
 use Rattle.model.specs.declared.limits.Limits.{Limits}
-use Rattle.model.specs.Directory.{with_child, with_child_of, with_names}
+use Rattle.model.specs.Changes.{touched, made_edits}
+use Rattle.model.specs.Edit.{altered, altered_at, showing, with_content, name_put, edited}
 use Rattle.model.specs.Keyed.{Keyed, at, with, total, in_place_of, before_or_behind}
-use Rattle.model.specs.Tree.{Tree, Node, names_of}
-use Rattle.plain.specs.Put.{put, put_name, put_child, here_or_behind, key_of}
+use Rattle.model.specs.Tree.{Tree, Node, Directory, DirEntry, names_of}
+use Rattle.model.proofs.KeyedLaws.{at-with_same, at-with_other, with-with_same, with-with_other}
+use Rattle.plain.specs.Put.{put, put_name, put_child, put_child_by, here_or_behind, key_of}
 use Rattle.plain.proofs.Putting.{map-put}
 
 -- The definition's own way to put an element
@@ -23,14 +26,56 @@ put_is_with key value (first ∷ rest) =
     step_is (key == first.0) (nat_lt key first.0) (key, value) first rest (put key_of key (key, value) rest) (with rest key value) (put_is_with key value rest)
 
 -- with a stamp that is kept whole, it is the definition's tree
-pub child_put : (tree : Tree) (number : ℕ) (parent : Node) (name : List ℕ) (child : Node) (stamp now : ℕ) → at number tree ≡ Some parent
-    → put_child tree number parent name child stamp stamp now ≡ with_child tree number name child stamp now
-child_put tree number parent name child stamp now there =
-    let names = put_is_with stamp (record { name = name; number = stamp }) (names_of parent.content) in
-    put_is_with stamp child (put key_of number (number, put_name parent name stamp stamp now) tree)
-    ∙ (ap (λ t. with t stamp child) (put_is_with number (put_name parent name stamp stamp now) tree)
-    ∙ (ap (λ n. with (with tree number (with_names parent n stamp now)) stamp child) names
-    ∙ ap (λ o. with_child_of tree number o name child stamp now) (sym there)))
+module _ (tree : Tree) (number : ℕ) (parent : Node) (name : List ℕ) (child : Node) (stamp now : ℕ) (there : at number tree ≡ Some parent) where
+  abbrev entry : DirEntry
+  entry = record { name = name; number = stamp }
+
+  -- a directory with a name more, as the change leaves it
+  abbrev left : Node → Node
+  left from = showing (touched (Some parent) stamp now) (name_put stamp entry from)
+
+  abbrev wanted : Tree
+  wanted = edited (made_edits tree number name child stamp now) tree
+
+  -- the edits, where the directory is this node once the new one was put
+  edits_are : (from : Node) → at number (with tree stamp child) ≡ Some from → wanted ≡ with (with tree stamp child) number (left from)
+  edits_are from is =
+      let first = with tree stamp child in
+      ap (λ o. altered (showing (touched o stamp now)) (altered (name_put stamp entry) first number) number) there
+      ∙ (ap (λ o. altered (showing (touched (Some parent) stamp now)) (altered_at (name_put stamp entry) first number o) number) is
+      ∙ (ap (λ o. altered_at (showing (touched (Some parent) stamp now)) (with first number (name_put stamp entry from)) number o)
+      (at-with_same first number (name_put stamp entry from))
+      ∙ with-with_same first number (name_put stamp entry from) (left from)))
+
+  abbrev put_from : Node → Node
+  put_from from = put_name parent (names_of from.content) name stamp stamp now
+
+  put_is_left : (from : Node) → put_from from ≡ left from
+  put_is_left from = ap (λ (names : Keyed DirEntry). showing (touched (Some parent) stamp now) (with_content from (Directory names)))
+      (put_is_with stamp entry (names_of from.content))
+
+  by_own : (number == stamp) ≡ true → number ≡ stamp → put_child tree number parent name child stamp stamp now ≡ wanted
+  by_own is own =
+      ap (λ b. put_child_by b tree number parent name child stamp stamp now) is
+      ∙ (put_is_with number (put_from child) tree
+      ∙ (ap (with tree number) (put_is_left child)
+      ∙ (sym (with-with_same tree number child (left child))
+      ∙ (ap (λ n. with (with tree n child) number (left child)) own
+      ∙ sym (edits_are child (ap (λ n. at n (with tree stamp child)) own ∙ at-with_same tree stamp child))))))
+
+  by_other : (number == stamp) ≡ false → number ≢ stamp → put_child tree number parent name child stamp stamp now ≡ wanted
+  by_other is apart =
+      ap (λ b. put_child_by b tree number parent name child stamp stamp now) is
+      ∙ (put_is_with stamp child (put key_of number (number, put_from parent) tree)
+      ∙ (ap (λ t. with t stamp child) (put_is_with number (put_from parent) tree ∙ ap (with tree number) (put_is_left parent))
+      ∙ (with-with_other tree number stamp (left parent) child apart
+      ∙ sym (edits_are parent (at-with_other tree stamp number child apart ∙ there)))))
+
+  pub child_put : put_child tree number parent name child stamp stamp now ≡ wanted
+  child_put = elim (cases_eq number stamp) [
+    | inl own ↦ by_own (eq-eqb number stamp own) own
+    | inr apart ↦ by_other (ne_eqb number stamp apart) apart
+  ]
 
 -- Sizes
 
@@ -107,32 +152,58 @@ sizes_values (entry ∷ rest) = ap (λ l. sizes entry ∷ l) (sizes_values rest)
 size : Node → ℕ × ℕ
 size node = (charge node, length (names_of node.content))
 
-module _ (tree : Tree) (number : ℕ) (parent : Node) (name : List ℕ) (stamp now : ℕ) where
-  seen : (child : Node) (kept : ℕ) → map sizes (put_child tree number parent name child stamp kept now)
-      ≡ values (put key_of stamp (kept, size child) (put key_of number (number, size (put_name parent name stamp kept now)) (map keyed_sizes tree)))
-  unfolding size
-  seen child kept =
-      let directory = put_name parent name stamp kept now in
-      let inner = put key_of number (number, directory) tree in
-      sizes_values (put key_of stamp (kept, child) inner)
-      ∙ ap values (map-put keyed_sizes key_of key_of (λ _. refl) stamp (kept, child) inner
-      ∙ ap (put key_of stamp (kept, (charge child, length (names_of child.content)))) (map-put keyed_sizes key_of key_of (λ _. refl) number (number, directory) tree))
-
-  parent_same : (kept kept' : ℕ) → size (put_name parent name stamp kept now) ≡ size (put_name parent name stamp kept' now)
-  unfolding size
-  parent_same kept kept' = ap (λ n. (charge_of_blocks (divided_up n 15), n))
-      (length_put stamp (kept, record { name = name; number = kept }) (kept', record { name = name; number = kept' }) (names_of parent.content))
+-- the directory's size, with these names and one more, does not hang on what is kept of the stamp
+named_same : (parent : Node) (names names' : Keyed DirEntry) (name : List ℕ) (stamp kept kept' now : ℕ) → names ≡ names'
+    → size (put_name parent names name stamp kept now) ≡ size (put_name parent names' name stamp kept' now)
+unfolding size
+named_same parent names names' name stamp kept kept' now same =
+    ap (λ n. (charge_of_blocks (divided_up n 15), n))
+    (length_put stamp (kept, record { name = name; number = kept }) (kept', record { name = name; number = kept' }) names
+    ∙ ap (λ l. length (put key_of stamp (kept', record { name = name; number = kept' }) l)) same)
 
 child_same : (child child' : Node) → child.content ≡ child'.content → size child ≡ size child'
 unfolding size
 child_same child child' same = ap (λ content. (charge_of_blocks (blocks content), length (names_of content))) same
 
+seen_put : (key number : ℕ) (node : Node) (tree : Tree)
+    → map keyed_sizes (put key_of key (number, node) tree) ≡ put key_of key (number, size node) (map keyed_sizes tree)
+unfolding size
+seen_put key number node tree = map-put keyed_sizes key_of key_of (λ _. refl) key (number, node) tree
+
 -- whatever is kept of the stamp, the tree takes as much
-pub fits_put_child : (limits : Limits) (tree : Tree) (number : ℕ) (parent : Node) (name : List ℕ) (child child' : Node) (stamp kept kept' now : ℕ)
-    → child.content ≡ child'.content
-    → fits limits (put_child tree number parent name child stamp kept now) ≡ fits limits (put_child tree number parent name child' stamp kept' now)
-fits_put_child limits tree number parent name child child' stamp kept kept' now same =
-    fits_same limits (put_child tree number parent name child stamp kept now) (put_child tree number parent name child' stamp kept' now)
-    (seen tree number parent name stamp now child kept ∙ (values_put stamp (kept, size child) (kept', size child') (put key_of number (number, size (put_name parent name stamp kept now)) (map keyed_sizes tree)) (child_same child child' same)
-    ∙ (ap (λ s. values (put key_of stamp (kept', size child') (put key_of number (number, s) (map keyed_sizes tree)))) (parent_same tree number parent name stamp now kept kept')
-    ∙ sym (seen tree number parent name stamp now child' kept'))))
+module _ (limits : Limits) (tree : Tree) (number : ℕ) (parent : Node) (name : List ℕ) (child child' : Node) (stamp kept kept' now : ℕ)
+    (same : child.content ≡ child'.content) where
+  abbrev directory : Keyed DirEntry → Node
+  directory names = put_name parent names name stamp kept now
+
+  abbrev directory' : Keyed DirEntry → Node
+  directory' names = put_name parent names name stamp kept' now
+
+  sizes_same : (is_own : Bool) → map sizes (put_child_by is_own tree number parent name child stamp kept now)
+      ≡ map sizes (put_child_by is_own tree number parent name child' stamp kept' now)
+  sizes_same true =
+      let names = names_of child.content in
+      let names' = names_of child'.content in
+      sizes_values (put key_of number (number, directory names) tree)
+      ∙ (ap values (seen_put number number (directory names) tree
+      ∙ (ap (λ s. put key_of number (number, s) (map keyed_sizes tree))
+      (named_same parent names names' name stamp kept kept' now (ap names_of same))
+      ∙ sym (seen_put number number (directory' names') tree)))
+      ∙ sym (sizes_values (put key_of number (number, directory' names') tree)))
+  sizes_same false =
+      let names = names_of parent.content in
+      let inner = put key_of number (number, directory names) tree in
+      let inner' = put key_of number (number, directory' names) tree in
+      let inner_same : map keyed_sizes inner ≡ map keyed_sizes inner' =
+      seen_put number number (directory names) tree
+      ∙ (ap (λ s. put key_of number (number, s) (map keyed_sizes tree)) (named_same parent names names name stamp kept kept' now refl)
+      ∙ sym (seen_put number number (directory' names) tree)) in
+      sizes_values (put key_of stamp (kept, child) inner)
+      ∙ (ap values (seen_put stamp kept child inner)
+      ∙ (values_put stamp (kept, size child) (kept', size child') (map keyed_sizes inner) (child_same child child' same)
+      ∙ (ap values (ap (put key_of stamp (kept', size child')) inner_same ∙ sym (seen_put stamp kept' child' inner'))
+      ∙ sym (sizes_values (put key_of stamp (kept', child') inner')))))
+
+  pub fits_put_child : fits limits (put_child tree number parent name child stamp kept now) ≡ fits limits (put_child tree number parent name child' stamp kept' now)
+  fits_put_child = fits_same limits (put_child tree number parent name child stamp kept now) (put_child tree number parent name child' stamp kept' now)
+      (sizes_same (number == stamp))

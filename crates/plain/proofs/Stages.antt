@@ -29,7 +29,7 @@ lookup_refusal : (limits : Limits) (state : State) (name : List ℕ) (after : Tr
     (refused_or (not (permitted state.tree state.context (Argument.Lookup name))) status.Access
     (refused_or (not (is_name_there state name)) status.NoEnt None)))
     None)))
-unfolding refusals
+unfolding refusals permitted name_refusals
 lookup_refusal limits state name after =
     let late : Refusals = (not (permitted state.tree state.context (Argument.Lookup name)), status.Access)
     ∷ (not (is_name_there state name), status.NoEnt) ∷ [] in

@@ -3,9 +3,9 @@ use Rattle.std.specs.Prelude.{ℕ, Bool, true, false, List, [], ◌∷◌, ◌==
 use Rattle.model.specs.declared.acl.Ace.{Ace}
 use Rattle.model.specs.declared.acl.Cred.{Cred}
 use Rattle.model.specs.declared.node.NodeKind.TheVariants as kind
-use Rattle.model.specs.Directory.{with_names}
 use Rattle.model.specs.Inherit.{created}
-use Rattle.model.specs.Tree.{Tree, Node, Directory, names_of}
+use Rattle.model.specs.Keyed.{Keyed}
+use Rattle.model.specs.Tree.{Tree, Node, DirEntry, Directory, names_of}
 
 -- before the first element whose key is not below this one, and in place of it where the keys are the same
 
@@ -25,13 +25,24 @@ key_of entry = entry.0
 -- A directory has a new name that leads to a new node. Both stand where the change's stamp puts them, and have as their stamp and
 -- number what is kept of it: the stamp itself wherever it has 64 bits.
 
-abbrev pub put_name : (parent : Node) → (name : List ℕ) → (stamp kept now : ℕ) → Node
-put_name parent name stamp kept now =
-    with_names parent (put key_of stamp (kept, record { name = name; number = kept }) (names_of parent.content)) kept now
+abbrev pub put_name : (parent : Node) → Keyed DirEntry → (name : List ℕ) → (stamp kept now : ℕ) → Node
+put_name parent names name stamp kept now = record parent {
+  change = kept;
+  time_modify = now;
+  content = Directory (put key_of stamp (kept, record { name = name; number = kept }) names);
+}
+
+-- the directory's own number is not the stamp, in any tree of a run; if it were, the new node's place would be the directory's
+
+abbrev pub put_child_by : (is_own : Bool) → Tree → (directory : ℕ) → (parent : Node) → (name : List ℕ) → (child : Node) → (stamp kept now : ℕ) → Tree
+put_child_by true tree directory parent name child stamp kept now =
+    put key_of directory (directory, put_name parent (names_of child.content) name stamp kept now) tree
+put_child_by false tree directory parent name child stamp kept now =
+    put key_of stamp (kept, child) (put key_of directory (directory, put_name parent (names_of parent.content) name stamp kept now) tree)
 
 abbrev pub put_child : Tree → (directory : ℕ) → (parent : Node) → (name : List ℕ) → (child : Node) → (stamp kept now : ℕ) → Tree
 put_child tree directory parent name child stamp kept now =
-    put key_of stamp (kept, child) (put key_of directory (directory, put_name parent name stamp kept now) tree)
+    put_child_by (directory == stamp) tree directory parent name child stamp kept now
 
 -- a new directory of this caller, without names
 abbrev pub empty_directory : Cred → (parent : List Ace) → (is_empty : Bool) → (mode : Option ℕ) → (stamp now : ℕ) → Node

@@ -1,10 +1,10 @@
 //! Trees with one name more.
 
-ghost use Rattle.std.specs.Prelude.{◌≡◌, ◌<◌, ◌≤◌, ◌%◌, ◌^◌, List, length, IfOk, OnOk, IsTrue, MatchResult, slice_set, insert, ℕ};
+ghost use Rattle.std.specs.Prelude.{◌≡◌, ◌<◌, ◌≤◌, ◌%◌, ◌^◌, List, length, IfOk, OnOk, IsTrue, false, MatchResult, slice_set, insert, ℕ};
 ghost use Rattle.std.specs.Option.{ForSome};
 ghost use Rattle.model.specs.Stamp.{next_stamp};
-ghost use Rattle.plain.specs.Put.{put, put_name, put_child, empty_directory};
-ghost use Rattle.plain.specs.View.{node_of, numbered, tree_of};
+ghost use Rattle.plain.specs.Put.{put, key_of, put_name, put_child, put_child_by, empty_directory};
+ghost use Rattle.plain.specs.View.{names_of, node_of, numbered, tree_of};
 
 use crate::attributes::Settings;
 use crate::copy::clone_names;
@@ -120,14 +120,24 @@ pub(crate) fn new_directory(
     })
 }
 
-// The directory with a new name, which leads to the node that the change makes.
+// The directory with these names and a new one, which leads to the node that the change makes.
 #[tactic(auto, using(crate::proofs::Putting::names_put))]
-fn named(alloc: Global, parent: &Node, name: &[u8], moment: Moment) -> Result<Node, AllocError>
+fn named(
+    alloc: Global,
+    parent: &Node,
+    names: &[DirEntry],
+    name: &[u8],
+    moment: Moment,
+) -> Result<Node, AllocError>
     ensures { IfOk result (λ node. numbered node
-        ≡ (parent.now.number, put_name (node_of parent.now) name.now (next_stamp moment.run moment.changes) (next_stamp moment.run moment.changes % 2 ^ 64) moment.now)) }
+        ≡ (
+          parent.now.number,
+          put_name (node_of parent.now) (names_of names.now) name.now
+              (next_stamp moment.run moment.changes) (next_stamp moment.run moment.changes % 2 ^ 64) moment.now,
+        )) }
 {
     let stamp = moment.kept_stamp();
-    let mut names = clone_names(alloc, parent.content.names())?;
+    let mut names = clone_names(alloc, names)?;
     let entry = DirEntry {
         stamp,
         name: Vec::from_slice(alloc, name)?,
@@ -146,7 +156,49 @@ fn named(alloc: Global, parent: &Node, name: &[u8], moment: Moment) -> Result<No
 }
 
 impl Tree {
+    // The tree in which a directory has these names and a new one.
     #[tactic(auto, using(crate::proofs::Putting::nodes_put))]
+    fn with_named(
+        &self,
+        alloc: Global,
+        parent: &Node,
+        names: &[DirEntry],
+        name: &[u8],
+        moment: Moment,
+    ) -> Result<Tree, AllocError>
+        ensures { IfOk result (λ tree. tree_of tree ≡ put key_of parent.now.number (
+          parent.now.number,
+          put_name (node_of parent.now) (names_of names.now) name.now
+              (next_stamp moment.run moment.changes) (next_stamp moment.run moment.changes % 2 ^ 64) moment.now,
+        ) (tree_of self.now)) }
+    {
+        let directory = named(alloc, parent, names, name, moment)?;
+        let mut nodes = self.try_clone(alloc)?.nodes;
+        put(&mut nodes, u128::from(parent.number), directory)?;
+        Ok(Tree { nodes })
+    }
+
+    // The tree in which a directory has a new name that leads to a new node elsewhere.
+    #[tactic(auto, using(crate::proofs::Putting::nodes_put))]
+    fn with_other(
+        &self,
+        alloc: Global,
+        parent: &Node,
+        name: &[u8],
+        child: Node,
+        moment: Moment,
+    ) -> Result<Tree, AllocError>
+        requires { child.number ≡ next_stamp moment.run moment.changes % 2 ^ 64 }
+        ensures { IfOk result (λ tree. tree_of tree ≡ put_child_by false (tree_of self.now) parent.now.number (node_of parent.now) name.now
+            (node_of child) (next_stamp moment.run moment.changes) (next_stamp moment.run moment.changes % 2 ^ 64) moment.now) }
+    {
+        let mut nodes = self
+            .with_named(alloc, parent, parent.content.names(), name, moment)?
+            .nodes;
+        put(&mut nodes, moment.stamp(), child)?;
+        Ok(Tree { nodes })
+    }
+
     // The tree in which a directory has a new name that leads to a new node.
     pub(crate) fn with_child(
         &self,
@@ -160,10 +212,10 @@ impl Tree {
         ensures { IfOk result (λ tree. tree_of tree ≡ put_child (tree_of self.now) parent.now.number (node_of parent.now) name.now (node_of child)
             (next_stamp moment.run moment.changes) (next_stamp moment.run moment.changes % 2 ^ 64) moment.now) }
     {
-        let directory = named(alloc, parent, name, moment)?;
-        let mut nodes = self.try_clone(alloc)?.nodes;
-        put(&mut nodes, u128::from(parent.number), directory)?;
-        put(&mut nodes, moment.stamp(), child)?;
-        Ok(Tree { nodes })
+        if u128::from(parent.number) == moment.stamp() {
+            self.with_named(alloc, parent, child.content.names(), name, moment)
+        } else {
+            self.with_other(alloc, parent, name, child, moment)
+        }
     }
 }

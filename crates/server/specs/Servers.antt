@@ -6,6 +6,7 @@ use Rattle.disk.specs.declared.device.Device.{Ghosts}
 use Rattle.fs.specs.FileSystem.{FileSystem, IsRecent, LeavesOne}
 use Rattle.fs.specs.FileSystems.{fs_of, fs_failures}
 use Rattle.model.specs.declared.limits.Limits.{Limits}
+use Rattle.model.specs.Opens.{no_opens}
 use Rattle.model.specs.Runs.{Serving, Event}
 use Rattle.model.specs.Session.{Table}
 use Rattle.model.specs.Tree.{Tree}
@@ -28,7 +29,7 @@ world_by fs table connections = record {
   run = fs.run;
   tree = fs.tree;
   changes = fs.changes;
-  opens = [];
+  opens = no_opens;
   table = table;
   connections = connections;
 }

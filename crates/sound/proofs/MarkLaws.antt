@@ -6,7 +6,7 @@ use Rattle.std.proofs.lemmas.Bool.{cases_eq, cases_Bool, and_parts, and_from, or
 use Rattle.std.proofs.lemmas.List.{length-map, get_or-map}
 use Rattle.model.specs.Keyed.{Keyed, at, is_key, IsAbove}
 use Rattle.model.specs.Tree.{Tree, Node, DirEntry, root, names_of, names_of_node}
-use Rattle.model.specs.WellFormed.{one_if, links_in, links_from, IsReached, TheRoot, Named}
+use Rattle.model.specs.WellFormed.{one_if, links_in, links_from, IsFrom, Start, Named}
 use Rattle.model.proofs.KeyedLaws.{at-first, at-rest, at-above, some≢none}
 use Rattle.plain.specs.View.{nodes_of, numbered}
 use Rattle.plain.specs.declared.tree.Node as viewed
@@ -208,20 +208,20 @@ placed number (mark ∷ marks) (x ∷ rest) each is = elim (cases_eq number x.0)
 -- The marks while they are set
 
 module _ (tree : Tree) (order : AreInOrder tree) (marks : List Bool)
-    (reached : (number : ℕ) → mark_of number marks tree ≡ true → IsReached tree number) where
-  led_is_reached : (number : ℕ) → is_led_to number marks tree ≡ true → IsReached tree number
+    (reached : (number : ℕ) → mark_of number marks tree ≡ true → IsFrom tree root number) where
+  led_is_reached : (number : ℕ) → is_led_to number marks tree ≡ true → IsFrom tree root number
   led_is_reached number led =
       let by_directory : IsLed number marks tree = led_from number marks tree 0 order.numbered led in
       let by_name : IsNamed number (names_of by_directory.node.content) =
       named_from number (names_of by_directory.node.content) 0 (order.stamped by_directory.directory by_directory.node by_directory.is) by_directory.links in
-      subst (IsReached tree) by_name.leads
+      subst (IsFrom tree root) by_name.leads
       (Named by_directory.directory by_name.stamp by_name.entry (reached by_directory.directory by_directory.marked)
       (ap (λ (o : Option Node). at by_name.stamp (names_of_node o)) by_directory.is ∙ by_name.is))
 
   pub reached_more : (place : ℕ) → IsNext marks tree place → (number : ℕ) → mark_of number (set marks place true) tree ≡ true
-      → IsReached tree number
+      → IsFrom tree root number
   reached_more place next number is = elim (mark_of-set number marks place tree is) [
-    | inl one ↦ subst (IsReached tree) (sym one) (led_is_reached (get_or (numbers_of tree) place 0) next.led)
+    | inl one ↦ subst (IsFrom tree root) (sym one) (led_is_reached (get_or (numbers_of tree) place 0) next.led)
     | inr before ↦ reached number before
   ]
 
@@ -230,9 +230,9 @@ pub root_more : (marks : List Bool) (place : ℕ) (tree : Tree) → (is_key root
 root_more marks place tree root_is key = mark_of-kept root marks place tree (root_is key)
 
 pub root_reached : (tree : Tree) (marks : List Bool) → marks ≡ root_marked tree → (number : ℕ) → mark_of number marks tree ≡ true
-    → IsReached tree number
+    → IsFrom tree root number
 root_reached tree marks same number is =
-    subst (IsReached tree) (sym (root_alone number tree (sym (ap (λ (m : List Bool). mark_of number m tree) same) ∙ is))) TheRoot
+    subst (IsFrom tree root) (sym (root_alone number tree (sym (ap (λ (m : List Bool). mark_of number m tree) same) ∙ is))) Start
 
 pub root_first : (tree : Tree) (marks : List Bool) → marks ≡ root_marked tree → is_key root tree ≡ true → mark_of root marks tree ≡ true
 root_first tree marks same key = ap (λ (m : List Bool). mark_of root m tree) same ∙ root_is_marked tree key
@@ -257,8 +257,8 @@ module _ (marks : List Bool) (tree : Tree) (each : length marks ≡ length tree)
             ∙ (ap (λ (n : ℕ). is_led_to n marks tree) there.is ∙ led)))
       ]
 
-  pub reached_is_marked : (number : ℕ) → IsReached tree number → is_key number tree ≡ true → mark_of number marks tree ≡ true
-  reached_is_marked _ TheRoot key = root_is key
+  pub reached_is_marked : (number : ℕ) → IsFrom tree root number → is_key number tree ≡ true → mark_of number marks tree ≡ true
+  reached_is_marked _ Start key = root_is key
   reached_is_marked _ (Named directory stamp entry reached named) key =
       let there : (node : Node) × (at directory tree ≡ Some node) = node_there (at directory tree) stamp entry named in
       let marked : mark_of directory marks tree ≡ true = reached_is_marked directory reached (ap is_some there.1) in
@@ -299,11 +299,11 @@ to_all_set (mark ∷ marks) (x ∷ rest) least above each marked =
     sym (mark_of-rest number mark marks x rest (omega (arith, high))) ∙ marked number (is_key-rest x rest number is)))
 
 pub reached_from_set : (marks : List Bool) (tree : Tree) → AreMarks marks tree → list_all (λ mark. mark) marks ≡ true
-    → (number : ℕ) → is_key number tree ≡ true → IsReached tree number
+    → (number : ℕ) → is_key number tree ≡ true → IsFrom tree root number
 reached_from_set marks tree are all number is = are.reached number (all_set marks tree number are.each all is)
 
 pub set_from_reached : (marks : List Bool) (tree : Tree) → IsAbove 0 tree → AreMarks marks tree
-    → ((number : ℕ) → is_key number tree ≡ true → IsReached tree number) → list_all (λ mark. mark) marks ≡ true
+    → ((number : ℕ) → is_key number tree ≡ true → IsFrom tree root number) → list_all (λ mark. mark) marks ≡ true
 set_from_reached marks tree above are reached =
     to_all_set marks tree 0 above are.each (λ number is. are.all number is (reached number is))
 

@@ -2,7 +2,7 @@
 use Rattle.std.specs.Prelude.{ℕ, Bool, true, false, List, [], ◌∷◌, ◌≡◌, ◌==◌, ◌<◌, ◌&&◌, ◌||◌, nat_lt, length, map, slice_index, slice_index_or, if◌then◌else◌, IsTrue}
 use Rattle.model.specs.Keyed.{is_key}
 use Rattle.model.specs.Tree.{Tree, root}
-use Rattle.model.specs.WellFormed.{links_from, IsReached}
+use Rattle.model.specs.WellFormed.{links_from, IsFrom}
 
 abbrev pub numbers_of : Tree → List ℕ
 numbers_of tree = map (λ node. node.0) tree
@@ -37,5 +37,5 @@ AreClosed marks tree = (place : ℕ) → place < length marks → slice_index_or
 -- each node is marked exactly where it is reached from the root
 pub record AreMarks (marks : List Bool) (tree : Tree) : Type 0 where
   pub each : length marks ≡ length tree
-  pub reached : (number : ℕ) → IsTrue (mark_of number marks tree) → IsReached tree number
-  pub all : (number : ℕ) → IsTrue (is_key number tree) → IsReached tree number → IsTrue (mark_of number marks tree)
+  pub reached : (number : ℕ) → IsTrue (mark_of number marks tree) → IsFrom tree root number
+  pub all : (number : ℕ) → IsTrue (is_key number tree) → IsFrom tree root number → IsTrue (mark_of number marks tree)

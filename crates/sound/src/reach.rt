@@ -3,7 +3,8 @@
 ghost use Rattle.std.specs.Prelude.{◌≡◌, ◌↔◌, ℕ, IsTrue, IfOk, IfSome, IfNone, length};
 ghost use Rattle.std.specs.List.{list_all};
 ghost use Rattle.model.specs.Keyed.{is_key};
-ghost use Rattle.model.specs.WellFormed.{IsReached};
+ghost use Rattle.model.specs.Tree.{root};
+ghost use Rattle.model.specs.WellFormed.{IsFrom};
 ghost use Rattle.plain.specs.View.{nodes_of};
 ghost use Rattle.sound.specs.Decided.{AreInOrder};
 ghost use Rattle.sound.specs.Marks.{is_led_to, root_marked, AreClosed, AreMarks, IsNext};
@@ -73,7 +74,7 @@ fn are_all_set(marks: &[bool]) -> bool
 pub fn are_reached(alloc: Global, nodes: &[Node]) -> Result<bool, AllocError>
     requires { AreInOrder (nodes_of nodes.now) }
     ensures { IfOk result (λ is. IsTrue is
-        ↔ ((number : ℕ) → IsTrue (is_key number (nodes_of nodes.now)) → IsReached (nodes_of nodes.now) number)) }
+        ↔ ((number : ℕ) → IsTrue (is_key number (nodes_of nodes.now)) → IsFrom (nodes_of nodes.now) root number)) }
 {
     let marks = marks_of(alloc, nodes)?;
     Ok(are_all_set(&marks))

@@ -45,7 +45,11 @@ returns c = record {
   no_node_left = refl;
   last_node = refl;
   no_stamp_left = refl;
-  not_served = refl;
+  same_name = refl;
+  another_name = refl;
+  moved_tree = refl;
+  below_itself = refl;
+  not_served = λ next. refl;
   charges = refl;
   bitmap = refl;
 }

@@ -40,17 +40,3 @@ returns-in-Sequence-clause-gives g c = rw c.in-Sequence.is (c.sequence.ensures.g
 
 pub returns-in-ReclaimComplete-clause-gives : goal.returns-in-ReclaimComplete-clause-gives
 returns-in-ReclaimComplete-clause-gives g c = rw c.in-ReclaimComplete.is (c.reclaim.ensures.gives c.args.now)
-
-pub returns-in_default : goal.returns-in_default
-returns-in_default g c = record {
-  gives = c.refuse_unserved.ensures.gives c.args.now (fs_of c.args.fs.now) (table_of c.args.table.now);
-  answered = c.refuse_unserved.ensures.answered;
-  same = refl;
-  still_up = c.requires.up;
-  table = tt;
-  memory = search rules;
-  device = search rules;
-  cause = search rules;
-  later = search rules;
-  moments = λ keeps world rest on. adds_nothing (fs_of c.args.fs.now) (fs_of c.args.fs.now) _ refl;
-}

@@ -1,0 +1,5 @@
+use Rattle.model.proofs.AncestorLaws.{below_is_reached}
+use Rattle.model.proofs.tree.below.Goals as goal
+
+pub returns : goal.returns
+returns c = below_is_reached
