@@ -1,11 +1,10 @@
 -- CREATE of a directory on a world is that on its file system.
 use Rattle.std.proofs.Common.{◌≡◌, ◌≤◌, ◌+◌, ℕ, Bool, true, false, if◌then◌else◌, List, ◌++◌, length, nat_le, Option, Some, None, inl, refl, sym, ap, subst, ◌∙◌, arith, rules, tests, length-append}
 use Rattle.std.specs.Int.{w32}
-use Rattle.disk.specs.Moments.{History}
 use Rattle.xdr.specs.Grammar.{number}
 use Rattle.xdr.specs.Forms.{elements}
 use Rattle.xdr.proofs.Sizes.{int_length, hyper_length}
-use Rattle.fs.specs.FileSystem.{FileSystem, AddsTrees}
+use Rattle.fs.specs.FileSystem.{FileSystem}
 use Rattle.fs.specs.Operations.{created, new_directory}
 use Rattle.fs.specs.declared.created.Created.{Created}
 use Rattle.fs.specs.declared.fault.FsFault.TheVariants as fault
@@ -17,7 +16,6 @@ use Rattle.model.specs.Refusal.{first_refusal}
 use Rattle.model.specs.Runs.{is_done}
 use Rattle.model.specs.Session.{Table}
 use Rattle.model.specs.Step.{State, does, effect, refused, refusals, change_refusals, unless_refused}
-use Rattle.model.specs.Tree.{Tree}
 use Rattle.model.specs.World.{World, InProgress, Gives, run, stepped, state_of, in_room, has_room, refuses, reply_with, outcome_text}
 use Rattle.model.specs.declared.limits.Limits.{Limits}
 use Rattle.model.specs.declared.status.Status.{Status}
@@ -150,12 +148,3 @@ module _ (now : ℕ) (fs : FileSystem) (table : Table) (request : InProgress) (n
       let kind = new_directory name given in
       ap (λ (limits : Limits). tree_by world (in_room world (with_rest request rest) 6 (stepped world (with_rest request rest) (does limits state now kind)))) on.volume
       ∙ tree_by_first (first_refusal (refusals fs.limits state kind ++ change_refusals fs.limits state kind (effect state now kind).state.tree)) _ _ _ world rest on is
-
--- Moments
-
-pub adds_nothing : (old new : FileSystem) (after : Tree) → new ≡ old → AddsTrees old after new.history
-adds_nothing old new after same =
-    subst (λ (fs : FileSystem). AddsTrees old after fs.history) (sym same) (λ recent is. record { later = omega arith; added = λ t image l left. inl left })
-
-pub adds_made : (old : FileSystem) (made after : Tree) (history : History) → after ≡ made → AddsTrees old made history → AddsTrees old after history
-adds_made old made after history same adds = subst (λ (tree : Tree). AddsTrees old tree history) (sym same) adds

@@ -11,3 +11,4 @@ pub mod Stepping
 pub mod Tables
 pub mod Trees
 pub mod Turning
+pub mod VolumeLaws

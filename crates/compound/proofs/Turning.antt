@@ -1,7 +1,6 @@
 -- A turn of a request, by what its next operation gave.
 use Rattle.std.proofs.Common.{◌≡◌, ℕ, Bool, true, false, if◌then◌else◌, List, Option, Some, refl, ap, sym, subst, ◌∙◌}
-use Rattle.disk.specs.Moments.{History}
-use Rattle.fs.specs.FileSystem.{FileSystem, AddsTrees}
+use Rattle.fs.specs.FileSystem.{FileSystem}
 use Rattle.model.specs.Answer as model
 use Rattle.model.specs.Operation.{Argument}
 use Rattle.model.specs.Session.{Table}
@@ -18,7 +17,7 @@ use Rattle.compound.specs.declared.operated.Operated.{Operated}
 use Rattle.compound.specs.declared.operated.Operated.TheVariants as operated
 
 -- an operation that was read: the turn is what its run makes
-read_turn : (world : World) (number now : ℕ) (request : InProgress) (operation : Argument) (rest : List ℕ) (ran : HasRun)
+pub read_turn : (world : World) (number now : ℕ) (request : InProgress) (operation : Argument) (rest : List ℕ) (ran : HasRun)
     → next_operation request ≡ Reads operation rest → run_in_room world (with_rest request rest) now operation ≡ ran
     → stepped_on world number now request ≡ has_run world number (with_rest request rest) operation ran
 read_turn world number now request operation rest ran next runs =
@@ -61,18 +60,8 @@ behind_tree world number request (model.Done answer) executed =
     either (is_last request) (ends world number (with_result request (model.Done answer)) status.Ok executed)
     (goes_on world number (with_result request (model.Done answer)) executed) world.tree refl refl
 
-run_tree : (world : World) (number : ℕ) (request : InProgress) (operation : Argument) (ran : HasRun)
+pub run_tree : (world : World) (number : ℕ) (request : InProgress) (operation : Argument) (ran : HasRun)
     → (has_run world number request operation ran).world.tree ≡ tree_by world ran
 run_tree world number request operation (turns.Gives outcome after left) =
     behind_tree after number left outcome (Some (entry_of world request operation outcome after))
 run_tree world number request operation (turns.Replays reply session slot) = refl
-
-pub adds_read : (now : ℕ) (old : FileSystem) (world : World) (number : ℕ) (request : InProgress) (operation : Argument) (rest : List ℕ) (new : History)
-    → next_operation request ≡ Reads operation rest
-    → AddsTrees old (tree_by world (run_in_room world (with_rest request rest) now operation)) new
-    → AddsTrees old (stepped_on world number now request).world.tree new
-adds_read now old world number request operation rest new next adds =
-    let ran = run_in_room world (with_rest request rest) now operation in
-    subst (λ (tree : Tree). AddsTrees old tree new)
-    (sym (ap (λ (turn : Turned). turn.world.tree) (read_turn world number now request operation rest ran next refl)
-    ∙ run_tree world number (with_rest request rest) operation ran)) adds

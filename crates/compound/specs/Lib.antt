@@ -4,3 +4,4 @@ pub mod Steps
 pub mod Trees
 pub mod Turns
 pub mod Views
+pub mod Volumes

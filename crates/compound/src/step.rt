@@ -34,18 +34,15 @@ pub struct Undone {
 }
 
 impl Running<'_> {
-    ghost use Rattle.std.specs.Prelude.{◌≡◌, ◌≤◌, ℕ, true, false, length, drop, IfOk, IfErr, OnErr, IsErrOf};
-    ghost use Rattle.disk.specs.Cause.{IsCounted};
-    ghost use Rattle.fs.specs.FileSystem.{AddsTrees};
-    ghost use Rattle.fs.specs.FileSystems.{fs_of, fs_failures};
-    ghost use Rattle.model.specs.World.{World};
+    ghost use Rattle.std.specs.Prelude.{◌≡◌, ◌≤◌, true, false, length, drop, IfOk, IfErr, OnErr};
+    ghost use Rattle.fs.specs.FileSystems.{fs_of, Alters};
     ghost use Rattle.session.specs.Views.{table_of};
     ghost use Rattle.wire.specs.OutcomeView.{outcome_view};
     ghost use Rattle.compound.specs.Operates.{IsAnswered, IsSpelled, left_by};
-    ghost use Rattle.compound.specs.Steps.{IsServed, Steps, StaysInRun, still_fits, stepped_on};
+    ghost use Rattle.compound.specs.Steps.{Steps, StaysInRun, still_fits, stepped_on};
     ghost use Rattle.compound.specs.Turns.{Turns, StandsBehind};
     ghost use Rattle.compound.specs.Views.{in_progress_of, asked_of};
-    ghost use Rattle.compound.specs.declared.fault.Fault.TheVariants as fault;
+    ghost use Rattle.compound.specs.Volumes.{TurnGives, ending, undone_ending};
 
     /// Reads the next operation, tests it and runs it, at this moment in nanoseconds since 1970. A change is kept on the device
     /// before its result is there.
@@ -60,20 +57,17 @@ impl Running<'_> {
     ) -> Result<Stepped, Undone>
         requires up { (fs_of fs.old).is_down ≡ false }
         requires run { (in_progress_of self).context.run ≡ (fs_of fs.old).run }
-        ensures step { IfOk result (Steps now (fs_of fs.old) (fs_of fs.new) (table_of table.old) (table_of table.new) (asked_of self.entry) (in_progress_of self.entry)) }
+        // Done
+        ensures step { IfOk result (Steps now (fs_of fs.old) (fs_of fs.new) (table_of table.old)
+            (table_of table.new) (asked_of self.entry) (in_progress_of self.entry)) }
         ensures stays { IfOk result (StaysInRun (fs_of fs.old).run) }
         ensures fits { IfOk result (λ done. still_fits (asked_of self.entry) done ≡ true) }
-        ensures same { fs_of fs.new ≡ record (fs_of fs.old) { tree = (fs_of fs.new).tree; changes = (fs_of fs.new).changes; is_down = (fs_of fs.new).is_down; history = (fs_of fs.new).history; fronts = (fs_of fs.new).fronts } }
-        ensures still_up { IfOk result (λ done. (fs_of fs.new).is_down ≡ false) }
+        // Not done
         ensures back { IfErr result (λ undone. undone.progress ≡ self.entry.progress) }
         ensures table { OnErr result (table_of table.new ≡ table_of table.old) }
-        ensures memory { IfErr result (λ undone. undone.fault ≡ fault.Memory → fs_of fs.new ≡ fs_of fs.old) }
-        ensures device { IfErr result (λ undone. undone.fault ≡ fault.Device
-            → fs_of fs.new ≡ record (fs_of fs.old) { is_down = true; history = (fs_of fs.new).history; fronts = (fs_of fs.new).fronts }) }
-        ensures cause { IfErr result (λ undone. undone.fault ≡ fault.Device → IsCounted (fs_failures fs.old) (fs_failures fs.new)) }
-        ensures later { fs_failures fs.old ≤ fs_failures fs.new }
-        ensures moments { D.keeps_word → (world : World) (number : ℕ) → IsServed world (fs_of fs.old) (table_of table.old)
-            → AddsTrees (fs_of fs.old) (stepped_on world number now (in_progress_of self.entry)).world.tree (fs_of fs.new).history }
+        // In any case
+        ensures volume { Alters fs.old fs.new (TurnGives (fs_of fs.old) (λ world number.
+            stepped_on world number now (in_progress_of self.entry))) (undone_ending result) }
     {
         let Ran { position, done } = match self.run_next(fs, table, now) {
             Ok(ran) => ran,
@@ -101,18 +95,15 @@ impl Running<'_> {
     fn run_next<D: Device>(&self, fs: &mut Fs<D>, table: &mut Table, now: u64) -> Result<Ran, Fault>
         requires up { (fs_of fs.old).is_down ≡ false }
         requires run { (in_progress_of self.now).context.run ≡ (fs_of fs.old).run }
-        ensures turns { IfOk result (λ ran. Turns now (fs_of fs.old) (fs_of fs.new) (table_of table.old) (table_of table.new) (in_progress_of self.now) (drop ran.position self.now.compound.operations.now) ran.done) }
-        ensures within { IfOk result (λ ran. ran.position ≤ length self.now.compound.operations.now) }
+        ensures turns { IfOk result (λ ran. Turns now (fs_of fs.old) (fs_of fs.new)
+            (table_of table.old) (table_of table.new) (in_progress_of self.now)
+            (drop ran.position self.now.compound.operations.now) ran.done) }
+        ensures within { IfOk result (λ ran.
+            ran.position ≤ length self.now.compound.operations.now) }
         ensures answered { IfOk result (λ ran. IsAnswered (in_progress_of self.now) ran.done) }
-        ensures same { fs_of fs.new ≡ record (fs_of fs.old) { tree = (fs_of fs.new).tree; changes = (fs_of fs.new).changes; is_down = (fs_of fs.new).is_down; history = (fs_of fs.new).history; fronts = (fs_of fs.new).fronts } }
-        ensures still_up { IfOk result (λ ran. (fs_of fs.new).is_down ≡ false) }
         ensures table { OnErr result (table_of table.new ≡ table_of table.old) }
-        ensures memory { IsErrOf result fault.Memory → fs_of fs.new ≡ fs_of fs.old }
-        ensures device { IsErrOf result fault.Device → fs_of fs.new ≡ record (fs_of fs.old) { is_down = true; history = (fs_of fs.new).history; fronts = (fs_of fs.new).fronts } }
-        ensures cause { IsErrOf result fault.Device → IsCounted (fs_failures fs.old) (fs_failures fs.new) }
-        ensures later { fs_failures fs.old ≤ fs_failures fs.new }
-        ensures moments { D.keeps_word → (world : World) (number : ℕ) → IsServed world (fs_of fs.old) (table_of table.old)
-            → AddsTrees (fs_of fs.old) (stepped_on world number now (in_progress_of self.now)).world.tree (fs_of fs.new).history }
+        ensures volume { Alters fs.old fs.new (TurnGives (fs_of fs.old) (λ world number.
+            stepped_on world number now (in_progress_of self.now))) (ending result) }
     {
         match self.next_operation(self.alloc)? {
             Next::Refuses { operation, status } => Ok(Ran {

@@ -15,24 +15,21 @@ use wire::{
 };
 
 impl Running<'_> {
-    ghost use Rattle.std.specs.Prelude.{◌≡◌, ◌≤◌, ℕ, List, true, false, nat_le, length, IfOk, IfErr, IsErrOf};
-    ghost use Rattle.disk.specs.Cause.{IsCounted};
-    ghost use Rattle.fs.specs.FileSystem.{AddsTrees};
-    ghost use Rattle.fs.specs.FileSystems.{fs_of, fs_failures};
+    ghost use Rattle.std.specs.Prelude.{◌≡◌, ℕ, true, false, nat_le, length, IfOk, IfErr};
+    ghost use Rattle.fs.specs.FileSystems.{fs_of, Alters};
+    ghost use Rattle.fs.specs.Operations.{new_directory};
     ghost use Rattle.model.specs.Operation as operations;
     ghost use Rattle.model.specs.Session.{Table};
     ghost use Rattle.model.specs.Answer.{Done, Create};
     ghost use Rattle.model.specs.Attribute.{trimmed};
-    ghost use Rattle.model.specs.World.{World, reply_with};
+    ghost use Rattle.model.specs.World.{reply_with};
     ghost use Rattle.wire.specs.ArgumentViews.{create_view};
     ghost use Rattle.wire.specs.SmallViews.{attributes_view};
     ghost use Rattle.wire.specs.Short.{IsRefusal};
-    ghost use Rattle.compound.specs.Operates.{Operates, IsAnswered, run_in_room, tree_by};
-    ghost use Rattle.compound.specs.Runs.{with_rest};
-    ghost use Rattle.compound.specs.Steps.{IsServed};
+    ghost use Rattle.compound.specs.Operates.{Operates, IsAnswered};
     ghost use Rattle.compound.specs.Trees.{TestsCurrent};
     ghost use Rattle.compound.specs.Views.{in_progress_of};
-    ghost use Rattle.compound.specs.declared.fault.Fault.TheVariants as fault;
+    ghost use Rattle.compound.specs.Volumes.{OperationGives, ending};
 
     /// The tests of the current filehandle: NOFILEHANDLE where there is none, STALE where its node is gone.
     pub(crate) fn check_current<D: Device>(&self, fs: &Fs<D>) -> Result<(), Status>
@@ -55,7 +52,8 @@ impl Running<'_> {
     pub(crate) fn look_up<D: Device>(&self, fs: &Fs<D>, name: &[u8]) -> Operated
         requires up { (fs_of fs.now).is_down ≡ false }
         requires run { (in_progress_of self.now).context.run ≡ (fs_of fs.now).run }
-        ensures gives { (now : ℕ) (table : Table) → Operates now (fs_of fs.now) (fs_of fs.now) table table (in_progress_of self.now) (operations.Argument.Lookup name.now) result }
+        ensures gives { (now : ℕ) (table : Table) → Operates now (fs_of fs.now) (fs_of fs.now)
+            table table (in_progress_of self.now) (operations.Argument.Lookup name.now) result }
         ensures answered { IsAnswered (in_progress_of self.now) result }
     {
         let directory = match self.current_node() {
@@ -77,16 +75,13 @@ impl Running<'_> {
     ) -> Result<Operated, Fault>
         requires up { (fs_of fs.old).is_down ≡ false }
         requires run { (in_progress_of self.now).context.run ≡ (fs_of fs.old).run }
-        ensures gives { IfOk result (λ done. (table : Table) → Operates now (fs_of fs.old) (fs_of fs.new) table table (in_progress_of self.now) (operations.Argument.Create (create_view arguments.now)) done) }
+        ensures gives { IfOk result (λ done. (table : Table)
+            → Operates now (fs_of fs.old) (fs_of fs.new) table table (in_progress_of self.now)
+            (operations.Argument.Create (create_view arguments.now)) done) }
         ensures answered { IfOk result (IsAnswered (in_progress_of self.now)) }
-        ensures same { fs_of fs.new ≡ record (fs_of fs.old) { tree = (fs_of fs.new).tree; changes = (fs_of fs.new).changes; is_down = (fs_of fs.new).is_down; history = (fs_of fs.new).history; fronts = (fs_of fs.new).fronts } }
-        ensures still_up { IfOk result (λ done. (fs_of fs.new).is_down ≡ false) }
-        ensures memory { IsErrOf result fault.Memory → fs_of fs.new ≡ fs_of fs.old }
-        ensures device { IsErrOf result fault.Device → fs_of fs.new ≡ record (fs_of fs.old) { is_down = true; history = (fs_of fs.new).history; fronts = (fs_of fs.new).fronts } }
-        ensures cause { IsErrOf result fault.Device → IsCounted (fs_failures fs.old) (fs_failures fs.new) }
-        ensures later { fs_failures fs.old ≤ fs_failures fs.new }
-        ensures moments { D.keeps_word → (table : Table) (world : World) (rest : List ℕ) → IsServed world (fs_of fs.old) table
-            → AddsTrees (fs_of fs.old) (tree_by world (run_in_room world (with_rest (in_progress_of self.now) rest) now (operations.Argument.Create (create_view arguments.now)))) (fs_of fs.new).history }
+        ensures volume { Alters fs.old fs.new (OperationGives (fs_of fs.old)
+            (in_progress_of self.now) now (operations.Argument.Create (create_view arguments.now)))
+            (ending result) }
     {
         match arguments {
             CreateArguments::NewDirectory { name, attributes } => {
@@ -100,7 +95,9 @@ impl Running<'_> {
     pub(crate) fn create_other<D: Device>(&self, fs: &Fs<D>, kind: u32) -> Operated
         requires up { (fs_of fs.now).is_down ≡ false }
         requires run { (in_progress_of self.now).context.run ≡ (fs_of fs.now).run }
-        ensures gives { (now : ℕ) (table : Table) → Operates now (fs_of fs.now) (fs_of fs.now) table table (in_progress_of self.now) (operations.Argument.Create (operations.OtherType kind)) result }
+        ensures gives { (now : ℕ) (table : Table) → Operates now (fs_of fs.now) (fs_of fs.now)
+            table table (in_progress_of self.now)
+            (operations.Argument.Create (operations.OtherType kind)) result }
         ensures answered { IsAnswered (in_progress_of self.now) result }
     {
         match self.check_current(fs) {
@@ -119,16 +116,13 @@ impl Running<'_> {
     ) -> Result<Operated, Fault>
         requires up { (fs_of fs.old).is_down ≡ false }
         requires run { (in_progress_of self.now).context.run ≡ (fs_of fs.old).run }
-        ensures gives { IfOk result (λ done. (table : Table) → Operates now (fs_of fs.old) (fs_of fs.new) table table (in_progress_of self.now) (operations.Argument.Create (operations.NewDirectory name.now (attributes_view attributes.now))) done) }
+        ensures gives { IfOk result (λ done. (table : Table)
+            → Operates now (fs_of fs.old) (fs_of fs.new) table table (in_progress_of self.now)
+            (new_directory name.now (attributes_view attributes.now)) done) }
         ensures answered { IfOk result (IsAnswered (in_progress_of self.now)) }
-        ensures same { fs_of fs.new ≡ record (fs_of fs.old) { tree = (fs_of fs.new).tree; changes = (fs_of fs.new).changes; is_down = (fs_of fs.new).is_down; history = (fs_of fs.new).history; fronts = (fs_of fs.new).fronts } }
-        ensures still_up { IfOk result (λ done. (fs_of fs.new).is_down ≡ false) }
-        ensures memory { IsErrOf result fault.Memory → fs_of fs.new ≡ fs_of fs.old }
-        ensures device { IsErrOf result fault.Device → fs_of fs.new ≡ record (fs_of fs.old) { is_down = true; history = (fs_of fs.new).history; fronts = (fs_of fs.new).fronts } }
-        ensures cause { IsErrOf result fault.Device → IsCounted (fs_failures fs.old) (fs_failures fs.new) }
-        ensures later { fs_failures fs.old ≤ fs_failures fs.new }
-        ensures moments { D.keeps_word → (table : Table) (world : World) (rest : List ℕ) → IsServed world (fs_of fs.old) table
-            → AddsTrees (fs_of fs.old) (tree_by world (run_in_room world (with_rest (in_progress_of self.now) rest) now (operations.Argument.Create (operations.NewDirectory name.now (attributes_view attributes.now))))) (fs_of fs.new).history }
+        ensures volume { Alters fs.old fs.new (OperationGives (fs_of fs.old)
+            (in_progress_of self.now) now (new_directory name.now (attributes_view attributes.now)))
+            (ending result) }
     {
         let parent = match self.current_node() {
             Ok(number) => number,

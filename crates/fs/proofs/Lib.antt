@@ -5,6 +5,7 @@ pub mod NextLaws
 pub mod ReadLaws
 pub mod RemountLaws
 pub mod ToldLaws
+pub mod ChangeLaws
 pub mod MountLaws
 pub mod MountedLaws
 pub mod FirstLaws

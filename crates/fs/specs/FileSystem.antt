@@ -36,6 +36,12 @@ pub record IsNew (sectors : ℕ) (fs : FileSystem) : Type 0 where
   pub on_device : fs.sectors ≡ sectors
   pub limits : fs.limits ≡ limits_of sectors fs.limits.nodes
 
+-- the same volume, in the same run
+pub record IsSameVolume (old new : FileSystem) : Type 0 where
+  pub sectors : new.sectors ≡ old.sectors
+  pub limits : new.limits ≡ old.limits
+  pub run : new.run ≡ old.run
+
 -- the map stands for a tree of these, in this run of the volume
 abbrev pub StandsForOne : FileSystem → (Tree → Type 0) → Image → Type 0
 StandsForOne fs may image = (tree : Tree) × may tree × StandsFor fs.sectors fs.limits.nodes fs.run tree image

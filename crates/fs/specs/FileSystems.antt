@@ -2,6 +2,7 @@
 use Rattle.journal.specs.Journal.{log_of, failures_of}
 use Rattle.plain.specs.View.{tree_of}
 use Rattle.fs.specs.declared.fs.Fs.{Fs}
+use Rattle.fs.specs.Changes.{Given, Ending, Changes}
 use Rattle.fs.specs.FileSystem.{FileSystem, fronts_from}
 use Rattle.std.specs.Prelude.{ℕ}
 
@@ -20,3 +21,7 @@ fs_of fs = record {
 -- how often its device has failed
 unfoldable pub fs_failures : {D : _} {g : _} → Fs D g → ℕ
 fs_failures fs = failures_of fs.journal
+
+-- what a call makes of it, and of how often its device has failed
+abbrev pub Alters : {D : _} {g : _} → (old new : Fs D g) → Given → Ending → Type 0
+Alters {D} {g} old new given ending = Changes g.keeps_word given (fs_of old) (fs_of new) (fs_failures old) (fs_failures new) ending

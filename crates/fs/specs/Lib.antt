@@ -1,3 +1,4 @@
+pub mod Changes
 pub mod FileSystem
 pub mod FileSystems
 pub mod Fronts

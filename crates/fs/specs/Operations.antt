@@ -1,5 +1,5 @@
 -- What a call on a file system says of an operation.
-use Rattle.std.specs.Prelude.{ℕ, true, List, Option, Some, None, Result, Ok, Err, ◌≡◌}
+use Rattle.std.specs.Prelude.{ℕ, Bool, true, List, Option, Some, None, Result, Ok, Err, ◌≡◌}
 use Rattle.model.specs.declared.acl.Cred.{Cred}
 use Rattle.model.specs.declared.status.Status.{Status}
 use Rattle.model.specs.Answer.{Answer}
@@ -9,6 +9,7 @@ use Rattle.model.specs.Operation.{Argument, Attributes, NewDirectory}
 use Rattle.model.specs.Refusal.{first_refusal}
 use Rattle.model.specs.Runs.{is_done}
 use Rattle.model.specs.Step.{State, Stepped, current_refusals, answered, refused, does}
+use Rattle.model.specs.Tree.{Tree}
 use Rattle.plain.specs.Step.{IsState, looked_up, put_handle, got_handle}
 use Rattle.fs.specs.declared.fault.FsFault.{FsFault}
 use Rattle.fs.specs.declared.fault.FsFault.TheVariants as fault
@@ -75,6 +76,12 @@ created new state given made = answered
       change = record { is_atomic = true; before = made.before; after = made.number };
       was_set = trimmed given.bitmap;
     }))
+
+-- what an operation of this caller, with the node of this number as the current one, leaves by the definition
+pub record MakesTree (fs : FileSystem) (cred : Cred) (number now : ℕ) (operation : Argument) (after : Tree) (lasts : Bool) : Type 0 where
+  pub state : State
+  pub on : IsOn fs cred number state
+  pub tree : after ≡ (does fs.limits state now operation).state.tree
 
 -- done, refused with a status, or done but for the room that its reply lacks
 abbrev pub MakesDir : (old new : FileSystem) → State → (now : ℕ) → (name : List ℕ) → Attributes → Result Created FsFault → Type 0

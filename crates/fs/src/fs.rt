@@ -55,16 +55,17 @@ pub struct Unmounted<D: Device> {
 impl<D: Device> Fs<D> {
     ghost use Rattle.std.specs.Prelude.{◌≡◌, ◌≤◌, ◌⊎◌, ◌+◌, ◌<◌, ◌^◌, [], true, false, ℕ, length, OnOk, OnErr, IfOk, IfErr, IsErrOf, IsTrue};
     ghost use Rattle.disk.specs.Cause.{IsCounted};
-    ghost use Rattle.model.specs.Step.{State, does};
+    ghost use Rattle.model.specs.Step.{State};
     ghost use Rattle.plain.specs.Given.{given_of};
     ghost use Rattle.plain.specs.View.{tree_of};
-    ghost use Rattle.fs.specs.Operations.{IsOn, LooksUp, PutsHandle, GetsHandle, TestsCurrent, MakesDir, new_directory};
+    ghost use Rattle.fs.specs.Operations.{IsOn, LooksUp, PutsHandle, GetsHandle, TestsCurrent, MakesDir, MakesTree, new_directory};
     ghost use Rattle.journal.specs.Journal.{log_of, failures_of};
-    ghost use Rattle.fs.specs.FileSystem.{AddsTrees, Holds, IsNew, IsNext};
+    ghost use Rattle.fs.specs.Changes.{IsTree, fs_ending};
+    ghost use Rattle.fs.specs.FileSystem.{IsNew, IsNext};
     ghost use Rattle.fs.specs.MountAnswers.{HasMounted, IsRefused, ComesBack};
     ghost use Rattle.fs.specs.Mounts.{HasBegun, IsNotBegun};
     ghost use Rattle.fs.specs.Superblock.{is_size, superblock};
-    ghost use Rattle.fs.specs.FileSystems.{fs_of, fs_failures};
+    ghost use Rattle.fs.specs.FileSystems.{fs_of, fs_failures, Alters};
 
     /// Mounts the volume: finds it by its first sector, copies home what an open gate shows, reads the tree, and raises the
     /// restart count. Every map that a stop leaves from then on has the new count, which is this file system's run.
@@ -160,22 +161,10 @@ impl<D: Device> Fs<D> {
         self.is_down
     }
 
-    /// Says of a file system that is not down that each map a stop leaves now stands for its tree.
-    pub fn tell_holds(&self)
-        ensures { D.keeps_word → (fs_of self.now).is_down ≡ false → Holds (fs_of self.now) }
-    {}
-
-    /// Says within which bounds the numbers of a file system stand.
-    pub fn tell_bounds(&self)
-        ensures run { (fs_of self.now).run < 2 ^ 32 }
-        ensures changes { (fs_of self.now).changes < 2 ^ 32 }
-        ensures sized { IsTrue (is_size (fs_of self.now).sectors (fs_of self.now).limits.nodes) }
-        ensures limits { (fs_of self.now).limits ≡ limits_of (fs_of self.now).sectors (fs_of self.now).limits.nodes }
-    {}
-
     /// LOOKUP (RFC 8881, section 18.13) in the directory of this number: the number of the node that the name leads to.
     pub fn lookup(&self, cred: &Cred, directory: u64, name: &[u8]) -> Result<u64, FsFault>
-        ensures step { (state : State) (now : ℕ) → IsOn (fs_of self.now) cred.now directory state → LooksUp (fs_of self.now) state now name.now result }
+        ensures step { (state : State) (now : ℕ) → IsOn (fs_of self.now) cred.now directory state
+            → LooksUp (fs_of self.now) state now name.now result }
         ensures down { (fs_of self.now).is_down ≡ true → IsErrOf result FsFault.Down }
     {
         if self.is_down {
@@ -187,7 +176,8 @@ impl<D: Device> Fs<D> {
     /// PUTFH (RFC 8881, section 18.19): the number of the node that a filehandle names. BADHANDLE where it is none of this
     /// server's, STALE where the node is gone.
     pub fn put_handle(&self, handle: &[u8]) -> Result<u64, FsFault>
-        ensures step { (state : State) (now : ℕ) → state.tree ≡ (fs_of self.now).tree → PutsHandle (fs_of self.now) state now handle.now result }
+        ensures step { (state : State) (now : ℕ) → state.tree ≡ (fs_of self.now).tree
+            → PutsHandle (fs_of self.now) state now handle.now result }
         ensures down { (fs_of self.now).is_down ≡ true → IsErrOf result FsFault.Down }
     {
         if self.is_down {
@@ -198,7 +188,8 @@ impl<D: Device> Fs<D> {
 
     /// GETFH (RFC 8881, section 18.8): the filehandle of the node of this number. STALE where it is gone.
     pub fn handle(&self, number: u64) -> Result<[u8; 8], FsFault>
-        ensures step { (cred : Cred) (state : State) (now : ℕ) → IsOn (fs_of self.now) cred number state → GetsHandle (fs_of self.now) state now result }
+        ensures step { (cred : Cred) (state : State) (now : ℕ) → IsOn (fs_of self.now) cred number state
+            → GetsHandle (fs_of self.now) state now result }
         ensures down { (fs_of self.now).is_down ≡ true → IsErrOf result FsFault.Down }
     {
         if self.is_down {
@@ -209,7 +200,8 @@ impl<D: Device> Fs<D> {
 
     /// Tests the current filehandle, that of the node of this number (RFC 8881, section 16.2.3.1.1). STALE where it is gone.
     pub fn check_node(&self, number: u64) -> Result<(), FsFault>
-        ensures step { (cred : Cred) (state : State) → IsOn (fs_of self.now) cred number state → TestsCurrent (fs_of self.now) state result }
+        ensures step { (cred : Cred) (state : State) → IsOn (fs_of self.now) cred number state
+            → TestsCurrent (fs_of self.now) state result }
         ensures down { (fs_of self.now).is_down ≡ true → IsErrOf result FsFault.Down }
     {
         if self.is_down {
@@ -232,29 +224,15 @@ impl<D: Device> Fs<D> {
     ) -> Result<Created, FsFault>
         requires { length asked.attributes.bitmap.now ≤ 8 }
         ensures step { (state : State) → IsOn (fs_of self.old) cred.now asked.entry.parent state
-            → MakesDir (fs_of self.old) (fs_of self.new) state now asked.entry.name.now (given_of asked.entry.attributes) result }
-        ensures moments { D.keeps_word → (state : State) → IsOn (fs_of self.old) cred.now asked.entry.parent state
-            → AddsTrees (fs_of self.old) (does (fs_of self.old).limits state now (new_directory asked.entry.name.now (given_of asked.entry.attributes))).state.tree (fs_of self.new).history }
-        ensures holds { D.keeps_word → OnOk result (Holds (fs_of self.new)) }
-        ensures ok { OnOk result (fs_of self.new ≡ record (fs_of self.old) {
-          tree = (fs_of self.new).tree;
-          changes = (fs_of self.old).changes + 1;
-          history = (fs_of self.new).history;
-          fronts = (fs_of self.new).fronts;
-        }) }
-        ensures refused { OnErr result (fs_of self.new ≡ record (fs_of self.old) {
-          is_down = (fs_of self.new).is_down;
-          history = (fs_of self.new).history;
-          fronts = (fs_of self.new).fronts;
-        }) }
-        ensures unchanged { IfErr result (λ fault. (fault ≡ FsFault.Device → ⊥) → fs_of self.new ≡ fs_of self.old) }
+            → MakesDir (fs_of self.old) (fs_of self.new) state now asked.entry.name.now
+            (given_of asked.entry.attributes) result }
+        ensures volume { Alters self.old self.new (MakesTree (fs_of self.old) cred.now
+            asked.entry.parent now (new_directory asked.entry.name.now (given_of asked.entry.attributes)))
+            (fs_ending result) }
         ensures room { OnOk result (has_room ≡ true) }
         ensures no_room { IsErrOf result FsFault.NoRoom → has_room ≡ false }
         ensures down { (fs_of self.old).is_down ≡ true → IsErrOf result FsFault.Down }
-        ensures goes_down { IsErrOf result FsFault.Device → (fs_of self.new).is_down ≡ true }
         ensures device_room { IsErrOf result FsFault.Device → has_room ≡ true }
-        ensures cause { IsErrOf result FsFault.Device → IsCounted (fs_failures self.old) (fs_failures self.new) }
-        ensures later { fs_failures self.old ≤ fs_failures self.new }
     {
         if self.is_down {
             return Err(FsFault::Down);
@@ -281,26 +259,14 @@ impl<D: Device> Fs<D> {
     /// Keeps a tree on the device, which is the file system's from then on.
     fn replace(&mut self, tree: Tree) -> Result<(), FsFault>
         requires up { (fs_of self.old).is_down ≡ false }
-        requires next { ∥ IsNext (fs_of self.old).limits (fs_of self.old).run (fs_of self.old).changes (tree_of tree) ∥₁ }
+        requires next { ∥ IsNext (fs_of self.old).limits (fs_of self.old).run
+            (fs_of self.old).changes (tree_of tree) ∥₁ }
         requires counted { (fs_of self.old).changes + 1 < 2 ^ 32 }
-        ensures moments { D.keeps_word → AddsTrees (fs_of self.old) (tree_of tree) (fs_of self.new).history }
-        ensures ok { OnOk result (fs_of self.new ≡ record (fs_of self.old) {
-          tree = tree_of tree;
-          changes = (fs_of self.old).changes + 1;
-          history = (fs_of self.new).history;
-          fronts = (fs_of self.new).fronts;
-        }) }
-        ensures holds { D.keeps_word → OnOk result (Holds (fs_of self.new)) }
-        ensures refused { OnErr result (fs_of self.new ≡ record (fs_of self.old) {
-          is_down = (fs_of self.new).is_down;
-          history = (fs_of self.new).history;
-          fronts = (fs_of self.new).fronts;
-        }) }
-        ensures memory { IsErrOf result FsFault.Memory → fs_of self.new ≡ fs_of self.old }
-        ensures device { IsErrOf result FsFault.Device → (fs_of self.new).is_down ≡ true }
-        ensures cause { IsErrOf result FsFault.Device → IsCounted (fs_failures self.old) (fs_failures self.new) }
-        ensures only { IfErr result (λ fault. (fault ≡ FsFault.Memory) ⊎ (fault ≡ FsFault.Device)) }
-        ensures later { fs_failures self.old ≤ fs_failures self.new }
+        ensures volume { Alters self.old self.new (IsTree (tree_of tree)) (fs_ending result) }
+        ensures ok { OnOk result (((fs_of self.new).tree ≡ tree_of tree)
+            × ((fs_of self.new).changes ≡ (fs_of self.old).changes + 1)) }
+        ensures only { IfErr result (λ fault.
+            (fault ≡ FsFault.Memory) ⊎ (fault ≡ FsFault.Device)) }
     {
         let updates = updates_of(self.alloc, &tree)?;
         self.is_down = true;

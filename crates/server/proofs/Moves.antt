@@ -3,8 +3,9 @@ use Rattle.std.proofs.Common.{◌≡◌, ◌≤◌, ◌⊎◌, ℕ, List, [], �
 use Rattle.std.specs.List.{IsAmong}
 use Rattle.disk.specs.Moments as moments
 use Rattle.disk.specs.Moments.{Image, Moment, Left, LeftWithin, LeftSince, AddsOnly, moment}
-use Rattle.fs.specs.FileSystem.{FileSystem, StandsForOne, LeavesOne, IsRecent, Holds, MayAdd, AddsTrees}
+use Rattle.fs.specs.FileSystem.{FileSystem, IsSameVolume, StandsForOne, LeavesOne, IsRecent, Holds, MayAdd, AddsTrees}
 use Rattle.fs.specs.Stands.{StandsFor}
+use Rattle.fs.proofs.ChangeLaws.{same_volume}
 use Rattle.model.specs.Runs.{Serving, Event, MayLeave, executed_of, effect_of}
 use Rattle.model.specs.Tree.{Tree}
 use Rattle.model.specs.Keyed.{Keyed}
@@ -12,7 +13,7 @@ use Rattle.model.specs.Session.{Table, empty_table}
 use Rattle.model.specs.World.{World, Connection, mounted_world}
 use Rattle.server.specs.Headline.{IsMounted}
 use Rattle.server.specs.Servers.{world_by, server_limits}
-use Rattle.server.specs.Seen.{Seen, LeavesNow, IsSameVolume, Moves, Said, told, Does}
+use Rattle.server.specs.Seen.{Seen, LeavesNow, Moves, Said, told, Does}
 use Rattle.server.proofs.Worlds.{happened_quietly, among_rest}
 use Rattle.server.proofs.Moments.{adds_none}
 
@@ -30,13 +31,6 @@ left_now h image left = ⊎_elim
     (λ (now : Left h.now image). now)
     (λ (before : LeftWithin h.past (moment h) image). absurd (none_within h.past (moment h) image (omega arith) before))
     left
-
-pub same_volume : (old new : FileSystem) → new ≡ old → IsSameVolume old new
-same_volume old new is = record {
-  sectors = ap (λ (f : FileSystem). f.sectors) is;
-  limits = ap (λ (f : FileSystem). f.limits) is;
-  run = ap (λ (f : FileSystem). f.run) is;
-}
 
 -- a call that does not touch the device
 pub moves_none : (old new : Serving) (event : Event) (fs : FileSystem) → LeavesNow (record { serving = new; volume = fs })
@@ -80,13 +74,6 @@ does_quietly fs old new down event said none up is says recent ready = (
     ready = ready;
   },
 )
-
-pub same_by : (old new : FileSystem) → new ≡ record old { tree = new.tree; changes = new.changes; is_down = new.is_down; history = new.history; fronts = new.fronts } → IsSameVolume old new
-same_by old new is = record {
-  sectors = ap (λ (f : FileSystem). f.sectors) is;
-  limits = ap (λ (f : FileSystem). f.limits) is;
-  run = ap (λ (f : FileSystem). f.run) is;
-}
 
 -- a server that was just mounted
 pub mounted_by : (fs : FileSystem) (table : Table) (connections : Keyed Connection) → table ≡ empty_table fs.run → connections ≡ [] → fs.changes ≡ 0 → fs.is_down ≡ false → Holds fs

@@ -3,6 +3,7 @@ use Rattle.std.proofs.Common.{◌≡◌, ◌⊎◌, ℕ, List, subst, true, fals
 use Rattle.disk.specs.Moments.{Image, History, AddsOnly}
 use Rattle.server.proofs.Moments.{adds_weaker}
 use Rattle.compound.specs.Steps.{IsServed, with_served}
+use Rattle.compound.specs.Volumes.{TurnGives, lasts}
 use Rattle.compound.specs.declared.fault.Fault.{Fault}
 use Rattle.compound.specs.declared.fault.Fault.TheVariants as fault
 use Rattle.fs.specs.FileSystem.{FileSystem, AddsTrees, StandsForOne, IsRecent, MayAdd}
@@ -17,6 +18,7 @@ use Rattle.model.specs.World.{one, with_connection}
 use Rattle.server.specs.declared.turn.Turn.{Turn}
 use Rattle.server.specs.Connections.{Turns, IsRising, turn_view}
 use Rattle.server.specs.Servers.{world_by}
+use Rattle.server.proofs.Turning.{one_is}
 use Rattle.server.proofs.Worlds.{may_leave_from}
 
 pub served_by : (fs : FileSystem) (table : Table) (connections : Keyed world.Connection) → IsServed (world_by fs table connections) fs table
@@ -52,6 +54,19 @@ undone fs after_fs table after_table old new fault.Memory memory device tables c
     ap (λ (f : FileSystem). world_by f after_table new) (memory refl) ∙ (ap (λ (t : Table). world_by fs t new) tables ∙ ap (world_by fs table) connections)
 undone fs after_fs table after_table old new fault.Device memory device tables connections =
     ap (λ (f : FileSystem). world_by f after_table new) (device refl) ∙ (ap (λ (t : Table). world_by fs t new) tables ∙ ap (world_by fs table) connections)
+
+-- what the turn of a connection gives in the server's world
+pub gives_one : (fs : FileSystem) (table : Table) (connections : Keyed world.Connection) (number now : ℕ) (before : world.Connection) → at number connections ≡ Some before
+    → TurnGives fs (λ w n. world.turned w n now (Some before)) (one (world_by fs table connections) number now).world.tree (lasts (one (world_by fs table connections) number now).executed)
+gives_one fs table connections number now before is =
+    let same = one_is (world_by fs table connections) number now before is in
+    record {
+      world = world_by fs table connections;
+      number = number;
+      served = served_by fs table connections;
+      tree = ap (λ (t : world.Turned). t.world.tree) same;
+      lasting_is = ap (λ (t : world.Turned). lasts t.executed) same;
+    }
 
 -- what a stop within it may leave
 pub turning_moments : (fs : FileSystem) (table : Table) (old : Keyed world.Connection) (number now : ℕ) (recent : List Tree) (new : History) → IsRecent fs recent → fs.is_down ≡ false

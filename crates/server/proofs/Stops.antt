@@ -2,7 +2,7 @@
 use Rattle.std.proofs.Common.{◌≡◌, ◌≤◌, ◌<◌, ℕ, List, [], ◌∷◌, length, Option, Some, None, refl, sym, ap, ◌∙◌, subst, inl, inr, ⊎_elim, arith}
 use Rattle.std.specs.List.{IsAmong}
 use Rattle.disk.specs.Moments.{Image, LeftSince, moment}
-use Rattle.fs.specs.FileSystem.{FileSystem}
+use Rattle.fs.specs.FileSystem.{FileSystem, IsSameVolume}
 use Rattle.fs.specs.Stands.{StandsFor}
 use Rattle.fs.proofs.OneTree.{one_tree_stands}
 use Rattle.model.proofs.Headline.{every_run}
@@ -13,7 +13,7 @@ use Rattle.model.specs.World.{World}
 use Rattle.fs.proofs.RemountLaws.{every_remount}
 use Rattle.server.specs.Headline.{IsMounted, IsGoodTree, IsKept, EveryStop, EveryRun, EveryTrace, Stopped, Follows, IsLater, Next, Then, EveryLife}
 use Rattle.fs.specs.FileSystem.{StandsForOne}
-use Rattle.server.specs.Seen.{Seen, LeavesNow, IsSameVolume, Moves, Does, Breaks, GivesDown, Call, Did, Failed, IsServed, Begins, Goes_on, Fails_at, Stays_down, world_after, history_of, AreTold, told, Said}
+use Rattle.server.specs.Seen.{Seen, LeavesNow, Moves, Does, Breaks, GivesDown, Call, Did, Failed, IsServed, Begins, Goes_on, Fails_at, Stays_down, world_after, history_of, AreTold, told, Said}
 use Rattle.server.specs.Servers.{server_limits}
 use Rattle.server.proofs.Moves.{left_now}
 

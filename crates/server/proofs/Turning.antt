@@ -1,22 +1,21 @@
 -- What a turn of a connection is, by what the connection does.
-use Rattle.std.proofs.Common.{◌≡◌, ℕ, List, [], ◌∷◌, Some, Result, Ok, Err, IfOk, inl, inr, refl, ap, ap₂, sym, subst, ◌∙◌, arith, eq-eqb, ne_eqb, le-ltb}
+use Rattle.std.proofs.Common.{◌≡◌, ℕ, false, List, [], ◌∷◌, Some, None, Result, Ok, Err, IfOk, inl, inr, refl, ap, ap₂, sym, subst, ◌∙◌, arith, eq-eqb, ne_eqb, le-ltb}
 use Rattle.std.proofs.lemmas.Bool.{cases_order}
-use Rattle.compound.specs.Steps.{IsServed, with_served, stepped_on}
-use Rattle.compound.specs.Views.{in_progress_of}
+use Rattle.compound.specs.Steps.{IsServed, with_served}
 use Rattle.compound.specs.declared.fault.Fault.{Fault}
-use Rattle.compound.specs.declared.running.Running.{Running}
-use Rattle.disk.specs.Moments.{History}
-use Rattle.fs.specs.FileSystem.{FileSystem, AddsTrees}
+use Rattle.compound.specs.Volumes.{TurnGives}
+use Rattle.compound.proofs.VolumeLaws.{same_turns, idle_turns}
+use Rattle.fs.specs.Changes.{Ending, Done, Changes}
+use Rattle.fs.specs.FileSystem.{FileSystem}
+use Rattle.fs.proofs.ChangeLaws.{answers_quietly, changes_by}
 use Rattle.model.proofs.KeyedLaws.{at-below, at-first, at-rest, some≢none}
 use Rattle.model.specs.Keyed.{Keyed, at, with, IsAbove}
 use Rattle.model.specs.Rpc.{read_call}
 use Rattle.model.specs.Session.{Table}
-use Rattle.model.specs.Tree.{Tree}
 use Rattle.model.specs.World as world
 use Rattle.model.specs.World.{World, Connection, InProgress, Turned, Waiting, Busy, Replied, one, called, turned, idle, with_connection}
 use Rattle.rpc.specs.Assembly.{Assembly, Gathers, Holds, Refuses, connection_of}
-use Rattle.server.specs.Connections.{IsRising, Leads, Turns, Opens, turn_view}
-use Rattle.server.specs.declared.request.Opened.TheVariants as opened
+use Rattle.server.specs.Connections.{IsRising, Leads, Turns, turn_view}
 use Rattle.server.specs.declared.turn.Turn.{Turn}
 use Rattle.server.specs.declared.turn.Turn.TheVariants as turn
 
@@ -61,7 +60,7 @@ still world fs table number held served rising is =
 
 -- A turn by what it comes to
 
-one_is : (world : World) (number now : ℕ) (before : Connection) → at number world.connections ≡ Some before
+pub one_is : (world : World) (number now : ℕ) (before : Connection) → at number world.connections ≡ Some before
     → one world number now ≡ turned world number now (Some before)
 unfolding one
 one_is world number now before is = rw is refl
@@ -86,13 +85,6 @@ module _ (now : ℕ) (before : Connection) (by : World → ℕ → Turned)
   turns_if old new old_table new_table after (Ok done) leads =
       turns_by old new old_table new_table after after done (turn_view done) refl refl leads
   turns_if old new old_table new_table after (Err fault) leads = tt
-
-  pub moments_by : (fs : FileSystem) (table : Table) (new : History)
-      → ((world : World) (number : ℕ) → IsServed world fs table → AddsTrees fs (by world number).world.tree new)
-      → (world : World) (number : ℕ) → IsServed world fs table → at number world.connections ≡ Some before
-      → AddsTrees fs (one world number now).world.tree new
-  moments_by fs table new adds world number served is =
-      subst (λ (t : Tree). AddsTrees fs t new) (sym (ap (λ (t : Turned). t.world.tree) (one_comes world number is))) (adds world number served)
 
 -- nothing is done
 idle_turn : (now : ℕ) (before : Connection) (fs : FileSystem) (table : Table)
@@ -125,15 +117,17 @@ pub waiting_comes : (now : ℕ) (before : Connection) (request : List ℕ) → b
     → (world : World) (number : ℕ) → turned world number now (Some before) ≡ called world number now (read_call request)
 waiting_comes now before request is world number = rw is refl
 
--- The first turn
+-- What it does to the file system
 
-pub opened_moments : (fs : FileSystem) (table : Table) (run : ℕ) (request : List ℕ) (running : Running) (now : ℕ) (new : History)
-    → Opens run request (opened.Begins running) → run ≡ fs.run
-    → ((world : World) (number : ℕ) → IsServed world fs table
-    → AddsTrees fs (stepped_on world number now (in_progress_of running)).world.tree new)
-    → (world : World) (number : ℕ) → IsServed world fs table
-    → AddsTrees fs (called world number now (read_call request)).world.tree new
-opened_moments fs table run request running now new opens same adds world number served =
-    let one : called world number now (read_call request) ≡ stepped_on world number now (in_progress_of running)
-    = opens.2 world number now (served.run ∙ sym same) in
-    subst (λ (t : Tree). AddsTrees fs t new) (sym (ap (λ (t : Turned). t.world.tree) one)) (adds world number served)
+module _ (keeps_word : Type 0) (fs new : FileSystem) (before after : ℕ) where
+  -- a turn that is the same as another in each such world
+  pub same_changes : (turn other : World → ℕ → Turned) → ((world : World) (number : ℕ) → IsServed world fs world.table → other world number ≡ turn world number) → (ending : Ending)
+      → Changes keeps_word (TurnGives fs turn) fs new before after ending → Changes keeps_word (TurnGives fs other) fs new before after ending
+  same_changes turn other same ending changes =
+      changes_by keeps_word (TurnGives fs turn) (TurnGives fs other) (same_turns fs turn other same) fs new before after ending changes
+
+-- one that does nothing
+pub idle_changes : (keeps_word : Type 0) (fs : FileSystem) (failed : ℕ) (turn : World → ℕ → Turned) → fs.is_down ≡ false
+    → ((world : World) (number : ℕ) → IsServed world fs world.table → (turn world number).executed ≡ None) → Changes keeps_word (TurnGives fs turn) fs fs failed failed Done
+idle_changes keeps_word fs failed turn up idle =
+    answers_quietly keeps_word (TurnGives fs turn) fs fs failed failed refl (omega arith) up (idle_turns fs turn idle)

@@ -12,7 +12,10 @@ use Rattle.model.specs.Tree.{Tree}
 use Rattle.model.specs.World as world
 use Rattle.model.specs.World.{World, Quiet, Closed, arrives, arrives_at, arrived, taken_at, takes, without_reply, connects, can_connect, changed, with_connection, without_connection, hangs_up, is_busy, one, idle, reply_in}
 use Rattle.model.proofs.KeyedLaws.{at-with_same, at-with_other, at-without_same, at-without_other}
+use Rattle.compound.specs.Volumes.{lasts}
+use Rattle.fs.specs.Changes.{Leaves}
 use Rattle.model.proofs.RuledOutLaws.{each_event_happens}
+use Rattle.model.proofs.RunLaws.{EntryFits, event_fits}
 use Rattle.rpc.specs.Assembly.{record_limits}
 use Rattle.slab.specs.Slab.{Slab, slab_len, Updates}
 use Rattle.server.specs.declared.connection.Connection.{Connection}
@@ -52,22 +55,6 @@ may_leave_after old event =
     let made = each_event_happens (served old) event refl (0, (omega arith, refl)) in
     subst (MayLeave (served old) event) (ap (λ (w : World). w.tree) made.1.world) (made.1.no_others made.0.world.tree made.2)
 
--- from whichever trees it was that a stop might leave
-pub happened_from : (old new : World) (recent : List Tree) (old_down new_down : Bool) (event : Event) → IsAmong recent old.tree → old_down ≡ false → new_down ≡ false → new ≡ effect_of old event
-    → Happens (record { world = old; recent = recent; is_down = old_down }) event (record { world = new; recent = new.tree ∷ []; is_down = new_down })
-happened_from old new recent old_down new_down event newest up still is =
-    subst (λ (b : Bool). Happens (record { world = old; recent = recent; is_down = b }) event (record { world = new; recent = new.tree ∷ []; is_down = new_down })) (sym up)
-    (subst (λ (b : Bool). Happens (record { world = old; recent = recent; is_down = false }) event (record { world = new; recent = new.tree ∷ []; is_down = b })) (sym still) (
-    let made = each_event_happens (record { world = old; recent = recent; is_down = false }) event refl newest in
-    let same : made.0.world.tree ≡ new.tree = ap (λ (w : World). w.tree) (made.1.world ∙ sym is) in
-    record {
-      up = refl;
-      world = is;
-      still_up = refl;
-      no_others = λ tree left. made.1.no_others tree (subst (IsAmong made.0.recent) (same ∙ sym (among_one new.tree tree left)) made.2);
-      durable = λ entry e lasts tree left. made.1.durable entry e lasts tree (subst (IsAmong made.0.recent) (same ∙ sym (among_one new.tree tree left)) made.2);
-    }))
-
 -- an event that executes nothing leaves them
 pub happened_quietly : (old new : World) (recent : List Tree) (old_down new_down : Bool) (event : Event) → executed_of old event ≡ None → old_down ≡ false → new_down ≡ false → new ≡ effect_of old event
     → Happens (record { world = old; recent = recent; is_down = old_down }) event (record { world = new; recent = recent; is_down = new_down })
@@ -87,6 +74,24 @@ may_leave_from old recent down event newest up =
     subst (λ (b : Bool). MayLeave (record { world = old; recent = recent; is_down = b }) event (effect_of old event).tree) (sym up) (
     let made = each_event_happens (record { world = old; recent = recent; is_down = false }) event refl newest in
     subst (MayLeave (record { world = old; recent = recent; is_down = false }) event) (ap (λ (w : World). w.tree) made.1.world) (made.1.no_others made.0.world.tree made.2))
+
+-- an event that leaves a stop some of the trees before and the one behind it, and behind what has to last that one alone
+pub happened_leaving : (fs : FileSystem) (old new : World) (recent left : List Tree) (old_down new_down : Bool) (event : Event) → IsAmong recent old.tree → old_down ≡ false → new_down ≡ false
+    → new ≡ effect_of old event → Leaves fs (effect_of old event).tree (lasts (executed_of old event)) recent left
+    → Happens (record { world = old; recent = recent; is_down = old_down }) event (record { world = new; recent = left; is_down = new_down })
+happened_leaving fs old new recent left old_down new_down event newest up still is leaves = record {
+  up = up;
+  world = is;
+  still_up = still;
+  no_others = λ tree among. elim (leaves.no_others tree among) [
+    | inl stays ↦ inl stays
+    | inr behind ↦ subst (MayLeave (record { world = old; recent = recent; is_down = old_down }) event) (sym behind) (may_leave_from old recent old_down event newest up)
+  ];
+  durable = λ entry e durable tree among.
+      let done : executed_of old event ≡ Some entry = subst (λ (b : Bool). executed_by old event b ≡ Some entry) up e in
+      let fits : EntryFits old.tree (effect_of old event).tree (Some entry) = subst (EntryFits old.tree (effect_of old event).tree) done (event_fits old event) in
+      leaves.durable (ap lasts done ∙ durable) tree among ∙ fits.1;
+}
 
 among_more : (more : Tree) (recent : List Tree) (tree : Tree) → IsAmong (more ∷ recent) tree → (tree ≡ more) ⊎ IsAmong recent tree
 among_more more recent tree among = by_place among.0 among.1.0 among.1.1

@@ -1,7 +1,7 @@
 -- A server as its caller sees it from call to call: the machine of the headline, and the volume below it.
 use Rattle.std.specs.Prelude.{ℕ, true, List, [], ◌∷◌, Option, Some, None, ◌≡◌}
 use Rattle.disk.specs.Moments.{AddsOnly}
-use Rattle.fs.specs.FileSystem.{FileSystem, StandsForOne, LeavesOne, IsRecent}
+use Rattle.fs.specs.FileSystem.{FileSystem, IsSameVolume, StandsForOne, LeavesOne, IsRecent}
 use Rattle.model.specs.Keyed.{at}
 use Rattle.model.specs.Runs.{Serving, Event, Arrives, Turns, HangsUp, Connects, Takes, Happens, Fails, StaysDown, MayLeave, History, no_history, history_after, history_failing, effect_of}
 use Rattle.model.specs.Tree.{Tree}
@@ -14,12 +14,6 @@ pub record Seen : Type 0 where
 
 abbrev pub LeavesNow : Seen → Type 0
 LeavesNow seen = LeavesOne seen.volume seen.serving.recent
-
--- the same volume, in the same run
-pub record IsSameVolume (old new : FileSystem) : Type 0 where
-  pub sectors : new.sectors ≡ old.sectors
-  pub limits : new.limits ≡ old.limits
-  pub run : new.run ≡ old.run
 
 -- what a call adds to what a stop may leave, at each moment of it: trees that the machine may leave while the event happens
 pub record Moves (old : Seen) (event : Event) (new : Seen) : Type 0 where

@@ -1,17 +1,15 @@
 //! A whole record: its call is answered at once, or its COMPOUND begins.
 
-ghost use Rattle.std.specs.Prelude.{◌≡◌, ◌≤◌, ℕ, Some, [], true, false, IfOk, IfErr, OnOk, OnErr, IsErrOf};
-ghost use Rattle.disk.specs.Cause.{IsCounted};
-ghost use Rattle.fs.specs.FileSystem.{AddsTrees};
-ghost use Rattle.fs.specs.FileSystems.{fs_of, fs_failures};
+ghost use Rattle.std.specs.Prelude.{◌≡◌, Some, [], true, false, IfOk, IfErr, OnErr};
+ghost use Rattle.fs.specs.FileSystems.{fs_of, Alters};
 ghost use Rattle.model.specs.Record.{framed};
 ghost use Rattle.model.specs.Rpc as rpc;
 ghost use Rattle.model.specs.Rpc.{is_call_read, reply_text};
-ghost use Rattle.model.specs.World.{World, Busy, called};
+ghost use Rattle.model.specs.World.{Busy, called};
 ghost use Rattle.rpc.specs.Views.{reply_view, tail_of};
 ghost use Rattle.session.specs.Views.{table_of};
-ghost use Rattle.compound.specs.Steps.{IsServed, StaysInRun, turn_by};
-ghost use Rattle.compound.specs.declared.fault.Fault.TheVariants as fault;
+ghost use Rattle.compound.specs.Steps.{StaysInRun, turn_by};
+ghost use Rattle.compound.specs.Volumes.{TurnGives, ending};
 ghost use Rattle.compound.specs.declared.fault.Fault.TheVariants.{Memory};
 ghost use Rattle.compound.specs.Views.{in_progress_of, asked_of};
 ghost use Rattle.server.specs.Connections.{Opens, Leads};
@@ -47,18 +45,14 @@ pub fn first_turn<D: Device>(
 ) -> Result<Stepped, Fault>
     requires up { (fs_of fs.old).is_down ≡ false }
     requires call { is_call_read (rpc.read_call request.now) ≡ true }
-    ensures turn { IfOk result (λ done. Leads (λ world number. called world number now (rpc.read_call request.now)) (fs_of fs.old) (fs_of fs.new) (table_of table.old) (table_of table.new) (left_by (asked_in request.now) done) (turn_by done)) }
+    ensures turn { IfOk result (λ done. Leads (λ world number.
+        called world number now (rpc.read_call request.now)) (fs_of fs.old) (fs_of fs.new)
+        (table_of table.old) (table_of table.new) (left_by (asked_in request.now) done) (turn_by done)) }
     ensures stays { IfOk result (StaysInRun (fs_of fs.old).run) }
     ensures follows { IfOk result (λ done. can_follow (asked_in request.now) done ≡ true) }
-    ensures same { fs_of fs.new ≡ record (fs_of fs.old) { tree = (fs_of fs.new).tree; changes = (fs_of fs.new).changes; is_down = (fs_of fs.new).is_down; history = (fs_of fs.new).history; fronts = (fs_of fs.new).fronts } }
-    ensures still_up { OnOk result ((fs_of fs.new).is_down ≡ false) }
     ensures table { OnErr result (table_of table.new ≡ table_of table.old) }
-    ensures memory { IsErrOf result fault.Memory → fs_of fs.new ≡ fs_of fs.old }
-    ensures device { IsErrOf result fault.Device → fs_of fs.new ≡ record (fs_of fs.old) { is_down = true; history = (fs_of fs.new).history; fronts = (fs_of fs.new).fronts } }
-    ensures cause { IsErrOf result fault.Device → IsCounted (fs_failures fs.old) (fs_failures fs.new) }
-    ensures later { fs_failures fs.old ≤ fs_failures fs.new }
-    ensures moments { D.keeps_word → (world : World) (number : ℕ) → IsServed world (fs_of fs.old) (table_of table.old)
-        → AddsTrees (fs_of fs.old) (called world number now (rpc.read_call request.now)).world.tree (fs_of fs.new).history }
+    ensures volume { Alters fs.old fs.new (TurnGives (fs_of fs.old) (λ world number.
+        called world number now (rpc.read_call request.now))) (ending result) }
 {
     match open(alloc, fs.restart_count(), request)? {
         Opened::Answers(reply) => Ok(Stepped::Answered(reply)),

@@ -151,9 +151,7 @@ impl<D: Device> Server<D> {
         if connection.is_closed() {
             return Err(ServerFault::Closed);
         }
-        let turn = connection.turn(&mut self.fs, &mut self.table, now)?;
-        self.fs.tell_holds();
-        Ok(turn)
+        Ok(connection.turn(&mut self.fs, &mut self.table, now)?)
     }
 
     /// Drops the connection, and all that it holds. A request that has begun is run to its end first, and its slot keeps the reply.

@@ -1,14 +1,39 @@
-use Rattle.fs.specs.FileSystems.{fs_of}
-use Rattle.session.specs.Views.{table_of}
-use Rattle.server.proofs.Turning.{opened_moments}
+use Rattle.std.proofs.Common.{◌≡◌, ◌∙◌, refl, sym, ap, arith}
+use Rattle.compound.specs.Steps.{stepped_on}
+use Rattle.compound.specs.Views.{in_progress_of}
+use Rattle.compound.specs.Volumes.{ending_of}
+use Rattle.compound.specs.declared.fault.Fault.TheVariants as fault
+use Rattle.fs.specs.Changes.{Done}
+use Rattle.fs.specs.FileSystems.{fs_of, fs_failures}
+use Rattle.fs.proofs.ChangeLaws.{changes_nothing, told_err}
+use Rattle.model.specs.Rpc.{read_call}
+use Rattle.model.specs.World.{Turned, called}
+use Rattle.server.proofs.Turning.{same_changes, idle_changes}
 use Rattle.server.proofs.request.first_turn.Goals as goal
 
-pub returns-in-Ok-clause-moments : goal.returns-in-Ok-clause-moments
-returns-in-Ok-clause-moments g c keeps =
-    opened_moments (fs_of c.args.fs.now) (table_of c.args.table.now) c.restart_count.result c.args.request.now c.in-Begins.running c.args.now
-    (fs_of c.step.new.fs).history (rw c.in-Begins.is at c.in_ok-reply.ensures.ok) c.restart_count.ensures (c.in-Ok.ensures.moments keeps)
+pub returns-in_err-reply-clause-volume : goal.returns-in_err-reply-clause-volume
+returns-in_err-reply-clause-volume g c =
+    let reason = c.in_err-reply.field-0.0 in
+    let told = told_err c.from_residual.result reason c.from_residual.ensures.1 in
+    let memory : reason ≡ fault.Memory = rw c.in_err-reply.was at c.open.ensures.err in
+    rw (told, memory) (changes_nothing g.D.Device.keeps_word _ _ _ _ _ refl (omega arith))
 
-pub returns-in-Err-clause-moments : goal.returns-in-Err-clause-moments
-returns-in-Err-clause-moments g c keeps =
-    opened_moments (fs_of c.args.fs.now) (table_of c.args.table.now) c.restart_count.result c.args.request.now c.in-Begins.running c.args.now
-    (fs_of c.step.new.fs).history (rw c.in-Begins.is at c.in_ok-reply.ensures.ok) c.restart_count.ensures (c.in-Err.ensures.moments keeps)
+pub returns-in-Answers-clause-volume : goal.returns-in-Answers-clause-volume
+returns-in-Answers-clause-volume g c =
+    let opens = rw c.in-Answers.is at c.in_ok-reply.ensures.ok in
+    idle_changes g.D.Device.keeps_word (fs_of c.args.fs.now) (fs_failures c.args.fs.now) (λ world number. called world number c.args.now (read_call c.args.request.now)) c.requires.up
+    (λ world number served. ap (λ (t : Turned). t.executed) (opens world number c.args.now))
+
+pub returns-in-Ok-clause-volume : goal.returns-in-Ok-clause-volume
+returns-in-Ok-clause-volume g c =
+    let opens = rw c.in-Begins.is at c.in_ok-reply.ensures.ok in
+    same_changes g.D.Device.keeps_word (fs_of c.args.fs.now) (fs_of c.step.new.fs) _ _
+    (λ world number. stepped_on world number c.args.now (in_progress_of c.in-Begins.running)) (λ world number. called world number c.args.now (read_call c.args.request.now))
+    (λ world number served. opens.2 world number c.args.now (served.run ∙ sym c.restart_count.ensures)) Done c.in-Ok.ensures.volume
+
+pub returns-in-Err-clause-volume : goal.returns-in-Err-clause-volume
+returns-in-Err-clause-volume g c =
+    let opens = rw c.in-Begins.is at c.in_ok-reply.ensures.ok in
+    same_changes g.D.Device.keeps_word (fs_of c.args.fs.now) (fs_of c.step.new.fs) _ _
+    (λ world number. stepped_on world number c.args.now (in_progress_of c.in-Begins.running)) (λ world number. called world number c.args.now (read_call c.args.request.now))
+    (λ world number served. opens.2 world number c.args.now (served.run ∙ sym c.restart_count.ensures)) (ending_of c.in-Err.undone.fault) c.in-Err.ensures.volume

@@ -1,21 +1,63 @@
-use Rattle.std.proofs.Common.{sym, subst, refl, rules}
-use Rattle.fs.specs.FileSystem.{AddsTrees}
-use Rattle.fs.specs.FileSystems.{fs_of}
+use Rattle.std.proofs.Common.{refl}
+use Rattle.fs.specs.FileSystems.{fs_of, fs_failures}
 use Rattle.session.specs.Views.{table_of}
 use Rattle.wire.specs.ArgumentView.{argument_view}
-use Rattle.wire.specs.declared.argument.Argument.{Argument}
-use Rattle.compound.specs.Operates.{run_in_room, tree_by}
-use Rattle.compound.specs.Runs.{with_rest}
 use Rattle.compound.specs.Views.{in_progress_of}
-use Rattle.compound.proofs.Creating.{adds_nothing}
+use Rattle.compound.proofs.VolumeLaws.{quiet_changes, quiet_result}
 use Rattle.compound.proofs.running.Running.operate.Goals as goal
 
-pub returns-in-Create-clause-moments : goal.returns-in-Create-clause-moments
-returns-in-Create-clause-moments g c = λ keeps world rest on.
-    let fs = fs_of c.args.fs.now in
-    let request = in_progress_of c.args.self.now in
-    subst (λ (argument : Argument). AddsTrees fs (tree_by world (run_in_room world (with_rest request rest) c.args.now (argument_view argument))) (fs_of c.create.new.fs).history)
-    (sym c.in-Create.is) (c.create.ensures.moments keeps (table_of c.args.table.now) world rest on)
+pub returns-in-Create-clause-volume : goal.returns-in-Create-clause-volume
+returns-in-Create-clause-volume g c = rw c.in-Create.is c.create.ensures.volume
+
+pub returns-in-GetFh-clause-volume : goal.returns-in-GetFh-clause-volume
+returns-in-GetFh-clause-volume g c =
+    quiet_changes g.D.Device.keeps_word (fs_of c.args.fs.now) (fs_failures c.args.fs.now) (in_progress_of c.args.self.now) c.args.now (argument_view c.args.argument.now)
+    c.requires.up (rw c.in-GetFh.is refl)
+
+pub returns-in-Lookup-clause-volume : goal.returns-in-Lookup-clause-volume
+returns-in-Lookup-clause-volume g c =
+    quiet_changes g.D.Device.keeps_word (fs_of c.args.fs.now) (fs_failures c.args.fs.now) (in_progress_of c.args.self.now) c.args.now (argument_view c.args.argument.now)
+    c.requires.up (rw c.in-Lookup.is refl)
+
+pub returns-in-PutFh-clause-volume : goal.returns-in-PutFh-clause-volume
+returns-in-PutFh-clause-volume g c =
+    quiet_changes g.D.Device.keeps_word (fs_of c.args.fs.now) (fs_failures c.args.fs.now) (in_progress_of c.args.self.now) c.args.now (argument_view c.args.argument.now)
+    c.requires.up (rw c.in-PutFh.is refl)
+
+pub returns-in-PutRootFh-clause-volume : goal.returns-in-PutRootFh-clause-volume
+returns-in-PutRootFh-clause-volume g c =
+    quiet_changes g.D.Device.keeps_word (fs_of c.args.fs.now) (fs_failures c.args.fs.now) (in_progress_of c.args.self.now) c.args.now (argument_view c.args.argument.now)
+    c.requires.up (rw c.in-PutRootFh.is refl)
+
+pub returns-in-DestroySession-clause-volume : goal.returns-in-DestroySession-clause-volume
+returns-in-DestroySession-clause-volume g c =
+    quiet_changes g.D.Device.keeps_word (fs_of c.args.fs.now) (fs_failures c.args.fs.now) (in_progress_of c.args.self.now) c.args.now (argument_view c.args.argument.now)
+    c.requires.up (rw c.in-DestroySession.is refl)
+
+pub returns-in-DestroyClientId-clause-volume : goal.returns-in-DestroyClientId-clause-volume
+returns-in-DestroyClientId-clause-volume g c =
+    quiet_changes g.D.Device.keeps_word (fs_of c.args.fs.now) (fs_failures c.args.fs.now) (in_progress_of c.args.self.now) c.args.now (argument_view c.args.argument.now)
+    c.requires.up (rw c.in-DestroyClientId.is refl)
+
+pub returns-in-Sequence-clause-volume : goal.returns-in-Sequence-clause-volume
+returns-in-Sequence-clause-volume g c =
+    quiet_changes g.D.Device.keeps_word (fs_of c.args.fs.now) (fs_failures c.args.fs.now) (in_progress_of c.args.self.now) c.args.now (argument_view c.args.argument.now)
+    c.requires.up (rw c.in-Sequence.is refl)
+
+pub returns-in-ReclaimComplete-clause-volume : goal.returns-in-ReclaimComplete-clause-volume
+returns-in-ReclaimComplete-clause-volume g c =
+    quiet_changes g.D.Device.keeps_word (fs_of c.args.fs.now) (fs_failures c.args.fs.now) (in_progress_of c.args.self.now) c.args.now (argument_view c.args.argument.now)
+    c.requires.up (rw c.in-ReclaimComplete.is refl)
+
+pub returns-in-ExchangeId-clause-volume : goal.returns-in-ExchangeId-clause-volume
+returns-in-ExchangeId-clause-volume g c =
+    quiet_result g.D.Device.keeps_word (fs_of c.args.fs.now) (fs_failures c.args.fs.now) (in_progress_of c.args.self.now) c.args.now (argument_view c.args.argument.now) c.exchange_id.result
+    c.requires.up (rw c.in-ExchangeId.is refl) (λ reason is. (rw is at c.exchange_id.ensures.err).0)
+
+pub returns-in-CreateSession-clause-volume : goal.returns-in-CreateSession-clause-volume
+returns-in-CreateSession-clause-volume g c =
+    quiet_result g.D.Device.keeps_word (fs_of c.args.fs.now) (fs_failures c.args.fs.now) (in_progress_of c.args.self.now) c.args.now (argument_view c.args.argument.now) c.create_session.result
+    c.requires.up (rw c.in-CreateSession.is refl) (λ reason is. (rw is at c.create_session.ensures.err).0)
 
 pub returns-in-GetFh-clause-gives : goal.returns-in-GetFh-clause-gives
 returns-in-GetFh-clause-gives g c = rw c.in-GetFh.is (c.get_handle.ensures.gives c.args.now (table_of c.args.table.now))

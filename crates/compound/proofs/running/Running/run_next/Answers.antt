@@ -1,4 +1,4 @@
-use Rattle.std.proofs.Common.{sym, subst}
+use Rattle.std.proofs.Common.{◌≡◌, refl, sym, subst, arith}
 use Rattle.std.specs.Prelude.{drop}
 use Rattle.fs.specs.FileSystems.{fs_of}
 use Rattle.session.specs.Views.{table_of}
@@ -7,15 +7,11 @@ use Rattle.compound.specs.Operates.{IsAnswered}
 use Rattle.compound.specs.Views.{in_progress_of}
 use Rattle.compound.proofs.Firsts.{first_alone, is_served_next}
 use Rattle.compound.proofs.Refusals.{refused_spelled}
-use Rattle.compound.proofs.Turning.{turns_read, adds_read}
+use Rattle.compound.proofs.Turning.{turns_read}
+use Rattle.compound.proofs.VolumeLaws.{read_gives, refused_turn}
+use Rattle.compound.specs.declared.fault.Fault.TheVariants as fault
+use Rattle.fs.proofs.ChangeLaws.{told_err, changes_nothing, answers_quietly, changes_by}
 use Rattle.compound.proofs.running.Running.run_next.Goals as goal
-
-pub returns-in_err-done-in-Reads-clause-moments : goal.returns-in_err-done-in-Reads-clause-moments
-returns-in_err-done-in-Reads-clause-moments g c = λ word world number served.
-    let next = rw c.in-Reads.is at c.in_ok-operation.ensures.ok in
-    let rest = drop c.in-Reads.position c.args.self.now.compound.operations.now in
-    adds_read c.args.now (fs_of c.args.fs.now) world number (in_progress_of c.args.self.now) (argument_view c.in-Reads.argument) rest _ next
-    (c.operate.ensures.moments word world rest served)
 
 pub returns-in_ok-done-in-Reads-clause-turns : goal.returns-in_ok-done-in-Reads-clause-turns
 returns-in_ok-done-in-Reads-clause-turns g c =
@@ -23,13 +19,6 @@ returns-in_ok-done-in-Reads-clause-turns g c =
     turns_read c.args.now (fs_of c.args.fs.now) (fs_of c.operate.new.fs) (table_of c.args.table.now) (table_of c.operate.new.table) (in_progress_of c.args.self.now)
     (argument_view c.in-Reads.argument) (drop c.in-Reads.position c.args.self.now.compound.operations.now) c.in_ok-done-in-Reads.done next
     c.in_ok-done-in-Reads.ensures.gives
-
-pub returns-in_ok-done-in-Reads-clause-moments : goal.returns-in_ok-done-in-Reads-clause-moments
-returns-in_ok-done-in-Reads-clause-moments g c = λ word world number served.
-    let next = rw c.in-Reads.is at c.in_ok-operation.ensures.ok in
-    let rest = drop c.in-Reads.position c.args.self.now.compound.operations.now in
-    adds_read c.args.now (fs_of c.args.fs.now) world number (in_progress_of c.args.self.now) (argument_view c.in-Reads.argument) rest _ next
-    (c.operate.ensures.moments word world rest served)
 
 pub returns-in-Refuses-clause-answered : goal.returns-in-Refuses-clause-answered
 returns-in-Refuses-clause-answered g c =
@@ -46,3 +35,34 @@ pub operate-requires-clause-first : goal.operate-requires-clause-first
 operate-requires-clause-first g c =
     let next = rw c.in-Reads.is at c.in_ok-operation.ensures.ok in
     first_alone (in_progress_of c.args.self.now) (argument_view c.in-Reads.argument) (drop c.in-Reads.position c.args.self.now.compound.operations.now) next
+
+pub returns-in_err-operation-clause-volume : goal.returns-in_err-operation-clause-volume
+returns-in_err-operation-clause-volume g c =
+    let reason = c.in_err-operation.field-0.0 in
+    let told = told_err c.from_residual.result reason c.from_residual.ensures.1 in
+    let memory : reason ≡ fault.Memory = rw c.in_err-operation.was at c.next_operation.ensures.err in
+    rw (told, memory) (changes_nothing g.D.Device.keeps_word _ _ _ _ _ refl (omega arith))
+
+pub returns-in_err-done-in-Reads-clause-volume : goal.returns-in_err-done-in-Reads-clause-volume
+returns-in_err-done-in-Reads-clause-volume g c =
+    let next = rw c.in-Reads.is at c.in_ok-operation.ensures.ok in
+    let reason = c.in_err-done-in-Reads.field-0.0 in
+    let told = told_err c.from_residual-in_err-done-in-Reads.result reason c.from_residual-in_err-done-in-Reads.ensures.1 in
+    rw told (changes_by g.D.Device.keeps_word _ _
+    (read_gives (fs_of c.args.fs.now) (in_progress_of c.args.self.now) c.args.now (argument_view c.in-Reads.argument)
+    (drop c.in-Reads.position c.args.self.now.compound.operations.now) next)
+    _ _ _ _ _ (rw c.in_err-done-in-Reads.was at c.operate.ensures.volume))
+
+pub returns-in_ok-done-in-Reads-clause-volume : goal.returns-in_ok-done-in-Reads-clause-volume
+returns-in_ok-done-in-Reads-clause-volume g c =
+    let next = rw c.in-Reads.is at c.in_ok-operation.ensures.ok in
+    changes_by g.D.Device.keeps_word _ _
+    (read_gives (fs_of c.args.fs.now) (in_progress_of c.args.self.now) c.args.now (argument_view c.in-Reads.argument)
+    (drop c.in-Reads.position c.args.self.now.compound.operations.now) next)
+    _ _ _ _ _ (rw c.in_ok-done-in-Reads.was at c.operate.ensures.volume)
+
+pub returns-in-Refuses-clause-volume : goal.returns-in-Refuses-clause-volume
+returns-in-Refuses-clause-volume g c =
+    let next = rw c.in-Refuses.is at c.in_ok-operation.ensures.ok in
+    answers_quietly g.D.Device.keeps_word _ _ _ _ _ refl (omega arith) c.requires.up
+    (refused_turn (fs_of c.args.fs.now) (in_progress_of c.args.self.now) c.args.now c.in-Refuses.operation c.in-Refuses.status next)

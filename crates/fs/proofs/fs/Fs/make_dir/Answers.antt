@@ -1,11 +1,12 @@
-use Rattle.std.proofs.Common.{sym, ap, subst}
+use Rattle.std.proofs.Common.{sym, ap, subst, refl, ◌∙◌, arith}
 use Rattle.model.specs.Step.{Stepped}
-use Rattle.model.specs.Tree.{Tree}
-use Rattle.fs.specs.FileSystem.{AddsTrees}
+use Rattle.fs.specs.Changes.{IsTree}
+use Rattle.fs.specs.Refusals.{fault_of}
+use Rattle.fs.proofs.ChangeLaws.{changes_nothing, nothing_made, changes_by, told_err}
 use Rattle.journal.specs.Journal.{log_of}
 use Rattle.plain.specs.Given.{given_of}
 use Rattle.plain.specs.View.{tree_of}
-use Rattle.fs.specs.FileSystems.{fs_of}
+use Rattle.fs.specs.FileSystems.{fs_of, fs_failures}
 use Rattle.fs.proofs.NextLaws.{next_made, next_counted}
 use Rattle.fs.proofs.fs.Fs.make_dir.Goals as goal
 
@@ -23,14 +24,31 @@ replace-requires-clause-counted g c =
     c.args.asked.parent (tree_of c.args.self.now.tree) c.args.cred.now c.args.asked.name.now (given_of c.args.asked.attributes) c.args.self.now.is_down c.in_ok-made.made
     c.every_step.ensures c.args.self.now.limited c.args.self.now.counted c.in_ok-made.ensures c.args.self.now.serves
 
-pub returns-in_err-replace-clause-moments : goal.returns-in_err-replace-clause-moments
-unfolding fs_of
-returns-in_err-replace-clause-moments g c = λ k state on.
-    subst (λ (tree : Tree). AddsTrees (fs_of c.args.self.now) tree (fs_of c.replace.new.self).history)
-    (sym (ap (λ (s : Stepped). s.state.tree) (c.in_ok-made.ensures state on.is_state on.run on.changes))) (c.replace.ensures.moments k)
+pub returns-then-self-clause-volume : goal.returns-then-self-clause-volume
+unfolding fs_of fs_failures
+returns-then-self-clause-volume g c = changes_nothing g.D.Device.keeps_word _ _ _ _ _ refl (omega arith)
 
-pub returns-clause-moments : goal.returns-clause-moments
-unfolding fs_of
-returns-clause-moments g c = λ k state on.
-    subst (λ (tree : Tree). AddsTrees (fs_of c.args.self.now) tree (fs_of c.replace.new.self).history)
-    (sym (ap (λ (s : Stepped). s.state.tree) (c.in_ok-made.ensures state on.is_state on.run on.changes))) (c.replace.ensures.moments k)
+pub returns-then-not-has_room-clause-volume : goal.returns-then-not-has_room-clause-volume
+unfolding fs_of fs_failures
+returns-then-not-has_room-clause-volume g c = changes_nothing g.D.Device.keeps_word _ _ _ _ _ refl (omega arith)
+
+pub returns-in_err-made-clause-volume : goal.returns-in_err-made-clause-volume
+unfolding fs_of fs_failures
+returns-in_err-made-clause-volume g c =
+    let told = told_err c.from_residual.result (fault_of c.in_err-made.field-0.0) c.from_residual.ensures.1 in
+    rw told (nothing_made g.D.Device.keeps_word _ _ _ c.in_err-made.field-0.0)
+
+pub returns-in_err-replace-clause-volume : goal.returns-in_err-replace-clause-volume
+unfolding fs_of fs_failures
+returns-in_err-replace-clause-volume g c =
+    let told = told_err c.from_residual-in_err-replace.result c.in_err-replace.field-0.0 c.from_residual-in_err-replace.ensures.1 in
+    rw told (changes_by g.D.Device.keeps_word (IsTree (tree_of c.in_ok-made.made.tree)) _
+    (λ after lasts made. made.tree ∙ ap (λ (s : Stepped). s.state.tree) (c.in_ok-made.ensures made.state made.on.is_state made.on.run made.on.changes))
+    _ _ _ _ _ (rw c.in_err-replace.was at c.replace.ensures.volume))
+
+pub returns-clause-volume : goal.returns-clause-volume
+unfolding fs_of fs_failures
+returns-clause-volume g c =
+    changes_by g.D.Device.keeps_word (IsTree (tree_of c.in_ok-made.made.tree)) _
+    (λ after lasts made. made.tree ∙ ap (λ (s : Stepped). s.state.tree) (c.in_ok-made.ensures made.state made.on.is_state made.on.run made.on.changes))
+    _ _ _ _ _ (rw c.in_ok-replace.was at c.replace.ensures.volume)

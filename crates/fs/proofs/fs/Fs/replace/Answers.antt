@@ -1,5 +1,5 @@
 -- By the words of the journal and of the volume alone.
-use Rattle.std.proofs.Common.{ℕ, List, [], ◌∷◌, ◌++◌, ap, sym, subst, ◌∙◌, rules, refl, length}
+use Rattle.std.proofs.Common.{ℕ, List, [], ◌∷◌, ◌++◌, ap, sym, subst, ◌∙◌, rules, refl, length, arith}
 use Rattle.std.proofs.Math.Logic.{∥∥₁_map, ∥∥₁_elim, ∥∥₁_prop}
 use Rattle.std.specs.Prelude.{IsTrue}
 use Rattle.disk.specs.declared.update.Update.{Update}
@@ -9,7 +9,12 @@ use Rattle.journal.specs.Layout.{AreTargets, targets}
 use Rattle.journal.specs.Log.{StandsForFront, applied_all}
 use Rattle.journal.specs.Settled.{AreSame}
 use Rattle.model.specs.Limits.{limits_of}
+use Rattle.model.specs.Tree.{Tree}
 use Rattle.plain.specs.View.{tree_of}
+use Rattle.fs.specs.Changes.{IsTree}
+use Rattle.fs.specs.FileSystem.{AddsTrees}
+use Rattle.fs.specs.declared.fault.FsFault.TheVariants as faults
+use Rattle.fs.proofs.ChangeLaws.{changes_nothing, leaves_newest, told_err}
 use Rattle.fs.specs.FileSystems.{fs_of, fs_failures}
 use Rattle.fs.specs.Superblock.{is_size}
 use Rattle.fs.proofs.ImageLaws.{image_targets, image_length}
@@ -45,27 +50,35 @@ invariant_of-self-in-Err g c = record {
   });
 }
 
-pub returns-in-Err : goal.returns-in-Err
+pub returns-in_err-updates-clause-volume : goal.returns-in_err-updates-clause-volume
 unfolding fs_of fs_failures
-returns-in-Err g c = record {
-  moments = λ k. adds_either (fs_of c.args.self.now) _ _ (
+returns-in_err-updates-clause-volume g c =
+    let told = told_err c.from_residual.result faults.Memory c.from_residual.ensures.1 in
+    rw told (changes_nothing g.D.Device.keeps_word (IsTree (tree_of c.args.tree)) _ _ _ _ refl (omega arith))
+
+pub returns-in-Err-Memory-clause-volume : goal.returns-in-Err-Memory-clause-volume
+unfolding fs_of fs_failures
+returns-in-Err-Memory-clause-volume g c = changes_nothing g.D.Device.keeps_word (IsTree (tree_of c.args.tree)) _ _ _ _ (search rules) (search rules)
+
+pub returns-in-Err-clause-volume : goal.returns-in-Err-clause-volume
+unfolding fs_of fs_failures
+returns-in-Err-clause-volume g c = record {
+  same = record { sectors = c.keep.ensures.size; limits = refl; run = refl };
+  later = search rules;
+  moments = λ k after lasts is. subst (λ (tree : Tree). AddsTrees (fs_of c.args.self.now) tree (log_of c.keep.new.journal).history) (sym is) (adds_either (fs_of c.args.self.now) _ _ (
       keep_moments (log_of c.args.self.now.journal) c.args.self.now.limits c.args.self.now.run c.args.self.now.changes
       (tree_of c.args.self.now.tree) (tree_of c.args.tree) c.args.self.now.sized c.args.self.now.limited c.requires.counted
       c.in_ok-updates.ensures.fit c.requires.next (c.args.self.now.listed c.requires.up)
       (∥∥₁_elim c.args.self.now.serves ∥∥₁_prop (λ s. s.stands k c.requires.up)) (log_of c.keep.new.journal).history
       (subst (λ (us : List Update). AddsOnly (StandsForFront (log_of c.args.self.now.journal).size (log_of c.args.self.now.journal).base
       ((log_of c.args.self.now.journal).list ++ us ∷ [])) (log_of c.args.self.now.journal).history (log_of c.keep.new.journal).history)
-      (c.deref.ensures.value ∙ c.in_ok-updates.ensures.image) (c.keep.ensures.moments k)));
-  ok = search rules;
-  holds = search rules;
-  refused = search rules;
-  memory = search rules;
-  device = search rules;
-  cause = λ is. fault_counted (log_of c.args.self.now.journal) (log_of c.keep.new.journal) (fs_failures c.args.self.now) (failures_of c.keep.new.journal)
-      (length c.deref.result.now) c.keep.result c.in-Err.field-0 c.in-Err.is c.keep.ensures.answers (c.args.self.now.up c.requires.up) c.keep.ensures.too_many
-      (ap length (c.deref.ensures.value ∙ c.in_ok-updates.ensures.image) ∙ image_length (tree_of c.args.tree)) c.keep.ensures.not_damaged (search rules);
-  only = search rules;
-  later = search rules;
+      (c.deref.ensures.value ∙ c.in_ok-updates.ensures.image) (c.keep.ensures.moments k))));
+  ends = record {
+    only = search rules;
+    cause = fault_counted (log_of c.args.self.now.journal) (log_of c.keep.new.journal) (fs_failures c.args.self.now) (failures_of c.keep.new.journal)
+        (length c.deref.result.now) c.keep.result c.in-Err.field-0 c.in-Err.is c.keep.ensures.answers (c.args.self.now.up c.requires.up) c.keep.ensures.too_many
+        (ap length (c.deref.ensures.value ∙ c.in_ok-updates.ensures.image) ∙ image_length (tree_of c.args.tree)) c.keep.ensures.not_damaged (search rules);
+  };
 }
 
 pub invariant_of-self-2 : goal.invariant_of-self-2
@@ -86,28 +99,34 @@ invariant_of-self-2 g c = record {
       c.requires.next c.args.self.now.is_down c.requires.up c.args.self.now.serves;
 }
 
-pub returns-clause-moments : goal.returns-clause-moments
-unfolding fs_of
-returns-clause-moments g c = λ k. adds_either (fs_of c.args.self.now) _ _ (
-    keep_moments (log_of c.args.self.now.journal) c.args.self.now.limits c.args.self.now.run c.args.self.now.changes
-    (tree_of c.args.self.now.tree) (tree_of c.args.tree) c.args.self.now.sized c.args.self.now.limited c.requires.counted
-    c.in_ok-updates.ensures.fit c.requires.next (c.args.self.now.listed c.requires.up)
-    (∥∥₁_elim c.args.self.now.serves ∥∥₁_prop (λ s. s.stands k c.requires.up)) (log_of c.keep.new.journal).history
-    (subst (λ (us : List Update). AddsOnly (StandsForFront (log_of c.args.self.now.journal).size (log_of c.args.self.now.journal).base
-    ((log_of c.args.self.now.journal).list ++ us ∷ [])) (log_of c.args.self.now.journal).history (log_of c.keep.new.journal).history)
-    (c.deref.ensures.value ∙ c.in_ok-updates.ensures.image) (c.keep.ensures.moments k)))
-
-pub returns-clause-holds : goal.returns-clause-holds
-unfolding fs_of
-returns-clause-holds g c = λ k.
+pub returns-clause-volume : goal.returns-clause-volume
+unfolding fs_of fs_failures
+returns-clause-volume g c =
     let was = c.args.self.now in
     let log = log_of c.keep.new.journal in
-    let served = next_serving (log_of was.journal) was.limits was.run was.changes
-    (tree_of was.tree) (tree_of c.args.tree) was.sized was.limited c.requires.counted
-    g.D.Device.keeps_word log c.keep.ensures.size c.in_ok-updates.ensures.fit
-    (was.listed c.requires.up) c.in-Ok.ensures.settled
-    (λ k. subst (λ (us : List Update). AreSame (log_of was.journal).size (applied_all ((log_of was.journal).list ++ us ∷ [])
-    (log_of was.journal).base) log.base) (c.deref.ensures.value ∙ c.in_ok-updates.ensures.image) (c.in-Ok.ensures.ok k))
-    c.requires.next was.is_down c.requires.up was.serves in
-    holds_base _ log refl refl refl (λ image left. ∣ c.in-Ok.ensures.settled k image left ∣₁) (ap length c.in-Ok.ensures.list)
-    (∥∥₁_elim served ∥∥₁_prop (λ s. s.stands k refl))
+    record {
+      same = record { sectors = c.keep.ensures.size; limits = refl; run = refl };
+      later = search rules;
+      moments = λ k after lasts is. subst (λ (tree : Tree). AddsTrees (fs_of was) tree log.history) (sym is) (adds_either (fs_of c.args.self.now) _ _ (
+          keep_moments (log_of c.args.self.now.journal) c.args.self.now.limits c.args.self.now.run c.args.self.now.changes
+          (tree_of c.args.self.now.tree) (tree_of c.args.tree) c.args.self.now.sized c.args.self.now.limited c.requires.counted
+          c.in_ok-updates.ensures.fit c.requires.next (c.args.self.now.listed c.requires.up)
+          (∥∥₁_elim c.args.self.now.serves ∥∥₁_prop (λ s. s.stands k c.requires.up)) (log_of c.keep.new.journal).history
+          (subst (λ (us : List Update). AddsOnly (StandsForFront (log_of c.args.self.now.journal).size (log_of c.args.self.now.journal).base
+          ((log_of c.args.self.now.journal).list ++ us ∷ [])) (log_of c.args.self.now.journal).history (log_of c.keep.new.journal).history)
+          (c.deref.ensures.value ∙ c.in_ok-updates.ensures.image) (c.keep.ensures.moments k))));
+      ends = record {
+        still_up = refl;
+        leaves = λ k after lasts is.
+            let served = next_serving (log_of was.journal) was.limits was.run was.changes
+            (tree_of was.tree) (tree_of c.args.tree) was.sized was.limited c.requires.counted
+            g.D.Device.keeps_word log c.keep.ensures.size c.in_ok-updates.ensures.fit
+            (was.listed c.requires.up) c.in-Ok.ensures.settled
+            (λ k. subst (λ (us : List Update). AreSame (log_of was.journal).size (applied_all ((log_of was.journal).list ++ us ∷ [])
+            (log_of was.journal).base) log.base) (c.deref.ensures.value ∙ c.in_ok-updates.ensures.image) (c.in-Ok.ensures.ok k))
+            c.requires.next was.is_down c.requires.up was.serves in
+            leaves_newest (fs_of was) _ after lasts
+            (holds_base _ log refl refl refl (λ image left. ∣ c.in-Ok.ensures.settled k image left ∣₁) (ap length c.in-Ok.ensures.list)
+            (∥∥₁_elim served ∥∥₁_prop (λ s. s.stands k refl))) (sym is);
+      };
+    }

@@ -1,22 +1,29 @@
-use Rattle.std.proofs.Common.{◌≡◌, Some, ap, sym, subst, ◌∙◌}
+use Rattle.std.proofs.Common.{◌≡◌, Some, ap, ◌∙◌}
+use Rattle.compound.specs.Steps.{stepped_on}
 use Rattle.compound.specs.Views.{in_progress_of}
-use Rattle.fs.specs.FileSystem.{AddsTrees}
+use Rattle.compound.specs.Volumes.{ending_of}
+use Rattle.fs.specs.Changes.{Done}
 use Rattle.fs.specs.FileSystems.{fs_of}
 use Rattle.model.specs.World.{Connection, Busy, turned}
 use Rattle.rpc.specs.Assembly.{Assembly}
 use Rattle.server.specs.Stages.{asked_held, begun}
+use Rattle.server.proofs.Turning.{same_changes}
 use Rattle.server.proofs.connection.Connection.next_turn.Goals as goal
 
-pub returns-in-Ok-clause-moments : goal.returns-in-Ok-clause-moments
-returns-in-Ok-clause-moments g c keeps world number served =
+pub returns-in-Ok-clause-volume : goal.returns-in-Ok-clause-volume
+returns-in-Ok-clause-volume g c =
     let same : begun (asked_held c.args.self.now.assembler) c.args.progress ≡ Busy (in_progress_of c.resume.result) =
     ap (λ (a : Assembly). begun (asked_held a) c.args.progress) c.in-Some.ensures.waits ∙ c.resume.ensures.request in
-    subst (λ (b : Connection). AddsTrees (fs_of c.args.fs.now) (turned world number c.args.now (Some b)).world.tree (fs_of c.step.new.fs).history) (sym same)
-    (c.in-Ok.ensures.moments keeps world number served)
+    same_changes g.D.Device.keeps_word (fs_of c.args.fs.now) (fs_of c.step.new.fs) _ _
+    (λ world number. stepped_on world number c.args.now (in_progress_of c.resume.result))
+    (λ world number. turned world number c.args.now (Some (begun (asked_held c.args.self.now.assembler) c.args.progress)))
+    (λ world number served. ap (λ (b : Connection). turned world number c.args.now (Some b)) same) Done c.in-Ok.ensures.volume
 
-pub returns-in-Err-clause-moments : goal.returns-in-Err-clause-moments
-returns-in-Err-clause-moments g c keeps world number served =
+pub returns-in-Err-clause-volume : goal.returns-in-Err-clause-volume
+returns-in-Err-clause-volume g c =
     let same : begun (asked_held c.args.self.now.assembler) c.args.progress ≡ Busy (in_progress_of c.resume.result) =
     ap (λ (a : Assembly). begun (asked_held a) c.args.progress) c.in-Some.ensures.waits ∙ c.resume.ensures.request in
-    subst (λ (b : Connection). AddsTrees (fs_of c.args.fs.now) (turned world number c.args.now (Some b)).world.tree (fs_of c.step.new.fs).history) (sym same)
-    (c.in-Err.ensures.moments keeps world number served)
+    same_changes g.D.Device.keeps_word (fs_of c.args.fs.now) (fs_of c.step.new.fs) _ _
+    (λ world number. stepped_on world number c.args.now (in_progress_of c.resume.result))
+    (λ world number. turned world number c.args.now (Some (begun (asked_held c.args.self.now.assembler) c.args.progress)))
+    (λ world number served. ap (λ (b : Connection). turned world number c.args.now (Some b)) same) (ending_of c.in-Err.undone.fault) c.in-Err.ensures.volume

@@ -1,15 +1,17 @@
 use Rattle.std.proofs.Common.{◌≡◌, ℕ, true, List, Some, ap, sym, subst, ◌∙◌}
 use Rattle.compound.specs.Steps.{turn_by}
-use Rattle.fs.specs.FileSystems.{fs_of}
+use Rattle.compound.specs.Volumes.{ending, ending_of}
+use Rattle.fs.specs.Changes.{Done}
+use Rattle.fs.specs.FileSystems.{fs_of, fs_failures}
 use Rattle.model.specs.Rpc.{read_call}
-use Rattle.model.specs.World.{Connection, Waiting, Replied, called, turned}
+use Rattle.model.specs.World.{Connection, Waiting, Replied, Turned, called, turned}
 use Rattle.rpc.specs.Assembly.{Assembly, Holds, connection_of}
 use Rattle.session.specs.Views.{table_of}
 use Rattle.server.specs.Connections.{connection_view, IsOfRun}
 use Rattle.server.specs.Stages.{stage_view, asked_in, asked_held, begun, left_by, is_ready}
 use Rattle.server.specs.declared.stage.Stage.{Stage}
 use Rattle.server.specs.declared.stage.Stage.TheVariants as stages
-use Rattle.server.proofs.Turning.{turns_by, turns_if, moments_by, idle_turn_to, replied_comes, no_record_comes, waiting_comes}
+use Rattle.server.proofs.Turning.{turns_by, turns_if, same_changes, idle_changes, idle_turn_to, replied_comes, no_record_comes, waiting_comes}
 use Rattle.server.proofs.Resumptions.{run_of}
 use Rattle.server.proofs.connection.Connection.turn.Goals as goal
 
@@ -38,22 +40,6 @@ returns-in-Ok-clause-turn g c =
     (connection_view c.settle.new.self) (left_by (asked_in c.in-Some.record.now) c.in-Ok.done) c.settle.result (turn_by c.in-Ok.done)
     c.settle.ensures.turn (c.settle.ensures.state ∙ ap (λ (a : Assembly). left_by (asked_held a) c.in-Ok.done) c.in-Some.ensures.waits) c.in-Ok.ensures.turn
 
-pub returns-in-Ok-clause-moments : goal.returns-in-Ok-clause-moments
-unfolding connection_view
-returns-in-Ok-clause-moments g c keeps =
-    moments_by c.args.now (connection_view c.args.self.now) (λ world number. called world number c.args.now (read_call c.in-Some.record.now))
-    (waiting_comes c.args.now (connection_view c.args.self.now) c.in-Some.record.now
-    (waits c.args.self.now.assembler c.args.self.now.stage c.in-Some.record.now c.in-Receiving.ensures.value c.in-Some.ensures.waits))
-    (fs_of c.args.fs.now) (table_of c.args.table.now) (fs_of c.first_turn.new.fs).history (c.in-Ok.ensures.moments keeps)
-
-pub returns-in-Err-clause-moments : goal.returns-in-Err-clause-moments
-unfolding connection_view
-returns-in-Err-clause-moments g c keeps =
-    moments_by c.args.now (connection_view c.args.self.now) (λ world number. called world number c.args.now (read_call c.in-Some.record.now))
-    (waiting_comes c.args.now (connection_view c.args.self.now) c.in-Some.record.now
-    (waits c.args.self.now.assembler c.args.self.now.stage c.in-Some.record.now c.in-Receiving.ensures.value c.in-Some.ensures.waits))
-    (fs_of c.args.fs.now) (table_of c.args.table.now) (fs_of c.first_turn.new.fs).history (c.in-Err.ensures.moments keeps)
-
 pub returns-in-None-clause-turn : goal.returns-in-None-clause-turn
 unfolding connection_view
 returns-in-None-clause-turn g c =
@@ -73,18 +59,56 @@ returns-in-Running-clause-turn g c =
     (fs_of c.args.fs.now) (fs_of c.next_turn.new.fs) (table_of c.args.table.now) (table_of c.next_turn.new.table)
     (connection_view c.next_turn.new.self) c.next_turn.result c.next_turn.ensures.turn
 
-pub returns-in-Running-clause-moments : goal.returns-in-Running-clause-moments
-unfolding connection_view
-returns-in-Running-clause-moments g c keeps =
-    let assembly = c.args.self.now.assembler in
-    let before = ap (stage_view assembly) (sym c.in-Running.ensures.value) in
-    moments_by c.args.now (connection_view c.args.self.now) (λ world number. turned world number c.args.now (Some (begun (asked_held assembly) c.in-Running.progress)))
-    (λ world number. ap (λ (b : Connection). turned world number c.args.now (Some b)) before)
-    (fs_of c.args.fs.now) (table_of c.args.table.now) (fs_of c.next_turn.new.fs).history (c.next_turn.ensures.moments keeps)
-
 pub returns-in-Replied-clause-turn : goal.returns-in-Replied-clause-turn
 unfolding connection_view
 returns-in-Replied-clause-turn g c =
     let before = ap (stage_view c.args.self.now.assembler) (sym c.in-Replied.ensures.value) in
     idle_turn_to c.args.now (connection_view c.args.self.now) (Replied c.in-Replied.reply.items) (fs_of c.args.fs.now) (table_of c.args.table.now)
     before (replied_comes c.args.now (connection_view c.args.self.now) c.in-Replied.reply.items before)
+
+pub returns-in-Ok-clause-volume : goal.returns-in-Ok-clause-volume
+unfolding connection_view
+returns-in-Ok-clause-volume g c =
+    let before = connection_view c.args.self.now in
+    same_changes g.D.Device.keeps_word (fs_of c.args.fs.now) (fs_of c.first_turn.new.fs) _ _
+    (λ world number. called world number c.args.now (read_call c.in-Some.record.now)) (λ world number. turned world number c.args.now (Some before))
+    (λ world number served. waiting_comes c.args.now before c.in-Some.record.now
+    (waits c.args.self.now.assembler c.args.self.now.stage c.in-Some.record.now c.in-Receiving.ensures.value c.in-Some.ensures.waits) world number)
+    Done c.in-Ok.ensures.volume
+
+pub returns-in-Err-clause-volume : goal.returns-in-Err-clause-volume
+unfolding connection_view
+returns-in-Err-clause-volume g c =
+    let before = connection_view c.args.self.now in
+    same_changes g.D.Device.keeps_word (fs_of c.args.fs.now) (fs_of c.first_turn.new.fs) _ _
+    (λ world number. called world number c.args.now (read_call c.in-Some.record.now)) (λ world number. turned world number c.args.now (Some before))
+    (λ world number served. waiting_comes c.args.now before c.in-Some.record.now
+    (waits c.args.self.now.assembler c.args.self.now.stage c.in-Some.record.now c.in-Receiving.ensures.value c.in-Some.ensures.waits) world number)
+    (ending_of c.in-Err.fault) c.in-Err.ensures.volume
+
+pub returns-in-None-clause-volume : goal.returns-in-None-clause-volume
+unfolding connection_view
+returns-in-None-clause-volume g c =
+    let assembly = c.args.self.now.assembler in
+    let before = receiving_before assembly c.args.self.now.stage c.in-Receiving.ensures.value in
+    idle_changes g.D.Device.keeps_word (fs_of c.args.fs.now) (fs_failures c.args.fs.now) (λ world number. turned world number c.args.now (Some (connection_view c.args.self.now))) c.requires.up
+    (λ world number served. ap (λ (t : Turned). t.executed)
+    (ap (λ (b : Connection). turned world number c.args.now (Some b)) before ∙ no_record_comes c.args.now assembly c.in-None.ensures.waits world number))
+
+pub returns-in-Running-clause-volume : goal.returns-in-Running-clause-volume
+unfolding connection_view
+returns-in-Running-clause-volume g c =
+    let assembly = c.args.self.now.assembler in
+    let before = ap (stage_view assembly) (sym c.in-Running.ensures.value) in
+    same_changes g.D.Device.keeps_word (fs_of c.args.fs.now) (fs_of c.next_turn.new.fs) _ _
+    (λ world number. turned world number c.args.now (Some (begun (asked_held assembly) c.in-Running.progress)))
+    (λ world number. turned world number c.args.now (Some (connection_view c.args.self.now)))
+    (λ world number served. ap (λ (b : Connection). turned world number c.args.now (Some b)) before) (ending c.next_turn.result) c.next_turn.ensures.volume
+
+pub returns-in-Replied-clause-volume : goal.returns-in-Replied-clause-volume
+unfolding connection_view
+returns-in-Replied-clause-volume g c =
+    let before = ap (stage_view c.args.self.now.assembler) (sym c.in-Replied.ensures.value) in
+    idle_changes g.D.Device.keeps_word (fs_of c.args.fs.now) (fs_failures c.args.fs.now) (λ world number. turned world number c.args.now (Some (connection_view c.args.self.now))) c.requires.up
+    (λ world number served. ap (λ (t : Turned). t.executed)
+    (replied_comes c.args.now (connection_view c.args.self.now) c.in-Replied.reply.items before world number))

@@ -11,11 +11,12 @@ use Rattle.server.specs.Faults.{turn_fault}
 use Rattle.server.specs.declared.fault.ServerFault.TheVariants as faults
 use Rattle.server.specs.Seen.{Turned}
 use Rattle.server.specs.Servers.{world_of, volume_of, failures_of, world_by}
-use Rattle.server.proofs.Moves.{same_by, broken_leaves}
+use Rattle.fs.proofs.ChangeLaws.{volume_is}
+use Rattle.server.proofs.Moves.{broken_leaves}
 use Rattle.server.proofs.Refusals.{told_by, device_told, turn_refused}
 use Rattle.server.proofs.SlabLaws.{stands, stands_none, wrote, wrote_count, rewrote, numbers_rise}
-use Rattle.server.proofs.ServedTurns.{served_by, turned, undone, turning_moments}
-use Rattle.server.proofs.Worlds.{AllOfRun, all_of_run_with, happened_from, failed_from}
+use Rattle.server.proofs.ServedTurns.{turned, undone, gives_one, turning_moments}
+use Rattle.server.proofs.Worlds.{AllOfRun, all_of_run_with, happened_leaving, failed_from}
 use Rattle.server.proofs.server.Server.turn.Goals as goal
 
 pub returns-in_default-clause-refused : goal.returns-in_default-clause-refused
@@ -68,7 +69,7 @@ invariant_of-self-2 g c =
     let before = c.in-Some.connection.now in
     let after = c.turn.new.self in
     let run = (fs_of s.fs).run in
-    let same_run : (fs_of c.turn.new.fs).run ≡ run = ap (λ (f : FileSystem). f.run) c.turn.ensures.same in
+    let same_run : (fs_of c.turn.new.fs).run ≡ run = c.turn.ensures.volume.same.run in
     record {
       few = omega (arith, wrote_count s.connections c.args.conn before after c.in-Some.ensures.value, s.few);
       of_run = subst (λ (r : ℕ). AllOfRun r (connections_of (with_value s.connections c.args.conn after))) (sym same_run)
@@ -87,16 +88,16 @@ returns-in_err-turn-clause-fails g c =
     let back = rw c.in_err-turn.was at c.turn.ensures.back in
     λ keeps up is.
     let device : refusal ≡ turns.Device = device_told refusal (let told_is : turn_fault refusal ≡ faults.Device = cc in told_is) in
-    let adds = c.turn.ensures.moments keeps (world_by (fs_of s.fs) (table_of s.table) (connections_of s.connections)) c.args.conn (served_by _ _ _)
-    (stands s.connections c.args.conn before c.in-Some.ensures.value) in
-    let same = same_by (fs_of s.fs) (fs_of c.turn.new.fs) c.turn.ensures.same in
+    let adds = c.turn.ensures.volume.moments keeps _ _ (gives_one (fs_of s.fs) (table_of s.table) (connections_of s.connections) c.args.conn c.args.now (connection_view before)
+    (stands s.connections c.args.conn before c.in-Some.ensures.value)) in
+    let same = c.turn.ensures.volume.same in
     λ recent ready. (
       _,
       record {
         fails = failed_from _ _ recent _ _ (runs.Turns c.args.conn c.args.now) ready.newest up
-            (ap (λ (f : FileSystem). f.is_down) (c.turn.ensures.device (c.in_err-turn.was ∙ ap Err device)))
+            (ap (λ (f : FileSystem). f.is_down) (rw (c.in_err-turn.was, device) at c.turn.ensures.volume).ends.only)
             (undone (fs_of s.fs) (fs_of c.turn.new.fs) (table_of s.table) (table_of c.turn.new.table) (connections_of s.connections) _ refusal
-            (λ memory. c.turn.ensures.memory (c.in_err-turn.was ∙ ap Err memory)) (λ device. c.turn.ensures.device (c.in_err-turn.was ∙ ap Err device)) back.1
+            (λ memory. (rw (c.in_err-turn.was, memory) at c.turn.ensures.volume).ends) (λ device. (rw (c.in_err-turn.was, device) at c.turn.ensures.volume).ends.only) back.1
             (rewrote s.connections c.args.conn before after c.in-Some.ensures.value back.0));
         moves = record {
           moments = turning_moments (fs_of s.fs) (table_of s.table) (connections_of s.connections) c.args.conn c.args.now recent _ ready up adds;
@@ -131,10 +132,10 @@ returns-in_err-turn-clause-refused g c =
     let told = told_by c.from_residual.result (turn_fault refusal) c.from_residual.ensures.1 in
     let back = rw c.in_err-turn.was at c.turn.ensures.back in
     let same = undone (fs_of s.fs) (fs_of c.turn.new.fs) (table_of s.table) (table_of c.turn.new.table) (connections_of s.connections) _ refusal
-    (λ memory. c.turn.ensures.memory (c.in_err-turn.was ∙ ap Err memory)) (λ device. c.turn.ensures.device (c.in_err-turn.was ∙ ap Err device)) back.1
+    (λ memory. (rw (c.in_err-turn.was, memory) at c.turn.ensures.volume).ends) (λ device. (rw (c.in_err-turn.was, device) at c.turn.ensures.volume).ends.only) back.1
     (rewrote s.connections c.args.conn before after c.in-Some.ensures.value back.0) in
-    rw told (turn_refused _ _ c.args.conn refusal same (λ memory. c.turn.ensures.memory (c.in_err-turn.was ∙ ap Err memory))
-    (λ device. inr (c.turn.ensures.cause (c.in_err-turn.was ∙ ap Err device))))
+    rw told (turn_refused _ _ c.args.conn refusal same (λ memory. (rw (c.in_err-turn.was, memory) at c.turn.ensures.volume).ends)
+    (λ device. inr (rw (c.in_err-turn.was, device) at c.turn.ensures.volume).ends.cause))
 
 pub returns-clause-ok : goal.returns-clause-ok
 unfolding world_of volume_of
@@ -142,25 +143,25 @@ returns-clause-ok g c =
     let s = c.args.self.now in
     let before = c.in-Some.connection.now in
     let after = c.turn.new.self in
-    let still = rw c.in_ok-turn.was at c.turn.ensures.still_up in
+    let there = stands s.connections c.args.conn before c.in-Some.ensures.value in
+    let volume = rw c.in_ok-turn.was at c.turn.ensures.volume in
+    let gives = gives_one (fs_of s.fs) (table_of s.table) (connections_of s.connections) c.args.conn c.args.now (connection_view before) there in
     let made = turned (fs_of s.fs) (fs_of c.turn.new.fs) (table_of s.table) (table_of c.turn.new.table) (connections_of s.connections) _ c.args.conn c.args.now
-    (connection_view before) (connection_view after) (wrote s.connections c.args.conn before after c.in-Some.ensures.value) c.in_ok-turn.turn
-    (rw c.in_ok-turn.was at c.turn.ensures.turn) (numbers_rise s.connections) (stands s.connections c.args.conn before c.in-Some.ensures.value) c.turn.ensures.same in
+    (connection_view before) (connection_view after) (wrote s.connections c.args.conn before after c.in-Some.ensures.value) c.in_ok-turn.field-0
+    (rw c.in_ok-turn.was at c.turn.ensures.turn) (numbers_rise s.connections) there (volume_is (fs_of s.fs) (fs_of c.turn.new.fs) volume.same) in
     let up = sym c.if-is_down.ensures in
     λ keeps recent ready.
-    let holds = c.tell_holds.ensures keeps still in (
-      _,
+    let left = volume.ends.leaves keeps _ _ gives recent ready in (
+      left.0,
       record {
-        happens = happened_from _ _ recent _ _ (runs.Turns c.args.conn c.args.now) ready.newest up still made.1;
+        happens = happened_leaving (fs_of c.turn.new.fs) _ _ recent left.0 _ _ (runs.Turns c.args.conn c.args.now) ready.newest up volume.ends.still_up made.1 left.1;
         says = ap Turned made.0;
         moves = record {
-          moments = turning_moments (fs_of s.fs) (table_of s.table) (connections_of s.connections) c.args.conn c.args.now recent _ ready up
-              (c.turn.ensures.moments keeps (world_by (fs_of s.fs) (table_of s.table) (connections_of s.connections)) c.args.conn (served_by _ _ _)
-              (stands s.connections c.args.conn before c.in-Some.ensures.value));
-          leaves = holds.leaves;
-          same = same_by (fs_of s.fs) (fs_of c.turn.new.fs) c.turn.ensures.same;
+          moments = turning_moments (fs_of s.fs) (table_of s.table) (connections_of s.connections) c.args.conn c.args.now recent _ ready up (volume.moments keeps _ _ gives);
+          leaves = left.1.ready.leaves;
+          same = volume.same;
         };
-        ready = holds;
+        ready = left.1.ready;
       },
     )
 
@@ -185,7 +186,9 @@ returns-clause-turned g c =
     let s = c.args.self.now in
     let before = c.in-Some.connection.now in
     let after = c.turn.new.self in
+    let volume = rw c.in_ok-turn.was at c.turn.ensures.volume in
     let made = turned (fs_of s.fs) (fs_of c.turn.new.fs) (table_of s.table) (table_of c.turn.new.table) (connections_of s.connections) _ c.args.conn c.args.now
-    (connection_view before) (connection_view after) (wrote s.connections c.args.conn before after c.in-Some.ensures.value) c.in_ok-turn.turn
-    (rw c.in_ok-turn.was at c.turn.ensures.turn) (numbers_rise s.connections) (stands s.connections c.args.conn before c.in-Some.ensures.value) c.turn.ensures.same in
-    record { up = sym c.if-is_down.ensures; still_up = rw c.in_ok-turn.was at c.turn.ensures.still_up; world = made.1 }
+    (connection_view before) (connection_view after) (wrote s.connections c.args.conn before after c.in-Some.ensures.value) c.in_ok-turn.field-0
+    (rw c.in_ok-turn.was at c.turn.ensures.turn) (numbers_rise s.connections) (stands s.connections c.args.conn before c.in-Some.ensures.value)
+    (volume_is (fs_of s.fs) (fs_of c.turn.new.fs) volume.same) in
+    record { up = sym c.if-is_down.ensures; still_up = volume.ends.still_up; world = made.1 }
