@@ -127,7 +127,7 @@ module _ (now : ℕ) (fs : FileSystem) (table : Table) (request : InProgress) (n
       let state = state_of world (with_rest request rest) in
       let kind = new_directory name given in
       ap (λ (limits : Limits). in_room world (with_rest request rest) 6 (stepped world (with_rest request rest) (does limits state now kind))) on.volume
-      ∙ (full_by (first_refusal (refusals fs.limits state kind ++ change_refusals fs.limits state kind (effect state now kind).state.tree)) _ _ _ world rest on is
+      ∙ (full_by (first_refusal (refusals fs.limits state kind ++ change_refusals fs.limits state kind (effect fs.limits state now kind).state.tree)) _ _ _ world rest on is
       (done state (here world fs table request rest on))
       ∙ ap (λ (after : World). refuses after (with_rest request rest) 6 status.RepTooBig) (sym (served_same world fs table on)))
 
@@ -147,4 +147,4 @@ module _ (now : ℕ) (fs : FileSystem) (table : Table) (request : InProgress) (n
       let state = state_of world (with_rest request rest) in
       let kind = new_directory name given in
       ap (λ (limits : Limits). tree_by world (in_room world (with_rest request rest) 6 (stepped world (with_rest request rest) (does limits state now kind)))) on.volume
-      ∙ tree_by_first (first_refusal (refusals fs.limits state kind ++ change_refusals fs.limits state kind (effect state now kind).state.tree)) _ _ _ world rest on is
+      ∙ tree_by_first (first_refusal (refusals fs.limits state kind ++ change_refusals fs.limits state kind (effect fs.limits state now kind).state.tree)) _ _ _ world rest on is

@@ -164,13 +164,13 @@ unless_bad state kind reason answer (Some of) after bad done is =
     subst (λ (r : Status). is_bad r ≡ true) (same_reason (operation_of kind) of reason (ap (λ (s : Stepped). s.outcome) is)) (bad of refl)
 
 does_bad : (limits : Limits) (state : State) (now : ℕ) (kind : Argument) (reason : Status) (answer : Answer)
-    → all_bad (refusals limits state kind) ≡ true → (effect state now kind).outcome ≡ Done answer
+    → all_bad (refusals limits state kind) ≡ true → (effect limits state now kind).outcome ≡ Done answer
     → does limits state now kind ≡ refused state kind reason → IsRefusal reason
 unfolding does
 does_bad limits state now kind reason answer bad done is =
-    let tests = refusals limits state kind ++ change_refusals limits state kind (effect state now kind).state.tree in
-    bad_refuses (code_of reason) (unless_bad state kind reason answer (first_refusal tests) (effect state now kind)
-    (λ of first. first_bad tests of (append_bad (refusals limits state kind) (change_refusals limits state kind (effect state now kind).state.tree) bad refl) first)
+    let tests = refusals limits state kind ++ change_refusals limits state kind (effect limits state now kind).state.tree in
+    bad_refuses (code_of reason) (unless_bad state kind reason answer (first_refusal tests) (effect limits state now kind)
+    (λ of first. first_bad tests of (append_bad (refusals limits state kind) (change_refusals limits state kind (effect limits state now kind).state.tree) bad refl) first)
     done is)
 
 pub lookup_bad : (limits : Limits) (state : State) (now : ℕ) (name : List ℕ) (reason : Status)
@@ -293,7 +293,7 @@ module _ (now : ℕ) (fs : FileSystem) (table : Table) (request : InProgress) wh
       → does fs.limits state now (Argument.Create (OtherType type_number)) ≡ refused state (Argument.Create (OtherType type_number)) reason
   unfolding does refusals
   other_does state type_number reason is =
-      ap (λ (first : Option Status). unless_refused state (Argument.Create (OtherType type_number)) first (effect state now (Argument.Create (OtherType type_number)))) is
+      ap (λ (first : Option Status). unless_refused state (Argument.Create (OtherType type_number)) first (effect fs.limits state now (Argument.Create (OtherType type_number)))) is
 
   other_runs : (type_number : ℕ) (reason : Status)
       → ((state : State) → IsHere fs request state → does fs.limits state now (Argument.Create (OtherType type_number)) ≡ refused state (Argument.Create (OtherType type_number)) reason)

@@ -11,7 +11,7 @@ use Rattle.model.specs.Keyed.{Keyed, at, is_key, IsAbove}
 use Rattle.model.specs.Limits.{Limits}
 use Rattle.model.specs.Name.{name_refusals}
 use Rattle.model.specs.Refusal.{first_refusal}
-use Rattle.model.specs.Tree.{Tree, Node, Content, File, Directory, DirEntry, root, names_of, names_at, names_of_node, is_directory_node, is_directory_at, entry_of, found_or}
+use Rattle.model.specs.Tree.{Tree, Node, Content, File, Directory, DirEntry, root, names_of, names_at, names_of_node, is_directory, is_directory_node, is_directory_at, entry_of, found_or}
 use Rattle.model.specs.WellFormed.{one_if, links_from, links_to, links_owed, times_named, IsFrom, AreNames, IsContent, IsNode, IsWellFormed, IsBefore}
 use Rattle.model.proofs.KeyedLaws.{at-first, at-rest, at-above, some≢none}
 use Rattle.model.proofs.EditLaws.{IsForest, forest_of, well_formed_of, from_more, from_leaf, directory_at}
@@ -79,7 +79,7 @@ module _ (limits : Limits) (tree : Tree) (old_forest : IsForest limits tree None
       by_node (Some node) is = names_of_content limits node.content (old_forest.nodes number node is).content
 
   -- what a name leads to is a node
-  led_to : (place stamp : ℕ) (entry : DirEntry) → at stamp (names_at tree place) ≡ Some entry → (node : Node) × (at entry.number tree ≡ Some node)
+  pub led_to : (place stamp : ℕ) (entry : DirEntry) → at stamp (names_at tree place) ≡ Some entry → (node : Node) × (at entry.number tree ≡ Some node)
   led_to place stamp entry has = by_node (at place tree) refl has
     where
       by_node : (o : Option Node) → at place tree ≡ o → at stamp (names_of_node o) ≡ Some entry → (node : Node) × (at entry.number tree ≡ Some node)
@@ -163,13 +163,27 @@ module _ (limits : Limits) (tree : Tree) (old_forest : IsForest limits tree None
 -- The three changes. Each asks what the operation's tests say, and gives a well-formed tree with its stamps from before each later
 -- one, in which what the change altered has its stamp.
 
-pub record IsChanged (limits : Limits) (stamp : ℕ) (tree after : Tree) : Type 0 where
+abbrev pub is_file_node : Option Node → Bool
+is_file_node None = false
+is_file_node (Some node) = not (is_directory node.content)
+
+-- a change that takes away the node of this number alone, if there is one
+pub record IsChanged (limits : Limits) (stamp : ℕ) (tree after : Tree) (gone : ℕ) : Type 0 where
   pub well_formed : fits limits after ≡ true → IsWellFormed limits after
   pub before : (bound : ℕ) → stamp < bound → IsBefore bound after
   pub stamped : IsStamped stamp tree after
   pub differs : after ≡ tree → ⊥
+  pub files : (number : ℕ) → number ≢ gone → is_file_node (at number tree) ≡ true → is_file_node (at number after) ≡ true
 
-was_before : (stamp later : ℕ) (tree : Tree) → IsBefore stamp tree → stamp < later → IsBefore later tree
+-- no directory is a file
+no_file : (tree : Tree) (number : ℕ) → is_directory_at tree number ≡ true → is_file_node (at number tree) ≡ true → ⊥
+no_file tree number directory file = by_node (at number tree) directory file
+  where
+    by_node : (o : Option Node) → is_directory_node o ≡ true → is_file_node o ≡ true → ⊥
+    by_node None directory file = let never : ⊥ = cc in never
+    by_node (Some node) directory file = let same : not true ≡ true = rw directory at file in let never : ⊥ = cc in never
+
+pub was_before : (stamp later : ℕ) (tree : Tree) → IsBefore stamp tree → stamp < later → IsBefore later tree
 was_before stamp later tree before order = record {
   number = λ number node is. let low : number < stamp = before.number number node is in omega arith;
   change = λ number node is. let low : node.change < stamp = before.change number node is in omega arith;
@@ -209,7 +223,7 @@ module _ (limits : Limits) (tree : Tree) (well : IsWellFormed limits tree) (stam
 
   pub removal_keeps : (place : ℕ) (name : List ℕ) (entry : ℕ × DirEntry) → is_directory_at tree place ≡ true
       → entry_of name (names_at tree place) ≡ Some entry → names_at tree entry.1.number ≡ []
-      → IsChanged limits stamp tree (edited (removed_edits tree place name stamp now) tree)
+      → IsChanged limits stamp tree (edited (removed_edits tree place name stamp now) tree) entry.1.number
   removal_keeps place name entry is has empty =
       let forest = forest_of limits tree well in
       let stands = entry_found name (names_at tree place) 0 (names_in limits tree forest place).rising entry has in
@@ -225,7 +239,7 @@ module _ (limits : Limits) (tree : Tree) (well : IsWellFormed limits tree) (stam
       let shown = node_is_shown limits between None gone.forest place (touched (at place tree) stamp now)
       (gone.directories place apart ∙ is) (gone.lists place apart) in
       subst (λ (found : Option (ℕ × DirEntry)). IsChanged limits stamp tree
-      (edited (removal place found ++ (touch tree place stamp now ∷ [])) tree)) (sym has) (record {
+      (edited (removal place found ++ (touch tree place stamp now ∷ [])) tree) entry.1.number) (sym has) (record {
         well_formed = λ fitting. well_formed_of limits after shown.forest fitting;
         before = λ bound low. shown.before bound low (gone.before bound (was_before stamp bound tree before low));
         stamped = record {
@@ -242,6 +256,10 @@ module _ (limits : Limits) (tree : Tree) (well : IsWellFormed limits tree) (stam
           entry = λ number of other named. inl (gone.fewer number of other (sym (ap (at of) (shown.names number)) ∙ named));
         };
         differs = another place is after shown.here;
+        files = λ number off file. elim (cases_eq number place) [
+          | inl one ↦ absurd (no_file tree place is (ap (λ n. is_file_node (at n tree)) (sym one) ∙ file))
+          | inr away ↦ ap is_file_node (shown.elsewhere number away ∙ gone.elsewhere number away off) ∙ file
+        ];
       })
     where
       one_value : (x y : ℕ × DirEntry) → Some x ≡ Some y → x ≡ y
@@ -254,10 +272,12 @@ module _ (limits : Limits) (tree : Tree) (well : IsWellFormed limits tree) (stam
       → ((target : ℕ × DirEntry) → entry_of new_name (names_at tree to) ≡ Some target → names_at tree target.1.number ≡ [])
       → (IsFrom tree entry.1.number to → ⊥)
       → IsChanged limits stamp tree (edited (renamed_edits tree from to old_name new_name stamp now) tree)
+      (number_of_entry (entry_of new_name (names_at tree to)))
   rename_keeps from to old_name new_name entry is_from is_to has high allowed differs empty outside =
       subst (λ (found : Option (ℕ × DirEntry)). IsChanged limits stamp tree
       (edited (removal to (entry_of new_name (names_at tree to)) ++ (moving from to found new_name stamp
-      ++ (touch tree from stamp now ∷ touch tree to stamp now ∷ []))) tree)) (sym has) (by_target (entry_of new_name (names_at tree to)) refl)
+      ++ (touch tree from stamp now ∷ touch tree to stamp now ∷ []))) tree) (number_of_entry (entry_of new_name (names_at tree to)))) (sym has)
+      (by_target (entry_of new_name (names_at tree to)) refl)
     where
       forest : IsForest limits tree None
       forest = forest_of limits tree well
@@ -267,7 +287,7 @@ module _ (limits : Limits) (tree : Tree) (well : IsWellFormed limits tree) (stam
 
       moved : (between : Tree) (target : ℕ) → Removed limits tree forest between to new_name target → from ≢ target → to ≢ target
           → IsChanged limits stamp tree (edited (DropName from entry.0 ∷ PutName to stamp (record { name = new_name; number = entry.1.number })
-          ∷ touch tree from stamp now ∷ touch tree to stamp now ∷ []) between)
+          ∷ touch tree from stamp now ∷ touch tree to stamp now ∷ []) between) target
       moved between target gone from_apart to_apart =
           let t3 = done (DropName from entry.0) between in
           let drop = name_is_dropped limits between gone.forest from entry.0 entry.1 (gone.directories from from_apart ∙ is_from)
@@ -320,11 +340,19 @@ module _ (limits : Limits) (tree : Tree) (well : IsWellFormed limits tree) (stam
                   ];
             };
             differs = another to is_to t6 second.here;
+            files = λ number off file. elim (cases_eq number to) [
+              | inl one ↦ absurd (no_file tree to is_to (ap (λ n. is_file_node (at n tree)) (sym one) ∙ file))
+              | inr off_to ↦ elim (cases_eq number from) [
+                | inl one ↦ absurd (no_file tree from is_from (ap (λ n. is_file_node (at n tree)) (sym one) ∙ file))
+                | inr off_from ↦ ap is_file_node (second.elsewhere number off_to ∙ (first.elsewhere number off_from
+                    ∙ (put.elsewhere number off_to ∙ (drop.elsewhere number off_from ∙ gone.elsewhere number off_to off)))) ∙ file
+              ]
+            ];
           }
 
       by_target : (found : Option (ℕ × DirEntry)) → entry_of new_name (names_at tree to) ≡ found
           → IsChanged limits stamp tree (edited (removal to found ++ (moving from to (Some entry) new_name stamp
-          ++ (touch tree from stamp now ∷ touch tree to stamp now ∷ []))) tree)
+          ++ (touch tree from stamp now ∷ touch tree to stamp now ∷ []))) tree) (number_of_entry found)
       by_target None lacks =
           moved tree 0 (removed limits tree forest to new_name is_to None lacks (λ other same. absurd (some≢none other (sym same))))
           (apart_from_target from to None is_from (λ other same. absurd (some≢none other (sym same))))
@@ -338,7 +366,7 @@ module _ (limits : Limits) (tree : Tree) (well : IsWellFormed limits tree) (stam
 
   pub creation_keeps : (place : ℕ) (name : List ℕ) (node : Node) → is_directory_at tree place ≡ true → entry_of name (names_at tree place) ≡ None
       → 0 < stamp → first_refusal (name_refusals limits name) ≡ None → IsNode limits node → names_of node.content ≡ [] → node.change ≡ stamp
-      → IsChanged limits stamp tree (edited (made_edits tree place name node stamp now) tree)
+      → IsChanged limits stamp tree (edited (made_edits tree place name node stamp now) tree) 0
   creation_keeps place name node is lacks high allowed is_node empty change =
       let forest = forest_of limits tree well in
       let unused : at stamp tree ≡ None = nothing_unless (at stamp tree) (λ found has. lt_irrefl stamp (before.number stamp found has)) in
@@ -380,10 +408,20 @@ module _ (limits : Limits) (tree : Tree) (well : IsWellFormed limits tree) (stam
           ];
         };
         differs = another place is t3 shown.here;
+        files = λ number off file. elim (cases_eq number place) [
+          | inl one ↦ absurd (no_file tree place is (ap (λ n. is_file_node (at n tree)) (sym one) ∙ file))
+          | inr away ↦ elim (cases_eq number stamp) [
+            | inl one ↦ absurd (no_node (at stamp tree) unused (ap (λ n. is_file_node (at n tree)) (sym one) ∙ file))
+            | inr apart_from_new ↦ ap is_file_node (shown.elsewhere number away ∙ (put.elsewhere number away ∙ made.elsewhere number apart_from_new)) ∙ file
+          ]
+        ];
       }
     where
       some_node : (x y : Node) → Some x ≡ Some y → x ≡ y
       some_node x y same = cc
+
+      no_node : (o : Option Node) → o ≡ None → is_file_node o ≡ true → ⊥
+      no_node o none file = let is : is_file_node None ≡ true = rw none at file in let never : ⊥ = cc in never
 
       nothing_unless : (o : Option Node) → ((x : Node) → o ≡ Some x → ⊥) → o ≡ None
       nothing_unless None never = refl

@@ -6,7 +6,7 @@ use Rattle.std.proofs.lemmas.Bool.{cases_eq, cases_Bool}
 use Rattle.model.specs.declared.node.NodeKind.TheVariants as kind
 use Rattle.model.specs.Acl.{is_list_for}
 use Rattle.model.specs.Charge.{fits}
-use Rattle.model.specs.Edit.{Shown, Edit, PutNode, DropNode, Show, PutName, DropName, showing, with_content, name_put, name_dropped, altered_at, done}
+use Rattle.model.specs.Edit.{Shown, Edit, PutNode, DropNode, Show, PutName, DropName, showing, name_put, name_dropped, altered_at, done}
 use Rattle.model.specs.Keyed.{Keyed, at, is_key, with, without, total, IsAbove, worth_at}
 use Rattle.model.specs.Limits.{Limits}
 use Rattle.model.specs.Name.{name_refusals}
@@ -638,52 +638,44 @@ module _ (limits : Limits) (tree : Tree) (head : Option ℕ) (forest : IsForest 
         (record { entries = list_for; content = (forest.nodes place old there).content }) forest.nodes;
   }
 
--- A file has other bytes
+-- A node in place of one of its kind, with the same names
 
-module _ (limits : Limits) (tree : Tree) (head : Option ℕ) (forest : IsForest limits tree head) (place : ℕ) (old : Node) (bytes : List ℕ)
-    (there : at place tree ≡ Some old) (is_file : old.content ≡ File bytes) (new_bytes : List ℕ) (new_content : IsContent limits (File new_bytes)) where
-  abbrev pub rewritten : Node
-  rewritten = with_content old (File new_bytes)
+module _ (limits : Limits) (tree : Tree) (head : Option ℕ) (forest : IsForest limits tree head) (place : ℕ) (old : Node)
+    (there : at place tree ≡ Some old) (new : Node) (is_node : IsNode limits new)
+    (same_kind : is_directory new.content ≡ is_directory old.content) (same_names : names_of new.content ≡ names_of old.content) where
+  abbrev pub replaced : Tree
+  replaced = with tree place new
 
-  abbrev pub with_bytes : Tree
-  with_bytes = with tree place rewritten
-
-  no_names_before : names_of old.content ≡ []
-  no_names_before = ap names_of is_file
-
-  bytes_names : (number : ℕ) → names_at with_bytes number ≡ names_at tree number
-  bytes_names number = elim (cases_eq number place) [
-    | inl one ↦ rw one (names_here tree forest.numbered place old there rewritten
-        ∙ (sym no_names_before ∙ sym (names_before tree forest.numbered place old there rewritten)))
-    | inr apart ↦ names_elsewhere tree forest.numbered place old there rewritten number apart
+  pub replaced_names : (number : ℕ) → names_at replaced number ≡ names_at tree number
+  replaced_names number = elim (cases_eq number place) [
+    | inl one ↦ rw one (names_here tree forest.numbered place old there new
+        ∙ (same_names ∙ sym (names_before tree forest.numbered place old there new)))
+    | inr apart ↦ names_elsewhere tree forest.numbered place old there new number apart
   ]
 
-  bytes_from : (start number : ℕ) → IsFrom tree start number → IsFrom with_bytes start number
-  bytes_from = from_more tree with_bytes (λ of stamp entry has. ap (at stamp) (bytes_names of) ∙ has)
+  replaced_from : (start number : ℕ) → IsFrom tree start number → IsFrom replaced start number
+  replaced_from = from_more tree replaced (λ of stamp entry has. ap (at stamp) (replaced_names of) ∙ has)
 
-  pub bytes_forest : IsForest limits with_bytes head
-  bytes_forest = record {
-    numbered = numbered_after tree forest.numbered place old there rewritten;
-    rooted = same_directories tree forest.numbered place old there rewritten (sym (ap is_directory is_file)) root ∙ forest.rooted;
+  pub replaced_forest : IsForest limits replaced head
+  replaced_forest = record {
+    numbered = numbered_after tree forest.numbered place old there new;
+    rooted = same_directories tree forest.numbered place old there new same_kind root ∙ forest.rooted;
     linked = λ number.
-        let none : links_from number old ≡ 0 = ap (links_in number) no_names_before in
-        let sum : links_to with_bytes number + links_from number old ≡ links_to tree number + 0
-        = sum_after tree forest.numbered place old there rewritten (links_from number) in
+        let same : links_from number new ≡ links_from number old = ap (links_in number) same_names in
+        let sum : links_to replaced number + links_from number old ≡ links_to tree number + links_from number new
+        = sum_after tree forest.numbered place old there new (links_from number) in
         let before : links_to tree number + is_head head number ≡ links_owed tree number = forest.linked number in
-        let owed = same_owed tree forest.numbered place old there rewritten number in
+        let owed = same_owed tree forest.numbered place old there new number in
         omega arith;
-    reached = λ number key. elim (forest.reached number (sym (same_key tree forest.numbered place old there rewritten number) ∙ key)) [
-      | inl is_from ↦ inl (bytes_from root number is_from)
-      | inr is_from ↦ inr (is_from.0, is_from.1, bytes_from is_from.0 number is_from.2)
+    reached = λ number key. elim (forest.reached number (sym (same_key tree forest.numbered place old there new number) ∙ key)) [
+      | inl is_from ↦ inl (replaced_from root number is_from)
+      | inr is_from ↦ inr (is_from.0, is_from.1, replaced_from is_from.0 number is_from.2)
     ];
     stamped = λ of.
-        let sum : stamped_in with_bytes of + is_stamped of old ≡ stamped_in tree of + 0
-        = sum_after tree forest.numbered place old there rewritten (is_stamped of) in
+        let same : is_stamped of new ≡ is_stamped of old = ap (λ (names : Keyed DirEntry). one_if (is_key of names)) same_names in
+        let sum : stamped_in replaced of + is_stamped of old ≡ stamped_in tree of + is_stamped of new
+        = sum_after tree forest.numbered place old there new (is_stamped of) in
         let before : stamped_in tree of ≤ 1 = forest.stamped of in
         omega arith;
-    nodes = which tree forest.numbered place old there rewritten (λ number other. IsNode limits other)
-        (record {
-          entries = subst (λ (c : Content). is_list_for limits.aces_set limits.aces (kind_of c) old.acl ≡ true) is_file (forest.nodes place old there).entries;
-          content = new_content;
-        }) forest.nodes;
+    nodes = which tree forest.numbered place old there new (λ number other. IsNode limits other) is_node forest.nodes;
   }

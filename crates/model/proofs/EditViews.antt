@@ -23,7 +23,7 @@ entry_before bound tree before number of entry named = by_node (at number tree) 
     by_node None is has = absurd (some≢none entry (sym has))
     by_node (Some node) is has = before.entry number node of entry is has
 
-named_in : (tree : Tree) (number : ℕ) (node : Node) → at number tree ≡ Some node → (of : ℕ) (entry : DirEntry)
+pub named_in : (tree : Tree) (number : ℕ) (node : Node) → at number tree ≡ Some node → (of : ℕ) (entry : DirEntry)
     → at of (names_of node.content) ≡ Some entry → at of (names_at tree number) ≡ Some entry
 named_in tree number node is of entry has = ap (λ (o : Option Node). at of (names_of_node o)) is ∙ has
 

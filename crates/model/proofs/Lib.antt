@@ -24,3 +24,5 @@ pub mod NumberLaws
 pub mod StepCases
 pub mod StepProofs
 pub mod SoundLaws
+pub mod FileStepLaws
+pub mod NodeChangeLaws

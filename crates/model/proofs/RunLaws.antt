@@ -1,11 +1,15 @@
 -- The headline: what a stop may leave is the tree of a good prefix of what was executed.
-use Rattle.std.proofs.Common.{◌≡◌, ◌≢◌, ℕ, Bool, true, false, not, cond, List, [], ◌∷◌, ◌++◌, Option, None, Some, Result, Ok, Err, refl, ap, ◌∙◌, find}
+use Rattle.std.proofs.Common.{◌≡◌, ◌≢◌, ℕ, Bool, true, false, not, cond, List, [], ◌∷◌, ◌++◌, Option, None, Some, Result, Ok, Err, refl, sym, ap, ◌∙◌, ◌||◌, find}
 use Rattle.model.specs.declared.status.Status.{Status}
 use Rattle.model.specs.declared.status.Status.TheVariants as status
 use Rattle.model.specs.Answer.{Answer, Outcome}
 use Rattle.model.specs.Context.{is_same_name}
 use Rattle.model.specs.Need.{permitted}
+use Rattle.model.proofs.FileStepLaws.{opening_leaves}
 use Rattle.model.proofs.StepCases.{passes_tests}
+use Rattle.model.specs.Files.{has_bytes, write}
+use Rattle.model.specs.Open.{makes_file, cuts_file}
+use Rattle.model.specs.SetAttr.{sets, set_attributes}
 use Rattle.model.specs.Operation.{Argument, NewDirectory}
 use Rattle.model.specs.Refusal.{Refusals, first_refusal, refused_or}
 use Rattle.model.specs.declared.limits.Limits.{Limits}
@@ -26,18 +30,39 @@ abbrev Lawful : State → Argument → Stepped → Type 0
 Lawful state operation stepped = (state.tree ≢ stepped.state.tree)
     → (permitted state.tree state.context operation ≡ true) × (alters state operation ≡ true) × (is_done stepped.outcome ≡ true)
 
-effect_alters : (state : State) (now : ℕ) (operation : Argument) → state.tree ≢ (effect state now operation).state.tree
-    → (alters state operation ≡ true) × (is_done (effect state now operation).outcome ≡ true)
+differs_then : (is : Bool) {A : Type 0} {x y : A} → (is ≡ false → x ≡ y) → x ≢ y → is ≡ true
+differs_then true same differs = refl
+differs_then false same differs = absurd (differs (same refl))
+
+effect_alters : (limits : Limits) (state : State) (now : ℕ) (operation : Argument) → state.tree ≢ (effect limits state now operation).state.tree
+    → (alters state operation ≡ true) × (is_done (effect limits state now operation).outcome ≡ true)
 unfolding effect
-effect_alters state now (Argument.Create (NewDirectory name given)) differs = (refl, refl)
-effect_alters state now (Argument.Remove name) differs = (refl, refl)
-effect_alters state now (Argument.Rename arguments) differs = rename_alters (is_same_name state.context arguments) differs
+effect_alters limits state now (Argument.Create (NewDirectory name given)) differs = (refl, refl)
+effect_alters limits state now (Argument.Remove name) differs = (refl, refl)
+effect_alters limits state now (Argument.Rename arguments) differs = rename_alters (is_same_name state.context arguments) differs
   where
     rename_alters : (same : Bool) → state.tree ≢ (rename same state now arguments).state.tree
         → (not same ≡ true) × (is_done (rename same state now arguments).outcome ≡ true)
     rename_alters true differs = absurd (differs refl)
     rename_alters false differs = (refl, refl)
-effect_alters state now _ differs = absurd (differs refl)
+effect_alters limits state now (Argument.Open arguments) differs = (
+  differs_then (makes_file state arguments.opening || cuts_file state arguments.opening)
+      (λ none. ap (λ (s : State). s.tree) (sym (opening_leaves state now arguments.opening none))) differs,
+  refl,
+)
+effect_alters limits state now (Argument.SetAttr arguments) differs = set_alters (sets arguments) differs
+  where
+    set_alters : (some : Bool) → state.tree ≢ (set_attributes some state now arguments).state.tree
+        → (some ≡ true) × (is_done (set_attributes some state now arguments).outcome ≡ true)
+    set_alters false differs = absurd (differs refl)
+    set_alters true differs = (refl, refl)
+effect_alters limits state now (Argument.Write arguments) differs = write_alters (has_bytes arguments) differs
+  where
+    write_alters : (some : Bool) → state.tree ≢ (write some limits state now arguments).state.tree
+        → (some ≡ true) × (is_done (write some limits state now arguments).outcome ≡ true)
+    write_alters false differs = absurd (differs refl)
+    write_alters true differs = (refl, refl)
+effect_alters limits state now _ differs = absurd (differs refl)
 
 no_test : (b : Bool) (reason : Status) (others : Option Status) → refused_or b reason others ≡ None → (b ≡ false) × (others ≡ None)
 no_test true reason others e = let never : ⊥ = cc in absurd never
@@ -71,9 +96,9 @@ unless_lawful state operation stepped None permits alters differs = (permits ref
 does_lawful : (limits : Limits) (state : State) (now : ℕ) (operation : Argument) → Lawful state operation (does limits state now operation)
 unfolding does
 does_lawful limits state now operation =
-    unless_lawful state operation (effect state now operation) _
-    (λ e. passes_permitted limits state operation (change_refusals limits state operation (effect state now operation).state.tree) e)
-    (effect_alters state now operation)
+    unless_lawful state operation (effect limits state now operation) _
+    (λ e. passes_permitted limits state operation (change_refusals limits state operation (effect limits state now operation).state.tree) e)
+    (effect_alters limits state now operation)
 
 -- What a turn does to the tree: nothing, or what the operation did that it executed
 

@@ -30,19 +30,19 @@ abbrev given : (seqid : ℕ) → StateId
 given seqid = record { seqid = seqid; other = 0 ∷ 0 ∷ 0 ∷ 1 ∷ 0 ∷ 0 ∷ 0 ∷ 0 ∷ 0 ∷ 0 ∷ 0 ∷ 1 ∷ [] }
 
 -- a first open has the serial 1 and the seqid 1; a second one by the same owner joins it
-opens : opened no_opens one ≡ (1, once)
+opens : opened no_opens one ≡ record { serial = 1; state = one; opens = once }
 unfolding opened
 opens = refl
 
 told : state_of 1 1 1 ≡ given 1
 told = refl
 
-opens_again : opened once (new_open 5 (codes "A") 9 2) ≡ (1, twice)
+opens_again : opened once (new_open 5 (codes "A") 9 2) ≡ record { serial = 1; state = record one { access = 3; seqid = 2 }; opens = twice }
 unfolding opened
 opens_again = refl
 
 -- another owner has another serial, one that was not given before
-opens_another : (opened (record { given = 3; known = once.known }) (new_open 5 (codes "B") 9 1)).0 ≡ 4
+opens_another : (opened (record { given = 3; known = once.known }) (new_open 5 (codes "B") 9 1)).serial ≡ 4
 unfolding opened
 opens_another = refl
 

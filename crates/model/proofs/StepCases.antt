@@ -39,7 +39,7 @@ pub record Passes (limits : Limits) (state : State) (now : ℕ) (operation : Arg
   pub permitted : permitted state.tree state.context operation ≡ true
   pub middle : first_refusal (middle limits state operation) ≡ None
   pub late : first_refusal (late limits state operation) ≡ None
-  pub fitting : alters state operation ≡ true → fits limits (effect state now operation).state.tree ≡ true
+  pub fitting : alters state operation ≡ true → fits limits (effect limits state now operation).state.tree ≡ true
   pub stamp_left : alters state operation ≡ true → is_stamp_left state.changes ≡ true
 
 held : (b : Bool) → not b ≡ false → b ≡ true
@@ -96,13 +96,13 @@ passes_tests limits state operation none =
 
 passes : (limits : Limits) (state : State) (now : ℕ) (operation : Argument)
     → first_refusal (refusals limits state operation
-    ++ change_refusals limits state operation (effect state now operation).state.tree) ≡ None
+    ++ change_refusals limits state operation (effect limits state now operation).state.tree) ≡ None
     → Passes limits state now operation
 passes limits state now operation none =
     let all = none_in_both (refusals limits state operation)
-    (change_refusals limits state operation (effect state now operation).state.tree) none in
+    (change_refusals limits state operation (effect limits state now operation).state.tree) none in
     let tests = passes_tests limits state operation all.0 in
-    let room = none_in_front (alters state operation && not (fits limits (effect state now operation).state.tree)) status.NoSpc
+    let room = none_in_front (alters state operation && not (fits limits (effect limits state now operation).state.tree)) status.NoSpc
     (first_refusal ((alters state operation && not (is_stamp_left state.changes), status.ServerFault) ∷ [])) all.1 in
     let stamp = none_in_front (alters state operation && not (is_stamp_left state.changes)) status.ServerFault None room.1 in
     record {
@@ -110,7 +110,7 @@ passes limits state now operation none =
       permitted = tests.permitted;
       middle = tests.middle;
       late = tests.late;
-      fitting = held_at (alters state operation) (fits limits (effect state now operation).state.tree) room.0;
+      fitting = held_at (alters state operation) (fits limits (effect limits state now operation).state.tree) room.0;
       stamp_left = held_at (alters state operation) (is_stamp_left state.changes) stamp.0;
     }
 
@@ -122,13 +122,13 @@ unless_cases state operation (Some of) stepped = inr (of, refl)
 
 -- Passed, with its effect, or refused
 pub does_cases : (limits : Limits) (state : State) (now : ℕ) (operation : Argument)
-    → (Passes limits state now operation × (does limits state now operation ≡ effect state now operation))
+    → (Passes limits state now operation × (does limits state now operation ≡ effect limits state now operation))
     ⊎ ((of : Status) × (does limits state now operation ≡ refused state operation of))
 unfolding does
 does_cases limits state now operation = elim (unless_cases state operation
     (first_refusal (refusals limits state operation
-    ++ change_refusals limits state operation (effect state now operation).state.tree))
-    (effect state now operation)) [
+    ++ change_refusals limits state operation (effect limits state now operation).state.tree))
+    (effect limits state now operation)) [
       | inl went ↦ inl (passes limits state now operation went.0, went.1)
       | inr not_gone ↦ inr not_gone
     ]

@@ -17,12 +17,13 @@ use Rattle.model.specs.Ancestors.{is_below}
 use Rattle.model.specs.Context.{Context, is_same_name, has_saved}
 use Rattle.model.specs.Edit.{edited}
 use Rattle.model.specs.Changes.{made_edits, removed_edits, renamed_edits}
-use Rattle.model.specs.Inherit.{created_without_list, inherited}
+use Rattle.model.specs.Files.{has_bytes, write}
 use Rattle.model.specs.Keyed.{Keyed, at, is_key}
 use Rattle.model.specs.Limits.{Limits}
 use Rattle.model.specs.Name.{name_refusals}
-use Rattle.model.specs.Operation.{Argument, Attributes, RenameArguments, NewDirectory, OtherType, operation_of}
+use Rattle.model.specs.Operation.{Argument, Attributes, RenameArguments, SetAttrArguments, WriteArguments, NewDirectory, OtherType, operation_of}
 use Rattle.model.specs.Refusal.{first_refusal}
+use Rattle.model.specs.SetAttr.{sets, set_attributes}
 use Rattle.model.specs.Stamp.{is_stamp_left}
 use Rattle.model.specs.Step.{State, current, saved, stamp_of, current_refusals, named_refusals, remove_refusals, rename_refusals, has_names, moved_number, target_number, late_at_rename, is_name_there, alters, effect, made, rename, refused, does}
 use Rattle.model.specs.StepLaws.{IsSound, IsLawful, EveryStepIsLawful, RunsBeginSound}
@@ -32,6 +33,7 @@ use Rattle.model.proofs.AncestorLaws.{below_is_reached}
 use Rattle.model.proofs.ChangeLaws.{IsChanged, removal_keeps, rename_keeps, creation_keeps, entry_found, names_in}
 use Rattle.model.proofs.EditLaws.{forest_of, from_leaf, kind_of_directory}
 use Rattle.model.proofs.FreshTree.{no_names, fresh_well_formed, fresh_before}
+use Rattle.model.proofs.FileStepLaws.{is_true, second_false, list_created, write_changed, set_changed, opening_changed, opening_leaves}
 use Rattle.model.proofs.StepCases.{Passes, none_in_front, none_in_both, does_cases}
 
 -- What an operation is answered with
@@ -40,10 +42,6 @@ not_both : (answer : Answer) (number : ℕ) (reason : Status) → Outcome.Done a
 not_both answer number reason same = cc
 
 -- Operations that are no changes
-
-is_true : (b : Bool) → not b ≡ false → b ≡ true
-is_true true told = refl
-is_true false told = sym told
 
 rename_leaves : (same : Bool) (state : State) (now : ℕ) (arguments : RenameArguments) → same ≡ true
     → ((rename same state now arguments).state.tree ≡ state.tree) × ((rename same state now arguments).state.changes ≡ state.changes)
@@ -54,32 +52,57 @@ rename_caller : (same : Bool) (state : State) (now : ℕ) (arguments : RenameArg
 rename_caller true state now arguments = refl
 rename_caller false state now arguments = refl
 
-effect_leaves : (state : State) (now : ℕ) (operation : Argument) → alters state operation ≡ false
-    → ((effect state now operation).state.tree ≡ state.tree) × ((effect state now operation).state.changes ≡ state.changes)
-unfolding effect
-effect_leaves state now (Argument.Create arguments) no_change = absurd (true≢false no_change)
-effect_leaves state now (Argument.Remove name) no_change = absurd (true≢false no_change)
-effect_leaves state now (Argument.Rename arguments) no_change =
-    rename_leaves (is_same_name state.context arguments) state now arguments (is_true (is_same_name state.context arguments) no_change)
-effect_leaves state now _ no_change = (refl, refl)
+set_leaves : (some : Bool) (state : State) (now : ℕ) (arguments : SetAttrArguments) → some ≡ false
+    → ((set_attributes some state now arguments).state.tree ≡ state.tree) × ((set_attributes some state now arguments).state.changes ≡ state.changes)
+set_leaves true state now arguments is = absurd (true≢false is)
+set_leaves false state now arguments is = (refl, refl)
 
-effect_caller : (state : State) (now : ℕ) (operation : Argument)
-    → ((effect state now operation).state.context.cred ≡ state.context.cred)
-    × ((effect state now operation).state.context.client ≡ state.context.client)
-    × ((effect state now operation).state.context.run ≡ state.context.run)
+set_caller : (some : Bool) (state : State) (now : ℕ) (arguments : SetAttrArguments) → (set_attributes some state now arguments).state.context ≡ state.context
+set_caller true state now arguments = refl
+set_caller false state now arguments = refl
+
+write_leaves : (some : Bool) (limits : Limits) (state : State) (now : ℕ) (arguments : WriteArguments) → some ≡ false
+    → ((write some limits state now arguments).state.tree ≡ state.tree) × ((write some limits state now arguments).state.changes ≡ state.changes)
+write_leaves true limits state now arguments is = absurd (true≢false is)
+write_leaves false limits state now arguments is = (refl, refl)
+
+write_caller : (some : Bool) (limits : Limits) (state : State) (now : ℕ) (arguments : WriteArguments) → (write some limits state now arguments).state.context ≡ state.context
+write_caller true limits state now arguments = refl
+write_caller false limits state now arguments = refl
+
+effect_leaves : (limits : Limits) (state : State) (now : ℕ) (operation : Argument) → alters state operation ≡ false
+    → ((effect limits state now operation).state.tree ≡ state.tree) × ((effect limits state now operation).state.changes ≡ state.changes)
 unfolding effect
-effect_caller state now (Argument.Create (NewDirectory name given)) = (refl, refl, refl)
-effect_caller state now (Argument.Create (OtherType number)) = (refl, refl, refl)
-effect_caller state now (Argument.Rename arguments) =
+effect_leaves limits state now (Argument.Create arguments) no_change = absurd (true≢false no_change)
+effect_leaves limits state now (Argument.Remove name) no_change = absurd (true≢false no_change)
+effect_leaves limits state now (Argument.Rename arguments) no_change =
+    rename_leaves (is_same_name state.context arguments) state now arguments (is_true (is_same_name state.context arguments) no_change)
+effect_leaves limits state now (Argument.Open arguments) no_change =
+    let same = opening_leaves state now arguments.opening no_change in
+    (ap (λ (s : State). s.tree) same, ap (λ (s : State). s.changes) same)
+effect_leaves limits state now (Argument.SetAttr arguments) no_change = set_leaves (sets arguments) state now arguments no_change
+effect_leaves limits state now (Argument.Write arguments) no_change = write_leaves (has_bytes arguments) limits state now arguments no_change
+effect_leaves limits state now _ no_change = (refl, refl)
+
+effect_caller : (limits : Limits) (state : State) (now : ℕ) (operation : Argument)
+    → ((effect limits state now operation).state.context.cred ≡ state.context.cred)
+    × ((effect limits state now operation).state.context.client ≡ state.context.client)
+    × ((effect limits state now operation).state.context.run ≡ state.context.run)
+unfolding effect
+effect_caller limits state now (Argument.Create (NewDirectory name given)) = (refl, refl, refl)
+effect_caller limits state now (Argument.Create (OtherType number)) = (refl, refl, refl)
+effect_caller limits state now (Argument.Rename arguments) =
     let same = rename_caller (is_same_name state.context arguments) state now arguments in
     (ap (λ (c : Context). c.cred) same, ap (λ (c : Context). c.client) same, ap (λ (c : Context). c.run) same)
-effect_caller state now _ = (refl, refl, refl)
+effect_caller limits state now (Argument.SetAttr arguments) =
+    let same = set_caller (sets arguments) state now arguments in
+    (ap (λ (c : Context). c.cred) same, ap (λ (c : Context). c.client) same, ap (λ (c : Context). c.run) same)
+effect_caller limits state now (Argument.Write arguments) =
+    let same = write_caller (has_bytes arguments) limits state now arguments in
+    (ap (λ (c : Context). c.cred) same, ap (λ (c : Context). c.client) same, ap (λ (c : Context). c.run) same)
+effect_caller limits state now _ = (refl, refl, refl)
 
 -- A new directory
-
-empty_list : (limits : Limits) → is_list_for limits.aces_set limits.aces kind.Directory [] ≡ true
-unfolding is_list_for
-empty_list limits = rw (le-leb 0 limits.aces (omega arith), le-leb 0 limits.aces_set (omega arith)) refl
 
 -- What CREATE passed
 pub record Creates (limits : Limits) (state : State) (name : List ℕ) (given : Attributes) : Type 0 where
@@ -123,6 +146,7 @@ is_something (Some x) told = (x, refl)
 
 removed_changed : (limits : Limits) (state : State) (now : ℕ) (name : List ℕ) → Passes limits state now (Argument.Remove name) → IsSound limits state
     → IsChanged limits (stamp_of state) state.tree (edited (removed_edits state.tree (current state) name (stamp_of state) now) state.tree)
+    (number_named state.tree (current state) name)
 removed_changed limits state now name passes sound =
     let tests = none_in_both (current_refusals state) (remove_refusals limits state name) passes.early in
     let named = none_in_both (named_refusals limits state name) ((not (is_name_there state name), status.NoEnt) ∷ []) tests.1 in
@@ -131,15 +155,12 @@ removed_changed limits state now name passes sound =
     let found = is_something (entry_of name (names_at state.tree (current state))) (is_true (is_name_there state name) there.0) in
     let empty = none_in_front (has_names state.tree (number_named state.tree (current state) name)) status.NotEmpty None passes.late in
     let number : number_named state.tree (current state) name ≡ found.0.1.number = ap number_of_entry found.1 in
-    removal_keeps limits state.tree sound.well_formed (stamp_of state) sound.before now (current state) name found.0
+    subst (IsChanged limits (stamp_of state) state.tree (edited (removed_edits state.tree (current state) name (stamp_of state) now) state.tree)) (sym number)
+    (removal_keeps limits state.tree sound.well_formed (stamp_of state) sound.before now (current state) name found.0
     (is_true (is_directory_at state.tree (current state)) place.0) found.1
-    (sym (ap (names_at state.tree) number) ∙ no_names_there (names_at state.tree (number_named state.tree (current state) name)) empty.0)
+    (sym (ap (names_at state.tree) number) ∙ no_names_there (names_at state.tree (number_named state.tree (current state) name)) empty.0))
 
 -- What RENAME passed
-
-second_false : (a b : Bool) → (a && b) ≡ false → a ≡ true → b ≡ false
-second_false true b none is = none
-second_false false b none is = absurd (true≢false (sym is))
 
 neither : (a b : Bool) → (a || b) ≡ false → b ≡ false
 neither true b none = absurd (true≢false none)
@@ -163,6 +184,7 @@ renamed_changed : (limits : Limits) (state : State) (now : ℕ) (arguments : Ren
     → IsSound limits state → is_same_name state.context arguments ≡ false
     → IsChanged limits (stamp_of state) state.tree
     (edited (renamed_edits state.tree (saved state) (current state) arguments.old_name arguments.new_name (stamp_of state) now) state.tree)
+    (target_number state arguments)
 renamed_changed limits state now arguments passes sound another =
     let tree = state.tree in
     let from = saved state in
@@ -206,15 +228,6 @@ renamed_changed limits state now arguments passes sound another =
     ])
 
 module _ (modes : ModesKeepLimits) (inheritance : InheritanceKeepsLimits) where
-  list_created : (limits : Limits) → limits.aces_set + 5 ≤ limits.aces → (parent : List Ace)
-      → is_list_for limits.aces_set limits.aces kind.Directory parent ≡ true → (nothing_given : Bool) (mode : Option ℕ)
-      → is_list_for limits.aces_set limits.aces kind.Directory (created_without_list parent kind.Directory nothing_given mode) ≡ true
-  list_created limits room parent is nothing_given (Some mode) =
-      modes limits.aces_set limits.aces room kind.Directory (inherited parent kind.Directory) mode
-      (inheritance limits.aces_set limits.aces (omega arith) kind.Directory parent is)
-  list_created limits room parent is true None = empty_list limits
-  list_created limits room parent is false None = inheritance limits.aces_set limits.aces (omega arith) kind.Directory parent is
-
   module _ (limits : Limits) (state : State) (now : ℕ) (name : List ℕ) (given : Attributes) (sound : IsSound limits state)
       (passed : Creates limits state name given) (parent : Node) (there : at (current state) state.tree ≡ Some parent)
       (is : is_directory parent.content ≡ true) where
@@ -223,7 +236,7 @@ module _ (modes : ModesKeepLimits) (inheritance : InheritanceKeepsLimits) where
 
     child_is_node : IsNode limits child
     child_is_node = record {
-      entries = list_created limits sound.room_for_mode parent.acl
+      entries = list_created modes inheritance limits kind.Directory sound.room_for_mode parent.acl
           (let old = sound.well_formed.nodes (current state) parent there in directory_list old.entries)
           (is_empty given.bitmap) (mode_given given);
       content = no_names limits;
@@ -233,9 +246,9 @@ module _ (modes : ModesKeepLimits) (inheritance : InheritanceKeepsLimits) where
             → is_list_for limits.aces_set limits.aces kind.Directory parent.acl ≡ true
         directory_list list = rw (kind_of_directory parent.content is) at list
 
-    made_changed : IsChanged limits (stamp_of state) state.tree (made state now name given).tree
+    made_changed : IsChanged limits (stamp_of state) state.tree (made state now name given).tree 0
     made_changed = subst (λ (o : Option Node). IsChanged limits (stamp_of state) state.tree (edited (made_edits state.tree (current state) name
-        (new_directory state.context.cred (acl_of o) given (stamp_of state) now) (stamp_of state) now) state.tree)) (sym there)
+        (new_directory state.context.cred (acl_of o) given (stamp_of state) now) (stamp_of state) now) state.tree) 0) (sym there)
         (creation_keeps limits state.tree sound.well_formed (stamp_of state) sound.before now (current state) name child
         passed.directory passed.new (omega arith) passed.allowed child_is_node refl refl)
 
@@ -243,7 +256,7 @@ module _ (modes : ModesKeepLimits) (inheritance : InheritanceKeepsLimits) where
 
   rename_changed : (limits : Limits) (state : State) (now : ℕ) (arguments : RenameArguments) (same : Bool) → is_same_name state.context arguments ≡ same
       → same ≡ false → Passes limits state now (Argument.Rename arguments) → IsSound limits state
-      → IsChanged limits (stamp_of state) state.tree (rename same state now arguments).state.tree
+      → IsChanged limits (stamp_of state) state.tree (rename same state now arguments).state.tree (target_number state arguments)
   rename_changed limits state now arguments true is another passes sound = absurd (true≢false another)
   rename_changed limits state now arguments false is another passes sound = renamed_changed limits state now arguments passes sound is
 
@@ -256,12 +269,18 @@ module _ (modes : ModesKeepLimits) (inheritance : InheritanceKeepsLimits) where
   is_false true told = sym told
   is_false false told = refl
 
+  -- the number of the node that an operation takes away, 0 where it takes none
+  abbrev gone_by : State → Argument → ℕ
+  gone_by state (Argument.Remove name) = number_named state.tree (current state) name
+  gone_by state (Argument.Rename arguments) = target_number state arguments
+  gone_by state _ = 0
+
   -- what is answered to a change is one
   effect_changes : (limits : Limits) (state : State) (now : ℕ) (operation : Argument) → Passes limits state now operation
       → IsSound limits state → alters state operation ≡ true → (answer : Answer)
-      → (effect state now operation).outcome ≡ Outcome.Done answer
-      → IsChanged limits (stamp_of state) state.tree (effect state now operation).state.tree
-      × ((effect state now operation).state.changes ≡ state.changes + 1)
+      → (effect limits state now operation).outcome ≡ Outcome.Done answer
+      → IsChanged limits (stamp_of state) state.tree (effect limits state now operation).state.tree (gone_by state operation)
+      × ((effect limits state now operation).state.changes ≡ state.changes + 1)
   unfolding effect
   effect_changes limits state now (Argument.Create (NewDirectory name given)) passes sound is answer done =
       let passed = creates limits state now name given passes in
@@ -275,13 +294,31 @@ module _ (modes : ModesKeepLimits) (inheritance : InheritanceKeepsLimits) where
         rename_changed limits state now arguments (is_same_name state.context arguments) refl another passes sound,
         rename_counts state now arguments (is_same_name state.context arguments) another,
       )
+  effect_changes limits state now (Argument.Open arguments) passes sound is answer done =
+      opening_changed modes inheritance limits state now arguments arguments.opening refl passes sound is
+  effect_changes limits state now (Argument.SetAttr arguments) passes sound is answer done =
+      setting_changed (sets arguments) is
+    where
+      setting_changed : (some : Bool) → some ≡ true
+          → IsChanged limits (stamp_of state) state.tree (set_attributes some state now arguments).state.tree 0
+          × ((set_attributes some state now arguments).state.changes ≡ state.changes + 1)
+      setting_changed false some = absurd (true≢false (sym some))
+      setting_changed true some = (set_changed modes inheritance limits state now arguments passes sound, refl)
+  effect_changes limits state now (Argument.Write arguments) passes sound is answer done =
+      writing_changed (has_bytes arguments) is is
+    where
+      writing_changed : (some : Bool) → some ≡ true → has_bytes arguments ≡ true
+          → IsChanged limits (stamp_of state) state.tree (write some limits state now arguments).state.tree 0
+          × ((write some limits state now arguments).state.changes ≡ state.changes + 1)
+      writing_changed false some has = absurd (true≢false (sym some))
+      writing_changed true some has = (write_changed limits state now arguments passes sound has, refl)
   effect_changes limits state now _ passes sound is answer done = absurd (true≢false (sym is))
 
   -- a change leaves a sound state, and so does what is none
-  sound_then : (limits : Limits) (state then : State) → IsSound limits state → IsChanged limits (stamp_of state) state.tree then.tree
+  sound_then : (limits : Limits) (state then : State) → IsSound limits state → {gone : ℕ} → IsChanged limits (stamp_of state) state.tree then.tree gone
       → then.changes ≡ state.changes + 1 → then.context.run ≡ state.context.run → fits limits then.tree ≡ true → is_stamp_left state.changes ≡ true
       → IsSound limits then
-  sound_then limits state then sound changed counts run fitting left = record {
+  sound_then limits state then sound {gone} changed counts run fitting left = record {
     well_formed = changed.well_formed fitting;
     before = changed.before (stamp_of then) (rw (counts, run) (omega arith));
     counted = rw counts (ltb-true (state.changes + 1) (2 ^ 32) left);
@@ -301,36 +338,62 @@ module _ (modes : ModesKeepLimits) (inheritance : InheritanceKeepsLimits) where
   outcome_cases (Outcome.Done answer) = inl (answer, refl)
   outcome_cases (Outcome.Refused number reason) = inr (number, reason, refl)
 
-  effect_refused : (state : State) (now : ℕ) (operation : Argument) (number : ℕ) (reason : Status)
-      → (effect state now operation).outcome ≡ Outcome.Refused number reason → (effect state now operation).state ≡ state
+  effect_refused : (limits : Limits) (state : State) (now : ℕ) (operation : Argument) (number : ℕ) (reason : Status)
+      → (effect limits state now operation).outcome ≡ Outcome.Refused number reason → (effect limits state now operation).state ≡ state
   unfolding effect
-  effect_refused state now (Argument.Create (NewDirectory name given)) number reason is = absurd (cc)
-  effect_refused state now (Argument.Create (OtherType of)) number reason is = refl
-  effect_refused state now Argument.GetFh number reason is = refl
-  effect_refused state now (Argument.Lookup name) number reason is = absurd (cc)
-  effect_refused state now (Argument.PutFh handle) number reason is = absurd (cc)
-  effect_refused state now Argument.PutRootFh number reason is = absurd (cc)
-  effect_refused state now Argument.LookupParent number reason is = absurd (cc)
-  effect_refused state now (Argument.Remove name) number reason is = absurd (cc)
-  effect_refused state now (Argument.Rename arguments) number reason is = rename_answers (is_same_name state.context arguments) is
+  effect_refused limits state now (Argument.Create (NewDirectory name given)) number reason is = absurd (cc)
+  effect_refused limits state now (Argument.Create (OtherType of)) number reason is = refl
+  effect_refused limits state now (Argument.Access rights) number reason is = absurd (cc)
+  effect_refused limits state now (Argument.Close arguments) number reason is = absurd (cc)
+  effect_refused limits state now (Argument.Commit arguments) number reason is = absurd (cc)
+  effect_refused limits state now (Argument.GetAttr bitmap) number reason is = absurd (cc)
+  effect_refused limits state now Argument.GetFh number reason is = absurd (cc)
+  effect_refused limits state now (Argument.Lookup name) number reason is = absurd (cc)
+  effect_refused limits state now Argument.LookupParent number reason is = absurd (cc)
+  effect_refused limits state now (Argument.Open arguments) number reason is = absurd (cc)
+  effect_refused limits state now (Argument.PutFh handle) number reason is = absurd (cc)
+  effect_refused limits state now Argument.PutRootFh number reason is = absurd (cc)
+  effect_refused limits state now (Argument.Read arguments) number reason is = absurd (cc)
+  effect_refused limits state now (Argument.ReadDir arguments) number reason is = absurd (cc)
+  effect_refused limits state now (Argument.Remove name) number reason is = absurd (cc)
+  effect_refused limits state now (Argument.Rename arguments) number reason is = rename_answers (is_same_name state.context arguments) is
     where
       rename_answers : (same : Bool) → (rename same state now arguments).outcome ≡ Outcome.Refused number reason → (rename same state now arguments).state ≡ state
       rename_answers true is = absurd (cc)
       rename_answers false is = absurd (cc)
-  effect_refused state now _ number reason is = refl
+  effect_refused limits state now Argument.RestoreFh number reason is = absurd (cc)
+  effect_refused limits state now Argument.SaveFh number reason is = absurd (cc)
+  effect_refused limits state now (Argument.SetAttr arguments) number reason is = set_answers (sets arguments) is
+    where
+      set_answers : (some : Bool) → (set_attributes some state now arguments).outcome ≡ Outcome.Refused number reason
+          → (set_attributes some state now arguments).state ≡ state
+      set_answers true is = absurd (cc)
+      set_answers false is = absurd (cc)
+  effect_refused limits state now (Argument.Write arguments) number reason is = write_answers (has_bytes arguments) is
+    where
+      write_answers : (some : Bool) → (write some limits state now arguments).outcome ≡ Outcome.Refused number reason
+          → (write some limits state now arguments).state ≡ state
+      write_answers true is = absurd (cc)
+      write_answers false is = absurd (cc)
+  effect_refused limits state now (Argument.ExchangeId arguments) number reason is = refl
+  effect_refused limits state now (Argument.CreateSession arguments) number reason is = refl
+  effect_refused limits state now (Argument.DestroySession session) number reason is = refl
+  effect_refused limits state now (Argument.Sequence arguments) number reason is = refl
+  effect_refused limits state now (Argument.DestroyClientId client) number reason is = refl
+  effect_refused limits state now (Argument.ReclaimComplete one_fs) number reason is = refl
 
   effect_sound : (limits : Limits) (state : State) (now : ℕ) (operation : Argument) → Passes limits state now operation
-      → IsSound limits state → IsSound limits (effect state now operation).state
+      → IsSound limits state → IsSound limits (effect limits state now operation).state
   effect_sound limits state now operation passes sound = elim (cases_Bool (alters state operation)) [
     | inr no_change ↦
-        let leaves = effect_leaves state now operation no_change in
-        sound_still limits state (effect state now operation).state sound leaves.0 leaves.1 (effect_caller state now operation).2
-    | inl is ↦ elim (outcome_cases (effect state now operation).outcome) [
+        let leaves = effect_leaves limits state now operation no_change in
+        sound_still limits state (effect limits state now operation).state sound leaves.0 leaves.1 (effect_caller limits state now operation).2
+    | inl is ↦ elim (outcome_cases (effect limits state now operation).outcome) [
       | inl done ↦
           let changes = effect_changes limits state now operation passes sound is done.0 done.1 in
-          sound_then limits state (effect state now operation).state sound changes.0 changes.1 (effect_caller state now operation).2
+          sound_then limits state (effect limits state now operation).state sound changes.0 changes.1 (effect_caller limits state now operation).2
           (passes.fitting is) (passes.stamp_left is)
-      | inr not_done ↦ subst (IsSound limits) (sym (effect_refused state now operation not_done.0 not_done.1 not_done.2)) sound
+      | inr not_done ↦ subst (IsSound limits) (sym (effect_refused limits state now operation not_done.0 not_done.1 not_done.2)) sound
     ]
   ]
 
@@ -350,16 +413,16 @@ module _ (modes : ModesKeepLimits) (inheritance : InheritanceKeepsLimits) where
   }
 
   effect_is_lawful : (limits : Limits) (state : State) (now : ℕ) (operation : Argument) → Passes limits state now operation
-      → IsLawful limits state operation (effect state now operation)
+      → IsLawful limits state operation (effect limits state now operation)
   effect_is_lawful limits state now operation passes = record {
     answer_is_permitted = λ answer done. passes.permitted;
     change_is_permitted = λ changed. passes.permitted;
-    refusal_changes_nothing = effect_refused state now operation;
-    only_changes_alter = effect_leaves state now operation;
+    refusal_changes_nothing = effect_refused limits state now operation;
+    only_changes_alter = effect_leaves limits state now operation;
     changes_alter = λ answer sound is done.
         let changes = effect_changes limits state now operation passes sound is answer done in (changes.0.differs, changes.1);
     stamps = λ answer sound is done. (effect_changes limits state now operation passes sound is answer done).0.stamped;
-    keeps_caller = effect_caller state now operation;
+    keeps_caller = effect_caller limits state now operation;
     keeps_soundness = effect_sound limits state now operation passes;
   }
 

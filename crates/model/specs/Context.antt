@@ -30,6 +30,18 @@ current_number context = number_at context.current
 abbrev pub at_node : Context → ℕ → Context
 at_node context number = record context { current = Some (record { number = number; state = None }) }
 
+-- the same node, without the current stateid
+abbrev pub without_stateid : Context → Context
+without_stateid context = at_node context (current_number context)
+
+-- SAVEFH and RESTOREFH carry the stateid too
+
+abbrev pub saving : Context → Context
+saving context = record context { saved = context.current }
+
+abbrev pub restored : Context → Context
+restored context = record context { current = context.saved }
+
 abbrev pub has_saved : Context → Bool
 has_saved context = is_some context.saved
 

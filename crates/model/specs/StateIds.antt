@@ -124,14 +124,26 @@ abbrev pub is_table_full : (most : ℕ) → Opens → Open → Bool
 is_table_full most opens asked =
     is_none (open_like opens asked) && (nat_le most (length opens.known) || nat_le (2 ^ 64 - 1) opens.given)
 
--- the serial, and the opens behind it: the next serial is given where none is joined
-abbrev pub opened_by : Opens → Open → Option (ℕ × Open) → ℕ × Opens
-opened_by opens asked (Some entry) =
-    (entry.0, record opens { known = with opens.known entry.0 (joined asked.access entry.1) })
-opened_by opens asked None =
-    (opens.given + 1, record { given = opens.given + 1; known = with opens.known (opens.given + 1) asked })
+-- an open with its serial, and the opens among which it stands
+pub record Opened : Type 0 where
+  pub serial : ℕ
+  pub state : Open
+  pub opens : Opens
 
-unfoldable pub opened : Opens → Open → ℕ × Opens
+-- where none is joined, the next serial is given
+abbrev pub opened_by : Opens → Open → Option (ℕ × Open) → Opened
+opened_by opens asked (Some entry) = record {
+  serial = entry.0;
+  state = joined asked.access entry.1;
+  opens = record opens { known = with opens.known entry.0 (joined asked.access entry.1) };
+}
+opened_by opens asked None = record {
+  serial = opens.given + 1;
+  state = asked;
+  opens = record { given = opens.given + 1; known = with opens.known (opens.given + 1) asked };
+}
+
+unfoldable pub opened : Opens → Open → Opened
 opened opens asked = opened_by opens asked (open_like opens asked)
 
 -- CLOSE ends one

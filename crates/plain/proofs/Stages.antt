@@ -41,12 +41,12 @@ lookup_refusal limits state name after =
 
 does_is : (limits : Limits) (state : State) (now : ℕ) (name : List ℕ) (o : Option Status)
     → first_refusal (refusals limits state (Argument.Lookup name)
-    ++ change_refusals limits state (Argument.Lookup name) (effect state now (Argument.Lookup name)).state.tree) ≡ o
+    ++ change_refusals limits state (Argument.Lookup name) (effect limits state now (Argument.Lookup name)).state.tree) ≡ o
     → does limits state now (Argument.Lookup name)
-    ≡ unless_refused state (Argument.Lookup name) o (effect state now (Argument.Lookup name))
+    ≡ unless_refused state (Argument.Lookup name) o (effect limits state now (Argument.Lookup name))
 unfolding does
 does_is limits state now name o same =
-    ap (λ (p : Option Status). unless_refused state (Argument.Lookup name) p (effect state now (Argument.Lookup name))) same
+    ap (λ (p : Option Status). unless_refused state (Argument.Lookup name) p (effect limits state now (Argument.Lookup name))) same
 
 alone : (b : Bool) → ((b || false) && true) ≡ b
 alone true = refl
@@ -65,7 +65,7 @@ module _ (limits : Limits) (tree : Tree) (cred : Cred) (number : ℕ) (name : Li
   -- the tests, by the node that stands there
   tests_at : (found : Option Node) → at number tree ≡ found
       → first_refusal (refusals limits state (Argument.Lookup name)
-      ++ change_refusals limits state (Argument.Lookup name) (effect state now (Argument.Lookup name)).state.tree)
+      ++ change_refusals limits state (Argument.Lookup name) (effect limits state now (Argument.Lookup name)).state.tree)
       ≡ refused_or (not (is_some found)) status.Stale
       (refused_or (not (is_directory_node found)) status.NotDir
       (or_else (or_else (first_refusal (name_refusals limits name))
@@ -76,12 +76,12 @@ module _ (limits : Limits) (tree : Tree) (cred : Cred) (number : ℕ) (name : Li
       let here : at (current state) state.tree ≡ found = node_is ∙ there in
       let rights : permitted state.tree state.context (Argument.Lookup name) ≡ granted_on found cred execute
       = permitted_is state name ∙ (ap (λ o. granted_on o state.context.cred execute) here ∙ ap (λ c. granted_on found c execute) is.cred_is) in
-      lookup_refusal limits state name (effect state now (Argument.Lookup name)).state.tree
+      lookup_refusal limits state name (effect limits state now (Argument.Lookup name)).state.tree
       ∙ rw (is.has_current, rights, here) refl
 
   -- the effect, by what the name leads to
   effect_at : (node : Node) → at number tree ≡ Some node
-      → effect state now (Argument.Lookup name)
+      → effect limits state now (Argument.Lookup name)
       ≡ answered (moved_to state (number_of_entry (entry_of name (names_of node.content)))) Answer.Lookup
   unfolding effect
   effect_at node there =
