@@ -91,7 +91,7 @@ fragment_shrinks limits gathered bytes =
 
 -- What more bytes behind make of a record
 
-abbrev Follows : List ℕ → Front → Front → Type 0
+abbrev pub Follows : List ℕ → Front → Front → Type 0
 Follows more Partial after = Unit {0}
 Follows more (Refused fault) after = after ≡ Refused fault
 Follows more (Whole bytes rest) after = after ≡ Whole bytes (rest ++ more)
@@ -113,7 +113,7 @@ waits_at_nothing limits gathered bytes h =
     ap (λ (b : Bool). cond b Waits (behind_header limits gathered (from_be_bytes w32 (take 4 bytes)) (drop 4 bytes)))
     (lt-ltb (length bytes) 4 (omega arith))
 
-front_follows : (limits : RecordLimits) (n m : ℕ) (gathered : Gathered) (bytes more : List ℕ) → length (bytes ++ more) ≤ m
+pub front_follows : (limits : RecordLimits) (n m : ℕ) (gathered : Gathered) (bytes more : List ℕ) → length (bytes ++ more) ≤ m
     → Follows more (front_from limits n gathered bytes) (front_from limits m gathered (bytes ++ more))
 unfolding front_from
 front_follows limits zero m gathered bytes more h = tt
@@ -161,7 +161,7 @@ behind_same further further' bytes most step (Refused fault) leaves = refl
 behind_same further further' bytes most step (Whole one rest) leaves =
     ap (λ (stream : Stream). record stream { records = one ∷ stream.records }) (step rest leaves)
 
-partial_at_nothing : (limits : RecordLimits) (n : ℕ) (gathered : Gathered) (bytes : List ℕ) → length bytes ≤ 0 → front_from limits n gathered bytes ≡ Partial
+pub partial_at_nothing : (limits : RecordLimits) (n : ℕ) (gathered : Gathered) (bytes : List ℕ) → length bytes ≤ 0 → front_from limits n gathered bytes ≡ Partial
 unfolding front_from
 partial_at_nothing limits zero gathered bytes h = refl
 partial_at_nothing limits (suc n) gathered bytes h = ap (behind_fragment (front_from limits n) gathered) (waits_at_nothing limits gathered bytes h)
@@ -177,7 +177,7 @@ same_records limits (suc n) (suc m) bytes h k =
     (front limits bytes) (front_leaves limits (length bytes) nothing_gathered bytes)
 
 -- from the front on
-records_by : (limits : RecordLimits) (n : ℕ) (bytes : List ℕ) → length bytes ≤ n → records_from limits n bytes ≡ behind_front (records limits) bytes (front limits bytes)
+pub records_by : (limits : RecordLimits) (n : ℕ) (bytes : List ℕ) → length bytes ≤ n → records_from limits n bytes ≡ behind_front (records limits) bytes (front limits bytes)
 unfolding records_from
 records_by limits zero bytes h = sym (ap (behind_front (records limits) bytes) (partial_at_nothing limits (length bytes) nothing_gathered bytes h))
 records_by limits (suc n) bytes h =
@@ -213,7 +213,7 @@ fed_with limits bytes piece step =
     (front_leaves limits (length bytes) nothing_gathered bytes)
     ∙ ap (λ (stream : Stream). fed limits stream piece) (sym (records_by limits (length bytes) bytes (omega arith)))
 
-fed_behind : (limits : RecordLimits) (n : ℕ) (bytes piece : List ℕ) → length bytes ≤ n → records limits (bytes ++ piece) ≡ fed limits (records limits bytes) piece
+pub fed_behind : (limits : RecordLimits) (n : ℕ) (bytes piece : List ℕ) → length bytes ≤ n → records limits (bytes ++ piece) ≡ fed limits (records limits bytes) piece
 fed_behind limits zero bytes piece h = fed_with limits bytes piece (λ rest less. absurd (omega arith))
 fed_behind limits (suc n) bytes piece h = fed_with limits bytes piece (λ rest less. fed_behind limits n rest piece (omega arith))
 

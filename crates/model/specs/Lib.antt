@@ -12,6 +12,7 @@ pub mod Charge
 pub mod Context
 pub mod Directory
 pub mod Edit
+pub mod Feeding
 pub mod Files
 pub mod Fresh
 pub mod Inherit
@@ -30,6 +31,7 @@ pub mod Refusal
 pub mod Rename
 pub mod RightsExamples
 pub mod Rpc
+pub mod RpcGrammar
 pub mod RuledOut
 pub mod Runs
 pub mod Served

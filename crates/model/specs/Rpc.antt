@@ -1,5 +1,5 @@
 -- Calls and replies, with the order of a call's tests: RFC 5531, sections 8.2, 9 and appendix A; the COMPOUND around the operations: RFC 8881, section 16.2.
-use Rattle.std.specs.Prelude.{ℕ, Bool, true, false, not, ◌==◌, List, [], ◌∷◌, ◌++◌, Option, None, Some, Result, Ok, Err, if◌then◌else◌}
+use Rattle.std.specs.Prelude.{ℕ, Bool, true, false, not, ◌==◌, List, [], ◌∷◌, ◌++◌, Option, None, Some, Result, Ok, Err, option_map, if◌then◌else◌}
 use Rattle.std.specs.Int.{w32}
 use Rattle.xdr.specs.declared.refusal.Refusal.{Refusal}
 use Rattle.xdr.specs.Grammar.{Grammar, ◌&◌, number, unsigned_int}
@@ -102,14 +102,21 @@ reply_text xid reply = words (xid ∷ 1 ∷ []) ++ reply_body reply
 
 -- AUTH_SYS (appendix A)
 
-abbrev pub cred_by : Result (SystemCredential × List ℕ) Refusal → Option Cred
-cred_by (Err fault) = None
-cred_by (Ok (known, [])) = Some (record { uid = known.uid; gid = known.gid; gids = known.gids })
-cred_by (Ok (known, byte ∷ bytes)) = None
+abbrev pub credential_by : Result (SystemCredential × List ℕ) Refusal → Option SystemCredential
+credential_by (Err fault) = None
+credential_by (Ok (known, [])) = Some known
+credential_by (Ok (known, byte ∷ bytes)) = None
 
--- the caller, where the body is exactly the form
-abbrev pub cred_of : List ℕ → Option Cred
-cred_of body = cred_by (system_credential.read body)
+-- the credential, where the body is exactly the form
+abbrev pub credential_in : (body : List ℕ) → Option SystemCredential
+credential_in body = credential_by (system_credential.read body)
+
+abbrev pub cred_told : SystemCredential → Cred
+cred_told known = record { uid = known.uid; gid = known.gid; gids = known.gids }
+
+-- the caller that it tells
+abbrev pub cred_of : (body : List ℕ) → Option Cred
+cred_of body = option_map cred_told (credential_in body)
 
 -- COMPOUND (RFC 8881, section 16.2)
 

@@ -1,6 +1,9 @@
 //! Records and calls on a stream (RFC 5531): their laws.
 
+ghost use Rattle.xdr.specs.Laws.{Exact, OneSpelling};
+ghost use Rattle.model.specs.Feeding.{EveryFeeding};
 ghost use Rattle.model.specs.Record.{EveryCut, EveryFragmenting, OnlySent, SentIsRead};
+ghost use Rattle.model.specs.RpcGrammar.{ReadsCalls, ReadsCredentials, ReadsReplies, call_head, reply_head};
 
 /// The records of a stream are the same however it was cut into pieces (RFC 5531, section 11).
 pub fn every_cut()
@@ -20,4 +23,26 @@ pub fn every_fragmenting()
 /// What is read as a record was sent as one, in fragments within the limits: nothing else is taken for a record.
 pub fn only_sent()
     ensures { OnlySent }
+{}
+
+/// A record is read as a call exactly where it is the spelling of a call's header and the call's arguments behind it; no
+/// header begins another (RFC 5531, section 9).
+pub fn calls_are_exact()
+    ensures exact { Exact call_head }
+    ensures one { OneSpelling call_head }
+    ensures read { ReadsCalls }
+    ensures credentials { ReadsCredentials }
+{}
+
+/// A record is read as a reply exactly where it is the reply's spelling; no header begins another.
+pub fn replies_are_exact()
+    ensures exact { Exact reply_head }
+    ensures one { OneSpelling reply_head }
+    ensures read { ReadsReplies }
+{}
+
+/// A stream that is fed in pieces, each whole request let go before the next record begins, comes to the records of the bytes
+/// that were taken, in their order (RFC 5531, section 11).
+pub fn every_feeding()
+    ensures { EveryFeeding }
 {}

@@ -3,11 +3,9 @@ use Rattle.std.specs.Prelude.{◌≡◌, ℕ, ◌+◌, ◌^◌, List, [], ◌∷
 use Rattle.std.specs.Int.{w32}
 use Rattle.xdr.specs.Grammar.{number}
 use Rattle.xdr.specs.Forms.{counted}
-use Rattle.model.specs.declared.acl.Cred.{Cred}
 use Rattle.model.specs.declared.status.Status.{Status}
 use Rattle.model.specs.Status.{code_of}
 use Rattle.model.specs.Rpc as spec
-use Rattle.wire.specs.declared.small.SystemCredential.{SystemCredential}
 use Rattle.rpc.specs.declared.call.Call.{Call}
 use Rattle.rpc.specs.declared.call.CallRead.{CallRead}
 use Rattle.rpc.specs.declared.call.CallRead.TheVariants as reads
@@ -48,10 +46,6 @@ call_view call = record {
 abbrev pub call_read_view : CallRead → spec.CallRead
 call_read_view (reads.OtherVersion xid) = spec.OtherVersion xid
 call_read_view (reads.Calls call) = spec.Calls (call_view call)
-
--- the caller that a credential tells
-abbrev pub auth_sys_cred : SystemCredential → Cred
-auth_sys_cred found = record { uid = found.uid; gid = found.gid; gids = found.gids }
 
 -- Replies
 

@@ -1,6 +1,7 @@
 //! The records of a stream, one at a time (RFC 5531, section 11).
 
 ghost use Rattle.std.specs.Prelude.{⊤, ◌≡◌, ◌↔◌, ℕ, List, [], true, Some, MatchOption, IfOk, IfErr, IsTrue};
+ghost use Rattle.model.specs.Feeding.{let_go};
 ghost use Rattle.model.specs.Rpc.{read_call, is_call_read};
 ghost use Rattle.model.specs.World.{Closed, arrives_at, taken_at};
 ghost use Rattle.rpc.specs.Assembly.{record_limits, Gathers, Holds, connection_of, released, IsRefused};
@@ -90,7 +91,8 @@ impl Assembler {
     /// Lets the whole record go that waits, and keeps its memory: what comes next begins another one. Where none waits,
     /// nothing changes.
     pub fn release(&mut self)
-        ensures { self.new ≡ released self.old }
+        ensures assembly { self.new ≡ released self.old }
+        ensures connection { connection_of self.new ≡ let_go (connection_of self.old) }
     {
         if matches!(self.state, State::Holds { .. }) {
             self.buffer.clear();

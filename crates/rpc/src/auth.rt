@@ -1,9 +1,9 @@
 //! The caller, as AUTH_SYS tells it (RFC 5531, appendix A).
 
-ghost use Rattle.std.specs.Prelude.{◌≡◌, Some, None, MatchOption, MatchResult};
-ghost use Rattle.model.specs.Rpc.{cred_of, cred_by};
+ghost use Rattle.std.specs.Prelude.{◌≡◌, Some, None, MatchOption};
+ghost use Rattle.model.specs.Rpc.{cred_told, credential_in};
 ghost use Rattle.model.specs.WireTypes.{system_credential};
-ghost use Rattle.rpc.specs.Views.{auth_sys_cred};
+ghost use Rattle.wire.specs.SmallViews.{credential_view};
 
 use model::acl::Cred;
 use wire::SystemCredential;
@@ -12,7 +12,8 @@ use xdr::Reader;
 /// The credential of AUTH_SYS, where the body is exactly its form: a stamp, a machine name of at most 255 bytes, a uid,
 /// a gid, and at most 16 further gids.
 pub fn read_auth_sys(body: &[u8]) -> Option<SystemCredential<'_>>
-    ensures { MatchOption result (cred_of body.now ≡ None) (λ found. cred_of body.now ≡ Some (auth_sys_cred found)) }
+    ensures { MatchOption result (credential_in body.now ≡ None)
+        (λ found. credential_in body.now ≡ Some (credential_view found)) }
 {
     let mut at = Reader::new(body);
     match SystemCredential::read(&mut at) {
@@ -23,7 +24,7 @@ pub fn read_auth_sys(body: &[u8]) -> Option<SystemCredential<'_>>
 
 /// The caller that the credential tells.
 pub fn cred_from(found: SystemCredential<'_>) -> Cred
-    ensures { result ≡ auth_sys_cred found.entry }
+    ensures { result ≡ cred_told (credential_view found.entry) }
 {
     Cred {
         uid: found.uid,

@@ -1,0 +1,5 @@
+use Rattle.model.proofs.FeedingLaws.{every_feeding}
+use Rattle.model.proofs.rpc.every_feeding.Goals as goal
+
+pub returns : goal.returns
+returns c = every_feeding
