@@ -1,12 +1,12 @@
 -- The values of attributes are exact.
 use Rattle.std.proofs.Common.{◌≡◌, ℕ, ◌^◌, ◌<◌, Bool, true, false, List, [], ◌∷◌, ◌++◌, length, Result, Ok, Err, refl, sym, ap, subst, ◌∙◌, append_assoc, arith, map, eqb, eqb-true, cond}
-use Rattle.std.specs.Prelude.{Option, Some, None}
+use Rattle.std.specs.Prelude.{Some, None}
 use Rattle.std.proofs.lemmas.List.{append-nil}
 use Rattle.std.specs.List.{flat_map, AllByRecursion}
 use Rattle.std.proofs.lemmas.List.Concat.{flat_map-cons}
 use Rattle.xdr.specs.declared.refusal.Refusal.{Refusal}
-use Rattle.xdr.specs.Grammar.{Grammar, ◌>>=◌, void, unsigned_int, unsigned_hyper}
-use Rattle.xdr.specs.Forms.{array, boolean, trimmed_bitmap}
+use Rattle.xdr.specs.Grammar.{◌>>=◌, void, unsigned_int, unsigned_hyper}
+use Rattle.xdr.specs.Forms.{boolean, trimmed_bitmap}
 use Rattle.xdr.specs.Union.{on, no_other}
 use Rattle.xdr.specs.Laws.{IsBytes, Exact, OneSpelling}
 use Rattle.xdr.proofs.Steps.{bind_ok, ok_is, IsBytes-behind}
@@ -15,7 +15,7 @@ use Rattle.xdr.proofs.Sequences.{void_exact, then_exact, of_exact, one_spelling}
 use Rattle.xdr.proofs.Opaques.{opaque_exact}
 use Rattle.xdr.proofs.Passing.{boolean_exact}
 use Rattle.xdr.proofs.Arrays.{array_exact, trimmed_exact}
-use Rattle.xdr.proofs.Unions.{TakesOne, TakesBy, AgainBy, on_takes, no_other_takes, union_exact, made_again}
+use Rattle.xdr.proofs.Unions.{TakesBy, AgainBy, on_takes, no_other_takes, union_exact, made_again}
 use Rattle.model.specs.declared.node.NodeKind.TheVariants as kind
 use Rattle.model.specs.WireTypes.{any_opaque, file_handle}
 use Rattle.model.specs.AttributeValue.{file_system_id, time, acl_entry, entries, kind_told, node_kind, Value, SupportedAttrs, Kind, FhExpireType, Change, Size, LinkSupport, SymlinkSupport, NamedAttr, Fsid, UniqueHandles, LeaseTime, RdattrError, Acl, AclSupport, FileHandle, FileId, MaxFileSize, MaxName, MaxRead, MaxWrite, Mode, NumLinks, Owner, OwnerGroup, TimeModify, SuppattrExclcreat, value_told, value_choice, value_at, values_at, attribute_of, value_text, values, whole, ReadsWhole}

@@ -1,6 +1,6 @@
 -- What a client gives as a list is one that a node may have.
-use Rattle.std.proofs.Common.{◌≡◌, ℕ, ◌+◌, ◌≤◌, ◌==◌, Bool, true, false, ◌&&◌, not, nat_lt, nat_le, List, [], ◌∷◌, ◌++◌, length, refl, sym, ap, subst, ◌∙◌, arith, leb-true, le-leb, ltb-false}
-use Rattle.std.specs.Prelude.{Option, Some, None, count_by, filter_map, flat_map, is_none, unwrap_or, IsTrue}
+use Rattle.std.proofs.Common.{◌≡◌, ℕ, ◌+◌, ◌≤◌, ◌==◌, Bool, true, false, not, nat_lt, List, [], ◌∷◌, ◌++◌, length, refl, sym, ap, subst, ◌∙◌, arith, le-leb, ltb-false}
+use Rattle.std.specs.Prelude.{Option, Some, None, count_by, flat_map, is_none, unwrap_or}
 use Rattle.std.specs.List.{list_all}
 use Rattle.std.proofs.lemmas.List.Concat.{flat_map-cons}
 use Rattle.std.proofs.lemmas.List.Sums.{count_by-le-length}
@@ -10,10 +10,9 @@ use Rattle.model.specs.declared.status.Status.{Status}
 use Rattle.model.specs.declared.status.Status.TheVariants as status
 use Rattle.model.specs.Acl.{without, every_right, inheritance, are_flags_for, is_entry_for, is_list_for, is_plain}
 use Rattle.model.specs.AclText.{identifier_group, ace_in, aces_in, named_in}
-use Rattle.model.specs.Attribute.{entry_refusals, value_refusals, attribute_refusals, first_said, acl_said, acl_given, values_of, attributes_of, supported_beside, has_one_outside, GivenListsFit}
+use Rattle.model.specs.Attribute.{entry_refusals, value_refusals, attribute_refusals, first_said, acl_said, values_of, attributes_of, supported_beside, has_one_outside, GivenListsFit}
 use Rattle.model.specs.AttributeValue.{AclEntry, Value, Acl}
 use Rattle.model.specs.Limits.{Limits}
-use Rattle.model.specs.Operation.{Attributes}
 use Rattle.model.specs.Refusal.{Refusals, first_refusal, refused_or}
 use Rattle.model.proofs.AclTextLaws.{reads_entries}
 

@@ -1,16 +1,15 @@
 -- Feeding a stream in pieces comes to its records.
-use Rattle.std.proofs.Common.{◌≡◌, ◌⊎◌, inl, inr, ℕ, zero, suc, ◌+◌, ◌-◌, ◌<◌, ◌≤◌, ◌^◌, Bool, true, false, List, [], ◌∷◌, ◌++◌, length, take, drop, refl, sym, ap, subst, ◌∙◌, append_assoc, arith, cond}
+use Rattle.std.proofs.Common.{◌≡◌, ◌⊎◌, inl, inr, ℕ, zero, suc, ◌-◌, ◌<◌, ◌≤◌, ◌^◌, Bool, true, false, List, [], ◌∷◌, ◌++◌, length, take, drop, refl, sym, ap, subst, ◌∙◌, append_assoc, arith, cond}
 use Rattle.std.specs.Prelude.{Option, Some, None}
 use Rattle.std.proofs.lemmas.List.{append-nil, length-append, take_all}
 use Rattle.std.proofs.lemmas.Bool.{cases_lt}
-use Rattle.std.proofs.Math.Seq.{take-append_seam, drop-append_seam}
+use Rattle.std.proofs.Math.Seq.{take-append_seam}
 use Rattle.xdr.specs.Laws.{IsBytes}
-use Rattle.xdr.proofs.Steps.{IsBytes-take, IsBytes-behind}
-use Rattle.model.specs.Record.{RecordLimits, RecordFault, Front, Partial, Refused, Whole, front, front_from, Stream, records, records_from, behind_front, fed, fed_by, nothing_gathered, IsSent, record_text, joined}
+use Rattle.model.specs.Record.{RecordLimits, RecordFault, Front, Partial, Refused, Whole, front, front_from, Stream, records, records_from, behind_front, fed, fed_by, IsSent, record_text, joined}
 use Rattle.model.specs.Rpc.{read_call, is_call_read}
 use Rattle.model.specs.World.{Connection, Quiet, Waiting, Busy, Replied, Closed, arrived, arrives_at, taken_of, taken_at}
 use Rattle.model.specs.Feeding.{FeedStep, Feeds, Releases, Feeding, nothing_fed, front_taken, let_go, gone, after_step, after_steps, AreBytes, IsRefusedBehind, IsFed, EveryFeeding}
-use Rattle.model.proofs.RecordLaws.{records_by, fed_behind, front_follows, partial_at_nothing, every_fragmenting}
+use Rattle.model.proofs.RecordLaws.{records_by, fed_behind, every_fragmenting}
 use Rattle.model.proofs.RecordOnly.{only_sent}
 
 -- Bytes

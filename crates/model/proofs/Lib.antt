@@ -3,7 +3,6 @@ pub mod AncestorLaws
 pub mod AttributeExact
 pub mod AttributeLaws
 pub mod ChangeLaws
-pub mod ChildLaws
 pub mod EditLaws
 pub mod EditViews
 pub mod FeedingLaws
@@ -28,4 +27,7 @@ pub mod SoundLaws
 pub mod StateIdRows
 pub mod StepCases
 pub mod StepProofs
+pub mod TableCalls
+pub mod TableIds
+pub mod TableLaws
 pub mod WorldRows

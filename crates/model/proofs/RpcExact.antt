@@ -1,5 +1,5 @@
 -- Calls and replies are read exactly where they are spelled.
-use Rattle.std.proofs.Common.{◌≡◌, ◌≢◌, ℕ, ◌<◌, ◌^◌, Bool, true, false, List, [], ◌∷◌, ◌++◌, length, Result, Ok, Err, inl, inr, refl, sym, ap, subst, ◌∙◌, append_assoc, arith, cond, not, eqb, eqb-true, ne_eqb}
+use Rattle.std.proofs.Common.{◌≡◌, ◌≢◌, ℕ, ◌<◌, ◌^◌, Bool, true, false, List, [], ◌∷◌, ◌++◌, Result, Ok, Err, inl, inr, refl, sym, ap, subst, ◌∙◌, append_assoc, arith, not, eqb, eqb-true, ne_eqb}
 use Rattle.std.specs.Prelude.{Option, Some, None, option_map}
 use Rattle.std.specs.Int.{w32}
 use Rattle.std.proofs.lemmas.Bool.{eqb-false}
@@ -19,7 +19,7 @@ use Rattle.xdr.proofs.Unions.{TakesBy, AgainBy, on_takes, no_other_takes, union_
 use Rattle.model.specs.Operation.{SystemCredential}
 use Rattle.model.specs.Rpc.{Call, CallRead, NoCall, OtherVersion, Calls, read_call, behind_start, behind_version, call_start, call_header, opaque_auth, Reply, reply_text, words, is_empty, credential_by, credential_in}
 use Rattle.model.specs.Rpc as rpc
-use Rattle.model.specs.RpcGrammar.{CallHead, call_head, call_with, IsCall, IsOtherCall, Denial, OtherRpc, Unauthenticated, denial_told, denial, Acceptance, Tells, NoProgram, OtherProgram, NoProcedure, NoArguments, acceptance_told, acceptance, accepted, Verdict, Accepts, Denies, verdict_told, verdict, ReplyHead, reply_head, verdict_of, result_of, head_of, alone, reply_of, reply_by, read_reply, ReadsCalls, ReadsReplies, ReadsCredentials}
+use Rattle.model.specs.RpcGrammar.{CallHead, call_head, call_with, IsCall, IsOtherCall, OtherRpc, Unauthenticated, denial_told, denial, Tells, NoProgram, OtherProgram, NoProcedure, NoArguments, acceptance_told, accepted, Verdict, Accepts, Denies, verdict_told, ReplyHead, reply_head, verdict_of, result_of, head_of, alone, reply_of, reply_by, read_reply, ReadsCalls, ReadsReplies, ReadsCredentials}
 use Rattle.model.specs.WireTypes.{system_credential}
 
 -- Calls

@@ -171,7 +171,7 @@ serial_left limits arguments client table e =
     (last_passes (take 4 (create_refusals limits arguments client table)) (is_full_of_sessions limits client table) status.Delay e))
 
 -- the serial's bytes tell the serial
-session_id-serial : (client serial client' serial' : ℕ) → serial < 2 ^ 64 → serial' < 2 ^ 64 → session_id client serial ≡ session_id client' serial' → serial ≡ serial'
+pub session_id-serial : (client serial client' serial' : ℕ) → serial < 2 ^ 64 → serial' < 2 ^ 64 → session_id client serial ≡ session_id client' serial' → serial ≡ serial'
 unfolding session_id
 session_id-serial client serial client' serial' small small' e =
     let tails : to_be_bytes w64 serial ≡ to_be_bytes w64 serial' = ap (drop 8) e in
@@ -180,7 +180,7 @@ session_id-serial client serial client' serial' small small' e =
 All-made_before : (made : ℕ) (sessions : List Session) → AllByRecursion (IsMade made) sessions → AllByRecursion (IsMade (made + 1)) sessions
 All-made_before made sessions h = All-mono (IsMade made) (IsMade (made + 1)) sessions (λ session below. omega arith) h
 
-id_of : (id : List ℕ) (session : Session) → is_session id session ≡ true → session_id session.client session.serial ≡ id
+pub id_of : (id : List ℕ) (session : Session) → is_session id session ≡ true → session_id session.client session.serial ≡ id
 id_of id session e = (bytes_eq-Decides (session_id session.client session.serial) id).0 e
 
 IsOld-later : (id : List ℕ) (made : ℕ) → IsOld id made → IsOld id (made + 1)

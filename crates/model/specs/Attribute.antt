@@ -1,6 +1,6 @@
 -- Attributes that a client sets, and their tests in order: RFC 8881, sections 3.2 (bitmap4), 5 (attributes) and 18.30
 -- (SETATTR). The order of the tests, and which attributes are supported and may be set where, are this server's profile.
-use Rattle.std.specs.Prelude.{◌≡◌, ◌≤◌, IsTrue, ℕ, Bool, List, [], ◌∷◌, ◌++◌, Option, Some, None, ◌+◌, ◌==◌, not, nat_lt, nat_eq, is_none, if◌then◌else◌, length, map, filter, flat_map, option_map, unwrap_or}
+use Rattle.std.specs.Prelude.{◌≡◌, ◌≤◌, IsTrue, ℕ, Bool, List, [], ◌∷◌, ◌++◌, Option, Some, None, ◌+◌, ◌==◌, not, nat_lt, nat_eq, is_none, if◌then◌else◌, length, map, filter, flat_map, unwrap_or}
 use Rattle.std.specs.List.{list_any, range_with_len}
 use Rattle.std.specs.Int.{bit_at}
 use Rattle.model.specs.declared.acl.Ace.{Ace}

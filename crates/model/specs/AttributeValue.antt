@@ -1,6 +1,6 @@
 -- The values of attributes and the entries of lists on the wire, as grammars: RFC 8881, sections 3.3.9, 5.6, 5.8, 5.9 and 6.2,
 -- and RFC 5662. The bitmaps among them, supported_attrs and suppattr_exclcreat, are spelled as in results.
-use Rattle.std.specs.Prelude.{◌≡◌, ◌↔◌, ℕ, ◌-◌, ◌^◌, ◌==◌, Bool, List, [], ◌∷◌, ◌++◌, Option, Some, None, Result, Ok, Err, map, length, if◌then◌else◌}
+use Rattle.std.specs.Prelude.{◌≡◌, ◌↔◌, ℕ, ◌-◌, ◌^◌, ◌==◌, Bool, List, [], ◌∷◌, Option, Some, None, Result, Ok, Err, map, length, if◌then◌else◌}
 use Rattle.std.specs.List.{flat_map, AllByRecursion}
 use Rattle.xdr.specs.declared.refusal.Refusal.{Refusal}
 use Rattle.xdr.specs.Grammar.{Grammar, ◌>>=◌, ◌&◌, of, void, unsigned_int, unsigned_hyper}

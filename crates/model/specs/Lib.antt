@@ -38,6 +38,7 @@ pub mod Served
 pub mod ServedOnce
 pub mod Session
 pub mod SessionRuns
+pub mod SessionTables
 pub mod SetAttr
 pub mod SoundRuns
 pub mod Stamp

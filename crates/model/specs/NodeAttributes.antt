@@ -1,14 +1,10 @@
 -- The values of a node's attributes, as GETATTR and READDIR answer them: RFC 8881, sections 5.6 to 5.8, 18.7 (GETATTR) and
 -- 18.23 (READDIR). Which attributes there are, and the values that are always the same, are this server's profile.
-use Rattle.std.specs.Prelude.{◌≡◌, ℕ, ◌/◌, ◌%◌, ◌==◌, Bool, true, false, List, [], ◌∷◌, Option, Some, None, bit_and, decimal, filter, find, flat_map, length, map}
-use Rattle.std.specs.List.{filter_map}
-use Rattle.model.specs.declared.acl.Ace.{Ace}
-use Rattle.model.specs.declared.node.NodeKind.TheVariants as kind
+use Rattle.std.specs.Prelude.{◌≡◌, ℕ, ◌/◌, ◌%◌, true, false, List, [], ◌∷◌, bit_and, decimal, filter, flat_map, length, map}
 use Rattle.model.specs.declared.status.Status.TheVariants as status
-use Rattle.model.specs.Acl.{granted, read_acl}
 use Rattle.model.specs.AclText.{entry_text}
 use Rattle.model.specs.Attribute.{attributes_of, is_among, supported, trimmed}
-use Rattle.model.specs.AttributeValue.{AclEntry, FileSystemId, Time, Value, SupportedAttrs, Kind, FhExpireType, Change, Size, LinkSupport, SymlinkSupport, NamedAttr, Fsid, UniqueHandles, LeaseTime, RdattrError, Acl, AclSupport, FileHandle, FileId, MaxFileSize, MaxName, MaxRead, MaxWrite, Mode, NumLinks, Owner, OwnerGroup, TimeModify, SuppattrExclcreat, attribute_of, value_text}
+use Rattle.model.specs.AttributeValue.{Time, Value, SupportedAttrs, Kind, FhExpireType, Change, Size, LinkSupport, SymlinkSupport, NamedAttr, Fsid, UniqueHandles, LeaseTime, RdattrError, Acl, AclSupport, FileHandle, FileId, MaxFileSize, MaxName, MaxRead, MaxWrite, Mode, NumLinks, Owner, OwnerGroup, TimeModify, SuppattrExclcreat, attribute_of, value_text}
 use Rattle.model.specs.Limits.{Limits}
 use Rattle.model.specs.Mode.{mode_of}
 use Rattle.model.specs.Operation.{Attributes}

@@ -1,6 +1,6 @@
 -- Calls and replies as grammars: RFC 5531, section 9. What follows the header of a call, and of a reply that tells a result, are
 -- the bytes to the end of the record: a procedure's arguments, or its result.
-use Rattle.std.specs.Prelude.{◌≡◌, ◌≢◌, ◌↔◌, ℕ, ◌<◌, ◌^◌, List, [], ◌∷◌, ◌++◌, Option, None, Some, Result, Ok, Err, option_map, if◌then◌else◌}
+use Rattle.std.specs.Prelude.{◌≡◌, ◌≢◌, ◌↔◌, ℕ, List, [], ◌++◌, Option, None, Some, Result, Ok, Err, option_map, if◌then◌else◌}
 use Rattle.xdr.specs.declared.refusal.Refusal.{Refusal}
 use Rattle.xdr.specs.Grammar.{Grammar, ◌&◌, of, void, unsigned_int}
 use Rattle.xdr.specs.Forms.{always}

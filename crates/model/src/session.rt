@@ -1,9 +1,21 @@
 //! Client records, sessions and slots (RFC 8881, section 2.10): their law over whole runs.
 
 ghost use Rattle.model.specs.SessionRuns.{EverySlot};
+ghost use Rattle.model.specs.SessionTables.{EveryCallGivesNew, EveryTable};
 
 /// A slot runs its numbers in their order from 1 on, whatever calls are made in one run of the server; so a number runs
 /// again only after the 2^32 - 1 others (RFC 8881, section 2.10.6.1).
 pub fn every_slot()
     ensures { EverySlot }
+{}
+
+/// Whatever calls are made in one run of the server: an owner id has at most one confirmed and one unconfirmed record, ids
+/// differ, and the tables are within their limits.
+pub fn every_table()
+    ensures { EveryTable }
+{}
+
+/// No client id and no session's serial is given twice in a run.
+pub fn every_id_is_new()
+    ensures { EveryCallGivesNew }
 {}
