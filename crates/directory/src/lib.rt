@@ -16,6 +16,3 @@ pub use listing::ListAfter;
 pub use names::Names;
 pub use paging::every_paging;
 pub use sectors::{RECORDS, read_records};
-
-#[cfg(test)]
-mod tests;

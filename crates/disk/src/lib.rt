@@ -25,6 +25,3 @@ pub use landing::{Landed, Unsynced};
 pub use memory::MemDevice;
 pub use trial::{ALL_COMBINATIONS, landings};
 pub use update::{SECTOR, Update};
-
-#[cfg(test)]
-mod tests;

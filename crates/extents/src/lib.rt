@@ -12,6 +12,3 @@ pub use laws::reads_back;
 pub use list::BlockList;
 pub use run::Run;
 pub use sector_runs::{MOST_RUNS, read_run_sector, write_run_sector};
-
-#[cfg(test)]
-mod tests;

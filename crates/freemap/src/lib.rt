@@ -7,6 +7,3 @@ mod sectors;
 
 pub use bitmap::{Bitmap, one_spelling};
 pub use fault::{BitmapFault, Full};
-
-#[cfg(test)]
-mod tests;

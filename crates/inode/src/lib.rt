@@ -14,6 +14,3 @@ pub use laws::reads_back;
 pub use node::{Form, Inode};
 pub use reading::from_sector;
 pub use writing::to_sector;
-
-#[cfg(test)]
-mod tests;

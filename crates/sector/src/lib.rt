@@ -82,6 +82,3 @@ pub fn u64_at(sector: &[u8; 4096], at: usize) -> u64
 {
     BigEndian::read_u64(&sector[at..])
 }
-
-#[cfg(test)]
-mod tests;

@@ -1,6 +1,31 @@
-use super::*;
+ghost use Rattle.std.specs.Prelude.{◌≤◌, ◌<◌, length};
+
+use directory::{DirectoryFault, Entry, Names, RecordsFault, every_paging, read_records};
 use std::alloc::Global;
 use std::test::Fail;
+
+// The calls of names, each of which stands here once: a call brings all that it promises into the proof of its caller.
+
+fn put(names: &mut Names, name: &[u8], stamp: u64, number: u64) -> Result<usize, DirectoryFault>
+    requires some { 0 < length name.now }
+    requires few { length name.now ≤ 255 }
+{
+    names.put(name, stamp, number)
+}
+
+fn get(names: &Names, name: &[u8]) -> Option<(u64, u64)> {
+    names.get(name)
+}
+
+fn remove(names: &mut Names, name: &[u8]) -> Option<usize> {
+    names.remove(name)
+}
+
+fn records_in(alloc: Global, count: usize, sector: &[u8; 4096]) -> Result<Vec<Entry>, RecordsFault>
+    requires { count ≤ 15 }
+{
+    read_records(alloc, count, sector)
+}
 
 /// "a" with stamp 0x1_0000_0001 and number 2, "bc" with stamp 0x1_0000_0003 and number 5.
 fn vector() -> [u8; 4096] {
@@ -14,7 +39,7 @@ fn vector() -> [u8; 4096] {
 
 #[test]
 fn reads_the_layout(rt: HostRuntime) -> Result<(), Fail> {
-    let entries = read_records(rt.alloc(), 2, &vector())?;
+    let entries = records_in(rt.alloc(), 2, &vector())?;
     let [first, second] = entries.as_slice() else {
         return Err("not two records".into());
     };
@@ -38,7 +63,7 @@ fn refuses_other_bytes(rt: HostRuntime) -> Result<(), Fail> {
         *at = byte;
         assert!(rt;
             matches!(
-                read_records(rt.alloc(), 2, &sector),
+                records_in(rt.alloc(), 2, &sector),
                 Err(RecordsFault::NotRecords)
             ),
             "byte {place}"
@@ -47,7 +72,7 @@ fn refuses_other_bytes(rt: HostRuntime) -> Result<(), Fail> {
     for count in [1, 3] {
         assert!(rt;
             matches!(
-                read_records(rt.alloc(), count, &vector()),
+                records_in(rt.alloc(), count, &vector()),
                 Err(RecordsFault::NotRecords)
             )
         );
@@ -58,23 +83,23 @@ fn refuses_other_bytes(rt: HostRuntime) -> Result<(), Fail> {
 #[test]
 fn puts_gets_and_removes(rt: HostRuntime) -> Result<(), Fail> {
     let mut names = Names::new(rt.alloc());
-    assert_eq!(rt; names.put(b"a", 0x1_0000_0001, 2)?, 0);
-    assert_eq!(rt; names.put(b"bc", 0x1_0000_0003, 5)?, 1);
+    assert_eq!(rt; put(&mut names, b"a", 0x1_0000_0001, 2)?, 0);
+    assert_eq!(rt; put(&mut names, b"bc", 0x1_0000_0003, 5)?, 1);
     let mut sector = [0xff; 4096];
     names.to_sector(0, &mut sector);
     assert!(rt; sector == vector());
     names.to_sector(15, &mut sector);
     assert!(rt; sector == [0; 4096]);
-    assert_eq!(rt; names.put(b"d", 9, 9)?, 2);
-    assert_eq!(rt; names.put(b"a", 10, 11)?, 0);
+    assert_eq!(rt; put(&mut names, b"d", 9, 9)?, 2);
+    assert_eq!(rt; put(&mut names, b"a", 10, 11)?, 0);
     assert_eq!(rt; names.count(), 3);
-    assert_eq!(rt; names.get(b"a"), Some((10, 11)));
-    assert_eq!(rt; names.get(b"b"), None);
-    assert_eq!(rt; names.remove(b"a"), Some(0));
-    assert_eq!(rt; names.remove(b"a"), None);
-    assert_eq!(rt; names.get(b"a"), None);
-    assert_eq!(rt; names.get(b"d"), Some((9, 9)));
-    assert_eq!(rt; names.put(b"bc", 12, 13)?, 1);
+    assert_eq!(rt; get(&names, b"a"), Some((10, 11)));
+    assert_eq!(rt; get(&names, b"b"), None);
+    assert_eq!(rt; remove(&mut names, b"a"), Some(0));
+    assert_eq!(rt; remove(&mut names, b"a"), None);
+    assert_eq!(rt; get(&names, b"a"), None);
+    assert_eq!(rt; get(&names, b"d"), Some((9, 9)));
+    assert_eq!(rt; put(&mut names, b"bc", 12, 13)?, 1);
     Ok(())
 }
 
@@ -83,11 +108,11 @@ fn puts_gets_and_removes(rt: HostRuntime) -> Result<(), Fail> {
 fn full_at_the_1025th(rt: HostRuntime) -> Result<(), Fail> {
     let mut names = Names::new(rt.alloc());
     for i in 0..1024_u16 {
-        names.put(&i.to_be_bytes(), u64::from(i) + 1, 7)?;
+        put(&mut names, &i.to_be_bytes(), u64::from(i) + 1, 7)?;
     }
-    assert_eq!(rt; names.put(b"new", 2000, 7), Err(DirectoryFault::Full));
+    assert_eq!(rt; put(&mut names, b"new", 2000, 7), Err(DirectoryFault::Full));
     assert_eq!(rt; names.count(), 1024);
-    assert_eq!(rt; names.put(&[0, 5], 2000, 8)?, 5);
+    assert_eq!(rt; put(&mut names, &[0, 5], 2000, 8)?, 5);
     Ok(())
 }
 
@@ -112,7 +137,7 @@ fn stamps(alloc: Global, names: &Names, cookie: u64) -> Result<Vec<u64>, Fail> {
 fn lists_behind_a_cookie(rt: HostRuntime) -> Result<(), Fail> {
     let mut names = Names::new(rt.alloc());
     for (name, stamp) in [(b"a", 5), (b"b", 3), (b"c", 9)] {
-        names.put(name, stamp, 7)?;
+        put(&mut names, name, stamp, 7)?;
     }
     assert_eq!(rt;
         stamps(rt.alloc(), &names, 0)?.as_slice(),
@@ -122,8 +147,8 @@ fn lists_behind_a_cookie(rt: HostRuntime) -> Result<(), Fail> {
         stamps(rt.alloc(), &names, 3)?.as_slice(),
         [5, 9].as_slice()
     );
-    assert_eq!(rt; names.remove(b"a"), Some(0));
-    names.put(b"d", 12, 7)?;
+    assert_eq!(rt; remove(&mut names, b"a"), Some(0));
+    put(&mut names, b"d", 12, 7)?;
     assert_eq!(rt;
         stamps(rt.alloc(), &names, 3)?.as_slice(),
         [9, 12].as_slice()
@@ -141,7 +166,7 @@ fn names_of_records(rt: HostRuntime) -> Result<(), Fail> {
         let names = Names::from_entries(rt.alloc(), entries);
         assert_eq!(rt; names.is_some(), there);
         if let Some(names) = names {
-            assert_eq!(rt; names.get(b"a"), Some((2, 102)));
+            assert_eq!(rt; get(&names, b"a"), Some((2, 102)));
             assert_eq!(rt;
                 stamps(rt.alloc(), &names, 0)?.as_slice(),
                 [1, 2].as_slice()

@@ -1,4 +1,7 @@
-use super::*;
+use disk::{
+    Call, CrashDevice, Device, DiskFault, FileDevice, Landed, MemDevice, SECTOR, Stop, Unsynced,
+    landings,
+};
 use std::alloc::{AllocGlobal, Global};
 use std::fs;
 use std::test::Fail;

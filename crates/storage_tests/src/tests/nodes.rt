@@ -1,5 +1,5 @@
-use super::*;
 use bitflags::Flags;
+use inode::{Form, InodeFault, from_sector, to_sector};
 use model::acl::{Ace, AceFlags, AceKind, Acl, Mask, Who};
 use model::node::NodeKind;
 use std::test::Fail;

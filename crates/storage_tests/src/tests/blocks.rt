@@ -1,4 +1,7 @@
-use super::*;
+ghost use Rattle.std.specs.Prelude.{◌≤◌, ◌<◌, length};
+
+use extents::{BlockList, ExtentsFault, MOST_RUNS, Run, read_run_sector, write_run_sector};
+use std::alloc::{AllocError, Global};
 use std::test::Fail;
 
 fn run(block: u16, length: u16, sector: u32) -> Run {
@@ -9,38 +12,66 @@ fn run(block: u16, length: u16, sector: u32) -> Run {
     }
 }
 
+// The calls of runs and lists, each of which stands here once: a call brings all that it promises into the proof of its caller.
+
+fn runs_in(alloc: Global, sector: &[u8; 4096]) -> Result<Vec<Run>, ExtentsFault> {
+    read_run_sector(alloc, sector)
+}
+
+fn sector_of(runs: &[Run]) -> [u8; 4096]
+    requires { length runs.now ≤ 500 }
+{
+    let mut sector = [0xff; 4096];
+    write_run_sector(runs, &mut sector);
+    sector
+}
+
+fn list_of(alloc: Global, count: u32, runs: &[Run]) -> Result<BlockList, ExtentsFault>
+    requires { count ≤ 4096 }
+{
+    BlockList::from_runs(alloc, count, runs)
+}
+
+fn runs_of(alloc: Global, list: &BlockList) -> Result<Vec<Run>, AllocError> {
+    list.to_runs(alloc)
+}
+
+fn at(list: &BlockList, block: u32) -> Option<u32> {
+    list.at(block)
+}
+
+fn set(list: &mut BlockList, block: u32, sector: u32) -> Result<(), AllocError>
+    requires { block < 4096 }
+{
+    list.set(block, sector)
+}
+
 /// Blocks 1 and 2 in sectors 256 and 257, block 4 in sector 7.
 #[test]
 fn reads_the_layout(rt: HostRuntime) -> Result<(), Fail> {
     let mut bytes = [0; 4096];
     bytes[..4].copy_from_slice(b"RUNS");
     bytes[96..112].copy_from_slice(&[0, 1, 0, 2, 0, 0, 1, 0, 0, 4, 0, 1, 0, 0, 0, 7]);
-    let runs = read_run_sector(rt.alloc(), &bytes)?;
+    let runs = runs_in(rt.alloc(), &bytes)?;
     assert_eq!(rt; runs.as_slice(), [run(1, 2, 256), run(4, 1, 7)].as_slice());
-    let mut again = [0xff; 4096];
-    write_run_sector(&runs, &mut again);
-    assert!(rt; again == bytes);
-    let list = BlockList::from_runs(rt.alloc(), 6, &runs)?;
+    assert!(rt; runs.len() <= MOST_RUNS && sector_of(&runs) == bytes);
+    let list = list_of(rt.alloc(), 6, &runs)?;
     assert_eq!(rt; list.count(), 6);
     let wanted = [None, Some(256), Some(257), None, Some(7), None, None];
     for (block, sector) in (0..7).zip(wanted) {
-        assert_eq!(rt; list.at(block), sector, "at {block}");
+        assert_eq!(rt; at(&list, block), sector, "at {block}");
     }
     for place in [0, 50, 112, 4095] {
         bytes[place] ^= 1;
         assert!(rt;
-            matches!(
-                read_run_sector(rt.alloc(), &bytes),
-                Err(ExtentsFault::NotRuns)
-            ),
+            matches!(runs_in(rt.alloc(), &bytes), Err(ExtentsFault::NotRuns)),
             "byte {place}"
         );
         bytes[place] ^= 1;
     }
-    write_run_sector(&[], &mut bytes);
     assert!(rt;
         matches!(
-            read_run_sector(rt.alloc(), &bytes),
+            runs_in(rt.alloc(), &sector_of(&[])),
             Err(ExtentsFault::NotRuns)
         )
     );
@@ -57,12 +88,7 @@ fn refuses_what_are_no_runs(rt: HostRuntime) -> Result<(), Fail> {
         [run(0, 2, u32::MAX), run(5, 1, 20)],
     ];
     for runs in &refused {
-        assert!(rt;
-            matches!(
-                BlockList::from_runs(rt.alloc(), 6, runs),
-                Err(ExtentsFault::NotRuns)
-            )
-        );
+        assert!(rt; matches!(list_of(rt.alloc(), 6, runs), Err(ExtentsFault::NotRuns)));
     }
     Ok(())
 }
@@ -70,21 +96,21 @@ fn refuses_what_are_no_runs(rt: HostRuntime) -> Result<(), Fail> {
 #[test]
 fn sets_grows_and_cuts(rt: HostRuntime) -> Result<(), Fail> {
     let mut list = BlockList::new(rt.alloc());
-    list.set(2, 200)?;
+    set(&mut list, 2, 200)?;
     assert_eq!(rt; list.count(), 3);
-    list.set(0, 100)?;
+    set(&mut list, 0, 100)?;
     list.grow(5)?;
     list.grow(4)?;
     assert_eq!(rt; list.count(), 5);
     let wanted = [Some(100), None, Some(200), None];
     for (block, sector) in (0..4).zip(wanted) {
-        assert_eq!(rt; list.at(block), sector);
+        assert_eq!(rt; at(&list, block), sector);
     }
     list.cut(2);
     assert_eq!(rt; list.count(), 2);
-    assert_eq!(rt; list.at(2), None);
+    assert_eq!(rt; at(&list, 2), None);
     assert_eq!(rt;
-        list.to_runs(rt.alloc())?.as_slice(),
+        runs_of(rt.alloc(), &list)?.as_slice(),
         [run(0, 1, 100)].as_slice()
     );
     Ok(())
@@ -96,23 +122,21 @@ fn largest_files(rt: HostRuntime) -> Result<(), Fail> {
     let mut whole = BlockList::new(rt.alloc());
     let mut scattered = BlockList::new(rt.alloc());
     for block in 0..BlockList::MOST {
-        whole.set(block, 300 + block)?;
-        scattered.set(block, 60_000 - 2 * block)?;
+        set(&mut whole, block, 300 + block)?;
+        set(&mut scattered, block, 60_000 - 2 * block)?;
     }
     assert_eq!(rt;
-        whole.to_runs(rt.alloc())?.as_slice(),
+        runs_of(rt.alloc(), &whole)?.as_slice(),
         [run(0, 4096, 300)].as_slice()
     );
-    let runs = scattered.to_runs(rt.alloc())?;
+    let runs = runs_of(rt.alloc(), &scattered)?;
     assert_eq!(rt; runs.len(), 4096);
-    let again = BlockList::from_runs(rt.alloc(), BlockList::MOST, &runs)?;
-    assert_eq!(rt; again.at(4095), Some(51_810));
-    let mut sector = [0; 4096];
+    let again = list_of(rt.alloc(), BlockList::MOST, &runs)?;
+    assert_eq!(rt; at(&again, 4095), Some(51_810));
     let Some(front) = runs.get(..MOST_RUNS) else {
         return Err("too few runs".into());
     };
-    write_run_sector(front, &mut sector);
-    let first = read_run_sector(rt.alloc(), &sector)?;
+    let first = runs_in(rt.alloc(), &sector_of(front))?;
     assert!(rt; first.as_slice() == front);
     Ok(())
 }

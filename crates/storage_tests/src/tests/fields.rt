@@ -1,4 +1,5 @@
-use super::*;
+use sector::{SIZE, put_bytes, put_u16, put_u32, put_u64, put_zeros, u16_at, u32_at, u64_at};
+use std::test::*;
 
 #[test]
 fn fields(rt: HostRuntime) {

@@ -1,0 +1,8 @@
+//! What no contract says: the bytes of each layout, that calls succeed, and what stands in a file.
+
+mod blocks;
+mod devices;
+mod fields;
+mod names;
+mod nodes;
+mod places;
