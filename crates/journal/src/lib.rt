@@ -12,6 +12,3 @@ mod recover;
 
 pub use fault::{JournalFault, MountFault};
 pub use journal::Journal;
-
-#[cfg(test)]
-mod tests;

@@ -6,3 +6,4 @@ mod fields;
 mod names;
 mod nodes;
 mod places;
+mod transactions;

@@ -1,13 +1,40 @@
 //! A journal on a device of 256 sectors, whose calls test what the journal asks of its caller.
 
-ghost use Rattle.std.specs.Prelude.{◌≡◌};
+ghost use Rattle.std.specs.Prelude.{◌≡◌, ◌≤◌, IsTrue, length, vec_capacity};
 ghost use Rattle.journal.specs.Journal.{log_of};
+ghost use Rattle.journal.specs.Layout.{AreTargets, targets};
 
 use super::{SECTORS, filled};
-use crate::journal::name_targets;
-use crate::{Journal, JournalFault, gate};
 use disk::{Device, SECTOR, Update};
+use journal::{Journal, JournalFault};
 use std::alloc::Global;
+
+/// The first sector that a transaction may write.
+const FIRST_TARGET: u32 = 98;
+
+/// Puts the updates' targets in place of what `named` held.
+fn name_targets(named: &mut Vec<u32>, updates: &[Update])
+    requires { length updates.now ≤ vec_capacity named.old }
+    ensures items { named.new.items ≡ targets updates.now }
+    ensures capacity { vec_capacity named.new ≡ vec_capacity named.old }
+{
+    named.clear();
+    for update in updates {
+        named.push_reserved(update.target);
+    }
+}
+
+/// Whether a transaction may write these sectors of 256: all from 98 on, and different.
+fn are_targets(to: &[u32]) -> bool
+    ensures { IsTrue result → AreTargets 256 to.now }
+{
+    for (i, target) in to.iter().enumerate() {
+        if *target < FIRST_TARGET || *target >= SECTORS || to[..i].contains(target) {
+            return false;
+        }
+    }
+    true
+}
 
 #[derive(Drop)]
 pub(super) struct Held<D: Device> {
@@ -44,7 +71,7 @@ impl<D: Device> Held<D> {
     pub(super) fn apply(&mut self, alloc: Global, updates: &[Update]) -> Result<(), JournalFault> {
         let mut to = Vec::with_capacity(alloc, updates.len())?;
         name_targets(&mut to, updates);
-        if !gate::are_targets(&to, SECTORS) {
+        if !are_targets(&to) {
             return Err(JournalFault::TooMany);
         }
         self.journal.apply(updates)
@@ -68,7 +95,7 @@ pub(super) fn format<D: Device>(
 ) -> Result<(), JournalFault> {
     let mut to = Vec::with_capacity(alloc, updates.len())?;
     name_targets(&mut to, updates);
-    if device.sectors() != SECTORS || !gate::are_targets(&to, SECTORS) {
+    if device.sectors() != SECTORS || !are_targets(&to) {
         return Err(JournalFault::TooMany);
     }
     Journal::format(device, sector0, updates)

@@ -2,8 +2,8 @@
 
 use super::SECTORS;
 use super::work::{Contents, Reached, Step, fronts, run};
-use crate::JournalFault;
 use disk::{Call, CrashDevice, Device, DiskFault, MemDevice, Stop, landings};
+use journal::JournalFault;
 use std::alloc::Global;
 use std::process::Abort;
 use std::test::Fail;

@@ -3,8 +3,8 @@
 use super::held::Held;
 use super::work::updates;
 use super::{SECTORS, filled};
-use crate::JournalFault;
 use disk::{CrashDevice, MemDevice, Stop};
+use journal::JournalFault;
 use std::test::Fail;
 
 #[test]

@@ -3,8 +3,8 @@
 use super::held::format;
 use super::work::{Contents, updates};
 use super::{SECTORS, filled};
-use crate::JournalFault;
 use disk::{CrashDevice, Device, DiskFault, Landed, MemDevice, SECTOR, Stop, Unsynced, landings};
+use journal::JournalFault;
 use std::alloc::{AllocError, Global};
 use std::process::Abort;
 use std::test::Fail;

@@ -4,8 +4,8 @@ ghost use Rattle.std.specs.Prelude.{◌≡◌, IfOk};
 ghost use Rattle.disk.specs.Memory.{size_of};
 
 use super::SECTORS;
-use crate::{Journal, JournalFault};
 use disk::{Call, CrashDevice, Device, DiskFault, MemDevice, SECTOR, Stop};
+use journal::{Journal, JournalFault};
 use std::alloc::Global;
 use std::test::Fail;
 
@@ -35,6 +35,16 @@ fn device_with(alloc: Global, gate: &[u8; SECTOR]) -> Result<MemDevice, DiskFaul
     device.landed(alloc, &[])
 }
 
+// what a mount answers, with the device that comes back with a refusal
+fn mount(alloc: Global, device: MemDevice) -> Result<(), (JournalFault, MemDevice)>
+    requires { size_of device ≡ 256 }
+{
+    match Journal::mount(alloc, device) {
+        Ok(_) => Ok(()),
+        Err(refused) => Err((refused.fault, refused.device)),
+    }
+}
+
 // how many targets the gate has, and the bytes of it that are changed
 const GOOD: [(u8, &[(usize, u8)]); 4] = [
     (1, &[]),
@@ -47,7 +57,7 @@ const GOOD: [(u8, &[(usize, u8)]); 4] = [
 fn gates_that_are_replayed(rt: HostRuntime) -> Result<(), Fail> {
     for (count, changes) in GOOD {
         let device = device_with(rt.alloc(), &gate_of(count, changes))?;
-        let mounted = Journal::mount(rt.alloc(), device);
+        let mounted = mount(rt.alloc(), device);
         assert!(rt; mounted.is_ok(), "{count} targets, {changes:?}");
     }
     Ok(())
@@ -76,11 +86,11 @@ const BAD: [(u8, &[(usize, u8)]); 14] = [
 fn gates_that_are_damaged(rt: HostRuntime) -> Result<(), Fail> {
     for (count, changes) in BAD {
         let device = device_with(rt.alloc(), &gate_of(count, changes))?;
-        match Journal::mount(rt.alloc(), device) {
-            Ok(_) => assert!(rt; false, "{count} targets, {changes:?}"),
-            Err(refused) => {
-                assert!(rt; matches!(&refused.fault, JournalFault::Damaged));
-                assert!(rt; matches!(refused.device.calls(), [Call::Sync]));
+        match mount(rt.alloc(), device) {
+            Ok(()) => assert!(rt; false, "{count} targets, {changes:?}"),
+            Err((fault, left)) => {
+                assert!(rt; matches!(&fault, JournalFault::Damaged));
+                assert!(rt; matches!(left.calls(), [Call::Sync]));
             }
         }
     }

@@ -2,8 +2,8 @@
 
 use super::held::Held;
 use super::{SECTORS, filled};
-use crate::JournalFault;
 use disk::{CrashDevice, Device, Update};
+use journal::JournalFault;
 use std::alloc::{AllocError, Global};
 
 /// A call of the journal.
