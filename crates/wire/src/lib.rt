@@ -31,6 +31,3 @@ pub use small::{
     Attributes, Bitmap, CallbackSecurity, ChangeInfo, Channel, Implementation, StateId,
     SystemCredential, read_trimmed,
 };
-
-#[cfg(test)]
-mod tests;

@@ -18,6 +18,3 @@ mod status;
 pub use argument::write_argument;
 pub use laws::spelled_arguments_fit;
 pub use outcome::read_outcome;
-
-#[cfg(test)]
-mod tests;

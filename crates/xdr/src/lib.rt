@@ -16,6 +16,3 @@ pub use reader::Reader;
 pub use refusal::Refusal;
 pub use words::Words;
 pub use writer::{Writer, opaque_size};
-
-#[cfg(test)]
-mod tests;

@@ -1,10 +1,20 @@
-use crate::{
+use model::status::Status;
+use std::alloc::Global;
+use std::test::*;
+use wire::{
     Answer, Argument, Bitmap, ChangeInfo, Claim, CreateAnswer, CreateArguments, ExchangeIdAnswer,
     OpenType, Opening, Operation, Outcome, SequenceAnswer,
 };
-use model::status::Status;
-use std::test::*;
 use xdr::{Reader, Refusal, Words, Writer};
+
+/// The operation's argument. The call stands here once, since it brings all that it promises to its caller.
+fn read<'a>(
+    alloc: Global,
+    operation: Operation,
+    reader: &mut Reader<'a>,
+) -> Result<Argument<'a>, Refusal> {
+    Argument::read(alloc, operation, reader)
+}
 
 #[test]
 fn exchange_id_is_read(rt: HostRuntime) -> Result<(), Fail> {
@@ -15,7 +25,7 @@ fn exchange_id_is_read(rt: HostRuntime) -> Result<(), Fail> {
     let mut reader = Reader::new(&bytes);
     let operation = Operation::from_number(reader.read_u32()?).ok_or("no operation")?;
     assert_eq!(rt; operation, Operation::ExchangeId);
-    let argument = Argument::read(rt.alloc(), operation, &mut reader)?;
+    let argument = read(rt.alloc(), operation, &mut reader)?;
     assert!(rt; reader.is_empty());
     match argument {
         Argument::ExchangeId(a) => {
@@ -27,7 +37,7 @@ fn exchange_id_is_read(rt: HostRuntime) -> Result<(), Fail> {
         _ => assert!(rt; false),
     }
     let mut cut = Reader::new(&bytes[4..31]);
-    let refused = Argument::read(rt.alloc(), Operation::ExchangeId, &mut cut).err();
+    let refused = read(rt.alloc(), Operation::ExchangeId, &mut cut).err();
     assert_eq!(rt; refused, Some(Refusal::Short));
     assert_eq!(rt; cut.len(), 27);
     Ok(())
@@ -40,7 +50,7 @@ fn create_is_read(rt: HostRuntime) -> Result<(), Fail> {
         0, 1, 0xed,
     ];
     let mut reader = Reader::new(&bytes);
-    let argument = Argument::read(rt.alloc(), Operation::Create, &mut reader)?;
+    let argument = read(rt.alloc(), Operation::Create, &mut reader)?;
     match &argument {
         Argument::Create(CreateArguments::NewDirectory { name, attributes }) => {
             assert_eq!(rt; *name, b"a".as_slice());
@@ -57,7 +67,7 @@ fn create_is_read(rt: HostRuntime) -> Result<(), Fail> {
 fn nothing_behind_another_type_is_read(rt: HostRuntime) -> Result<(), Fail> {
     let bytes = [0, 0, 0, 5, 0xff];
     let mut reader = Reader::new(&bytes);
-    let argument = Argument::read(rt.alloc(), Operation::Create, &mut reader)?;
+    let argument = read(rt.alloc(), Operation::Create, &mut reader)?;
     match &argument {
         Argument::Create(CreateArguments::OtherType(number)) => assert_eq!(rt; *number, 5),
         _ => assert!(rt; false),
@@ -73,7 +83,7 @@ fn open_is_read(rt: HostRuntime) -> Result<(), Fail> {
         0, 0, 1, 0, 0, 0, 1, 0, 0, 0, 0, 0, 0, 0, 0, 0, 0, 0, 0, 0, 0, 0, 1, b'f', 0, 0, 0,
     ];
     let mut reader = Reader::new(&bytes);
-    let argument = Argument::read(rt.alloc(), Operation::Open, &mut reader)?;
+    let argument = read(rt.alloc(), Operation::Open, &mut reader)?;
     match &argument {
         Argument::Open(a) => {
             assert_eq!(rt; a.access, 3);

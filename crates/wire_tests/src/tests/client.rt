@@ -1,4 +1,3 @@
-use crate::{read_outcome, write_argument};
 use model::status::Status;
 use std::alloc::Global;
 use std::test::*;
@@ -6,6 +5,7 @@ use wire::{
     Answer, Argument, Attributes, Bitmap, CreateArguments, ExchangeIdArguments, Outcome,
     SequenceArguments,
 };
+use wire_client::{read_outcome, write_argument};
 use xdr::{Reader, Refusal, Words, Writer};
 
 /// A client that makes itself known, and what it is answered.
@@ -35,6 +35,11 @@ const RESULTS: [u8; 112] = [
 ];
 
 const SESSION: [u8; 16] = [0, 0, 0, 1, 0, 0, 0, 1, 0, 0, 0, 0, 0, 0, 0, 1];
+
+/// The next result. The call stands here once, since it brings all that it promises to its caller.
+fn outcome_in<'a>(alloc: Global, r: &mut Reader<'a>) -> Result<Outcome<'a>, Refusal> {
+    read_outcome(alloc, r)
+}
 
 #[test]
 fn exchange_id_is_written(rt: HostRuntime) -> Result<(), Fail> {
@@ -81,7 +86,7 @@ fn arguments_are_written(rt: HostRuntime) -> Result<(), Fail> {
 #[test]
 fn results_are_read(rt: HostRuntime) -> Result<(), Fail> {
     let mut r = Reader::new(&RESULTS);
-    let sequence = read_outcome(rt.alloc(), &mut r)?;
+    let sequence = outcome_in(rt.alloc(), &mut r)?;
     match &sequence {
         Outcome::Done(Answer::Sequence(a)) => {
             assert_eq!(rt; a.session, SESSION);
@@ -90,9 +95,9 @@ fn results_are_read(rt: HostRuntime) -> Result<(), Fail> {
         }
         _ => assert!(rt; false),
     }
-    let root = read_outcome(rt.alloc(), &mut r)?;
+    let root = outcome_in(rt.alloc(), &mut r)?;
     assert!(rt; matches!(root, Outcome::Done(Answer::PutRootFh)));
-    let create = read_outcome(rt.alloc(), &mut r)?;
+    let create = outcome_in(rt.alloc(), &mut r)?;
     match &create {
         Outcome::Done(Answer::Create(a)) => {
             assert!(rt; a.change.is_atomic);
@@ -102,7 +107,7 @@ fn results_are_read(rt: HostRuntime) -> Result<(), Fail> {
         }
         _ => assert!(rt; false),
     }
-    let handle = read_outcome(rt.alloc(), &mut r)?;
+    let handle = outcome_in(rt.alloc(), &mut r)?;
     match &handle {
         Outcome::Done(Answer::GetFh(bytes)) => {
             assert_eq!(rt; *bytes, [0, 0, 0, 1, 0, 0, 0, 1].as_slice());
@@ -116,7 +121,7 @@ fn results_are_read(rt: HostRuntime) -> Result<(), Fail> {
 #[test]
 fn exchange_id_is_answered(rt: HostRuntime) -> Result<(), Fail> {
     let mut r = Reader::new(&EXCHANGE_ID_ANSWER);
-    match read_outcome(rt.alloc(), &mut r)? {
+    match outcome_in(rt.alloc(), &mut r)? {
         Outcome::Done(Answer::ExchangeId(a)) => {
             assert_eq!(rt; a.client, 0x1_0000_0001);
             assert_eq!(rt; a.flags, 0x0001_0000);
@@ -145,7 +150,7 @@ fn refusals_are_read(rt: HostRuntime) -> Result<(), Fail> {
         0, 0, 0, 15, 0, 0, 0, 2, 0, 0, 0, 34, 0, 0, 0, 22, 0, 0, 0, 0, 0, 0, 0, 15, 0, 0, 0, 1,
     ];
     let mut r = Reader::new(&bytes);
-    let first = read_outcome(rt.alloc(), &mut r)?;
+    let first = outcome_in(rt.alloc(), &mut r)?;
     assert!(rt;
         matches!(
             first,
@@ -155,7 +160,7 @@ fn refusals_are_read(rt: HostRuntime) -> Result<(), Fail> {
             }
         )
     );
-    let second = read_outcome(rt.alloc(), &mut r)?;
+    let second = outcome_in(rt.alloc(), &mut r)?;
     assert!(rt;
         matches!(
             second,
@@ -166,7 +171,7 @@ fn refusals_are_read(rt: HostRuntime) -> Result<(), Fail> {
         )
     );
     assert_eq!(rt; r.len(), 8);
-    let unlisted = read_outcome(rt.alloc(), &mut r).err();
+    let unlisted = outcome_in(rt.alloc(), &mut r).err();
     assert_eq!(rt; unlisted, Some(Refusal::Value));
     assert_eq!(rt; r.len(), 8);
     Ok(())
@@ -225,7 +230,7 @@ fn listing(end: u8) -> [u8; 80] {
 fn listings_are_read(rt: HostRuntime) -> Result<(), Fail> {
     let bytes = listing(1);
     let mut r = Reader::new(&bytes);
-    let result = read_outcome(rt.alloc(), &mut r)?;
+    let result = outcome_in(rt.alloc(), &mut r)?;
     match &result {
         Outcome::Done(Answer::ReadDir(a)) => {
             assert!(rt; a.is_end);
@@ -239,13 +244,13 @@ fn listings_are_read(rt: HostRuntime) -> Result<(), Fail> {
     assert!(rt; refuses_fronts(rt.alloc(), &bytes));
     let bytes = listing(2);
     let mut r = Reader::new(&bytes);
-    let refused = read_outcome(rt.alloc(), &mut r).err();
+    let refused = outcome_in(rt.alloc(), &mut r).err();
     assert_eq!(rt; refused, Some(Refusal::Value));
     Ok(())
 }
 
 #[test]
-#[tactic(auto, using(crate::proofs::Fitting::argument_fits))]
+#[tactic(auto, using(wire_client::proofs::Fitting::argument_fits))]
 fn arguments_are_written_back(rt: HostRuntime) -> Result<(), Fail> {
     let mut w = Writer::new(rt.alloc());
     let mut r = Reader::new(&ARGUMENTS);

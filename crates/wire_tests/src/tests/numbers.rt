@@ -1,5 +1,5 @@
-use crate::{Reader, Refusal, Writer};
 use std::test::*;
+use xdr::{Reader, Refusal, Writer};
 
 #[test]
 fn numbers_are_read(rt: HostRuntime) -> Result<(), Fail> {
