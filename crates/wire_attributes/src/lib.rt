@@ -16,6 +16,3 @@ pub use entry::AclEntry;
 pub use value::{FileSystemId, Time, Value};
 pub use values::{read_values, values_of, write_values};
 pub use who::{number_of, text_of, who_of};
-
-#[cfg(test)]
-mod tests;

@@ -1,12 +1,13 @@
-use crate::{
-    AclEntry, FileSystemId, Time, Value, ace_of, entry_of, number_of, read_values, text_of,
-    values_of, who_of, write_values,
-};
 use bitflags::Flags;
 use model::acl::{Ace, AceFlags, AceKind, Mask, Who};
 use model::node::NodeKind;
+use std::alloc::Global;
 use std::test::*;
 use wire::Attributes;
+use wire_attributes::{
+    AclEntry, FileSystemId, Time, Value, ace_of, entry_of, number_of, read_values, text_of,
+    values_of, who_of, write_values,
+};
 use xdr::{Reader, Refusal, Words, Writer};
 
 /// The attributes mode and owner of a directory with the mode 0o755 and the owner 7.
@@ -18,9 +19,18 @@ const TWO_ENTRIES: [u8; 52] = [
     0, 0, 0, 0, 0x21, 0, 0, 0, 9, b'E', b'V', b'E', b'R', b'Y', b'O', b'N', b'E', b'@', 0, 0, 0,
 ];
 
+/// The values that the bytes are. The call stands here once, since it brings all that it promises to its caller.
+fn values_in<'a>(
+    alloc: Global,
+    attributes: &[u32],
+    bytes: &'a [u8],
+) -> Result<Vec<Value<'a>>, Refusal> {
+    read_values(alloc, attributes, bytes)
+}
+
 #[test]
 fn mode_and_owner_are_read(rt: HostRuntime) -> Result<(), Fail> {
-    let values = read_values(rt.alloc(), &[33, 36], &MODE_AND_OWNER)?;
+    let values = values_in(rt.alloc(), &[33, 36], &MODE_AND_OWNER)?;
     assert_eq!(rt; values.len(), 2);
     assert!(rt; matches!(values[0], Value::Mode(0o755)));
     assert!(rt; matches!(values[1], Value::Owner(b"7")));
@@ -59,7 +69,8 @@ fn lists_are_written_back(rt: HostRuntime) -> Result<(), Fail> {
         mask: 0x21,
         who: b"EVERYONE@",
     })?;
-    let values = read_values(rt.alloc(), &[12], &TWO_ENTRIES)?;
+    let values = values_in(rt.alloc(), &[12], &TWO_ENTRIES)?;
+    assert_eq!(rt; values.len(), 1);
     match &values[0] {
         Value::Acl(entries) => assert_eq!(rt; entries.as_slice(), list.as_slice()),
         _ => assert!(rt; false),
@@ -98,18 +109,18 @@ fn numbers_and_times_are_written(rt: HostRuntime) -> Result<(), Fail> {
 #[test]
 fn other_bytes_are_refused(rt: HostRuntime) {
     for len in 0..12 {
-        let refused = read_values(rt.alloc(), &[33, 36], &MODE_AND_OWNER[..len]).err();
+        let refused = values_in(rt.alloc(), &[33, 36], &MODE_AND_OWNER[..len]).err();
         assert_eq!(rt; refused, Some(Refusal::Short));
     }
     for len in 0..52 {
-        let refused = read_values(rt.alloc(), &[12], &TWO_ENTRIES[..len]).err();
+        let refused = values_in(rt.alloc(), &[12], &TWO_ENTRIES[..len]).err();
         assert_eq!(rt; refused, Some(Refusal::Short));
     }
-    let behind = read_values(rt.alloc(), &[33], &MODE_AND_OWNER).err();
+    let behind = values_in(rt.alloc(), &[33], &MODE_AND_OWNER).err();
     assert_eq!(rt; behind, Some(Refusal::Value));
-    let unknown = read_values(rt.alloc(), &[14], &MODE_AND_OWNER).err();
+    let unknown = values_in(rt.alloc(), &[14], &MODE_AND_OWNER).err();
     assert_eq!(rt; unknown, Some(Refusal::Value));
-    let truth = read_values(rt.alloc(), &[5], &[0, 0, 0, 2]).err();
+    let truth = values_in(rt.alloc(), &[5], &[0, 0, 0, 2]).err();
     assert_eq!(rt; truth, Some(Refusal::Value));
 }
 
