@@ -27,6 +27,3 @@ pub use reply::{
 pub use request::Request;
 pub use tag::Tag;
 pub use wire::SystemCredential as AuthSys;
-
-#[cfg(test)]
-mod tests;

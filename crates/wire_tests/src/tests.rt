@@ -4,3 +4,4 @@ mod attributes;
 mod client;
 mod numbers;
 mod operations;
+mod records;

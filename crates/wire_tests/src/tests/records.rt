@@ -1,4 +1,4 @@
-use crate::{Assembler, CallRead, RecordFault, Request, read_call, write_reply};
+use rpc::{Assembler, CallRead, RecordFault, Reply, Request, read_call, write_reply};
 use std::alloc::{AllocError, Global};
 use std::test::*;
 use xdr::Writer;
@@ -98,9 +98,7 @@ fn bytes_of(alloc: Global, words: &[u32]) -> Result<Vec<u8>, AllocError> {
 fn answer_to(alloc: Global, record: &[u8]) -> Result<Vec<u8>, Fail> {
     let out = Writer::with_capacity(alloc, 64)?;
     match read_call(record)? {
-        CallRead::OtherVersion { xid } => {
-            Ok(write_reply(out, xid, &crate::Reply::VersionRefused)?)
-        }
+        CallRead::OtherVersion { xid } => { Ok(write_reply(out, xid, &Reply::VersionRefused)?) }
         CallRead::Calls(call) => match call.request() {
             Request::Answers(reply) => Ok(write_reply(out, call.xid, &reply)?),
             Request::Runs(_, _) => Err("an operation runs".into()),
@@ -108,11 +106,16 @@ fn answer_to(alloc: Global, record: &[u8]) -> Result<Vec<u8>, Fail> {
     }
 }
 
+// how many of the bytes the assembler takes
+fn feed(assembler: &mut Assembler, bytes: &[u8]) -> Result<usize, RecordFault> {
+    assembler.feed(bytes)
+}
+
 // what comes of bytes that are fed in pieces of this size: how many were taken of the last one
 fn feed_cut(assembler: &mut Assembler, bytes: &[u8], size: usize) -> Result<usize, RecordFault> {
     let mut taken = 0;
     for piece in bytes.chunks(size.max(1)) {
-        taken = assembler.feed(piece)?;
+        taken = feed(assembler, piece)?;
     }
     Ok(taken)
 }
@@ -125,7 +128,7 @@ fn null_is_answered(rt: HostRuntime) -> Result<(), Fail> {
         for size in [1, 7, 100] {
             let mut assembler = Assembler::new(rt.alloc())?;
             feed_cut(&mut assembler, &call, size)?;
-            assert_eq!(rt; assembler.feed(&call)?, 0);
+            assert_eq!(rt; feed(&mut assembler, &call)?, 0);
             assert!(rt; assembler.record().is_some());
             let record = assembler.record().ok_or("no record")?;
             assert_eq!(rt; record.len(), 40);
@@ -179,7 +182,7 @@ fn refusals_last(rt: HostRuntime) -> Result<(), Fail> {
             let met = feed_cut(&mut assembler, &bytes, size);
             assert_eq!(rt; met, Err(fault), "the bytes {words:?}");
             assert!(rt; assembler.is_refused());
-            assert_eq!(rt; assembler.feed(&[]), Err(fault));
+            assert_eq!(rt; feed(&mut assembler, &[]), Err(fault));
             assert!(rt; assembler.record().is_none());
         }
     }
@@ -192,12 +195,12 @@ fn a_record_has_sixteen_kibibytes(rt: HostRuntime) -> Result<(), Fail> {
     bytes.resize(16388, 1)?;
     let header = 0x8000_4000_u32.to_be_bytes();
     let mut assembler = Assembler::new(rt.alloc())?;
-    assert_eq!(rt; assembler.feed(&header)?, 4);
+    assert_eq!(rt; feed(&mut assembler, &header)?, 4);
     let rest = bytes.get(4..).ok_or("short")?;
     let front = rest.get(..10000).ok_or("short")?;
-    assert_eq!(rt; assembler.feed(front)?, 10000);
+    assert_eq!(rt; feed(&mut assembler, front)?, 10000);
     // a second record stands behind the first
-    assert_eq!(rt; assembler.feed(rest)?, 6384);
+    assert_eq!(rt; feed(&mut assembler, rest)?, 6384);
     assert_eq!(rt; assembler.record().ok_or("no record")?.len(), 16384);
     Ok(())
 }
@@ -208,22 +211,25 @@ fn a_record_has_sixty_four_fragments(rt: HostRuntime) -> Result<(), Fail> {
     let call = bytes_of(rt.alloc(), &NULL_CALL)?;
     let mut assembler = Assembler::new(rt.alloc())?;
     for _ in 0..63 {
-        assert_eq!(rt; assembler.feed(&empty)?, 4);
+        assert_eq!(rt; feed(&mut assembler, &empty)?, 4);
     }
-    assert_eq!(rt; assembler.feed(&call)?, 44);
+    assert_eq!(rt; feed(&mut assembler, &call)?, 44);
     assert_eq!(rt; assembler.record().ok_or("no record")?.len(), 40);
     assembler.release();
     for _ in 0..64 {
-        assert_eq!(rt; assembler.feed(&empty)?, 4);
+        assert_eq!(rt; feed(&mut assembler, &empty)?, 4);
     }
     // the record's size is tested first
     let mut other = Assembler::new(rt.alloc())?;
     for _ in 0..64 {
-        assert_eq!(rt; other.feed(&empty)?, 4);
+        assert_eq!(rt; feed(&mut other, &empty)?, 4);
     }
-    assert_eq!(rt; assembler.feed(&empty), Err(RecordFault::TooManyFragments));
     assert_eq!(rt;
-        other.feed(&[0, 0, 0x40, 1]),
+        feed(&mut assembler, &empty),
+        Err(RecordFault::TooManyFragments)
+    );
+    assert_eq!(rt;
+        feed(&mut other, &[0, 0, 0x40, 1]),
         Err(RecordFault::RecordTooBig)
     );
     Ok(())
