@@ -72,7 +72,7 @@ file_at tree place key no_directory = by_node (at place tree) refl key no_direct
     by_node (Some node) is key apart = by_content node is node.content refl apart
 
 -- what the tests of the current node and of a file leave
-current_key : (state : State) → first_refusal (current_refusals state) ≡ None → is_key (current state) state.tree ≡ true
+pub current_key : (state : State) → first_refusal (current_refusals state) ≡ None → is_key (current state) state.tree ≡ true
 current_key state passed =
     let handle = none_in_front (not (has_current state.context)) status.NoFileHandle _ passed in
     is_true (is_key (current state) state.tree)
@@ -320,7 +320,7 @@ module _ (modes : ModesKeepLimits) (inheritance : InheritanceKeepsLimits) where
 
   module _ (limits : Limits) (state : State) (now : ℕ) (sound : IsSound limits state) (name : List ℕ) where
     -- a name of the directory leads to a node
-    named_key : is_name_there state name ≡ true → is_key (number_named state.tree (current state) name) state.tree ≡ true
+    pub named_key : is_name_there state name ≡ true → is_key (number_named state.tree (current state) name) state.tree ≡ true
     named_key is = by_entry (entry_of name (names_at state.tree (current state))) refl is
       where
         by_entry : (o : Option (ℕ × DirEntry)) → entry_of name (names_at state.tree (current state)) ≡ o → is_some o ≡ true

@@ -14,6 +14,8 @@ pub mod LimitLaws
 pub mod ModeLaws
 pub mod NodeChangeLaws
 pub mod NumberLaws
+pub mod OpensLaws
+pub mod OpensSteps
 pub mod RecordLaws
 pub mod RecordOnly
 pub mod RpcExact

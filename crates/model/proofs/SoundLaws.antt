@@ -8,6 +8,8 @@ use Rattle.model.specs.declared.status.Status.TheVariants as status
 use Rattle.model.specs.Answer.{Answer, Outcome, ExchangeIdAnswer, CreateSessionAnswer}
 use Rattle.model.specs.Keyed.{at, with, without}
 use Rattle.model.specs.Opens.{Opens}
+use Rattle.model.specs.OpensLaws.{AreOpens, EveryRunKeepsOpens}
+use Rattle.model.proofs.OpensSteps.{every_step_keeps, no_opens_are, clients_end}
 use Rattle.model.specs.Operation.{Argument, SequenceArguments, operation_of}
 use Rattle.model.specs.Record.{Front, Partial, Refused, Whole}
 use Rattle.model.specs.Rpc.{CallRead, NoCall, OtherVersion, Calls, Request, Answers, Runs, Reply, read_call, request_of, is_call_read}
@@ -44,17 +46,19 @@ record IsSoundWorld (limits : ServerLimits) (run : ℕ) (world : World) : Type 0
   before : IsBefore (next_stamp run world.changes) world.tree
   counted : world.changes < 2 ^ 32
   busy : (number : ℕ) (request : InProgress) → at number world.connections ≡ Some (Busy request) → request.context.run ≡ run
+  opened : AreOpens limits.volume world.tree world.opens
 
 module _ (limits : ServerLimits) (run : ℕ) (room : limits.volume.aces_set + 5 ≤ limits.volume.aces) where
-  kept : (world : World) (table : Table) (opens : Opens) → IsSoundWorld limits run world
+  kept : (world : World) (table : Table) (opens : Opens) → AreOpens limits.volume world.tree opens → IsSoundWorld limits run world
       → IsSoundWorld limits run (record world { table = table; opens = opens })
-  kept world table opens sound = record {
+  kept world table opens are sound = record {
     limits_are = sound.limits_are;
     run_is = sound.run_is;
     well_formed = sound.well_formed;
     before = sound.before;
     counted = sound.counted;
     busy = sound.busy;
+    opened = are;
   }
 
   -- what a connection becomes has a request of this run, if it has one
@@ -78,6 +82,7 @@ module _ (limits : ServerLimits) (run : ℕ) (room : limits.volume.aces_set + 5 
           ∙ (sym (ap (λ n. at n (with world.connections number connection)) one) ∙ is)))
       | inr apart ↦ sound.busy other request (sym (at-with_other world.connections number other connection apart) ∙ is)
     ];
+    opened = sound.opened;
   }
 
   disconnected : (world : World) (number : ℕ) → IsSoundWorld limits run world → IsSoundWorld limits run (without_connection world number)
@@ -92,6 +97,7 @@ module _ (limits : ServerLimits) (run : ℕ) (room : limits.volume.aces_set + 5 
           (sym is ∙ (ap (λ n. at n (without world.connections number)) one ∙ at-without_same world.connections number)))
       | inr apart ↦ sound.busy other request (sym (at-without_other world.connections number other apart) ∙ is)
     ];
+    opened = sound.opened;
   }
 
   -- One operation
@@ -103,24 +109,25 @@ module _ (limits : ServerLimits) (run : ℕ) (room : limits.volume.aces_set + 5 
   module _ (world : World) (request : InProgress) (sound : IsSoundWorld limits run world) (same : request.context.run ≡ run) where
     exchanged_sound : (outcome : Result ExchangeIdAnswer Status × Table) → SoundRan (exchanged world request outcome)
     unfolding SoundRan
-    exchanged_sound (Err reason, table) = (kept world table world.opens sound, same)
-    exchanged_sound (Ok answer, table) = (kept world table world.opens sound, same)
+    exchanged_sound (Err reason, table) = (kept world table world.opens sound.opened sound, same)
+    exchanged_sound (Ok answer, table) = (kept world table world.opens sound.opened sound, same)
 
     created_by_sound : (outcome : sessions.CreateSessionOutcome) (answer : Result CreateSessionAnswer Status)
         → SoundRan (created_by world request outcome answer)
     unfolding SoundRan
     created_by_sound outcome (Err reason) = (sound, same)
-    created_by_sound outcome (Ok answer) = (kept world outcome.table _ sound, same)
+    created_by_sound outcome (Ok answer) =
+        (kept world outcome.table _ (clients_end limits.volume world.tree world.opens outcome.ended_clients sound.opened) sound, same)
 
     tabled_sound : (number : ℕ) (answer : Answer) (outcome : Option Status × Table) → SoundRan (tabled world request number answer outcome)
     unfolding SoundRan
-    tabled_sound number answer (Some reason, table) = (kept world table world.opens sound, same)
-    tabled_sound number answer (None, table) = (kept world table world.opens sound, same)
+    tabled_sound number answer (Some reason, table) = (kept world table world.opens sound.opened sound, same)
+    tabled_sound number answer (None, table) = (kept world table world.opens sound.opened sound, same)
 
     started_in_sound : (arguments : SequenceArguments) (known : Option Session) → SoundRan (started_in world request arguments known)
     unfolding SoundRan
     started_in_sound arguments None = (sound, same)
-    started_in_sound arguments (Some session) = (kept world _ world.opens sound, same)
+    started_in_sound arguments (Some session) = (kept world _ world.opens sound.opened sound, same)
 
     begun_sound : (arguments : SequenceArguments) (begin : sessions.Begun) → SoundRan (begun world request arguments begin)
     unfolding SoundRan
@@ -162,6 +169,11 @@ module _ (limits : ServerLimits) (run : ℕ) (room : limits.volume.aces_set + 5 
                 (does world.limits.volume (state_of world request) now operation).state.tree) of_run after.before;
             counted = after.counted;
             busy = sound.busy;
+            opened = subst (λ (l : ServerLimits). AreOpens l.volume
+                (does world.limits.volume (state_of world request) now operation).state.tree
+                (does world.limits.volume (state_of world request) now operation).state.opens) sound.limits_are
+                (every_step_keeps modes_keep_limits inheritance_keeps_limits world.limits.volume (state_of world request) now operation before
+                (subst (λ (l : ServerLimits). AreOpens l.volume world.tree world.opens) (sym sound.limits_are) sound.opened)).opens;
           },
           of_run,
         )
@@ -203,7 +215,7 @@ module _ (limits : ServerLimits) (run : ℕ) (room : limits.volume.aces_set + 5 
       → SoundTurned (ends world number request last executed)
   unfolding SoundTurned
   ends_sound world number request last executed sound =
-      connected (with_table world _) number (Replied _) (kept world _ world.opens sound) (no_request _)
+      connected (with_table world _) number (Replied _) (kept world _ world.opens sound.opened sound) (no_request _)
 
   goes_on_sound : (world : World) (number : ℕ) (request : InProgress) (executed : Option Entry) → IsSoundWorld limits run world
       → request.context.run ≡ run → SoundTurned (goes_on world number request executed)
@@ -375,6 +387,7 @@ module _ (limits : ServerLimits) (run : ℕ) (room : limits.volume.aces_set + 5 
       before = begins.before;
       counted = omega arith;
       busy = λ number request is. absurd (some≢none (Busy request) (sym is));
+      opened = no_opens_are limits.volume start;
     }
 
     serving_sound : (serving : Serving) (history : History) → IsRun (mounted limits run start) serving history → IsSoundServing serving
@@ -418,3 +431,8 @@ every_tree limits = record {
       later_start limits run room tree
       (may_leave limits run room serving event tree (serving_sound limits run room start begins serving history runs) leaves) next after;
 }
+
+-- the opens are so at each moment
+pub every_run_keeps_opens : EveryRunKeepsOpens
+every_run_keeps_opens limits run start serving history room begins runs =
+    (serving_sound limits run room start begins serving history runs).world.opened

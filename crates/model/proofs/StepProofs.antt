@@ -70,7 +70,7 @@ write_caller : (some : Bool) (limits : Limits) (state : State) (now : ℕ) (argu
 write_caller true limits state now arguments = refl
 write_caller false limits state now arguments = refl
 
-effect_leaves : (limits : Limits) (state : State) (now : ℕ) (operation : Argument) → alters state operation ≡ false
+pub effect_leaves : (limits : Limits) (state : State) (now : ℕ) (operation : Argument) → alters state operation ≡ false
     → ((effect limits state now operation).state.tree ≡ state.tree) × ((effect limits state now operation).state.changes ≡ state.changes)
 unfolding effect
 effect_leaves limits state now (Argument.Create arguments) no_change = absurd (true≢false no_change)
@@ -227,6 +227,12 @@ renamed_changed limits state now arguments passes sound another =
           true≢false (sym directory ∙ (ap (is_directory_at tree) same ∙ is_file))
     ])
 
+-- the number of the node that an operation takes away, 0 where it takes none
+abbrev pub gone_by : State → Argument → ℕ
+gone_by state (Argument.Remove name) = number_named state.tree (current state) name
+gone_by state (Argument.Rename arguments) = target_number state arguments
+gone_by state _ = 0
+
 module _ (modes : ModesKeepLimits) (inheritance : InheritanceKeepsLimits) where
   module _ (limits : Limits) (state : State) (now : ℕ) (name : List ℕ) (given : Attributes) (sound : IsSound limits state)
       (passed : Creates limits state name given) (parent : Node) (there : at (current state) state.tree ≡ Some parent)
@@ -269,14 +275,8 @@ module _ (modes : ModesKeepLimits) (inheritance : InheritanceKeepsLimits) where
   is_false true told = sym told
   is_false false told = refl
 
-  -- the number of the node that an operation takes away, 0 where it takes none
-  abbrev gone_by : State → Argument → ℕ
-  gone_by state (Argument.Remove name) = number_named state.tree (current state) name
-  gone_by state (Argument.Rename arguments) = target_number state arguments
-  gone_by state _ = 0
-
   -- what is answered to a change is one
-  effect_changes : (limits : Limits) (state : State) (now : ℕ) (operation : Argument) → Passes limits state now operation
+  pub effect_changes : (limits : Limits) (state : State) (now : ℕ) (operation : Argument) → Passes limits state now operation
       → IsSound limits state → alters state operation ≡ true → (answer : Answer)
       → (effect limits state now operation).outcome ≡ Outcome.Done answer
       → IsChanged limits (stamp_of state) state.tree (effect limits state now operation).state.tree (gone_by state operation)
@@ -334,11 +334,11 @@ module _ (modes : ModesKeepLimits) (inheritance : InheritanceKeepsLimits) where
     room_for_mode = sound.room_for_mode;
   }
 
-  outcome_cases : (outcome : Outcome) → ((answer : Answer) × (outcome ≡ Outcome.Done answer)) ⊎ ((number : ℕ) × (reason : Status) × (outcome ≡ Outcome.Refused number reason))
+  pub outcome_cases : (outcome : Outcome) → ((answer : Answer) × (outcome ≡ Outcome.Done answer)) ⊎ ((number : ℕ) × (reason : Status) × (outcome ≡ Outcome.Refused number reason))
   outcome_cases (Outcome.Done answer) = inl (answer, refl)
   outcome_cases (Outcome.Refused number reason) = inr (number, reason, refl)
 
-  effect_refused : (limits : Limits) (state : State) (now : ℕ) (operation : Argument) (number : ℕ) (reason : Status)
+  pub effect_refused : (limits : Limits) (state : State) (now : ℕ) (operation : Argument) (number : ℕ) (reason : Status)
       → (effect limits state now operation).outcome ≡ Outcome.Refused number reason → (effect limits state now operation).state ≡ state
   unfolding effect
   effect_refused limits state now (Argument.Create (NewDirectory name given)) number reason is = absurd (cc)

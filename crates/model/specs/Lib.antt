@@ -13,6 +13,7 @@ pub mod Context
 pub mod Directory
 pub mod Edit
 pub mod Feeding
+pub mod FileExamples
 pub mod Files
 pub mod Fresh
 pub mod Inherit
@@ -24,6 +25,7 @@ pub mod Need
 pub mod NodeAttributes
 pub mod Open
 pub mod Opens
+pub mod OpensLaws
 pub mod Operation
 pub mod ReadDir
 pub mod Record

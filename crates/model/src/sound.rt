@@ -1,5 +1,6 @@
 //! That the tree stays well formed, whatever happens.
 
+ghost use Rattle.model.specs.OpensLaws.{EveryRunKeepsOpens};
 ghost use Rattle.model.specs.SoundRuns.{EveryTreeIsSound};
 ghost use Rattle.model.specs.World.{ServerLimits};
 
@@ -7,4 +8,10 @@ ghost use Rattle.model.specs.World.{ServerLimits};
 /// formed, and no later run gives one of its stamps again.
 pub fn every_tree()
     ensures { (limits : ServerLimits) → EveryTreeIsSound limits }
+{}
+
+/// At each moment of a run each open names a file of the tree and has a serial that was given once, and there are not more than
+/// the limit.
+pub fn every_run_keeps_opens()
+    ensures { EveryRunKeepsOpens }
 {}

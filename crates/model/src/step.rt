@@ -1,5 +1,7 @@
 //! The laws of one operation: each is the contract of a function that does nothing.
 
+ghost use Rattle.model.specs.FileExamples.{FileExamples};
+ghost use Rattle.model.specs.OpensLaws.{EveryStepKeepsOpens};
 ghost use Rattle.model.specs.RightsExamples.{RightsExamples};
 ghost use Rattle.model.specs.StepExamples.{StepExamples};
 ghost use Rattle.model.specs.StepLaws.{EveryStepIsLawful, RunsBeginSound};
@@ -7,6 +9,11 @@ ghost use Rattle.model.specs.StepLaws.{EveryStepIsLawful, RunsBeginSound};
 /// Operations worked out by hand.
 pub fn examples()
     ensures { StepExamples }
+{}
+
+/// Listing, attributes, opens, reading and writing worked out by hand.
+pub fn file_examples()
+    ensures { FileExamples }
 {}
 
 /// Who lacks a right of an operation is answered ACCESS, for each right of each operation.
@@ -17,6 +24,11 @@ pub fn rights()
 /// Every change is permitted, a refusal changes nothing, and a well-formed tree stays one.
 pub fn every_step()
     ensures { EveryStepIsLawful }
+{}
+
+/// Opens name files of the tree and have serials that were given once, and there are not more than the limit.
+pub fn every_step_keeps_opens()
+    ensures { EveryStepKeepsOpens }
 {}
 
 /// Each run begins with a well-formed tree whose stamps are from before its own.

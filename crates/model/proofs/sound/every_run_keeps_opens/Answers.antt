@@ -1,0 +1,5 @@
+use Rattle.model.proofs.SoundLaws.{every_run_keeps_opens}
+use Rattle.model.proofs.sound.every_run_keeps_opens.Goals as goal
+
+pub returns : goal.returns
+returns c = every_run_keeps_opens
