@@ -104,6 +104,10 @@ one_open = record volume { opens = 1 }
 pub record FileExamples : Type 0 where
   -- READDIR: 43 bytes have no room for an entry of one letter, 44 have; a cookie is a stamp, whether an entry has it or not
   pub too_small : statuses volume three (list_from 0 43 ∷ []) ≡ status.TooSmall ∷ []
+  -- where nothing is left a page takes 16
+  pub no_page : statuses volume three (list_from 4294967299 15 ∷ []) ≡ status.TooSmall ∷ []
+  pub nothing_left : outcomes volume three (list_from 4294967299 16 ∷ [])
+      ≡ Outcome.Done (Answer.ReadDir (record { entries = []; is_end = true })) ∷ []
   pub one_fits : outcomes volume three (list_from 0 44 ∷ [])
       ≡ Outcome.Done (Answer.ReadDir (record { entries = shown 97 4294967297 ∷ []; is_end = false })) ∷ []
   pub goes_on : outcomes volume three_others (list_from 4294967297 72 ∷ [])
@@ -115,7 +119,7 @@ pub record FileExamples : Type 0 where
     max_count = 8192;
     bitmap = [];
   }) ∷ []) ≡ status.NotSame ∷ []
-  pub no_entries : statuses volume (begun 7 with_a 1) (Argument.PutRootFh ∷ Argument.Lookup (97 ∷ []) ∷ list_from 0 0 ∷ []) ≡ replicate 3 status.Ok
+  pub no_entries : statuses volume (begun 7 with_a 1) (Argument.PutRootFh ∷ Argument.Lookup (97 ∷ []) ∷ list_from 0 16 ∷ []) ≡ replicate 3 status.Ok
   -- RENAME over an empty directory leaves one name; a rename of "a" gives it a new stamp, and its filehandle stays
   pub renamed_over : names_at (state_after volume three (Argument.SaveFh ∷ Argument.Rename (record { old_name = 97 ∷ []; new_name = 99 ∷ [] }) ∷ [])).tree 1
       ≡ (4294967298, record { name = 98 ∷ []; number = 4294967298 }) ∷ (4294967300, record { name = 99 ∷ []; number = 4294967297 }) ∷ []

@@ -67,9 +67,17 @@ abbrev pub all_entries : Limits → State → ReadDirArguments → List Entry
 all_entries limits state arguments =
     map (entry_of limits state.tree state.context.cred arguments.bitmap) (names_after arguments.cookie (names_at state.tree (current state)))
 
--- beside the entries stand the verifier, the bool that ends them and the one that tells the end
+-- the bytes that were asked, a page of no entries, and what that leaves: beside the entries stand the verifier, the bool that
+-- ends them and the one that tells the end
+
+abbrev pub page_bytes : Limits → ReadDirArguments → ℕ
+page_bytes limits arguments = min arguments.max_count limits.transfer_bytes
+
+abbrev pub empty_page_bytes : ℕ
+empty_page_bytes = 16
+
 abbrev pub page_room : Limits → ReadDirArguments → ℕ
-page_room limits arguments = min arguments.max_count limits.transfer_bytes - 16
+page_room limits arguments = page_bytes limits arguments - empty_page_bytes
 
 unfoldable pub page : Limits → State → ReadDirArguments → ReadDirAnswer
 page limits state arguments =
@@ -77,7 +85,9 @@ page limits state arguments =
     let shown = fitting (page_room limits arguments) all in
     record { entries = shown; is_end = length shown == length all }
 
--- the first entry does not fit
+-- the first entry does not fit, or where none is left not even a page of none
 abbrev pub page_refusals : Limits → State → ReadDirArguments → Refusals
 page_refusals limits state arguments =
-    (nat_lt 0 (length (all_entries limits state arguments)) && length (page limits state arguments).entries == 0, status.TooSmall) ∷ []
+    (nat_lt (page_bytes limits arguments) empty_page_bytes, status.TooSmall)
+    ∷ (nat_lt 0 (length (all_entries limits state arguments)) && length (page limits state arguments).entries == 0, status.TooSmall)
+    ∷ []

@@ -23,6 +23,8 @@ pub returns : goal.returns
 unfolding first_of granted number_in who_in ace_in attributes_of attribute_refusals value_at values_at number number_at counted padded elements elements_at each_at counted_at padded_at digits fits inherited mode_of moded name_refusals permitted node_attributes page found opened refusals effect does is_utf8 chars encode_utf8
 returns c = record {
   too_small = refl;
+  no_page = refl;
+  nothing_left = refl;
   one_fits = refl;
   goes_on = refl;
   not_same = refl;
