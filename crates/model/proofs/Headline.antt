@@ -18,7 +18,7 @@ IsChain-append : (start : Tree) (done : List Entry) (entry : Entry) → IsChain 
 IsChain-append start [] entry chain e = (e, tt)
 IsChain-append start (first ∷ done) entry chain e = (chain.0, IsChain-append first.after done entry chain.1 e)
 
-slice_get-append : {A : Type 0} (xs ys : List A) (i : ℕ) → i < length xs → slice_get (xs ++ ys) i ≡ slice_get xs i
+pub slice_get-append : {A : Type 0} (xs ys : List A) (i : ℕ) → i < length xs → slice_get (xs ++ ys) i ≡ slice_get xs i
 slice_get-append [] ys i h = absurd (omega arith)
 slice_get-append (x ∷ xs) ys zero h = refl
 slice_get-append (x ∷ xs) ys (suc i) h = slice_get-append xs ys i (omega arith)
@@ -29,7 +29,7 @@ slice_get-within [] i x e = let never : ⊥ = cc in absurd never
 slice_get-within (y ∷ xs) zero x e = omega arith
 slice_get-within (y ∷ xs) (suc i) x e = let later = slice_get-within xs i x e in omega arith
 
-slice_get-last : {A : Type 0} (xs : List A) (last : A) (i : ℕ) (x : A) → slice_get (xs ++ last ∷ []) i ≡ Some x → (slice_get xs i ≡ Some x) ⊎ (x ≡ last)
+pub slice_get-last : {A : Type 0} (xs : List A) (last : A) (i : ℕ) (x : A) → slice_get (xs ++ last ∷ []) i ≡ Some x → (slice_get xs i ≡ Some x) ⊎ (x ≡ last)
 slice_get-last [] last zero x e = let same : x ≡ last = cc in inr same
 slice_get-last [] last (suc i) x e = let never : ⊥ = cc in absurd never
 slice_get-last (y ∷ xs) last zero x e = inl e

@@ -26,6 +26,7 @@ pub mod ServedOnceLaws
 pub mod SessionRows
 pub mod SlotLaw
 pub mod SoundLaws
+pub mod StampLaws
 pub mod StateIdRows
 pub mod StepCases
 pub mod StepProofs

@@ -39,13 +39,13 @@ only_start start tree among = by_place among.0 among.1.0 among.1.1
     by_place zero less is = is
     by_place (suc place) less is = absurd (omega arith)
 
-record IsSoundWorld (limits : ServerLimits) (run : ℕ) (world : World) : Type 0 where
-  limits_are : world.limits ≡ limits
-  run_is : world.run ≡ run
+pub record IsSoundWorld (limits : ServerLimits) (run : ℕ) (world : World) : Type 0 where
+  pub limits_are : world.limits ≡ limits
+  pub run_is : world.run ≡ run
   well_formed : IsWellFormed limits.volume world.tree
   before : IsBefore (next_stamp run world.changes) world.tree
   counted : world.changes < 2 ^ 32
-  busy : (number : ℕ) (request : InProgress) → at number world.connections ≡ Some (Busy request) → request.context.run ≡ run
+  pub busy : (number : ℕ) (request : InProgress) → at number world.connections ≡ Some (Busy request) → request.context.run ≡ run
   opened : AreOpens limits.volume world.tree world.opens
 
 module _ (limits : ServerLimits) (run : ℕ) (room : limits.volume.aces_set + 5 ≤ limits.volume.aces) where
@@ -350,7 +350,7 @@ module _ (limits : ServerLimits) (run : ℕ) (room : limits.volume.aces_set + 5 
 
   -- The trees that may be left
 
-  IsLeft : Tree → Type 0
+  pub IsLeft : Tree → Type 0
   IsLeft tree = IsWellFormed limits.volume tree × IsBefore (next_stamp (run + 1) 0) tree
 
   left_of : (world : World) → IsSoundWorld limits run world → IsLeft world.tree
@@ -370,8 +370,8 @@ module _ (limits : ServerLimits) (run : ℕ) (room : limits.volume.aces_set + 5 
   left_by_event world event true tree sound after = absurd after
   left_by_event world event false tree sound after = left_behind world event tree sound (executed_of world event) (event_fits world event) after
 
-  record IsSoundServing (serving : Serving) : Type 0 where
-    world : IsSoundWorld limits run serving.world
+  pub record IsSoundServing (serving : Serving) : Type 0 where
+    pub world : IsSoundWorld limits run serving.world
     recent : (tree : Tree) → IsAmong serving.recent tree → IsLeft tree
 
   may_leave : (serving : Serving) (event : Event) (tree : Tree) → IsSoundServing serving → MayLeave serving event tree → IsLeft tree
@@ -390,7 +390,7 @@ module _ (limits : ServerLimits) (run : ℕ) (room : limits.volume.aces_set + 5 
       opened = no_opens_are limits.volume start;
     }
 
-    serving_sound : (serving : Serving) (history : History) → IsRun (mounted limits run start) serving history → IsSoundServing serving
+    pub serving_sound : (serving : Serving) (history : History) → IsRun (mounted limits run start) serving history → IsSoundServing serving
     serving_sound _ _ Begins = record {
       world = mounted_sound;
       recent = λ tree among. subst IsLeft (sym (only_start start tree among)) (left_of (mounted_world limits run start) mounted_sound);

@@ -44,6 +44,7 @@ pub mod SessionTables
 pub mod SetAttr
 pub mod SoundRuns
 pub mod Stamp
+pub mod StampRuns
 pub mod State
 pub mod StateIds
 pub mod Status
