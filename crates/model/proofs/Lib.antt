@@ -9,6 +9,7 @@ pub mod FeedingLaws
 pub mod FileStepLaws
 pub mod FreshTree
 pub mod Headline
+pub mod KeptLaws
 pub mod KeyedLaws
 pub mod LimitLaws
 pub mod ModeLaws

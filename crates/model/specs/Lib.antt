@@ -17,6 +17,7 @@ pub mod FileExamples
 pub mod Files
 pub mod Fresh
 pub mod Inherit
+pub mod KeptReplies
 pub mod Keyed
 pub mod Limits
 pub mod Mode

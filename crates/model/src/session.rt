@@ -1,5 +1,6 @@
 //! Client records, sessions and slots (RFC 8881, section 2.10): their law over whole runs.
 
+ghost use Rattle.model.specs.KeptReplies.{KeepsShort};
 ghost use Rattle.model.specs.SessionRuns.{EverySlot};
 ghost use Rattle.model.specs.SessionTables.{EveryCallGivesNew, EveryTable};
 
@@ -18,4 +19,9 @@ pub fn every_table()
 /// No client id and no session's serial is given twice in a run.
 pub fn every_id_is_new()
     ensures { EveryCallGivesNew }
+{}
+
+/// Whatever events come, a kept result has at most 12 bytes less than the record of an OK reply may have.
+pub fn kept_replies_are_short()
+    ensures { KeepsShort }
 {}

@@ -1,0 +1,44 @@
+-- What slots keep is bounded, whatever comes: RFC 8881, section 2.10.6.1.3. The bound is this server's profile.
+use Rattle.std.specs.Prelude.{◌≡◌, ◌≤◌, ℕ, ◌-◌, Bool, true, IsTrue, List, Some, length, nat_le}
+use Rattle.std.specs.List.{list_all}
+use Rattle.model.specs.declared.status.Status.TheVariants as status
+use Rattle.model.specs.Keyed.{at}
+use Rattle.model.specs.Rpc.{Success, reply_text}
+use Rattle.model.specs.Session.{SlotState, Free, Running, Kept, Session}
+use Rattle.model.specs.Tree.{Tree}
+use Rattle.model.specs.World.{ServerLimits, InProgress, Busy, World, mounted_world, result_of, one, arrives, takes, connects, hung_up}
+
+-- the reply's record if it were made now, without the record's header
+abbrev pub reply_so_far : InProgress → List ℕ
+reply_so_far request = reply_text request.xid (Success (result_of request status.Ok))
+
+-- of a record, the most that a kept result has: the header of its reply, 24 bytes, is left out, and a refused result, of at most
+-- 12 bytes, may stand behind those that had room
+abbrev pub most_kept : ServerLimits → ℕ
+most_kept limits = limits.reply_bytes - 12
+
+abbrev pub is_short_state : (most : ℕ) → SlotState → Bool
+is_short_state most Free = true
+is_short_state most Running = true
+is_short_state most (Kept reply) = nat_le (length reply) most
+
+abbrev pub keeps_short : (most : ℕ) → Session → Bool
+keeps_short most session = list_all (λ slot. is_short_state most slot.state) session.slots
+
+pub record IsShort (world : World) : Type 0 where
+  pub kept : IsTrue (list_all (keeps_short (most_kept world.limits)) world.table.sessions)
+  pub busy : (number : ℕ) (request : InProgress) → at number world.connections ≡ Some (Busy request)
+      → length (reply_so_far request) ≤ world.limits.reply_bytes
+
+-- there is room for a COMPOUND without results
+abbrev pub HasRoom : ServerLimits → Type 0
+HasRoom limits = 300 ≤ limits.reply_bytes
+
+-- The law: it holds when a run begins, and each event keeps it
+pub record KeepsShort : Type 0 where
+  pub begins : (limits : ServerLimits) (run : ℕ) (tree : Tree) → IsShort (mounted_world limits run tree)
+  pub turn : (world : World) (number now : ℕ) → HasRoom world.limits → IsShort world → IsShort (one world number now).world
+  pub arrival : (world : World) (number : ℕ) (piece : List ℕ) → IsShort world → IsShort (arrives world number piece)
+  pub taking : (world : World) (number : ℕ) → IsShort world → IsShort (takes world number)
+  pub connecting : (world : World) (number : ℕ) → IsShort world → IsShort (connects world number)
+  pub hang_up : (world : World) (number now : ℕ) → HasRoom world.limits → IsShort world → IsShort (hung_up world number now)
