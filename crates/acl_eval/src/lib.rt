@@ -49,6 +49,3 @@ pub fn granted(acl: &[Ace], owner: u32, group: u32, cred: &Cred, mask: Mask) -> 
     }
     undecided == 0
 }
-
-#[cfg(test)]
-mod tests;

@@ -11,5 +11,3 @@ pub use modes::{mode_of, with_mode};
 mod fault;
 mod inheritance;
 mod modes;
-#[cfg(test)]
-mod tests;

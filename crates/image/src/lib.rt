@@ -22,6 +22,3 @@ pub use spelled::tell_records;
 pub use to_records::records_of;
 pub use to_tree::tree_of;
 pub use updates::{FIRST_SECTOR, SECTORS, updates_of};
-
-#[cfg(test)]
-mod tests;

@@ -1,4 +1,10 @@
-use super::*;
+ghost use Rattle.std.specs.Prelude.{◌≤◌};
+ghost use Rattle.std.specs.Option.{ForSome};
+
+use acl_set::{
+    Ace, AceFlags, AceKind, Acl, AclFault, Given, Mask, NodeKind, Who, at_creation, first_refused,
+    inherit, mode_of, with_mode,
+};
 use bitflags::Flags;
 use std::alloc::Global;
 use std::test::Fail;
@@ -12,10 +18,32 @@ fn entry(kind: AceKind, who: Who, mask: u32, flags: u32) -> Ace {
     }
 }
 
+// The calls of lists, each of which stands here once: a call brings all that it promises into the proof of its caller.
+
+fn moded(alloc: Global, kind: NodeKind, old: &[Ace], mode: u32) -> Result<Acl, AclFault>
+    requires { mode ≤ 511 }
+{
+    with_mode(alloc, kind, old, mode)
+}
+
+fn created(alloc: Global, parent: &[Ace], kind: NodeKind, given: &Given) -> Result<Acl, AclFault>
+    requires { ForSome given.now.mode (λ mode. mode ≤ 511) }
+{
+    at_creation(alloc, parent, kind, given)
+}
+
+fn refused(kind: NodeKind, list: &[Ace]) -> Option<usize> {
+    first_refused(kind, list)
+}
+
+fn mode_in(list: &[Ace]) -> u32 {
+    mode_of(list)
+}
+
 #[test]
 fn mode_640_on_a_file(rt: HostRuntime) -> Result<(), Fail> {
     let old = [entry(AceKind::Allow, Who::User(5), 0x7, 0)];
-    let list = with_mode(rt.alloc(), NodeKind::File, &old, 0o640)?;
+    let list = moded(rt.alloc(), NodeKind::File, &old, 0o640)?;
     let want = [
         entry(AceKind::Allow, Who::Owner, 0x07, 0),
         entry(AceKind::Deny, Who::Owner, 0x20, 0),
@@ -24,7 +52,7 @@ fn mode_640_on_a_file(rt: HostRuntime) -> Result<(), Fail> {
         entry(AceKind::Deny, Who::Group, 0x26, 0),
     ];
     assert_eq!(rt; list.as_slice(), want.as_slice());
-    assert_eq!(rt; mode_of(list.as_slice()), 0o640);
+    assert_eq!(rt; mode_in(list.as_slice()), 0o640);
     Ok(())
 }
 
@@ -37,7 +65,7 @@ fn mode_751_on_a_directory(rt: HostRuntime) -> Result<(), Fail> {
         entry(AceKind::Allow, Who::User(5), 0x7, 0xA),
         entry(AceKind::Allow, Who::Everyone, 0x1F01E7, 0),
     ];
-    let list = with_mode(rt.alloc(), NodeKind::Directory, &old, 0o751)?;
+    let list = moded(rt.alloc(), NodeKind::Directory, &old, 0o751)?;
     let want = [
         entry(AceKind::Allow, Who::Owner, 0x67, 0),
         entry(AceKind::Deny, Who::NamedGroup(6), 0x47, 0x1),
@@ -48,7 +76,7 @@ fn mode_751_on_a_directory(rt: HostRuntime) -> Result<(), Fail> {
         entry(AceKind::Allow, Who::User(5), 0x7, 0xA),
     ];
     assert_eq!(rt; list.as_slice(), want.as_slice());
-    assert_eq!(rt; mode_of(list.as_slice()), 0o751);
+    assert_eq!(rt; mode_in(list.as_slice()), 0o751);
     Ok(())
 }
 
@@ -120,7 +148,7 @@ fn creation(rt: HostRuntime) -> Result<(), Fail> {
             mode: has_mode.then_some(0o400),
             acl: has_list.then_some(given_list.as_slice()),
         };
-        let list = at_creation(rt.alloc(), &parent(), NodeKind::File, &given)?;
+        let list = created(rt.alloc(), &parent(), NodeKind::File, &given)?;
         let want = entries(rt.alloc(), want)?;
         assert_eq!(rt; list.as_slice(), want.as_slice());
     }
@@ -137,7 +165,7 @@ fn refused_entries(rt: HostRuntime) {
     ];
     for ace in bad {
         assert_eq!(rt;
-            first_refused(NodeKind::Directory, &[good, ace]),
+            refused(NodeKind::Directory, &[good, ace]),
             Some(1),
             "{ace:?}"
         );
@@ -146,15 +174,12 @@ fn refused_entries(rt: HostRuntime) {
             mode: None,
             acl: Some(&[good, ace]),
         };
-        let outcome = at_creation(rt.alloc(), &[], NodeKind::Directory, &given);
+        let outcome = created(rt.alloc(), &[], NodeKind::Directory, &given);
         assert!(rt; matches!(outcome, Err(AclFault::Ace(1))), "{ace:?}");
     }
     let inherited = entry(AceKind::Allow, Who::User(5), 0x1, 0x1);
-    assert_eq!(rt;
-        first_refused(NodeKind::Directory, &[good, inherited]),
-        None
-    );
-    assert_eq!(rt; first_refused(NodeKind::File, &[good, inherited]), Some(1));
-    assert_eq!(rt; first_refused(NodeKind::File, &[good; 32]), None);
-    assert_eq!(rt; first_refused(NodeKind::File, &[good; 33]), Some(32));
+    assert_eq!(rt; refused(NodeKind::Directory, &[good, inherited]), None);
+    assert_eq!(rt; refused(NodeKind::File, &[good, inherited]), Some(1));
+    assert_eq!(rt; refused(NodeKind::File, &[good; 32]), None);
+    assert_eq!(rt; refused(NodeKind::File, &[good; 33]), Some(32));
 }

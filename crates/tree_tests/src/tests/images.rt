@@ -1,5 +1,7 @@
-use super::*;
+ghost use Rattle.std.specs.Prelude.{◌≤◌, length};
+
 use bitflags::Flags;
+use image::{ImageFault, NodeRecord, push_sector, read_records, records_of, tree_of, write_sector};
 use model::acl::{Ace, AceFlags, AceKind, Acl, Mask, Who};
 use plain::tree::{Content, DirEntry, Node, Tree};
 use std::alloc::Global;
@@ -41,9 +43,16 @@ fn ace(kind: AceKind, who: Who, mask: u32) -> Ace {
     }
 }
 
+/// The records in the sectors. The call stands here once, since it brings all that it promises to its caller.
+fn records_in(alloc: Global, sectors: &[[u8; 4096]]) -> Result<Vec<NodeRecord>, ImageFault>
+    requires { length sectors.now ≤ 32 }
+{
+    read_records(alloc, sectors)
+}
+
 #[test]
 fn reads_the_layout(rt: HostRuntime) -> Result<(), Fail> {
-    let records = read_records(rt.alloc(), &[vector(), [0; 4096]])?;
+    let records = records_in(rt.alloc(), &[vector(), [0; 4096]])?;
     let [root, child] = records.as_slice() else {
         return Err("not two records".into());
     };
@@ -119,7 +128,7 @@ fn refuses_other_bytes(rt: HostRuntime) -> Result<(), Fail> {
             return Err("no such byte".into());
         };
         *at = byte;
-        let read = read_records(rt.alloc(), &[sector]);
+        let read = records_in(rt.alloc(), &[sector]);
         assert!(rt; matches!(read, Err(ImageFault::NotImage)), "byte {place}");
     }
     Ok(())
@@ -131,12 +140,12 @@ fn used_records_come_first(rt: HostRuntime) -> Result<(), Fail> {
     let mut behind = [0; 4096];
     behind[..512].copy_from_slice(&vector()[512..1024]);
     for sectors in [[vector(), behind], [[0; 4096], behind]] {
-        let read = read_records(rt.alloc(), &sectors);
+        let read = records_in(rt.alloc(), &sectors);
         assert!(rt; matches!(read, Err(ImageFault::NotImage)));
     }
     let mut gap = [0; 4096];
     gap[512..1024].copy_from_slice(&vector()[512..1024]);
-    let read = read_records(rt.alloc(), &[gap]);
+    let read = records_in(rt.alloc(), &[gap]);
     assert!(rt; matches!(read, Err(ImageFault::NotImage)));
     Ok(())
 }

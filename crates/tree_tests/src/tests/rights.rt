@@ -1,4 +1,5 @@
-use super::*;
+use acl_eval::{Ace, AceFlags, AceKind, Cred, Gids, Mask, Who, granted};
+use bitflags::Flags;
 
 fn entry(kind: AceKind, who: Who, mask: u32) -> Ace {
     Ace {

@@ -1,6 +1,6 @@
 use Rattle.image.specs.RecordViews.{all_viewed}
 use Rattle.image.proofs.ReadImages.{used_spelled}
-use Rattle.image.proofs.tests.writes_the_layout.Goals as goal
+use Rattle.tree_tests.proofs.tests.images.writes_the_layout.Goals as goal
 
 pub write_sector-requires-clause-each : goal.write_sector-requires-clause-each
 write_sector-requires-clause-each g c = rw c.deref.ensures.value (used_spelled (all_viewed c.in_ok-records.records.items) c.in_ok-records.ensures.read.used)
