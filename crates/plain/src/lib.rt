@@ -13,6 +13,4 @@ pub mod names;
 pub mod put;
 pub mod refusal;
 pub mod stamp;
-#[cfg(test)]
-mod tests;
 pub mod tree;

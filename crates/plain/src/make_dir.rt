@@ -112,6 +112,3 @@ impl Tree {
         })
     }
 }
-
-#[cfg(test)]
-mod tests;

@@ -1,5 +1,7 @@
 //! What no contract says: worked lists and trees, the bytes of an image, and that calls succeed.
 
+mod creation;
 mod images;
 mod lists;
+mod operations;
 mod rights;

@@ -1,14 +1,14 @@
 ghost use Rattle.std.specs.Prelude.{◌≤◌, length};
 
-use crate::attributes::Attributes;
-use crate::make_dir::NewDirectory;
-use crate::put::Moment;
-use crate::refusal::Refusal;
-use crate::tree::{Content, DirEntry, Node, Tree};
 use acl_eval::{Ace, AceFlags, AceKind, Acl, Cred, Gids, Mask, Who};
 use bitflags::Flags;
 use model::limits::Limits;
 use model::status::Status;
+use plain::attributes::Attributes;
+use plain::make_dir::{Made, NewDirectory};
+use plain::put::Moment;
+use plain::refusal::Refusal;
+use plain::tree::{Content, DirEntry, Node, Tree};
 use std::alloc::Global;
 use std::test::Fail;
 
@@ -91,6 +91,19 @@ fn caller() -> Cred {
     }
 }
 
+// The call stands here once, since it brings all that it promises to its caller.
+fn make_dir(
+    alloc: Global,
+    tree: &Tree,
+    limits: &Limits,
+    moment: Moment,
+    asked: NewDirectory,
+) -> Result<Made, Refusal>
+    requires { length asked.attributes.bitmap.now ≤ 8 }
+{
+    tree.make_dir(alloc, limits, &caller(), moment, asked)
+}
+
 // Where, the name, the bitmap's two words, the values, and what is answered. What a row is refused for stands in front of what
 // the rows behind it are.
 const REFUSED: [(u64, &[u8], [u32; 2], &[u8], Status); 10] = [
@@ -110,7 +123,6 @@ const REFUSED: [(u64, &[u8], [u32; 2], &[u8], Status); 10] = [
 fn refuses_in_order(rt: HostRuntime) -> Result<(), Fail> {
     let volume = Limits::of_volume(256, 3);
     let tree = tree(rt.alloc(), everyone(0, RIGHTS))?;
-    let caller = caller();
     for (parent, name, bitmap, values, want) in REFUSED {
         let attributes = Attributes {
             bitmap: &bitmap,
@@ -121,7 +133,7 @@ fn refuses_in_order(rt: HostRuntime) -> Result<(), Fail> {
             name,
             attributes,
         };
-        let made = tree.make_dir(rt.alloc(), &volume, &caller, FIRST, asked);
+        let made = make_dir(rt.alloc(), &tree, &volume, FIRST, asked);
         assert!(rt;
             matches!(made, Err(Refusal::Status(status)) if status == want),
             "{want:?}"
@@ -142,7 +154,6 @@ const FULL: [(usize, u32, u32, Option<Status>); 5] = [
 #[test]
 fn room_is_tested_before_stamps(rt: HostRuntime) -> Result<(), Fail> {
     let tree = tree(rt.alloc(), everyone(0, RIGHTS))?;
-    let caller = caller();
     for (nodes, run, changes, want) in FULL {
         let limits = Limits::of_volume(256, nodes.min(4));
         let moment = Moment {
@@ -155,7 +166,7 @@ fn room_is_tested_before_stamps(rt: HostRuntime) -> Result<(), Fail> {
             name: b"n",
             attributes: NOTHING,
         };
-        let made = tree.make_dir(rt.alloc(), &limits, &caller, moment, asked);
+        let made = make_dir(rt.alloc(), &tree, &limits, moment, asked);
         assert!(rt;
             match made {
                 Err(Refusal::Status(status)) => want == Some(status),
@@ -177,7 +188,7 @@ fn make(alloc: Global, tree: &Tree, attributes: Attributes) -> Result<Tree, Fail
         name: b"n",
         attributes,
     };
-    let made = tree.make_dir(alloc, &Limits::of_volume(256, 16), &caller(), FIRST, asked)?;
+    let made = make_dir(alloc, tree, &Limits::of_volume(256, 16), FIRST, asked)?;
     Ok(made.tree)
 }
 

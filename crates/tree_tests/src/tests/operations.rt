@@ -1,16 +1,15 @@
-use crate::attributes::{
-    Attributes, SETTABLE_AT_CREATION, SUPPORTED, check_attributes, has_one_outside, mode_in,
-    trimmed,
-};
-use crate::handles::without_current;
-use crate::names::{check_name, entry_named};
-use crate::refusal::Refusal;
-use crate::stamp::{filehandle_of, next_stamp, number_of};
-use crate::tree::{Content, DirEntry, Node, Tree};
 use acl_eval::{Ace, AceFlags, AceKind, Acl, Cred, Gids, Mask, NodeKind, Who};
 use bitflags::Flags;
 use model::limits::Limits;
 use model::status::Status;
+use plain::attributes::{
+    Attributes, SETTABLE_AT_CREATION, SUPPORTED, check_attributes, has_one_outside, mode_in,
+    trimmed,
+};
+use plain::handles::without_current;
+use plain::names::{check_name, entry_named};
+use plain::stamp::{filehandle_of, next_stamp, number_of};
+use plain::tree::{Content, DirEntry, Node, Tree};
 use std::alloc::Global;
 use std::test::Fail;
 use wire_attributes::{numbers_of, read_values};
