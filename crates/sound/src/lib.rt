@@ -11,8 +11,6 @@ mod node;
 mod order;
 mod reach;
 mod stamps;
-#[cfg(test)]
-mod tests;
 mod whole;
 
 pub use age::is_before;

@@ -5,3 +5,4 @@ mod images;
 mod lists;
 mod operations;
 mod rights;
+mod soundness;

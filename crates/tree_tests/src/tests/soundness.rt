@@ -1,8 +1,8 @@
-use crate::{is_before, is_well_formed};
 use acl_set::{Ace, AceFlags, AceKind, Acl, Mask, Who};
 use bitflags::Flags;
 use model::limits::Limits;
 use plain::tree::{Content, DirEntry, Node, Tree};
+use sound::{is_before, is_well_formed};
 use std::alloc::Global;
 use std::test::Fail;
 
