@@ -14,6 +14,3 @@ pub use created::Created;
 pub use fault::{FormatFault, FsFault, MountFault};
 pub use fs::{Fs, Unmounted};
 pub use laws::{one_tree_stands, superblock_tells};
-
-#[cfg(test)]
-mod tests;

@@ -6,3 +6,4 @@ mod lists;
 mod operations;
 mod rights;
 mod soundness;
+mod volumes;

@@ -1,8 +1,8 @@
 ghost use Rattle.std.specs.Prelude.{◌≤◌, length};
 
-use crate::{Created, Fs, FsFault, MountFault};
 use acl_eval::{Cred, Gids};
 use disk::MemDevice;
+use fs::{Created, Fs, FsFault, MountFault};
 use model::status::Status;
 use plain::attributes::Attributes;
 use plain::make_dir::NewDirectory;
@@ -38,13 +38,28 @@ fn named(name: &[u8]) -> NewDirectory
     }
 }
 
+// The tree on the device.
+fn mount(alloc: Global, device: &mut MemDevice) -> Result<Fs<&mut MemDevice>, Fail> {
+    match Fs::mount(alloc, device) {
+        Ok(fs) => Ok(fs),
+        Err(_) => Err("not mounted".into()),
+    }
+}
+
+// A new volume.
+fn volume(alloc: Global) -> Result<MemDevice, Fail> {
+    let mut device = MemDevice::new(alloc, 256)?;
+    Fs::format(alloc, &mut device, 16)?;
+    Ok(device)
+}
+
+fn make(fs: &mut Fs<&mut MemDevice>, name: &[u8], has_room: bool) -> Result<Created, FsFault> {
+    fs.make_dir(&caller(), 5, named(name), has_room)
+}
+
 fn make_directories<R: AllocGlobal + Abort>(rt: &R, device: &mut MemDevice) -> Result<(), Fail> {
-    let alloc = rt.alloc();
-    let cred = caller();
-    let Ok(mut fs) = Fs::mount(alloc, device) else {
-        return Err("not mounted".into());
-    };
-    let made = fs.make_dir(&cred, 5, named(b"a"), true)?;
+    let mut fs = mount(rt.alloc(), device)?;
+    let made = make(&mut fs, b"a", true)?;
     assert_eq!(rt;
         made,
         Created {
@@ -52,19 +67,16 @@ fn make_directories<R: AllocGlobal + Abort>(rt: &R, device: &mut MemDevice) -> R
             before: 1
         }
     );
-    let again = fs.make_dir(&cred, 5, named(b"a"), true);
+    let again = make(&mut fs, b"a", true);
     assert_eq!(rt; again, Err(FsFault::Status(Status::Exist)));
-    let without_room = fs.make_dir(&cred, 5, named(b"b"), false);
+    let without_room = make(&mut fs, b"b", false);
     assert_eq!(rt; without_room, Err(FsFault::NoRoom));
     Ok(())
 }
 
 fn look_up_directories<R: AllocGlobal + Abort>(rt: &R, device: &mut MemDevice) -> Result<(), Fail> {
-    let alloc = rt.alloc();
     let cred = caller();
-    let Ok(fs) = Fs::mount(alloc, device) else {
-        return Err("not mounted".into());
-    };
+    let fs = mount(rt.alloc(), device)?;
     assert_eq!(rt; fs.restart_count(), 2);
     assert_eq!(rt; fs.lookup(&cred, 1, b"a"), Ok(FIRST));
     assert_eq!(rt;
@@ -75,9 +87,7 @@ fn look_up_directories<R: AllocGlobal + Abort>(rt: &R, device: &mut MemDevice) -
 }
 
 fn take_handles<R: AllocGlobal + Abort>(rt: &R, device: &mut MemDevice) -> Result<(), Fail> {
-    let Ok(fs) = Fs::mount(rt.alloc(), device) else {
-        return Err("not mounted".into());
-    };
+    let fs = mount(rt.alloc(), device)?;
     let root = fs.handle(1)?;
     assert_eq!(rt; root, [0, 0, 0, 0, 0, 0, 0, 1]);
     assert_eq!(rt; fs.put_handle(&root), Ok(1));
@@ -97,15 +107,13 @@ fn take_handles<R: AllocGlobal + Abort>(rt: &R, device: &mut MemDevice) -> Resul
 
 #[test]
 fn filehandles_name_nodes(rt: HostRuntime) -> Result<(), Fail> {
-    let mut device = MemDevice::new(rt.alloc(), 256)?;
-    Fs::format(rt.alloc(), &mut device, 16)?;
+    let mut device = volume(rt.alloc())?;
     take_handles(&rt, &mut device)
 }
 
 #[test]
 fn directories_are_there_after_a_mount(rt: HostRuntime) -> Result<(), Fail> {
-    let mut device = MemDevice::new(rt.alloc(), 256)?;
-    Fs::format(rt.alloc(), &mut device, 16)?;
+    let mut device = volume(rt.alloc())?;
     make_directories(&rt, &mut device)?;
     look_up_directories(&rt, &mut device)
 }
