@@ -13,6 +13,7 @@ pub mod KeptLaws
 pub mod KeyedLaws
 pub mod LimitLaws
 pub mod ModeLaws
+pub mod NodeAttributeLaws
 pub mod NodeChangeLaws
 pub mod NumberLaws
 pub mod OpensLaws

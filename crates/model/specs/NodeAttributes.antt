@@ -95,3 +95,9 @@ pub record AnswersSupported : Type 0 where
   -- each attribute that is supported has its value, and no other
   pub each : (limits : Limits) (number : ℕ) (node : Node) → map attribute_of (node_values limits number node) ≡ supported
   pub bitmap : attributes_of supported_bitmap ≡ supported
+
+-- What is answered are the attributes that were asked and that are supported, each with its value.
+abbrev pub AnswersAsked : Type 0
+AnswersAsked = (limits : Limits) (bitmap : List ℕ) (number : ℕ) (node : Node)
+    → attributes_of (node_attributes limits bitmap number node).bitmap
+    ≡ map attribute_of (asked_values (attributes_of bitmap) (node_values limits number node))

@@ -5,7 +5,7 @@ ghost use Rattle.xdr.specs.Laws.{Exact, OneSpelling};
 ghost use Rattle.model.specs.AclText.{ReadsEntries, ReadsNames, ReadsNumbers, WritesEntries};
 ghost use Rattle.model.specs.Attribute.{GivenListsFit};
 ghost use Rattle.model.specs.AttributeValue.{ReadsWhole, values};
-ghost use Rattle.model.specs.NodeAttributes.{AnswersSupported};
+ghost use Rattle.model.specs.NodeAttributes.{AnswersAsked, AnswersSupported};
 
 /// The values of any attributes are exact: so they have one spelling, and no spelling begins another.
 #[tactic(auto, using(crate::proofs::AttributeExact::values_exact, crate::proofs::AttributeExact::one_values))]
@@ -31,4 +31,9 @@ pub fn given_lists_fit()
 /// A node has a value of each attribute that is supported, and of no other.
 pub fn each_has_a_value()
     ensures { AnswersSupported }
+{}
+
+/// The bitmap that a node answers tells the attributes whose values stand beside it: those that were asked and are supported.
+pub fn answers_tell_their_attributes()
+    ensures { AnswersAsked }
 {}
