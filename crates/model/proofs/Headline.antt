@@ -24,7 +24,7 @@ slice_get-append (x ∷ xs) ys zero h = refl
 slice_get-append (x ∷ xs) ys (suc i) h = slice_get-append xs ys i (omega arith)
 
 -- a place that has something is one of the list's, or the last one of a list with one more
-slice_get-within : {A : Type 0} (xs : List A) (i : ℕ) (x : A) → slice_get xs i ≡ Some x → i < length xs
+pub slice_get-within : {A : Type 0} (xs : List A) (i : ℕ) (x : A) → slice_get xs i ≡ Some x → i < length xs
 slice_get-within [] i x e = let never : ⊥ = cc in absurd never
 slice_get-within (y ∷ xs) zero x e = omega arith
 slice_get-within (y ∷ xs) (suc i) x e = let later = slice_get-within xs i x e in omega arith

@@ -64,7 +64,7 @@ effect_alters limits state now (Argument.Write arguments) differs = write_alters
     write_alters true differs = (refl, refl)
 effect_alters limits state now _ differs = absurd (differs refl)
 
-no_test : (b : Bool) (reason : Status) (others : Option Status) → refused_or b reason others ≡ None → (b ≡ false) × (others ≡ None)
+pub no_test : (b : Bool) (reason : Status) (others : Option Status) → refused_or b reason others ≡ None → (b ≡ false) × (others ≡ None)
 no_test true reason others e = let never : ⊥ = cc in absurd never
 no_test false reason others e = (refl, e)
 
@@ -74,11 +74,11 @@ front_passes (test ∷ tests) more e =
     let passed = no_test test.0 test.1 (first_refusal (tests ++ more)) e in
     ap (λ (b : Bool). refused_or b test.1 (first_refusal tests)) passed.0 ∙ front_passes tests more passed.1
 
-back_passes : (tests more : Refusals) → first_refusal (tests ++ more) ≡ None → first_refusal more ≡ None
+pub back_passes : (tests more : Refusals) → first_refusal (tests ++ more) ≡ None → first_refusal more ≡ None
 back_passes [] more e = e
 back_passes (test ∷ tests) more e = back_passes tests more (no_test test.0 test.1 (first_refusal (tests ++ more)) e).1
 
-not_false : (b : Bool) → not b ≡ false → b ≡ true
+pub not_false : (b : Bool) → not b ≡ false → b ≡ true
 not_false true e = refl
 not_false false e = let never : ⊥ = cc in absurd never
 

@@ -1,11 +1,12 @@
 -- What users of the server can rely on when it stops: NFS asks it of a server in RFC 8881, sections 18.3 (COMMIT), 18.32 (WRITE) and 2.10.6.2 (replies).
 -- A machine goes from event to event and may be stopped at any moment; a stop leaves the tree that a good prefix of what was executed gives.
-use Rattle.std.specs.Prelude.{◌≡◌, ◌≢◌, ℕ, ◌<◌, ◌≤◌, ◌⊎◌, Bool, true, false, not, ◌&&◌, ◌||◌, ◌==◌, List, [], ◌∷◌, ◌++◌, length, take, slice_get, option_to_list, Option, None, Some, if◌then◌else◌, bytes_eq}
+use Rattle.std.specs.Prelude.{◌≡◌, ◌≢◌, ℕ, ◌+◌, ◌<◌, ◌≤◌, ◌⊎◌, Bool, true, false, not, ◌&&◌, ◌||◌, ◌==◌, List, [], ◌∷◌, ◌++◌, length, take, slice_get, option_to_list, Option, None, Some, if◌then◌else◌, bytes_eq}
 use Rattle.std.specs.List.{IsAmong}
 use Rattle.model.specs.Answer.{Outcome}
 use Rattle.model.specs.Keyed.{at}
 use Rattle.model.specs.Need.{permitted}
 use Rattle.model.specs.Operation.{Argument}
+use Rattle.model.specs.Stamp.{stamp, next_stamp}
 use Rattle.model.specs.Step.{alters}
 use Rattle.model.specs.Tree.{Tree}
 use Rattle.model.specs.World.{World, ServerLimits, mounted_world, Entry, Turned, Turn, Idle, Ran, Answered, one, arrives, takes, connects, hangs_up, reply_at, is_busy}
@@ -233,3 +234,21 @@ abbrev pub EveryRun : Type 0
 EveryRun = (limits : ServerLimits) (run : ℕ) (start : Tree) (serving : Serving) (history : History)
     → IsRun (mounted limits run start) serving history → (event : Event) (tree : Tree) → MayLeave serving event tree
     → IsGoodPrefix start (done_with history (executed serving event)) history.handed_out tree
+
+-- Stamps: a change takes the next one of its run, whether a stop takes it away or not
+
+-- that of a change made in the state of this entry, by how many changes this run had before
+abbrev pub stamp_in : (run : ℕ) → Entry → ℕ
+stamp_in run entry = next_stamp run entry.state.changes
+
+-- those of the changes rise, and are stamps of the run
+pub record AreStamped (run : ℕ) (done : List Entry) : Type 0 where
+  pub rise : (i j : ℕ) (one other : Entry) → i < j → slice_get done i ≡ Some one → slice_get done j ≡ Some other → before one ≢ one.after
+      → stamp_in run one < stamp_in run other
+  pub of_run : (i : ℕ) (entry : Entry) → slice_get done i ≡ Some entry → before entry ≢ entry.after
+      → (stamp run 0 < stamp_in run entry) × (stamp_in run entry < stamp (run + 1) 0)
+
+-- of all that was executed, what a stop takes away and the one under way included
+abbrev pub EveryStamp : Type 0
+EveryStamp = (limits : ServerLimits) (run : ℕ) (start : Tree) (serving : Serving) (history : History)
+    → IsRun (mounted limits run start) serving history → (event : Event) → AreStamped run (done_with history (executed serving event))

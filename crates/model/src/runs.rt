@@ -1,7 +1,7 @@
 //! The headline: what users of the server can rely on when it is stopped.
 
 ghost use Rattle.model.specs.RuledOut.{NoSkip, NoEarlyReply, NoTakingBack, NoSecondRun, NoForgetting, NoGap, OneATurn, HangsUpLast, HangUpIsEvents, EachEventHappens};
-ghost use Rattle.model.specs.Runs.{EveryRun};
+ghost use Rattle.model.specs.Runs.{EveryRun, EveryStamp};
 ghost use Rattle.model.specs.ServedOnce.{EveryServedSlot};
 
 /// Whatever bytes arrive on whatever connections, and wherever the server is stopped: the tree that a stop may leave is the
@@ -36,4 +36,9 @@ pub fn each_event_happens()
 /// again only after the 2^32 - 1 others, whatever came, on whatever connections (RFC 8881, section 2.10.6.1).
 pub fn every_served_slot()
     ensures { EveryServedSlot }
+{}
+
+/// In every run the stamps of its changes rise, of those that a stop takes away and of the one under way too.
+pub fn every_stamp()
+    ensures { EveryStamp }
 {}

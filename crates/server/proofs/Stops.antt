@@ -6,12 +6,13 @@ use Rattle.fs.specs.FileSystem.{FileSystem, IsSameVolume}
 use Rattle.fs.specs.Stands.{StandsFor}
 use Rattle.fs.proofs.OneTree.{one_tree_stands}
 use Rattle.model.proofs.Headline.{every_run}
+use Rattle.model.proofs.RisingStamps.{every_stamp}
 use Rattle.model.specs.Runs as runs
-use Rattle.model.specs.Runs.{Serving, Event, Takes, Happens, Fails, StaysDown, MayLeave, History, IsRun, IsGoodPrefix, no_history, history_after, history_failing, effect_of, mounted, executed, done_with}
+use Rattle.model.specs.Runs.{Serving, Event, Takes, Happens, Fails, StaysDown, MayLeave, History, IsRun, IsGoodPrefix, AreStamped, no_history, history_after, history_failing, effect_of, mounted, executed, done_with}
 use Rattle.model.specs.Tree.{Tree}
 use Rattle.model.specs.World.{World}
 use Rattle.fs.proofs.RemountLaws.{every_remount}
-use Rattle.server.specs.Headline.{IsMounted, IsGoodTree, IsKept, EveryStop, EveryRun, EveryTrace, Stopped, Follows, IsLater, Next, Then, EveryLife}
+use Rattle.server.specs.Headline.{IsMounted, IsGoodTree, IsKept, EveryStop, EveryRun, EveryTrace, Stopped, executed_in, Follows, IsLater, Next, Then, EveryLife, EveryStamping}
 use Rattle.fs.specs.FileSystem.{StandsForOne}
 use Rattle.server.specs.Seen.{Seen, LeavesNow, Moves, Does, Breaks, GivesDown, Call, Did, Failed, IsServed, Begins, Goes_on, Fails_at, Stays_down, world_after, history_of, AreTold, told, Said}
 use Rattle.server.specs.Servers.{server_limits}
@@ -118,6 +119,27 @@ later_run old new (Then {between = between} later follows) =
 
 pub every_life : EveryLife
 every_life = record { begins = λ old new follows. (follows_run old new follows).0; rises = later_run }
+
+-- Stamps
+
+stamped_within : (stopped : Stopped) → AreStamped stopped.run (executed_in stopped)
+stamped_within stopped =
+    let first = stopped.first in
+    let old = stopped.old in
+    let history = history_of first.serving.world stopped.calls in
+    let all = joined first old stopped.calls stopped.mounted.ready.leaves stopped.served in
+    every_stamp (server_limits first.volume.limits) stopped.run stopped.start old.serving history
+    (subst (λ (s : Serving). IsRun s old.serving history) stopped.mounted.serves all.run) stopped.event
+
+pub every_stamping : EveryStamping
+every_stamping = record {
+  within = stamped_within;
+  between = λ old new later i j one other first second differs changes.
+      let less = later_run old new later in
+      let low = ((stamped_within old).of_run i one first differs).1 in
+      let high = ((stamped_within new).of_run j other second changes).0 in
+      omega (arith, less, low, high);
+}
 
 -- What is told of worlds and answers needs nothing of the device
 traced : (first last : Seen) (calls : List Call) → IsServed first calls last

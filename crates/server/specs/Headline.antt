@@ -1,10 +1,10 @@
 -- What users of the server can rely on, from the bytes that come to the sectors that a stop leaves.
-use Rattle.std.specs.Prelude.{ℕ, List, [], ◌∷◌, Option, ◌≡◌, ◌<◌}
+use Rattle.std.specs.Prelude.{ℕ, List, [], ◌∷◌, slice_get, Some, ◌≡◌, ◌≢◌, ◌<◌}
 use Rattle.disk.specs.Moments.{Image, History, LeftSince, moment}
 use Rattle.fs.specs.FileSystem.{FileSystem, IsRecent}
 use Rattle.fs.specs.Remounts.{Remounts, IsFound}
 use Rattle.fs.specs.Stands.{StandsFor}
-use Rattle.model.specs.Runs.{Event, IsGoodPrefix, mounted, executed, done_with}
+use Rattle.model.specs.Runs.{Event, IsGoodPrefix, AreStamped, mounted, executed, done_with, before, stamp_in}
 use Rattle.model.specs.Tree.{Tree}
 use Rattle.model.specs.World.{Entry}
 use Rattle.server.specs.Seen.{Seen, Call, Moves, IsServed, world_after, history_of, AreTold}
@@ -85,6 +85,12 @@ pub data IsLater (old : Stopped) : Stopped → Type 0 where
 pub record EveryLife : Type 0 where
   pub begins : (old new : Stopped) → Follows old new → IsGoodTree old new.start
   pub rises : (old new : Stopped) → IsLater old new → old.run < new.run
+
+-- The stamps of a run's changes rise, of those that a stop takes away and of the one under way too; those of a later run are above.
+pub record EveryStamping : Type 0 where
+  pub within : (stopped : Stopped) → AreStamped stopped.run (executed_in stopped)
+  pub between : (old new : Stopped) → IsLater old new → (i j : ℕ) (one other : Entry) → slice_get (executed_in old) i ≡ Some one
+      → slice_get (executed_in new) j ≡ Some other → before one ≢ one.after → before other ≢ other.after → stamp_in old.run one < stamp_in new.run other
 
 -- What a server that isn't stopped is and answers.
 abbrev pub EveryTrace : Type 0

@@ -1,6 +1,6 @@
 //! What holds of every run of a server.
 
-ghost use Rattle.server.specs.Headline.{EveryRun, EveryStop, EveryTrace, EveryLife};
+ghost use Rattle.server.specs.Headline.{EveryRun, EveryStop, EveryTrace, EveryLife, EveryStamping};
 ghost use Rattle.server.specs.RunLaws.{HangUpIsCalls, NeverEmpty, OnlyIdle};
 
 /// Whatever bytes arrive on whatever connections, and wherever the server is stopped: however often the volume is mounted since,
@@ -18,7 +18,9 @@ pub fn every_run()
     ensures trace { EveryTrace }
     // runs behind one another: each begins with a good tree of the one before, and counts rise
     ensures life { EveryLife }
-    // Idle only where no whole request waits, or a reply was not taken
+    // the stamps of a run's changes rise, lost ones too, and from run to run
+    ensures stamps { EveryStamping }
+    // Idle exactly where there is nothing to do
     ensures idle { OnlyIdle }
     ensures hang_up { HangUpIsCalls }
     // and no run claims that a stop leaves nothing

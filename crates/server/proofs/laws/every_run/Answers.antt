@@ -1,5 +1,5 @@
 use Rattle.server.proofs.RunLaws.{hang_up_is_calls, never_empty, only_idle}
-use Rattle.server.proofs.Stops.{every_run_again, every_stop, every_trace, every_life}
+use Rattle.server.proofs.Stops.{every_run_again, every_stop, every_trace, every_life, every_stamping}
 use Rattle.server.proofs.laws.every_run.Goals as goal
 
 pub returns : goal.returns
@@ -8,6 +8,7 @@ returns c = record {
   stop = every_stop;
   trace = every_trace;
   life = every_life;
+  stamps = every_stamping;
   idle = only_idle;
   hang_up = hang_up_is_calls;
   empty = never_empty;

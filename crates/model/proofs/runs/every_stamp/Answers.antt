@@ -1,0 +1,5 @@
+use Rattle.model.proofs.RisingStamps.{every_stamp}
+use Rattle.model.proofs.runs.every_stamp.Goals as goal
+
+pub returns : goal.returns
+returns c = every_stamp
