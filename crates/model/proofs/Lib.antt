@@ -28,7 +28,6 @@ pub mod ServedOnceLaws
 pub mod SessionRows
 pub mod SlotLaw
 pub mod SoundLaws
-pub mod RisingStamps
 pub mod StampLaws
 pub mod StateIdRows
 pub mod StepCases

@@ -45,7 +45,6 @@ pub mod SessionTables
 pub mod SetAttr
 pub mod SoundRuns
 pub mod Stamp
-pub mod StampRuns
 pub mod State
 pub mod StateIds
 pub mod Status

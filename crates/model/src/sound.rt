@@ -2,7 +2,6 @@
 
 ghost use Rattle.model.specs.OpensLaws.{EveryRunKeepsOpens};
 ghost use Rattle.model.specs.SoundRuns.{EveryTreeIsSound};
-ghost use Rattle.model.specs.StampRuns.{EveryStampIsNew};
 ghost use Rattle.model.specs.World.{ServerLimits};
 
 /// Whatever bytes arrive on whatever connections, and wherever the server is stopped: the tree that a stop may leave is well
@@ -15,9 +14,4 @@ pub fn every_tree()
 /// the limit.
 pub fn every_run_keeps_opens()
     ensures { EveryRunKeepsOpens }
-{}
-
-/// No stamp is given twice in a run: what is executed after a change would have a greater one.
-pub fn every_stamp_is_new()
-    ensures { EveryStampIsNew }
 {}

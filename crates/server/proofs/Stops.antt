@@ -6,7 +6,7 @@ use Rattle.fs.specs.FileSystem.{FileSystem, IsSameVolume}
 use Rattle.fs.specs.Stands.{StandsFor}
 use Rattle.fs.proofs.OneTree.{one_tree_stands}
 use Rattle.model.proofs.Headline.{every_run}
-use Rattle.model.proofs.RisingStamps.{every_stamp}
+use Rattle.model.proofs.StampLaws.{every_stamp}
 use Rattle.model.specs.Runs as runs
 use Rattle.model.specs.Runs.{Serving, Event, Takes, Happens, Fails, StaysDown, MayLeave, History, IsRun, IsGoodPrefix, AreStamped, no_history, history_after, history_failing, effect_of, mounted, executed, done_with}
 use Rattle.model.specs.Tree.{Tree}
