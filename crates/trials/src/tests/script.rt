@@ -382,3 +382,59 @@ fn stops_of_five_creations(rt: HostRuntime) -> Result<(), Fail> {
     assert!(rt; trial.found.iter().all(|times| *times > 0));
     Ok(())
 }
+
+/// Plays the records, takes the device from the server, and begins a second life on it: the device, wherever that ended.
+fn two_lives(alloc: Global, device: CrashDevice, records: &[Vec<u8>]) -> Result<CrashDevice, Fail> {
+    let Ok(mut server) = Server::mount(alloc, device) else {
+        return Err("not mounted".into());
+    };
+    let replies = play(alloc, &mut server, records)?;
+    if replies.len() != records.len() {
+        return Err("stopped in its first life".into());
+    }
+    match Server::mount(alloc, server.into_device()) {
+        Ok(server) => Ok(server.into_device()),
+        Err(refused) => Ok(refused.device),
+    }
+}
+
+/// The restart count of the next mount, which has to find this tree.
+fn count_behind(rt: &impl Abort, alloc: Global, left: MemDevice, tree: &Tree) -> Result<u32, Fail> {
+    let Ok(fs) = Fs::mount(alloc, left) else {
+        return Err("not mounted".into());
+    };
+    assert!(rt; is_tree_of(&fs, tree, &caller(9)));
+    Ok(fs.restart_count())
+}
+
+/// Stops within the mount of a second life: each leaves the first one's tree, with the restart count as it was or one more.
+#[test]
+fn stops_of_a_second_mount(rt: HostRuntime) -> Result<(), Fail> {
+    let alloc = rt.alloc();
+    let volume = volume(alloc)?;
+    let records = records(alloc)?;
+    let mut first = CrashDevice::new(volume.landed(alloc, &[])?, Stop::Never);
+    let _ = serve(alloc, &mut first, &records)?;
+    let whole = CrashDevice::new(volume.landed(alloc, &[])?, Stop::Never);
+    let whole = two_lives(alloc, whole, &records)?;
+    let fronts = Fronts::new(alloc)?;
+    let tree = fronts.trees.last().ok_or("no tree")?;
+    let mut found = [0u32; 2];
+    for step in first.steps()..whole.steps() {
+        for stop in [Stop::Before(step), Stop::Within(step)] {
+            let device = CrashDevice::new(volume.landed(alloc, &[])?, stop);
+            let stopped = two_lives(alloc, device, &records)?;
+            assert!(rt; stopped.is_stopped());
+            for landing in landings(alloc, &stopped.unsynced(alloc)?)?.iter() {
+                let left = stopped.landed(alloc, landing)?;
+                match count_behind(&rt, alloc, left, tree)? {
+                    2 => found[0] = found[0].saturating_add(1),
+                    3 => found[1] = found[1].saturating_add(1),
+                    _ => return Err("another restart count".into()),
+                }
+            }
+        }
+    }
+    assert!(rt; found.iter().all(|times| *times > 0));
+    Ok(())
+}
