@@ -1,5 +1,6 @@
 pub mod AclTextLaws
 pub mod AncestorLaws
+pub mod AnswerLaws
 pub mod AttributeExact
 pub mod AttributeLaws
 pub mod ChangeLaws

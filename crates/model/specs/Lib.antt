@@ -5,6 +5,7 @@ pub mod AclLaws
 pub mod AclText
 pub mod Ancestors
 pub mod Answer
+pub mod AnswerRuns
 pub mod Attribute
 pub mod AttributeValue
 pub mod Changes

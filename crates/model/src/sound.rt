@@ -1,5 +1,6 @@
-//! That the tree stays well formed, whatever happens.
+//! That the tree stays well formed and nobody is answered what he may not have, whatever happens.
 
+ghost use Rattle.model.specs.AnswerRuns.{EveryAnswerIsPermitted};
 ghost use Rattle.model.specs.OpensLaws.{EveryRunKeepsOpens};
 ghost use Rattle.model.specs.SoundRuns.{EveryTreeIsSound};
 ghost use Rattle.model.specs.World.{ServerLimits};
@@ -14,4 +15,10 @@ pub fn every_tree()
 /// the limit.
 pub fn every_run_keeps_opens()
     ensures { EveryRunKeepsOpens }
+{}
+
+/// Nobody is answered what the lists deny him: whatever was answered OK, a reading as well as a change, was permitted to its
+/// caller by the lists of the tree that it was answered from.
+pub fn every_answer_is_permitted()
+    ensures { EveryAnswerIsPermitted }
 {}
