@@ -19,6 +19,7 @@ pub mod NodeChangeLaws
 pub mod NumberLaws
 pub mod OpensLaws
 pub mod OpensSteps
+pub mod PageLaws
 pub mod RecordLaws
 pub mod RecordOnly
 pub mod RpcExact

@@ -29,6 +29,7 @@ pub mod Open
 pub mod Opens
 pub mod OpensLaws
 pub mod Operation
+pub mod PageLaws
 pub mod ReadDir
 pub mod Record
 pub mod Refusal

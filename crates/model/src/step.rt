@@ -2,6 +2,7 @@
 
 ghost use Rattle.model.specs.FileExamples.{FileExamples};
 ghost use Rattle.model.specs.OpensLaws.{EveryStepKeepsOpens};
+ghost use Rattle.model.specs.PageLaws.{EveryPage};
 ghost use Rattle.model.specs.RightsExamples.{RightsExamples};
 ghost use Rattle.model.specs.StepExamples.{StepExamples};
 ghost use Rattle.model.specs.StepLaws.{EveryStepIsLawful, RunsBeginSound};
@@ -29,6 +30,11 @@ pub fn every_step()
 /// Opens name files of the tree and have serials that were given once, and there are not more than the limit.
 pub fn every_step_keeps_opens()
     ensures { EveryStepKeepsOpens }
+{}
+
+/// A page of READDIR has the first entries behind the cookie, as many as its spelling has room for.
+pub fn every_page()
+    ensures { EveryPage }
 {}
 
 /// Each run begins with a well-formed tree whose stamps are from before its own.

@@ -1,0 +1,5 @@
+use Rattle.model.proofs.PageLaws.{every_page}
+use Rattle.model.proofs.step.every_page.Goals as goal
+
+pub returns : goal.returns
+returns c = every_page
