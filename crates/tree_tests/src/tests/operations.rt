@@ -8,6 +8,7 @@ use plain::attributes::{
 };
 use plain::handles::without_current;
 use plain::names::{check_name, entry_named};
+use plain::refusal::Refusal;
 use plain::stamp::{filehandle_of, next_stamp, number_of};
 use plain::tree::{Content, DirEntry, Node, Tree};
 use std::alloc::Global;
