@@ -18,6 +18,3 @@ pub use fs::{FormatFault, MountFault, Unmounted};
 pub use laws::every_run;
 pub use server::Server;
 pub use turn::Turn;
-
-#[cfg(test)]
-mod tests;

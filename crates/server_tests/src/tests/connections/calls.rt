@@ -1,8 +1,9 @@
 //! What comes of a record before an operation runs.
 
 use super::Step::{self, Asks};
-use super::{bytes_of, end, expect, feed, new_server, play};
-use crate::{ServerFault, Turn};
+use super::{bytes_of, end, expect, feed, new_server};
+use crate::tests::drivers;
+use server::{ServerFault, Turn};
 use std::alloc::{AllocGlobal, Global};
 use std::process::Abort;
 use std::test::Fail;
@@ -62,6 +63,8 @@ const TESTED: [Step; 8] = [
     Asks(0, NO_OPERATIONS, 1, NO_RESULTS),
 ];
 
+const PLAIN: [Step; 1] = [Asks(0, NULL, 1, NULL_REPLY)];
+
 /// A header of 16,385 bytes; an empty last fragment; NULL with a credential of 401 bytes, and a reply.
 const CLOSING: [&str; 4] = [
     "80004001",
@@ -70,36 +73,41 @@ const CLOSING: [&str; 4] = [
     "80000028 1 1 2 186a3 4 0 0 0 0 0",
 ];
 
-#[test]
-fn a_plain_call_is_answered(rt: HostRuntime) -> Result<(), Fail> {
-    play(&rt, &[Asks(0, NULL, 1, NULL_REPLY)])
-}
-
-#[test]
-fn calls_are_tested_before_an_operation_runs(rt: HostRuntime) -> Result<(), Fail> {
-    play(&rt, &TESTED)
-}
+/// Whole connections, by what they show.
+pub(super) const ROWS: [(&str, &[Step]); 2] = [
+    ("a plain call is answered", &PLAIN),
+    ("calls are tested before an operation runs", &TESTED),
+];
 
 #[test]
 fn fragments_come_byte_by_byte(rt: HostRuntime) -> Result<(), Fail> {
     let mut server = new_server(rt.alloc())?;
     for byte in bytes_of(rt.alloc(), NULL_IN_FRAGMENTS)?.iter() {
-        assert_eq!(rt; server.turn(0, 0)?, Turn::Idle);
-        assert_eq!(rt; server.feed(0, &[*byte])?, 1);
+        assert_eq!(rt; drivers::turn(&mut server, 0)?, Turn::Idle);
+        assert_eq!(rt; drivers::feed(&mut server, 0, &[*byte])?, 1);
     }
     expect(&rt, rt.alloc(), &end(&mut server, 0, 1)?, NULL_REPLY)?;
-    assert!(rt; server.take_output(0)?.is_none());
+    assert!(rt; drivers::take_output(&mut server, 0)?.is_none());
     Ok(())
 }
 
 /// Bytes close a connection, which stays so: each later feed and turn is answered Closed.
 fn expect_closed(rt: &impl Abort, alloc: Global, bytes: &[u8]) -> Result<(), Fail> {
     let mut server = new_server(alloc)?;
-    assert_eq!(rt; server.feed(0, bytes), Err(ServerFault::Closed));
-    assert_eq!(rt; server.feed(0, &[]), Err(ServerFault::Closed));
-    assert_eq!(rt; server.feed(0, &[1]), Err(ServerFault::Closed));
-    assert_eq!(rt; server.turn(0, 0), Err(ServerFault::Closed));
-    assert!(rt; server.take_output(0)?.is_none());
+    assert_eq!(rt;
+        drivers::feed(&mut server, 0, bytes),
+        Err(ServerFault::Closed)
+    );
+    assert_eq!(rt;
+        drivers::feed(&mut server, 0, &[]),
+        Err(ServerFault::Closed)
+    );
+    assert_eq!(rt;
+        drivers::feed(&mut server, 0, &[1]),
+        Err(ServerFault::Closed)
+    );
+    assert_eq!(rt; drivers::turn(&mut server, 0), Err(ServerFault::Closed));
+    assert!(rt; drivers::take_output(&mut server, 0)?.is_none());
     Ok(())
 }
 

@@ -1,8 +1,9 @@
 //! Volumes that are mounted, and ones that are not.
 
 use super::new_server;
-use crate::{MountFault, Server};
+use crate::tests::drivers;
 use disk::{Call, Device, MemDevice, SECTOR};
+use server::{MountFault, Server};
 use std::alloc::{AllocGlobal, Global};
 use std::process::Abort;
 use std::test::Fail;
@@ -10,7 +11,7 @@ use std::test::Fail;
 /// A new volume, whose first sector has these bytes from this place on.
 fn changed(alloc: Global, place: usize, bytes: &[u8]) -> Result<MemDevice, Fail> {
     let mut device = MemDevice::new(alloc, 256)?;
-    Server::format(alloc, &mut device, 16)?;
+    drivers::format(alloc, &mut device, 16)?;
     let mut first = [0; SECTOR];
     device.read(0, &mut first)?;
     for (old, new) in first.iter_mut().skip(place).zip(bytes) {

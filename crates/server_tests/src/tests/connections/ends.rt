@@ -2,8 +2,9 @@
 
 use super::sessions::{CREATE_SESSION, EXCHANGE_ID, EXCHANGED};
 use super::{bytes_of, end, expect, feed, new_server, put};
-use crate::{Server, ServerFault};
+use crate::tests::drivers;
 use disk::MemDevice;
+use server::{Server, ServerFault};
 use std::alloc::{AllocGlobal, Global};
 use std::process::Abort;
 use std::test::Fail;
@@ -75,12 +76,15 @@ fn there_are_32_sessions(rt: HostRuntime) -> Result<(), Fail> {
 fn there_are_16_connections(rt: HostRuntime) -> Result<(), Fail> {
     let mut server = new_server(rt.alloc())?;
     for _ in 3..16 {
-        server.connect()?;
+        drivers::connect(&mut server)?;
     }
-    assert_eq!(rt; server.connect(), Err(ServerFault::Full));
-    server.hangup(5, 0)?;
-    assert_eq!(rt; server.hangup(5, 0), Err(ServerFault::NoConnection));
-    assert_eq!(rt; server.connect(), Ok(5));
-    assert_eq!(rt; server.connect(), Err(ServerFault::Full));
+    assert_eq!(rt; drivers::connect(&mut server), Err(ServerFault::Full));
+    drivers::hangup(&mut server, 5)?;
+    assert_eq!(rt;
+        drivers::hangup(&mut server, 5),
+        Err(ServerFault::NoConnection)
+    );
+    assert_eq!(rt; drivers::connect(&mut server), Ok(5));
+    assert_eq!(rt; drivers::connect(&mut server), Err(ServerFault::Full));
     Ok(())
 }

@@ -1,6 +1,7 @@
 //! Stops before and within each write and each sync of a server that makes directories.
 
 use super::calls::{Caller, Operation, compound, hello, on_slot, session};
+use crate::tests::drivers;
 use acl_eval::{Cred, Gids};
 use disk::{CrashDevice, Device, MemDevice, Stop, landings};
 use fs::{Fs, FsFault};
@@ -203,13 +204,13 @@ fn ask<D: Device>(
     conn: usize,
     sent: &[u8],
 ) -> Result<Option<Vec<u8>>, ServerFault> {
-    server.feed(conn, sent)?;
+    drivers::feed(server, conn, sent)?;
     for _ in 0..16 {
-        if server.turn(conn, NOW)? == Turn::Answered {
+        if drivers::turn(server, conn)? == Turn::Answered {
             break;
         }
     }
-    server.take_output(conn)
+    drivers::take_output(server, conn)
 }
 
 /// Sends the records one after the other, up to the device's stop, and gives the replies that were taken.
@@ -218,7 +219,7 @@ fn play<D: Device>(
     server: &mut Server<D>,
     records: &[Vec<u8>],
 ) -> Result<Vec<Vec<u8>>, Fail> {
-    let conn = server.connect()?;
+    let conn = drivers::connect(server)?;
     let mut replies = Vec::new(alloc);
     for sent in records {
         match ask(server, conn, sent) {
@@ -241,7 +242,7 @@ fn status_of(reply: &[u8]) -> Option<u32> {
 /// A volume at rest.
 fn volume(alloc: Global) -> Result<CrashDevice, Fail> {
     let mut device = CrashDevice::new(MemDevice::new(alloc, SECTORS)?, Stop::Never);
-    Server::format(alloc, &mut device, NODES)?;
+    drivers::format(alloc, &mut device, NODES)?;
     Ok(CrashDevice::new(device.landed(alloc, &[])?, Stop::Never))
 }
 
@@ -251,9 +252,7 @@ fn serve(
     device: &mut CrashDevice,
     records: &[Vec<u8>],
 ) -> Result<Vec<Vec<u8>>, Fail> {
-    let Ok(mut server) = Server::mount(alloc, device) else {
-        return Err("not mounted".into());
-    };
+    let mut server = drivers::mount(alloc, device)?;
     play(alloc, &mut server, records)
 }
 
@@ -261,11 +260,11 @@ fn serve(
 fn is_directory_of(fs: &Fs<MemDevice>, tree: &Tree, cred: &Cred, number: u64) -> bool {
     for name in NAMES {
         let expected = tree.lookup(&limits(), cred, number, &[name]);
-        if fs.lookup(cred, number, &[name]) != expected.map_err(FsFault::Status) {
+        if drivers::look_up(fs, cred, number, name) != expected.map_err(FsFault::Status) {
             return false;
         }
     }
-    fs.handle(number) == tree.handle(number).map_err(FsFault::Status)
+    drivers::handle(fs, number) == tree.handle(number).map_err(FsFault::Status)
 }
 
 /// Whether the file system has the tree's names and numbers.
@@ -292,9 +291,7 @@ struct Trial {
 impl Trial {
     /// The front that is mounted on what is left.
     fn front_on(&self, alloc: Global, left: MemDevice) -> Result<Option<usize>, Fail> {
-        let Ok(fs) = Fs::mount(alloc, left) else {
-            return Err("not mounted".into());
-        };
+        let fs = drivers::mount_tree(alloc, left)?;
         if fs.restart_count() != 2 {
             return Err("another restart count".into());
         }

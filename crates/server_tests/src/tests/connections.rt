@@ -5,11 +5,13 @@
 mod calls;
 mod cuts;
 mod ends;
+mod operations;
 mod sessions;
 mod volumes;
 
-use crate::{Server, Turn};
+use super::drivers;
 use disk::MemDevice;
+use server::{Server, Turn};
 use std::alloc::{AllocGlobal, Global};
 use std::process::Abort;
 use std::test::Fail;
@@ -46,19 +48,17 @@ fn put(record: &mut [u8], place: usize, number: u32) {
 /// A server of run 1 over a new volume of 256 sectors and 16 nodes, with the connections 0, 1 and 2.
 fn new_server(alloc: Global) -> Result<Server<MemDevice>, Fail> {
     let mut device = MemDevice::new(alloc, 256)?;
-    Server::format(alloc, &mut device, 16)?;
-    let Ok(mut server) = Server::mount(alloc, device) else {
-        return Err("not mounted".into());
-    };
+    drivers::format(alloc, &mut device, 16)?;
+    let mut server = drivers::mount(alloc, device)?;
     for _ in 0..3 {
-        server.connect()?;
+        drivers::connect(&mut server)?;
     }
     Ok(server)
 }
 
 /// Hands in a record, which is taken whole.
 fn feed(server: &mut Server<MemDevice>, conn: usize, record: &[u8]) -> Result<(), Fail> {
-    if server.feed(conn, record)? != record.len() {
+    if drivers::feed(server, conn, record)? != record.len() {
         return Err("not taken whole".into());
     }
     Ok(())
@@ -67,14 +67,14 @@ fn feed(server: &mut Server<MemDevice>, conn: usize, record: &[u8]) -> Result<()
 /// Runs so many operations, and takes the reply that the last one gives.
 fn end(server: &mut Server<MemDevice>, conn: usize, turns: u32) -> Result<Vec<u8>, Fail> {
     for _ in 1..turns {
-        if server.turn(conn, 0)? != Turn::Ran {
+        if drivers::turn(server, conn)? != Turn::Ran {
             return Err("too few operations".into());
         }
     }
-    if server.turn(conn, 0)? != Turn::Answered {
+    if drivers::turn(server, conn)? != Turn::Answered {
         return Err("no answer".into());
     }
-    Ok(server.take_output(conn)?.ok_or("no reply")?)
+    Ok(drivers::take_output(server, conn)?.ok_or("no reply")?)
 }
 
 fn expect(rt: &impl Abort, alloc: Global, reply: &[u8], words: &str) -> Result<(), Fail> {
@@ -92,7 +92,7 @@ fn take(
     match step {
         Step::Feeds(conn, record) => feed(server, *conn, &bytes_of(alloc, record)?),
         Step::Runs(conn) => {
-            assert_eq!(rt; server.turn(*conn, 0)?, Turn::Ran);
+            assert_eq!(rt; drivers::turn(server, *conn)?, Turn::Ran);
             Ok(())
         }
         Step::Ends(conn, turns, reply) => { expect(rt, alloc, &end(server, *conn, *turns)?, reply) }
@@ -100,7 +100,7 @@ fn take(
             feed(server, *conn, &bytes_of(alloc, record)?)?;
             expect(rt, alloc, &end(server, *conn, *turns)?, reply)
         }
-        Step::HangsUp(conn) => Ok(server.hangup(*conn, 0)?),
+        Step::HangsUp(conn) => Ok(drivers::hangup(server, *conn)?),
     }
 }
 
@@ -109,6 +109,16 @@ fn play<R: AllocGlobal + Abort>(rt: &R, row: &[Step]) -> Result<(), Fail> {
     let mut server = new_server(rt.alloc())?;
     for step in row {
         take(rt, rt.alloc(), &mut server, step)?;
+    }
+    Ok(())
+}
+
+#[test]
+fn connections_are_answered(rt: HostRuntime) -> Result<(), Fail> {
+    for rows in [calls::ROWS.as_slice(), &operations::ROWS, &sessions::ROWS] {
+        for (_shows, row) in rows {
+            play(&rt, row)?;
+        }
     }
     Ok(())
 }

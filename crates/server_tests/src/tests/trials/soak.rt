@@ -5,6 +5,7 @@ use super::calls::{self, Caller, Operation, on_slot};
 use super::line::{Line, Stage};
 use super::seed::Seed;
 use super::simple::{Client, MOST_OPERATIONS, Request, Tree, World};
+use crate::tests::drivers;
 use acl_eval::{Cred, Gids};
 use disk::{CrashDevice, Device, MemDevice, Stop, landings};
 use fs::{Fs, FsFault};
@@ -23,8 +24,6 @@ const SECTORS: u32 = 256;
 const NODES: u32 = 64;
 
 const MOST_WITH_NAMES: usize = 22;
-
-const NOW: u64 = 5;
 
 const CLIENTS: usize = 8;
 
@@ -69,9 +68,9 @@ fn ask<D: Device>(
     conn: usize,
     sent: &[u8],
 ) -> Result<Option<Vec<u8>>, ServerFault> {
-    server.feed(conn, sent)?;
-    let _ = server.turn(conn, NOW)?;
-    server.take_output(conn)
+    drivers::feed(server, conn, sent)?;
+    let _ = drivers::turn(server, conn)?;
+    drivers::take_output(server, conn)
 }
 
 /// The number that EXCHANGE_ID answers, or the session that CREATE_SESSION answers.
@@ -100,21 +99,19 @@ fn join<D: Device>(
 }
 
 fn join_all<D: Device>(alloc: Global, server: &mut Server<D>) -> Result<Vec<Client>, Fail> {
-    let conn = server.connect()?;
+    let conn = drivers::connect(server)?;
     let mut clients = Vec::new(alloc);
     for uid in (100..).take(CLIENTS) {
         clients.push(join(alloc, server, conn, uid)?)?;
     }
-    server.hangup(conn, NOW)?;
+    drivers::hangup(server, conn)?;
     Ok(clients)
 }
 
 impl<D: Device> Soak<D> {
     /// Goes on with this tree on a volume that is mounted now.
     fn mount(alloc: Global, device: D, tree: Tree, seed: u64) -> Result<Soak<D>, Fail> {
-        let Ok(mut server) = Server::mount(alloc, device) else {
-            return Err("not mounted".into());
-        };
+        let mut server = drivers::mount(alloc, device)?;
         let clients = join_all(alloc, &mut server)?;
         let world = World {
             alloc,
@@ -145,7 +142,7 @@ impl<D: Device> Soak<D> {
     }
 
     fn connect(&mut self, rt: &impl Abort) -> Result<Option<Bounds>, Fail> {
-        match self.server.connect() {
+        match drivers::connect(&mut self.server) {
             Ok(conn) => {
                 assert!(rt; self.lines.len() < CONNECTIONS);
                 assert!(rt; self.lines.iter().all(|line| line.conn != conn));
@@ -166,7 +163,7 @@ impl<D: Device> Soak<D> {
         };
         line.finish(&mut self.world)?;
         let most = self.world.tree.directories.len();
-        match self.server.hangup(line.conn, NOW) {
+        match drivers::hangup(&mut self.server, line.conn) {
             Ok(()) => {
                 let _ = self.lines.remove(at);
                 Ok(None)
@@ -188,7 +185,7 @@ impl<D: Device> Soak<D> {
             return Ok(None);
         };
         let piece = line.piece(count);
-        let taken = self.server.feed(line.conn, piece)?;
+        let taken = drivers::feed(&mut self.server, line.conn, piece)?;
         let len = piece.len();
         assert_eq!(rt; taken, line.take_piece(len));
         Ok(None)
@@ -201,7 +198,7 @@ impl<D: Device> Soak<D> {
         };
         let expected = line.turn(&mut self.world)?;
         let most = self.world.tree.directories.len();
-        match self.server.turn(line.conn, NOW) {
+        match drivers::turn(&mut self.server, line.conn) {
             Ok(turn) => {
                 assert_eq!(rt; turn, expected);
                 Ok(None)
@@ -218,7 +215,7 @@ impl<D: Device> Soak<D> {
         let Some(line) = self.lines.get_mut(at) else {
             return Ok(None);
         };
-        let given = self.server.take_output(line.conn)?;
+        let given = drivers::take_output(&mut self.server, line.conn)?;
         match (given, line.take_reply()) {
             (Some(given), Some(expected)) => {
                 assert_eq!(rt; given.as_slice(), expected.as_slice());
@@ -320,7 +317,10 @@ impl<D: Device> Soak<D> {
 
     /// What a server does that is down: replies that wait are given, and nothing else.
     fn expect_down(&mut self, rt: &impl Abort) -> Result<(), Fail> {
-        assert_eq!(rt; self.server.connect(), Err(ServerFault::Device));
+        assert_eq!(rt;
+            drivers::connect(&mut self.server),
+            Err(ServerFault::Device)
+        );
         for at in 0..self.lines.len() {
             self.take(rt, at)?;
             self.expect_no_turn(rt, at);
@@ -330,8 +330,14 @@ impl<D: Device> Soak<D> {
 
     fn expect_no_turn(&mut self, rt: &impl Abort, at: usize) {
         if let Some(line) = self.lines.get(at) {
-            assert_eq!(rt; self.server.turn(line.conn, NOW), Err(ServerFault::Device));
-            assert_eq!(rt; self.server.feed(line.conn, &[0]), Err(ServerFault::Device));
+            assert_eq!(rt;
+                drivers::turn(&mut self.server, line.conn),
+                Err(ServerFault::Device)
+            );
+            assert_eq!(rt;
+                drivers::feed(&mut self.server, line.conn, &[0]),
+                Err(ServerFault::Device)
+            );
         }
     }
 }
@@ -355,7 +361,7 @@ impl Seed {
 /// A new volume at rest.
 fn volume(alloc: Global) -> Result<MemDevice, Fail> {
     let mut device = CrashDevice::new(MemDevice::new(alloc, SECTORS)?, Stop::Never);
-    Server::format(alloc, &mut device, NODES)?;
+    drivers::format(alloc, &mut device, NODES)?;
     Ok(device.landed(alloc, &[])?)
 }
 
@@ -382,11 +388,13 @@ fn replies_are_those_of_the_model(rt: HostRuntime) -> Result<(), Fail> {
 fn is_like(fs: &Fs<MemDevice>, cred: &Cred, tree: &Tree, number: u64, count: usize) -> bool {
     for name in NAMES {
         let expected = tree.child_among(count, number, name);
-        if fs.lookup(cred, number, &[name]) != expected.ok_or(FsFault::Status(Status::NoEnt)) {
+        if drivers::look_up(fs, cred, number, name)
+            != expected.ok_or(FsFault::Status(Status::NoEnt))
+        {
             return false;
         }
     }
-    fs.handle(number) == Ok(number.to_be_bytes())
+    drivers::handle(fs, number) == Ok(number.to_be_bytes())
 }
 
 /// Whether the file system has just the first so many directories.
@@ -396,7 +404,7 @@ fn is_front(fs: &Fs<MemDevice>, cred: &Cred, tree: &Tree, count: usize) -> bool 
         let is_right = if place < count {
             is_like(fs, cred, tree, number, count)
         } else {
-            fs.handle(number) == Err(FsFault::Status(Status::Stale))
+            drivers::handle(fs, number) == Err(FsFault::Status(Status::Stale))
         };
         if !is_right {
             return false;
@@ -434,9 +442,7 @@ fn found_on(
     tree: &Tree,
     bounds: Bounds,
 ) -> Result<usize, Fail> {
-    let Ok(fs) = Fs::mount(alloc, left) else {
-        return Err("not mounted".into());
-    };
+    let fs = drivers::mount_tree(alloc, left)?;
     assert_eq!(rt; u64::from(fs.restart_count()), tree.run.saturating_add(1));
     let cred = Cred {
         uid: 9,

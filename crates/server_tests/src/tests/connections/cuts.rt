@@ -3,8 +3,9 @@
 use super::calls::{NULL, NULL_REPLY};
 use super::sessions::{CREATE_SESSION, EXCHANGE_ID, MAKE_A};
 use super::{bytes_of, end, expect, feed, new_server, put};
-use crate::{Server, ServerFault, Turn};
+use crate::tests::drivers;
 use disk::MemDevice;
+use server::{Server, ServerFault, Turn};
 use std::alloc::{AllocGlobal, Global};
 use std::process::Abort;
 use std::test::Fail;
@@ -31,8 +32,8 @@ fn framed(alloc: Global, bytes: &[u8]) -> Result<Vec<u8>, Fail> {
 /// Whether the request on connection 0 is answered.
 fn is_answered(server: &mut Server<MemDevice>) -> Result<bool, Fail> {
     for _ in 0..MOST_TURNS {
-        if server.turn(0, 0)? == Turn::Answered {
-            return Ok(server.take_output(0)?.is_some());
+        if drivers::turn(server, 0)? == Turn::Answered {
+            return Ok(drivers::take_output(server, 0)?.is_some());
         }
     }
     Ok(false)
@@ -45,12 +46,12 @@ fn serve(
     server: &mut Server<MemDevice>,
     bytes: &[u8],
 ) -> Result<(), Fail> {
-    match server.feed(0, &framed(alloc, bytes)?) {
+    match drivers::feed(server, 0, &framed(alloc, bytes)?) {
         Ok(_) => assert!(rt; is_answered(server)?, "{bytes:?}"),
         Err(fault) => assert_eq!(rt; fault, ServerFault::Closed, "{bytes:?}"),
     }
-    server.hangup(0, 0)?;
-    assert_eq!(rt; server.connect()?, 0);
+    drivers::hangup(server, 0)?;
+    assert_eq!(rt; drivers::connect(server)?, 0);
     feed(server, 1, &bytes_of(alloc, NULL)?)?;
     expect(rt, alloc, &end(server, 1, 1)?, NULL_REPLY)
 }

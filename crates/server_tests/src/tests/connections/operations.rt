@@ -1,0 +1,94 @@
+//! COMPOUNDs: what comes of a first operation, and one that runs the tree.
+
+use super::Step::{self, Asks};
+use super::sessions::{CREATE_SESSION, CREATED, EXCHANGE_ID, EXCHANGED};
+
+/// One operation is counted, and none is there.
+const NOTHING: &str = "80000048 9 0 2 186a3 4 1 1 14 0 0 7 7 0 0 0 0 1 1";
+
+const NOTHING_IS_BAD: &str = "8000002c 9 1 0 0 0 0 2734 0 1 273c 2734";
+
+/// The numbers before the first and behind the last operation.
+const NUMBER_2: &str = "8000004c 9 0 2 186a3 4 1 1 14 0 0 7 7 0 0 0 0 1 1 2";
+
+const NUMBER_59: &str = "8000004c 9 0 2 186a3 4 1 1 14 0 0 7 7 0 0 0 0 1 1 3b";
+
+const ILLEGAL: &str = "8000002c 9 1 0 0 0 0 273c 0 1 273c 273c";
+
+/// PUTROOTFH, the first of two.
+const ROOT_FIRST: &str = "8000004c 9 0 2 186a3 4 1 1 14 0 0 7 7 0 0 0 0 1 2 18";
+
+const NOT_IN_A_SESSION: &str = "8000002c 9 1 0 0 0 0 2757 0 1 18 2757";
+
+/// EXCHANGE_ID, the first of two.
+const EXCHANGE_FIRST: &str = "8000004c 9 0 2 186a3 4 1 1 14 0 0 7 7 0 0 0 0 1 2 2a";
+
+const NOT_ALONE: &str = "8000002c 9 1 0 0 0 0 2761 0 1 2a 2761";
+
+/// SEQUENCE of four bytes.
+const SHORT_SEQUENCE: &str = "80000050 9 0 2 186a3 4 1 1 14 0 0 7 7 0 0 0 0 1 1 35 0";
+
+const SHORT_SEQUENCE_IS_BAD: &str = "8000002c 9 1 0 0 0 0 2734 0 1 35 2734";
+
+/// DESTROY_CLIENTID with four bytes behind it.
+const LONG_DESTROY: &str = "80000058 9 0 2 186a3 4 1 1 14 0 0 7 7 0 0 0 0 1 1 39 0 1 0";
+
+const LONG_DESTROY_IS_BAD: &str = "8000002c 9 1 0 0 0 0 2734 0 1 39 2734";
+
+/// Number 1 of slot 0, with the tag `t`: PUTROOTFH.
+const PUT_THE_ROOT: &str = "80000074 9 0 2 186a3 4 1 1 14 0 0 7 7 0 0 0 1 74000000 1 2
+    35 1 1 0 1 1 0 0 0 18";
+
+const ROOT_PUT: &str = "8000005c 9 1 0 0 0 0 0 1 74000000 2 35 0 1 1 0 1 1 0 7 7 0 18 0";
+
+/// Number 1 of slot 0: PUTROOTFH, CREATE of the directory `a`, GETFH, PUTROOTFH, LOOKUP of `a`, PUTFH of its filehandle,
+/// RECLAIM_COMPLETE for one file system and for all, and CREATE of a file.
+const RUN_THE_TREE: &str = "800000c8 9 0 2 186a3 4 1 1 14 0 0 7 7 0 0 0 1 74000000 1 a
+    35 1 1 0 1 1 0 0 0 18 6 2 1 61000000 0 0 a 18 f 1 61000000 16 8 1 1 3a 1 3a 0 6 1";
+
+/// BADTYPE and ten results. The root's change value goes from 1 to that of the directory, 1 1.
+const TREE_RUN: &str = "800000c0 9 1 0 0 0 0 2717 1 74000000 a
+    35 0 1 1 0 1 1 0 7 7 0 18 0 6 0 1 0 1 1 1 0 a 0 8 1 1 18 0 f 0 16 0 3a 0 3a 0 6 2717";
+
+/// Number 1 of slot 0: GETFH.
+const GET_NO_HANDLE: &str =
+    "80000070 9 0 2 186a3 4 1 1 14 0 0 7 7 0 0 0 0 1 2 35 1 1 0 1 1 0 0 0 a";
+
+const NO_HANDLE: &str = "80000058 9 1 0 0 0 0 2724 0 2 35 0 1 1 0 1 1 0 7 7 0 a 2724";
+
+const REFUSED_FIRST: [Step; 7] = [
+    Asks(0, NOTHING, 1, NOTHING_IS_BAD),
+    Asks(0, NUMBER_2, 1, ILLEGAL),
+    Asks(0, NUMBER_59, 1, ILLEGAL),
+    Asks(0, ROOT_FIRST, 1, NOT_IN_A_SESSION),
+    Asks(0, EXCHANGE_FIRST, 1, NOT_ALONE),
+    Asks(0, SHORT_SEQUENCE, 1, SHORT_SEQUENCE_IS_BAD),
+    Asks(0, LONG_DESTROY, 1, LONG_DESTROY_IS_BAD),
+];
+
+const RUN_ONCE: [Step; 4] = [
+    Asks(0, EXCHANGE_ID, 1, EXCHANGED),
+    Asks(0, CREATE_SESSION, 1, CREATED),
+    Asks(0, PUT_THE_ROOT, 2, ROOT_PUT),
+    Asks(1, PUT_THE_ROOT, 1, ROOT_PUT),
+];
+
+const SERVED: [Step; 3] = [
+    Asks(0, EXCHANGE_ID, 1, EXCHANGED),
+    Asks(0, CREATE_SESSION, 1, CREATED),
+    Asks(0, RUN_THE_TREE, 10, TREE_RUN),
+];
+
+const WITHOUT_HANDLE: [Step; 3] = [
+    Asks(0, EXCHANGE_ID, 1, EXCHANGED),
+    Asks(0, CREATE_SESSION, 1, CREATED),
+    Asks(0, GET_NO_HANDLE, 2, NO_HANDLE),
+];
+
+/// Whole connections, by what they show.
+pub(super) const ROWS: [(&str, &[Step]); 4] = [
+    ("first operations are tested in order", &REFUSED_FIRST),
+    ("a compound runs once", &RUN_ONCE),
+    ("the tree is served", &SERVED),
+    ("there is no filehandle at first", &WITHOUT_HANDLE),
+];

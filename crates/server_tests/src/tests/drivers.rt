@@ -1,0 +1,71 @@
+//! The calls of a server and of a file system as the tests make them. Each stands here once: a call brings all that it promises
+//! into the proof of its caller.
+
+use acl_eval::Cred;
+use disk::{Device, MemDevice};
+use fs::{Fs, FsFault};
+use server::{Server, ServerFault, Turn};
+use std::alloc::Global;
+use std::test::Fail;
+
+/// The moment of every turn.
+const NOW: u64 = 5;
+
+pub(super) fn format<D: Device>(alloc: Global, device: &mut D, nodes: u32) -> Result<(), Fail> {
+    Ok(Server::format(alloc, device, nodes)?)
+}
+
+pub(super) fn mount<D: Device>(alloc: Global, device: D) -> Result<Server<D>, Fail> {
+    match Server::mount(alloc, device) {
+        Ok(server) => Ok(server),
+        Err(_) => Err("not mounted".into()),
+    }
+}
+
+pub(super) fn connect<D: Device>(server: &mut Server<D>) -> Result<usize, ServerFault> {
+    server.connect()
+}
+
+pub(super) fn feed<D: Device>(
+    server: &mut Server<D>,
+    conn: usize,
+    piece: &[u8],
+) -> Result<usize, ServerFault> {
+    server.feed(conn, piece)
+}
+
+pub(super) fn turn<D: Device>(server: &mut Server<D>, conn: usize) -> Result<Turn, ServerFault> {
+    server.turn(conn, NOW)
+}
+
+pub(super) fn take_output<D: Device>(
+    server: &mut Server<D>,
+    conn: usize,
+) -> Result<Option<Vec<u8>>, ServerFault> {
+    server.take_output(conn)
+}
+
+pub(super) fn hangup<D: Device>(server: &mut Server<D>, conn: usize) -> Result<(), ServerFault> {
+    server.hangup(conn, NOW)
+}
+
+/// The tree that is mounted on what is left of a volume.
+pub(super) fn mount_tree(alloc: Global, device: MemDevice) -> Result<Fs<MemDevice>, Fail> {
+    match Fs::mount(alloc, device) {
+        Ok(fs) => Ok(fs),
+        Err(_) => Err("not mounted".into()),
+    }
+}
+
+pub(super) fn look_up(
+    fs: &Fs<MemDevice>,
+    cred: &Cred,
+    directory: u64,
+    name: u8,
+) -> Result<u64, FsFault> {
+    fs.lookup(cred, directory, &[name])
+}
+
+pub(super) fn handle(fs: &Fs<MemDevice>, number: u64) -> Result<[u8; 8], FsFault> {
+    fs.handle(number)
+}

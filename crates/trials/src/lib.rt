@@ -1,5 +1,0 @@
-//! Long tests of the whole server.
-#![tactic(auto)]
-
-#[cfg(test)]
-mod tests;
