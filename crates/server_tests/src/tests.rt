@@ -2,4 +2,5 @@
 
 mod connections;
 mod drivers;
+mod sessions;
 mod trials;

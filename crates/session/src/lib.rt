@@ -25,6 +25,3 @@ pub use laws::every_slot;
 pub use limits::{CLIENTS, OPERATIONS, RECORD_BYTES, SESSIONS, SLOTS};
 pub use sequence::Begun;
 pub use table::Table;
-
-#[cfg(test)]
-mod tests;
