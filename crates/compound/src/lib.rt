@@ -23,8 +23,3 @@ pub use next::Next;
 pub use progress::{Progress, RECORD_BUFFER, RESULT_BUFFER, SlotId};
 pub use running::Running;
 pub use step::{Stepped, Undone};
-
-#[cfg(test)]
-mod step_tests;
-#[cfg(test)]
-mod tests;
