@@ -1,18 +1,10 @@
-//! The program `nfs41`: formats volumes, and runs scripts of clients against a server.
+//! The program `nfs41`: what `program` does, in a process.
 #![tactic(auto)]
 
-mod actions;
-mod client;
-mod command;
-mod line;
-mod message;
-mod operation;
-mod refused;
-mod script;
 #[cfg(test)]
 mod tests;
-mod words;
 
+use program::command;
 use std::io::BufReader;
 use std::process::ExitCode;
 use std::{env, io};
@@ -28,7 +20,7 @@ fn run(rt: &HostRuntime) -> io::Result<u8> {
     let alloc = rt.alloc();
     let words: Vec<String> = env::args(rt)?.skip(1).collect(alloc)?;
     let mut input = BufReader::new(alloc, rt.stdin())?;
-    Ok(command::command(
+    Ok(command(
         rt,
         words.as_slice(),
         &mut input,

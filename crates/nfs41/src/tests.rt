@@ -3,7 +3,7 @@
 mod files;
 mod scripts;
 
-use crate::command::command;
+use program::command;
 use std::alloc::AllocError;
 use std::fs::File;
 use std::io;

@@ -1,6 +1,7 @@
 //! What the lines of a script have a client do.
 
 use crate::client::{Asked, Client, Known, Sent};
+use crate::link;
 use crate::message::{Results, call_record, hello_record, session_record, status_of};
 use crate::operation::{Operation, Verb};
 use crate::refused::Refused;
@@ -11,9 +12,6 @@ use std::alloc::Global;
 use std::io::Write;
 use wire::{Answer, Outcome};
 
-/// The moment that every turn is handed.
-pub const MOMENT: u64 = 0;
-
 /// Connects a new client, makes it known and tells its number.
 pub fn hello<D: Device, O: Write>(
     alloc: Global,
@@ -23,7 +21,7 @@ pub fn hello<D: Device, O: Write>(
     gid: u32,
     out: &mut O,
 ) -> Result<Client, Refused> {
-    let conn = server.connect()?;
+    let conn = link::connect(server)?;
     let mut client = Client::new(alloc, name, uid, gid, conn)?;
     let caller = client.caller();
     let bytes = hello_record(alloc, caller, name)?;
@@ -108,7 +106,7 @@ pub fn turn<D: Device, O: Write>(
     out: &mut O,
 ) -> Result<(), Refused> {
     let conn = offer(server, client)?;
-    let word = match server.turn(conn, MOMENT)? {
+    let word = match link::turn(server, conn)? {
         Turn::Idle => "idle",
         Turn::Ran => "ran",
         Turn::Answered => "answered",
@@ -151,7 +149,7 @@ pub fn retry<D: Device>(server: &mut Server<D>, client: &mut Client) -> Result<(
     if client.sent.is_empty() {
         return Err(Refused::Script);
     }
-    let conn = server.connect()?;
+    let conn = link::connect(server)?;
     client.send_again(conn)?;
     offer(server, client)?;
     Ok(())
@@ -179,7 +177,7 @@ fn offer<D: Device>(server: &mut Server<D>, client: &mut Client) -> Result<usize
         return Err(Refused::Script);
     };
     if !client.unsent().is_empty() {
-        let count = server.feed(conn, client.unsent())?;
+        let count = link::feed(server, conn, client.unsent())?;
         client.was_taken(count)?;
     }
     Ok(conn)
@@ -203,13 +201,13 @@ fn next_reply<D: Device>(
 ) -> Result<(usize, Vec<u8>), Refused> {
     for _ in 0..u64::MAX {
         let conn = offer(server, client)?;
-        if let Some(reply) = server.take_output(conn)? {
+        if let Some(reply) = link::take_output(server, conn)? {
             let Some(place) = client.answered() else {
                 return Err(Refused::Garbled);
             };
             return Ok((place, Vec::from_slice(alloc, &reply)?));
         }
-        if server.turn(conn, MOMENT)? == Turn::Idle {
+        if link::turn(server, conn)? == Turn::Idle {
             return Err(Refused::Garbled);
         }
     }

@@ -1,10 +1,11 @@
 //! One run of the program, apart from the process around it.
 
+use crate::link;
 use crate::refused::Refused;
 use crate::script::script;
 use crate::words::{Request, read_words};
 use disk::{FileDevice, MemDevice};
-use server::{Server, is_volume_size};
+use server::is_volume_size;
 use std::convert::AsStr;
 use std::fs;
 use std::fs::File;
@@ -82,7 +83,7 @@ where
     O: Write,
 {
     let mut device = MemDevice::new(rt.alloc(), MEMORY_SECTORS)?;
-    Server::format(rt.alloc(), &mut device, MEMORY_NODES)?;
+    link::format(rt.alloc(), &mut device, MEMORY_NODES)?;
     script(rt.alloc(), &mut device, input, out)
 }
 
@@ -102,7 +103,7 @@ where
         return Err(Refused::Size);
     }
     let mut device = FileDevice::create(rt, file, sectors)?;
-    Server::format(rt.alloc(), &mut device, nodes)?;
+    link::format(rt.alloc(), &mut device, nodes)?;
     writeln!(out, "formatted")?;
     Ok(())
 }

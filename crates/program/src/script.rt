@@ -3,6 +3,7 @@
 use crate::actions::{call, hello, retry, session, take, turn};
 use crate::client::Client;
 use crate::line::{Action, Line, read_line};
+use crate::link;
 use crate::refused::Refused;
 use disk::Device;
 use server::Server;
@@ -28,10 +29,7 @@ pub fn script<D: Device, I: BufRead, O: Write>(
     let mut clients = Vec::new(alloc);
     let mut restarted = false;
     for _ in 0..u64::MAX {
-        let mut server = match Server::mount(alloc, &mut *device) {
-            Ok(server) => server,
-            Err(unmounted) => return Err(unmounted.fault.into()),
-        };
+        let mut server = link::mount(alloc, &mut *device)?;
         if restarted {
             writeln!(out, "run {}", server.restart_count())?;
         }
@@ -130,7 +128,7 @@ fn forget<D: Device>(
     };
     let old = clients.remove(place);
     if let Some(conn) = old.conn {
-        server.hangup(conn, crate::actions::MOMENT)?;
+        link::hangup(server, conn)?;
     }
     Ok(())
 }

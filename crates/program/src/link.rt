@@ -1,0 +1,54 @@
+//! The server's calls as a script makes them: each stands here once, so that what is above need not see all that the server promises.
+
+use crate::refused::Refused;
+use disk::Device;
+use server::{Server, Turn};
+use std::alloc::Global;
+
+/// The moment that every turn is handed.
+const MOMENT: u64 = 0;
+
+/// Makes the device a new volume.
+pub fn format<D: Device>(alloc: Global, device: &mut D, nodes: u32) -> Result<(), Refused> {
+    Ok(Server::format(alloc, device, nodes)?)
+}
+
+/// Mounts the device's volume.
+pub fn mount<D: Device>(alloc: Global, device: D) -> Result<Server<D>, Refused> {
+    match Server::mount(alloc, device) {
+        Ok(server) => Ok(server),
+        Err(unmounted) => Err(unmounted.fault.into()),
+    }
+}
+
+/// The number of a new connection.
+pub fn connect<D: Device>(server: &mut Server<D>) -> Result<usize, Refused> {
+    Ok(server.connect()?)
+}
+
+/// How many of the bytes the server took.
+pub fn feed<D: Device>(
+    server: &mut Server<D>,
+    conn: usize,
+    bytes: &[u8],
+) -> Result<usize, Refused> {
+    Ok(server.feed(conn, bytes)?)
+}
+
+/// What the connection's turn did.
+pub fn turn<D: Device>(server: &mut Server<D>, conn: usize) -> Result<Turn, Refused> {
+    Ok(server.turn(conn, MOMENT)?)
+}
+
+/// The connection's reply, if there is one.
+pub fn take_output<D: Device>(
+    server: &mut Server<D>,
+    conn: usize,
+) -> Result<Option<Vec<u8>>, Refused> {
+    Ok(server.take_output(conn)?)
+}
+
+/// Ends the connection.
+pub fn hangup<D: Device>(server: &mut Server<D>, conn: usize) -> Result<(), Refused> {
+    Ok(server.hangup(conn, MOMENT)?)
+}
