@@ -1,3 +1,5 @@
+ghost use Rattle.std.specs.Prelude.{◌≤◌, length};
+
 use model::status::Status;
 use session::{Begun, CreatedSession, Refusal, Table};
 use std::alloc::Global;
@@ -66,7 +68,8 @@ fn with_session(alloc: Global) -> Result<(Table, [u8; 16]), Fail> {
     let mut table = Table::new(alloc, 1);
     let (client, _, _) = exchange(&mut table, 7, &hello(b"cl", VERIFIER), &[])?;
     let created = create_session(&mut table, 7, &create(alloc, client, 1, CHANNEL))?;
-    Ok((table, created.answer.session))
+    let session = created.answer.session;
+    Ok((table, session))
 }
 
 // The table's calls, each of which stands here once.
@@ -104,7 +107,9 @@ fn finish(
     session: &[u8; 16],
     slot: u32,
     reply: &[u8],
-) -> Result<(), Fail> {
+) -> Result<(), Fail>
+    requires { length reply.now ≤ 16384 }
+{
     table.finish(session, slot, Vec::from_slice(alloc, reply)?);
     Ok(())
 }
