@@ -2,3 +2,4 @@ pub mod RecordLemmas
 pub mod CallLemmas
 pub mod LandingLemmas
 pub mod TrialLemmas
+pub mod SectorLemmas

@@ -48,6 +48,8 @@ pub counted_fault : {T : Type 0} (before after : ℕ) → IsCounted before after
 counted_fault before after counted = record {
   later = elim counted [ inl grew ↦ omega arith | inr full ↦ omega arith ];
   fault = λ _. counted;
+  ok = tt;
+  range = λ e. cc;
   not_memory = λ e. cc;
   not_open = λ e. cc;
 }

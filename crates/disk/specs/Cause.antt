@@ -1,5 +1,5 @@
 -- A fault has a cause: the device's own count of failures, which no caller can raise.
-use Rattle.std.specs.Prelude.{◌≡◌, ◌≤◌, ◌<◌, ◌⊎◌, ◌^◌, ◌-◌, ℕ, Result, IsErrOf}
+use Rattle.std.specs.Prelude.{◌≡◌, ◌≤◌, ◌<◌, ◌⊎◌, ◌^◌, ◌-◌, ℕ, Result, OnOk, IsErrOf}
 use Rattle.disk.specs.declared.fault.DiskFault.{DiskFault}
 use Rattle.disk.specs.declared.fault.DiskFault.TheVariants as faults
 
@@ -7,9 +7,12 @@ use Rattle.disk.specs.declared.fault.DiskFault.TheVariants as faults
 abbrev pub IsCounted : ℕ → ℕ → Type 0
 IsCounted before after = (before < after) ⊎ ((before ≡ 2 ^ 64 - 1) × (after ≡ before))
 
--- the count never falls, `Fault` comes only where it is counted, and the faults of making a device never
+-- The count never falls. `Fault` comes only where it is counted, and no other answer where it is: what failed within a call that
+-- goes on is told. The faults of making a device never come.
 pub record HasCause {T : Type 0} (before after : ℕ) (result : Result T DiskFault) : Type 0 where
   pub later : before ≤ after
   pub fault : IsErrOf result faults.Fault → IsCounted before after
+  pub ok : OnOk result (after ≡ before)
+  pub range : IsErrOf result faults.Range → after ≡ before
   pub not_memory : IsErrOf result faults.Memory → ⊥
   pub not_open : IsErrOf result faults.Open → ⊥

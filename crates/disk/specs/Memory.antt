@@ -1,8 +1,9 @@
 -- What the contracts see of a device in memory.
-use Rattle.std.specs.Prelude.{ℕ, List, vec_len}
+use Rattle.std.specs.Prelude.{◌<◌, ℕ, List, [], vec_len}
+use Rattle.std.proofs.Common.{arith, subst}
 use Rattle.disk.specs.declared.call.Call.{Call}
 use Rattle.disk.specs.declared.memory.MemDevice.{MemDevice}
-use Rattle.disk.specs.Moments.{History}
+use Rattle.disk.specs.Moments.{History, IsSector, seen}
 use Rattle.disk.specs.Calls.{history_of_calls}
 
 abbrev pub size_of : MemDevice → ℕ
@@ -18,3 +19,7 @@ calls_of device = device.calls.items
 -- what these calls make of its first contents
 abbrev pub history_of : MemDevice → History
 history_of device = history_of_calls device.first.items device.calls.items
+
+-- each of its sectors has 4,096 bytes
+pub held_sector : (device : MemDevice) (n : ℕ) → n < size_of device → IsSector (seen (history_of device).now n)
+held_sector device n there = subst IsSector (device.told n) (device.rows n [] (omega (arith, there, device.sectors.ok)))

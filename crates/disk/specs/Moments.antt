@@ -3,8 +3,13 @@
 -- A sector is whole. After a crash each sector, by itself, holds what it held at the last successful
 -- sync or any content written to it since. A crash within a write or a sync falls under the same rule:
 -- it is one at the moment before the call or after it.
-use Rattle.std.specs.Prelude.{◌≡◌, ◌≤◌, ◌⊎◌, ◌==◌, ℕ, List, [], ◌∷◌, length, if◌then◌else◌}
+use Rattle.std.specs.Prelude.{◌≡◌, ◌≤◌, ◌<◌, ◌⊎◌, ◌==◌, ℕ, List, [], ◌∷◌, length, All, if◌then◌else◌}
 use Rattle.disk.specs.declared.update.Update.{Update}
+
+-- what a sector holds: 4,096 bytes
+pub record IsSector (content : List ℕ) : Type 0 where
+  pub whole : length content ≡ 4096
+  pub bytes : All (λ byte. byte < 256) content
 
 -- every sector's content by its number; past the end of a device nobody asks
 abbrev pub Image : Type 0

@@ -30,4 +30,6 @@ impl<D: Device> Device for &mut D {
     fn sync(&mut self) -> Result<(), DiskFault> {
         (**self).sync()
     }
+
+    ghost holds_sectors = { λ keeps device n there. D.holds_sectors keeps device.now n there };
 }

@@ -141,6 +141,7 @@ impl CrashDevice {
 
 impl Device for CrashDevice {
     ghost use Rattle.disk.specs.Crash.{crash_size, crash_failures, crash_history, is_stopped, next_fate, AnswersFate, IsSameCourse, IsNextCourse};
+    ghost use Rattle.disk.specs.Memory.{held_sector};
 
     ghost keeps_word = { Unit {0} };
 
@@ -220,6 +221,8 @@ impl Device for CrashDevice {
             Fate::Part | Fate::Nothing => Err(self.device.fail()),
         }
     }
+
+    ghost holds_sectors = { λ _ device n there. held_sector device.device n there };
 }
 
 // Puts on each sector what landed there, over what is fixed.

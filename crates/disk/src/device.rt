@@ -1,5 +1,5 @@
-ghost use Rattle.std.specs.Prelude.{◌≡◌, ◌≤◌, ◌⊎◌, ◌↔◌, ℕ, OnOk, OnErr, IsErrOf};
-ghost use Rattle.disk.specs.Moments.{History, seen, wrote, synced};
+ghost use Rattle.std.specs.Prelude.{◌≡◌, ◌≤◌, ◌<◌, ◌⊎◌, ◌↔◌, ℕ, OnOk, OnErr, IsErrOf};
+ghost use Rattle.disk.specs.Moments.{History, IsSector, seen, wrote, synced};
 ghost use Rattle.disk.specs.Cause.{HasCause};
 
 use crate::{DiskFault, SECTOR};
@@ -57,4 +57,8 @@ pub trait Device: Drop {
         ensures not_range { IsErrOf result DiskFault.Range → ⊥ }
         ensures size { size self.new ≡ size self.old }
         ensures cause { HasCause (failed self.old) (failed self.new) result };
+
+    /// What a device that keeps its word holds are sectors of bytes.
+    ghost holds_sectors: { keeps_word → (device : Self) → (n : ℕ) → n < size device
+        → IsSector (seen (history device).now n) };
 }

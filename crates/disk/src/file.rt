@@ -148,6 +148,8 @@ impl Device for FileDevice {
             Err(_) => Err(self.fail()),
         }
     }
+
+    ghost holds_sectors = { λ never. absurd never };
 }
 
 // where sector n begins

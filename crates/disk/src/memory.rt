@@ -1,7 +1,7 @@
 //! A device in memory, which keeps its word and a record of all its calls.
 
-ghost use Rattle.std.specs.Prelude.{◌≡◌, ◌+◌, ◌-◌, ◌^◌, ◌<◌, ◌≤◌, ◌++◌, ◌↔◌, ℕ, List, [], ◌∷◌, length, vec_len, replicate, reverse, min, IfOk, OnOk, OnErr, IsErrOf, IsOk};
-ghost use Rattle.disk.specs.Moments.{seen, wrote, at_rest, written_to};
+ghost use Rattle.std.specs.Prelude.{◌≡◌, ◌+◌, ◌-◌, ◌^◌, ◌<◌, ◌≤◌, ◌++◌, ◌↔◌, ℕ, List, [], ◌∷◌, length, vec_len, replicate, reverse, min, All, IfOk, OnOk, OnErr, IsErrOf, IsOk};
+ghost use Rattle.disk.specs.Moments.{IsSector, seen, wrote, at_rest, written_to};
 ghost use Rattle.disk.specs.Cause.{IsCounted, HasCause};
 ghost use Rattle.disk.specs.Calls.{image_of, zero_sector, written_by, history_of_calls};
 
@@ -25,6 +25,7 @@ pub struct MemDevice {
         ≡ seen (history_of_calls first.items calls.items).now n },
     ghost within: { (n : ℕ) → vec_len sectors ≤ n
         → written_to n (history_of_calls first.items calls.items).now.unsynced ≡ [] },
+    ghost rows: { All IsSector sectors.items },
 }
 
 impl MemDevice {
@@ -105,7 +106,7 @@ impl MemDevice {
 }
 
 impl Device for MemDevice {
-    ghost use Rattle.disk.specs.Memory.{size_of, failures_of, history_of};
+    ghost use Rattle.disk.specs.Memory.{size_of, failures_of, history_of, held_sector};
 
     ghost keeps_word = { Unit {0} };
 
@@ -161,7 +162,7 @@ impl Device for MemDevice {
         if self.calls.push(Call::Write(update)).is_err() {
             return Err(self.fail());
         }
-        self.sectors[place] = *content;
+        self.sectors[place] = sector_of(content);
         Ok(())
     }
 
@@ -171,6 +172,8 @@ impl Device for MemDevice {
         }
         Ok(())
     }
+
+    ghost holds_sectors = { λ _ device n there. held_sector device n there };
 }
 
 #[tactic(auto, unfolding(crate::specs::Calls::zero_sector))]
@@ -196,13 +199,23 @@ fn zeros(alloc: Global, count: usize) -> Result<Vec<[u8; SECTOR]>, DiskFault>
 
 fn copied(alloc: Global, rows: &[[u8; SECTOR]]) -> Result<Vec<[u8; SECTOR]>, DiskFault>
     ensures rows { IfOk result (λ copy. copy.items ≡ rows.now) }
+    ensures sectors { IfOk result (λ copy. All IsSector copy.items) }
     ensures memory { OnErr result (result ≡ Err DiskFault.Memory) }
 {
     let mut copy = Vec::new(alloc);
     for row in rows {
-        if copy.push(*row).is_err() {
+        if copy.push(sector_of(row)).is_err() {
             return Err(DiskFault::Memory);
         }
     }
     Ok(copy)
+}
+
+/// A copy of a sector. That its bytes are bytes is known once they are looked at.
+fn sector_of(row: &[u8; SECTOR]) -> [u8; SECTOR]
+    ensures same { result ≡ row.now }
+    ensures sector { IsSector result }
+{
+    let _bytes = row.as_slice();
+    *row
 }

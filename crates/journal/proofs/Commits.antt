@@ -1,14 +1,24 @@
 -- Recording a transaction behind the gate, and copying it home, phase by phase.
-use Rattle.std.proofs.Common.{◌≡◌, ◌≤◌, ◌<◌, ◌⊎◌, ◌+◌, ℕ, List, [], ◌∷◌, length, refl, sym, ap, ◌∙◌, subst, inl, inr, ⊎_elim, arith}
+use Rattle.std.proofs.Common.{◌≡◌, ◌≤◌, ◌⊎◌, ℕ, List, [], ◌∷◌, length, refl, sym, ap, ◌∙◌, subst, inl, inr, arith}
 use Rattle.disk.specs.declared.update.Update.{Update}
-use Rattle.disk.specs.Moments.{Image, Moment, History, AddsOnly, seen, applied, put, newest}
+use Rattle.disk.specs.Moments.{Image, History, seen, applied, put, newest}
 use Rattle.journal.specs.Layout.{AreTargets, gate, through, targets, placed, copies}
-use Rattle.journal.specs.Settled.{IsKept, AreSame, Settles}
+use Rattle.journal.specs.Settled.{AreSame, Settles}
 use Rattle.journal.specs.Phase.{LeftWith, AddsUpdates, IsFixedAs, IsGated}
-use Rattle.journal.specs.Commit.{Records, IsRecorded, KeepsShown, IsCopiedHome}
-use Rattle.journal.proofs.Images.{Between, put_same, put_other}
+use Rattle.journal.specs.Commit.{AddsEither, Records, IsShown, IsRecorded, KeepsShown, IsCopiedHome, IsCommitted}
+use Rattle.journal.proofs.Images.{Between, HoldsFrom, put_same, put_other, applied_placed, copies_held, holds_put, holds_at, length-targets}
+use Rattle.journal.proofs.Phases.{length-placed, length-copies}
 use Rattle.journal.proofs.Stages.{gate_update, payload_stage, gate_stage, through_payload, homes_stage, homes_done, closing_stage, kept_not_1}
 use Rattle.journal.proofs.Moments.{AddsOnly-weaken, AddsOnly-join, between_of}
+
+settles_as : (size : ℕ) (image a b : Image) → AreSame size a b → Settles size image a → Settles size image b
+settles_as size image a b e s = record {
+  to = s.to;
+  few = s.few;
+  fit = s.fit;
+  gate_is = s.gate_is;
+  same = λ n k. sym (e n k) ∙ s.same n k;
+}
 
 -- what a read gives after a phase
 pub seen_fixed : (us : List Update) (h h1 : History) → IsFixedAs us h h1 → seen h1.now ≡ applied us (seen h.now)
@@ -37,11 +47,18 @@ module _ (size : ℕ) (us : List Update) (h : History) (few : length us ≤ 96) 
   pub recorded : (h1 h2 : History) → IsFixedAs (placed 2 us) h h1 → IsFixedAs (gate_update (targets us) ∷ []) h1 h2 → IsRecorded size us h h2
   recorded h1 h2 f q =
       let last : seen h2.now ≡ put (seen h1.now) (gate_update (targets us)) = seen_fixed (gate_update (targets us) ∷ []) h1 h2 q in
+      let paid : HoldsFrom (seen h1.now) 2 us =
+      holds_at (applied (placed 2 us) (seen h.now)) (seen h1.now) 2 us (sym (seen_fixed (placed 2 us) h h1 f)) (applied_placed us (seen h.now) 2) in
       record {
-        gated = record {
-          rests = q.unsynced;
-          gate_is = ap (λ (image : Image). image 1) last ∙ put_same (seen h1.now) (gate_update (targets us)) 1 refl;
+        shown = record {
+          gated = record {
+            rests = q.unsynced;
+            gate_is = ap (λ (image : Image). image 1) last ∙ put_same (seen h1.now) (gate_update (targets us)) 1 refl;
+          };
+          payload = copies_held (seen h2.now) 2 us (holds_at (put (seen h1.now) (gate_update (targets us))) (seen h2.now) 2 us (sym last)
+              (holds_put (seen h1.now) (gate_update (targets us)) 2 us (omega arith) paid));
         };
+        cost = omega (arith, f.cost, q.cost, length-placed 2 us);
         same = through_payload size us (seen h.now) few fit (seen h2.now) (λ n ne.
             ap (λ (image : Image). image n) last ∙ put_other (seen h1.now) (gate_update (targets us)) n ne
             ∙ ap (λ (image : Image). image n) (seen_fixed (placed 2 us) h h1 f));
@@ -68,6 +85,7 @@ module _ (size : ℕ) (to : List ℕ) (h : History) (few : length to ≤ 96) (fi
           rests = q.unsynced;
           gate_is = ap (λ (image : Image). image 1) last ∙ put_same (seen h1.now) (gate_update []) 1 refl;
         };
+        cost = omega (arith, f.cost, q.cost, length-copies (seen h.now) 2 to);
         same = λ n k. sym (
             ap (λ (image : Image). image n) last ∙ put_other (seen h1.now) (gate_update []) n (λ e. kept_not_1 size n k (sym e))
             ∙ ap (λ (image : Image). image n) (seen_fixed (copies (seen h.now) 2 to) h h1 f)
@@ -84,3 +102,34 @@ pub IsFixedAs-gate : (bytes : List ℕ) (to : List ℕ) (h h1 : History) → byt
     → (let u : Update = record { target = 1; content = bytes } in IsFixedAs (u ∷ []) h h1) → IsFixedAs (gate_update to ∷ []) h h1
 IsFixedAs-gate bytes to h h1 e w =
     let P : List ℕ → Type 0 = λ b. let u : Update = record { target = 1; content = b } in IsFixedAs (u ∷ []) h h1 in subst P e w
+
+-- the homes' phase, where what is written from memory is the payload
+pub AddsUpdates-homes : (us : List Update) (h h1 : History) → IsShown us h → AddsUpdates us h h1 → AddsUpdates (copies (seen h.now) 2 (targets us)) h h1
+AddsUpdates-homes us h h1 shown w = let P : List Update → Type 0 = λ vs. AddsUpdates vs h h1 in subst P (sym shown.payload) w
+
+pub IsFixedAs-homes : (us : List Update) (h h1 : History) → IsShown us h → IsFixedAs us h h1 → IsFixedAs (copies (seen h.now) 2 (targets us)) h h1
+IsFixedAs-homes us h h1 shown w = let P : List Update → Type 0 = λ vs. IsFixedAs vs h h1 in subst P (sym shown.payload) w
+
+pub few_targets : (us : List Update) → length us ≤ 96 → length (targets us) ≤ 96
+few_targets us few = omega (arith, few, length-targets us)
+
+-- a transaction is recorded, and then copied home
+module _ (size size1 : ℕ) (us : List Update) (h h1 : History) (same_size : size1 ≡ size) (records : Records size us h h1) (recorded : IsRecorded size us h h1) where
+  pub homed_moments : (h2 : History) → KeepsShown size1 (targets us) h1 h2 → AddsEither size us (seen h.now) h h2
+  homed_moments h2 w =
+      let P : ℕ → Type 0 = λ s. KeepsShown s (targets us) h1 h2 in
+      AddsOnly-join (λ image. Settles size image (seen h.now) ⊎ Settles size image (applied us (seen h.now))) h h1 h2 records
+      (AddsOnly-weaken (λ image. Settles size image (through (targets us) (seen h1.now)))
+      (λ image. Settles size image (seen h.now) ⊎ Settles size image (applied us (seen h.now))) h1 h2
+      (λ image s. inr (settles_as size image (through (targets us) (seen h1.now)) (applied us (seen h.now)) (λ n k. sym (recorded.same n k)) s))
+      (subst P same_size w))
+
+  pub committed : (h2 : History) → IsCopiedHome size1 (targets us) h1 h2 → IsCommitted size us h h2
+  committed h2 w =
+      let P : ℕ → Type 0 = λ s. IsCopiedHome s (targets us) h1 h2 in
+      let home : IsCopiedHome size (targets us) h1 h2 = subst P same_size w in
+      record {
+        gated = home.gated;
+        same = λ n k. recorded.same n k ∙ home.same n k;
+        cost = omega (arith, recorded.cost, home.cost, length-targets us);
+      }

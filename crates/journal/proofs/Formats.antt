@@ -1,23 +1,19 @@
 -- A format, phase by phase.
-use Rattle.std.proofs.Common.{◌≡◌, ◌≤◌, ◌<◌, ◌⊎◌, ◌+◌, ◌-◌, ◌==◌, ℕ, suc, zero, List, [], ◌∷◌, length, map, get_or, take, refl, sym, ap, ◌∙◌, subst, inl, inr, ⊎_elim, arith, if◌then◌else◌}
+use Rattle.std.proofs.Common.{◌≡◌, ◌≤◌, ◌<◌, ◌⊎◌, ◌+◌, ◌-◌, ◌==◌, ℕ, suc, zero, List, [], ◌∷◌, length, map, get_or, refl, sym, ap, ◌∙◌, subst, inl, inr, ⊎_elim, arith, if◌then◌else◌}
 use Rattle.std.specs.List.{range_with_len}
 use Rattle.std.proofs.lemmas.Bool.{cases_eq}
 use Rattle.std.proofs.lemmas.List.FromFn.{get_or-map-range_with_len, length-map-range_with_len}
 use Rattle.disk.specs.declared.update.Update.{Update}
-use Rattle.disk.specs.Moments.{Image, History, AddsOnly, Left, LeftSince, MayHold, Among, seen, put, applied, newest}
+use Rattle.disk.specs.Moments.{Image, History, LeftSince, MayHold, Among, seen, put, applied}
 use Rattle.disk.specs.Calls.{zero_sector}
 use Rattle.journal.specs.Layout.{AreTargets, gate, targets}
-use Rattle.journal.specs.Settled.{IsKept, Settles}
+use Rattle.journal.specs.Settled.{Settles}
 use Rattle.journal.specs.Phase.{LeftWith, AddsUpdates, IsFixedAs}
-use Rattle.journal.specs.Format.{formatted, fresh, AddsFormats, IsFormatted}
-use Rattle.journal.proofs.Images.{Out, Between, put_same, put_other, low_out, applied_out, between_out, if_same, if_other}
+use Rattle.journal.specs.Format.{formatted, fresh, fresh_at, AddsFormats, IsFormatted}
+use Rattle.journal.proofs.Images.{Out, put_same, put_other, low_out, applied_out, between_out, if_same, if_other}
 use Rattle.journal.proofs.Stages.{Fit-of, no_targets, between_one}
 use Rattle.journal.proofs.Moments.{AddsOnly-weaken, AddsOnly-join, between_of}
 use Rattle.journal.proofs.Commits.{seen_fixed, between_after}
-
--- the write of sector n
-abbrev pub fresh_at : List Update → ℕ → Update
-fresh_at updates n = record { target = n; content = applied updates (λ _. zero_sector) n }
 
 pub length-fresh : (size : ℕ) (updates : List Update) → length (fresh size updates) ≡ size - 1
 length-fresh size updates = length-map-range_with_len (fresh_at updates) 1 (size - 1)

@@ -1,6 +1,6 @@
 -- The bytes of a gate as they are written, part by part.
-use Rattle.std.proofs.Common.{◌≡◌, ◌≤◌, ◌<◌, ◌+◌, ◌-◌, ◌*◌, ◌/◌, ◌%◌, ℕ, suc, zero, List, [], ◌∷◌, ◌++◌, length, take, drop, replicate, refl, sym, ap, ◌∙◌, arith}
-use Rattle.std.proofs.lemmas.List.{length-drop, append-nil, drop-drop, drop-replicate}
+use Rattle.std.proofs.Common.{◌≡◌, ◌≤◌, ◌<◌, ◌+◌, ◌-◌, ◌*◌, ℕ, suc, zero, List, [], ◌∷◌, ◌++◌, length, take, drop, refl, ap, ◌∙◌, arith}
+use Rattle.std.proofs.lemmas.List.{append-nil, drop-drop, drop-replicate}
 use Rattle.disk.specs.Calls.{zero_sector}
 use Rattle.journal.specs.Layout.{gate, gate_words, words}
 use borrow.Rule.Slice.PartMut.{put_mid}

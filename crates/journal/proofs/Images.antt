@@ -1,9 +1,9 @@
 -- Images while writes are under way: which sectors they leave alone, and what they leave in the others.
-use Rattle.std.proofs.Common.{◌≡◌, ◌≢◌, ◌≤◌, ◌<◌, ◌⊎◌, ◌+◌, ◌==◌, ℕ, suc, zero, List, [], ◌∷◌, length, map, refl, sym, ap, ◌∙◌, inl, inr, ⊎_elim, arith, All, AllPairs, eq-eqb, ne_eqb, if◌then◌else◌, cond, true, false, get_or}
+use Rattle.std.proofs.Common.{◌≡◌, ◌≤◌, ◌<◌, ◌⊎◌, ◌+◌, ◌==◌, ℕ, suc, List, [], ◌∷◌, length, refl, sym, ap, ◌∙◌, subst, inl, inr, ⊎_elim, arith, eq-eqb, ne_eqb, if◌then◌else◌}
 use Rattle.std.proofs.lemmas.Bool.{cases_eq}
 use Rattle.disk.specs.declared.update.Update.{Update}
 use Rattle.disk.specs.Moments.{Image, put, applied, Among}
-use Rattle.journal.specs.Layout.{AreTargets, home, through, targets, placed, copies}
+use Rattle.journal.specs.Layout.{home, targets, placed, copies}
 
 -- n is none of the targets
 abbrev pub Out : List ℕ → ℕ → Type 0
@@ -119,6 +119,21 @@ targets_copies F place (t ∷ ts) = ap (λ xs. t ∷ xs) (targets_copies F (plac
 pub holds_copies : (F : Image) (place : ℕ) (to : List ℕ) → HoldsFrom F place (copies F place to)
 holds_copies F place [] = tt
 holds_copies F place (t ∷ ts) = (refl, holds_copies F (place + 1) ts)
+
+-- a payload that holds the updates' contents, copied to their targets, gives the updates
+pub copies_held : (G : Image) (place : ℕ) (us : List Update) → HoldsFrom G place us → copies G place (targets us) ≡ us
+copies_held G place [] holds = refl
+copies_held G place (u ∷ us) holds =
+    ap (λ (content : List ℕ). let first : Update = record { target = u.target; content = content } in first ∷ copies G (place + 1) (targets us)) holds.0
+    ∙ ap (λ (rest : List Update). u ∷ rest) (copies_held G (place + 1) us holds.1)
+
+pub holds_put : (G : Image) (u : Update) (place : ℕ) (us : List Update) → u.target < place → HoldsFrom G place us → HoldsFrom (put G u) place us
+holds_put G u place [] below holds = tt
+holds_put G u place (v ∷ us) below holds =
+    (put_other G u place (λ e. omega (arith, below, e)) ∙ holds.0, holds_put G u (place + 1) us (omega (arith, below)) holds.1)
+
+pub holds_at : (F G : Image) (place : ℕ) (us : List Update) → F ≡ G → HoldsFrom F place us → HoldsFrom G place us
+holds_at F G place us e holds = let P : Image → Type 0 = λ image. HoldsFrom image place us in subst P e holds
 
 pub length-targets : (us : List Update) → length (targets us) ≡ length us
 length-targets [] = refl

@@ -1,12 +1,13 @@
 -- For the layer above: calls one after the other, and every map that a stop leaves since a call's start.
-use Rattle.std.proofs.Common.{◌≡◌, ◌≤◌, ◌<◌, ◌⊎◌, ◌+◌, ◌-◌, ℕ, suc, zero, List, [], ◌∷◌, ◌++◌, length, take, drop, refl, sym, ap, ◌∙◌, subst, inl, inr, ⊎_elim, arith}
+use Rattle.std.proofs.Common.{◌≡◌, ◌≤◌, ◌+◌, ℕ, suc, zero, List, [], ◌∷◌, ◌++◌, length, take, drop, refl, sym, ap, ◌∙◌, subst, ⊎_elim, arith}
 use Rattle.std.proofs.lemmas.List.{length-drop, length-append, take-append-le, take-append-drop}
 use Rattle.disk.specs.declared.update.Update.{Update}
-use Rattle.disk.specs.Moments.{Image, Moment, History, AddsOnly, Left, LeftWithin, LeftSince, moment, applied}
+use Rattle.disk.specs.Moments.{Image, Moment, AddsOnly, Left, LeftWithin, LeftSince, moment, applied}
 use Rattle.journal.specs.Settled.{AreSame, Settles}
-use Rattle.journal.specs.Log.{Log, applied_all, contents, StandsForFront, AddsFronts, IsSettled, Moved}
+use Rattle.journal.specs.Log.{Log, applied_all, contents, IsJoined, StandsForFront, AddsFronts, IsSettled, Moved}
 use Rattle.journal.proofs.Moments.{AddsOnly-weaken, AddsOnly-join}
-use Rattle.journal.proofs.Fronts.{applied_keeps, same_back, settles_same}
+use Rattle.journal.proofs.Fronts.{applied_keeps, applied_all-push, settles_same}
+use Rattle.journal.proofs.Lists.{applied_at}
 
 none_within : (ms : List Moment) (t : ℕ) (image : Image) → length ms ≤ t → LeftWithin ms t image → ⊥
 none_within [] t image l w = w
@@ -40,19 +41,52 @@ applied_all-front (us ∷ all) (suc k) c base =
     applied_all-front all k c (applied us base)
     ∙ ap (λ (n : ℕ). applied_all (take n (us ∷ all)) base) (let q : suc (k + c) ≡ suc k + c = omega arith in q)
 
+-- what a list gives a sector depends on what the image has there alone
+all_at : (list : List (List Update)) (a b : Image) (n : ℕ) → a n ≡ b n → applied_all list a n ≡ applied_all list b n
+all_at [] a b n e = e
+all_at (us ∷ list) a b n e = all_at list (applied us a) (applied us b) n (applied_at us a b n e)
+
+applied_all-append : (a b : List (List Update)) (base : Image) → applied_all (a ++ b) base ≡ applied_all b (applied_all a base)
+applied_all-append [] b base = refl
+applied_all-append (us ∷ a) b base = applied_all-append a b (applied us base)
+
+-- each front of a joined list is a front of the list
+pub front_of_joined : (list joined : List (List Update)) → IsJoined list joined → (c : ℕ) → c ≤ length joined
+    → (k : ℕ) × (k ≤ length list) × ((image : Image) (n : ℕ) → applied_all (take c joined) image n ≡ applied_all (take k list) image n)
+front_of_joined list joined j zero l = (0, omega arith, (λ image n. refl))
+front_of_joined list [] j (suc c) l = absurd (omega arith)
+front_of_joined list (us ∷ joined) j (suc c) l =
+    let rest = front_of_joined (drop j.0 list) joined j.3 c (omega arith) in (
+      j.0 + rest.0,
+      omega (arith, j.1, rest.1, length-drop j.0 list),
+      (λ image n. rest.2 (applied us image) n
+          ∙ all_at (take rest.0 (drop j.0 list)) (applied us image) (applied_all (take j.0 list) image) n (j.2 image n)
+          ∙ ap (λ (f : Image). f n) (applied_all-front list j.0 rest.0 image)),
+    )
+
+-- and it gives the same
+pub whole_of_joined : (list joined : List (List Update)) → IsJoined list joined → (image : Image) (n : ℕ)
+    → applied_all joined image n ≡ applied_all list image n
+whole_of_joined list [] j image n = j image n
+whole_of_joined list (us ∷ joined) j image n =
+    whole_of_joined (drop j.0 list) joined j.3 (applied us image) n
+    ∙ all_at (drop j.0 list) (applied us image) (applied_all (take j.0 list) image) n (j.2 image n)
+    ∙ ap (λ (f : Image). f n) (sym (applied_all-append (take j.0 list) (drop j.0 list) image))
+    ∙ ap (λ (xs : List (List Update)). applied_all xs image n) (take-append-drop j.0 list)
+
 -- a front after a call is a front from before it
 pub fronts_from : (all : List (List Update)) (old mid : Log) (image : Image) → mid.size ≡ old.size → Moved all old mid → StandsForFront mid.size mid.base mid.list image
     → StandsForFront old.size old.base all image
 fronts_from all old mid image e moved front =
-    let split : take front.count mid.list ≡ take front.count (drop moved.count all) = ap (λ (xs : List (List Update)). take front.count xs) moved.list in
+    let there = front_of_joined (drop moved.count all) mid.list moved.list front.count front.within in
     let P : ℕ → Type 0 = λ size. Settles size image (applied_all (take front.count mid.list) mid.base) in
     record {
-      count = moved.count + front.count;
-      within = omega (arith, moved.within, front.within, ap (λ (xs : List (List Update)). length xs) moved.list, length-drop moved.count all);
-      settles = settles_same old.size image (applied_all (take front.count mid.list) mid.base) (applied_all (take (moved.count + front.count) all) old.base)
-          (λ n k. ap (λ (xs : List (List Update)). applied_all xs mid.base n) split
-          ∙ sym (all_keeps old.size (take front.count (drop moved.count all)) (applied_all (take moved.count all) old.base) mid.base moved.base n k)
-          ∙ ap (λ (f : Image). f n) (applied_all-front all moved.count front.count old.base))
+      count = moved.count + there.0;
+      within = omega (arith, moved.within, there.1, length-drop moved.count all);
+      settles = settles_same old.size image (applied_all (take front.count mid.list) mid.base) (applied_all (take (moved.count + there.0) all) old.base)
+          (λ n k. there.2 mid.base n
+          ∙ sym (all_keeps old.size (take there.0 (drop moved.count all)) (applied_all (take moved.count all) old.base) mid.base moved.base n k)
+          ∙ ap (λ (f : Image). f n) (applied_all-front all moved.count there.0 old.base))
           (subst P e front.settles);
     }
 
@@ -76,17 +110,13 @@ calls_join all old mid new e moved first next =
     (AddsOnly-weaken (StandsForFront mid.size mid.base mid.list) (StandsForFront old.size old.base all) mid.history new.history
     (λ image front. fronts_from all old mid image e moved front) next)
 
-applied_all-append : (a b : List (List Update)) (base : Image) → applied_all (a ++ b) base ≡ applied_all b (applied_all a base)
-applied_all-append [] b base = refl
-applied_all-append (us ∷ a) b base = applied_all-append a b (applied us base)
-
 -- what reads give after a call that moved the list's first transactions into the base
 pub moved_contents : (all : List (List Update)) (old mid : Log) → Moved all old mid → AreSame old.size (applied_all all old.base) (contents mid)
 moved_contents all old mid moved n k =
     ap (λ (xs : List (List Update)). applied_all xs old.base n) (sym (take-append-drop moved.count all))
     ∙ ap (λ (f : Image). f n) (applied_all-append (take moved.count all) (drop moved.count all) old.base)
     ∙ all_keeps old.size (drop moved.count all) (applied_all (take moved.count all) old.base) mid.base moved.base n k
-    ∙ ap (λ (xs : List (List Update)). applied_all xs mid.base n) (sym moved.list)
+    ∙ sym (whole_of_joined (drop moved.count all) mid.list moved.list mid.base n)
 
 -- moments with fronts of a list are moments with fronts of a longer one
 pub fronts_of_longer : (old new : Log) (more : List (List Update)) → AddsFronts old new
@@ -94,3 +124,8 @@ pub fronts_of_longer : (old new : Log) (more : List (List Update)) → AddsFront
 fronts_of_longer old new more adds =
     AddsOnly-weaken (StandsForFront old.size old.base old.list) (StandsForFront old.size old.base (old.list ++ more)) old.history new.history
     (λ image front. fronts_longer old.size old.base old.list more image front) adds
+
+-- what reads give after one more transaction
+pub pushed_contents : (us : List Update) (old new : Log) → Moved (old.list ++ us ∷ []) old new → AreSame old.size (applied us (contents old)) (contents new)
+pushed_contents us old new moved n k =
+    ap (λ (f : Image). f n) (sym (applied_all-push old.list us old.base)) ∙ moved_contents (old.list ++ us ∷ []) old new moved n k

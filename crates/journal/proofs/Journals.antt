@@ -1,11 +1,11 @@
 -- What a journal's calls keep.
-use Rattle.std.proofs.Common.{◌≡◌, ◌≤◌, ◌<◌, ◌⊎◌, ◌+◌, ℕ, Bool, true, false, List, [], ◌∷◌, length, refl, sym, ap, ◌∙◌, subst, inl, inr, ⊎_elim, arith, Result, Ok, Err, OnOk, is_err, ◌++◌, take, get_or}
+use Rattle.std.proofs.Common.{◌≡◌, ◌<◌, ◌+◌, ℕ, true, false, List, [], ◌∷◌, length, refl, sym, ap, ◌∙◌, subst, arith, Result, Ok, Err, OnOk, is_err, ◌++◌, take, get_or}
 use Rattle.std.proofs.lemmas.List.{take_more}
 use Rattle.disk.specs.declared.update.Update.{Update}
-use Rattle.disk.specs.Moments.{Image, History, seen, applied}
-use Rattle.journal.specs.Layout.{AreTargets, gate, through, targets}
+use Rattle.disk.specs.Moments.{Image, History, seen}
+use Rattle.journal.specs.Layout.{AreTargets, gate, targets}
 use Rattle.journal.specs.Phase.{IsGated}
-use Rattle.journal.specs.Commit.{AddsEither, KeepsShown, IsCopiedHome, IsRecorded}
+use Rattle.journal.specs.Commit.{AddsEither, IsCommitted}
 
 -- the device's size stays
 pub same_fit : (old new : ℕ) (to : List ℕ) → new ≡ old → AreTargets old to → AreTargets new to
@@ -23,19 +23,6 @@ pub on_ok : {T E P : Type 0} (r : Result T E) → is_err r ≡ false → OnOk r 
 on_ok (Ok x) e p = p
 on_ok (Err x) e p = absurd (let c : true ≡ false = e in cc)
 
-pub shown_at : (size : ℕ) (xs ys : List ℕ) (h h1 : History) → xs ≡ ys → (IsGated xs h → KeepsShown size xs h h1) → IsGated ys h → KeepsShown size ys h h1
-shown_at size xs ys h h1 e f w =
-    let P : List ℕ → Type 0 = λ to. IsGated to h → KeepsShown size to h h1 in subst P e f w
-
-pub home_at : {T E : Type 0} (r : Result T E) (size : ℕ) (xs ys : List ℕ) (h h1 : History) → is_err r ≡ false → xs ≡ ys
-    → (IsGated xs h → OnOk r (IsCopiedHome size xs h h1)) → IsGated ys h → IsCopiedHome size ys h h1
-home_at r size xs ys h h1 ok e f w =
-    let P : List ℕ → Type 0 = λ to. IsGated to h → OnOk r (IsCopiedHome size to h h1) in on_ok r ok (subst P e f w)
-
-pub either_at : (size : ℕ) (us : List Update) (to : List ℕ) (h h1 : History) → to ≡ [] → AddsEither size us (seen h.now) h h1
-    → AddsEither size us (through to (seen h.now)) h h1
-either_at size us to h h1 e w = let P : List ℕ → Type 0 = λ xs. AddsEither size us (through xs (seen h.now)) h h1 in subst P (sym e) w
-
 -- one more target
 pub targets-push : (us : List Update) (u : Update) → targets (us ++ u ∷ []) ≡ targets us ++ u.target ∷ []
 targets-push [] u = refl
@@ -45,16 +32,17 @@ pub targets_more : (us : List Update) (i : ℕ) (d : Update) → i < length us
     → targets (take (i + 1) us) ≡ targets (take i us) ++ (get_or us i d).target ∷ []
 targets_more us i d l = ap (λ xs. targets xs) (take_more us i d l) ∙ targets-push (take i us) (get_or us i d)
 
-pub recorded_at : {T E : Type 0} (r : Result T E) (size : ℕ) (us : List Update) (h h1 : History) → is_err r ≡ false → IsGated [] h
-    → (IsGated [] h → OnOk r (IsRecorded size us h h1)) → IsRecorded size us h h1
-recorded_at r size us h h1 ok gated f = on_ok r ok (f gated)
-
 pub fit_at : (old new : ℕ) (xs ys : List ℕ) → new ≡ old → ys ≡ xs → AreTargets old xs → AreTargets new ys
 fit_at old new xs ys e q a = let P : List ℕ → Type 0 = λ to. AreTargets new to in subst P (sym q) (same_fit old new xs e a)
 
 pub gated_at : (xs ys : List ℕ) (h : History) → xs ≡ ys → IsGated xs h → IsGated ys h
 gated_at xs ys h e w = let P : List ℕ → Type 0 = λ to. IsGated to h in subst P e w
 
--- the base of a closed gate is what is seen
-pub applied_through : (us : List Update) (to : List ℕ) (image : Image) (n : ℕ) → to ≡ [] → applied us (through to image) n ≡ applied us image n
-applied_through us to image n e = ap (λ (xs : List ℕ). applied us (through xs image) n) e
+-- a commit that went well
+pub committed_at : {T E : Type 0} (r : Result T E) (size : ℕ) (xs ys : List Update) (h h1 : History) → is_err r ≡ false → xs ≡ ys
+    → (IsGated [] h → OnOk r (IsCommitted size xs h h1)) → IsGated [] h → IsCommitted size ys h h1
+committed_at r size xs ys h h1 ok e f w =
+    let P : List Update → Type 0 = λ us. IsGated [] h → OnOk r (IsCommitted size us h h1) in on_ok r ok (subst P e f w)
+
+pub either_at : (size : ℕ) (xs ys : List Update) (base : Image) (h h1 : History) → xs ≡ ys → AddsEither size xs base h h1 → AddsEither size ys base h h1
+either_at size xs ys base h h1 e w = let P : List Update → Type 0 = λ us. AddsEither size us base h h1 in subst P e w

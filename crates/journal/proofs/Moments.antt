@@ -1,9 +1,9 @@
 -- Moments: what a phase's writes and its sync add to the maps that a crash may leave.
-use Rattle.std.proofs.Common.{◌≡◌, ◌≤◌, ◌<◌, ◌⊎◌, ◌+◌, ◌==◌, ℕ, suc, List, [], ◌∷◌, ◌++◌, length, refl, sym, ap, ◌∙◌, subst, inl, inr, ⊎_elim, arith}
+use Rattle.std.proofs.Common.{◌≡◌, ◌≤◌, ◌⊎◌, ◌+◌, ℕ, List, [], ◌∷◌, ◌++◌, length, refl, sym, subst, inl, inr, ⊎_elim, arith}
 use Rattle.std.proofs.lemmas.Bool.{cases_eq}
 use Rattle.disk.specs.declared.update.Update.{Update}
-use Rattle.disk.specs.Moments.{Image, Moment, History, MayHold, Among, Left, LeftWithin, LeftSince, AddsOnly, moment, wrote, synced, seen, newest, put, applied}
-use Rattle.journal.specs.Phase.{LeftWith, IsFixedAs}
+use Rattle.disk.specs.Moments.{Image, Moment, History, MayHold, Among, Left, LeftWithin, LeftSince, AddsOnly, moment, wrote, synced, seen, newest, applied}
+use Rattle.journal.specs.Phase.{LeftWith}
 use Rattle.journal.proofs.Images.{put_same, put_other, Between}
 
 -- writes, the first of the list first
@@ -104,6 +104,10 @@ AddsOnly-synced P h = record {
 pub seen-wrote_all : (us : List Update) (h : History) → seen (wrote_all us h).now ≡ applied us (seen h.now)
 seen-wrote_all [] h = refl
 seen-wrote_all (u ∷ us) h = seen-wrote_all us (wrote u h)
+
+pub moment-wrote_all : (us : List Update) (h : History) → moment (wrote_all us h) ≡ moment h + length us
+moment-wrote_all [] h = omega arith
+moment-wrote_all (u ∷ us) h = omega (arith, moment-wrote_all us (wrote u h))
 
 pub wrote_all-push : (us : List Update) (u : Update) (h : History) → wrote_all (us ++ u ∷ []) h ≡ wrote u (wrote_all us h)
 wrote_all-push [] u h = refl

@@ -1,17 +1,15 @@
 -- Phases: how one ends, and what a failure within it leaves.
-use Rattle.std.proofs.Common.{◌≡◌, ◌≤◌, ◌<◌, ◌⊎◌, ◌+◌, ◌-◌, ◌^◌, ℕ, suc, zero, List, [], ◌∷◌, ◌++◌, length, get_or, take, drop, refl, sym, ap, ◌∙◌, subst, inl, inr, ⊎_elim, arith, Ok, Err, Result, IsErrOf, add-one}
-use Rattle.std.proofs.lemmas.List.{take_more, take-append-drop}
+use Rattle.std.proofs.Common.{◌≡◌, ◌≤◌, ◌<◌, ◌⊎◌, ◌+◌, ◌-◌, ◌^◌, ℕ, suc, zero, List, [], ◌∷◌, ◌++◌, length, get_or, take, drop, refl, sym, ap, ◌∙◌, subst, inl, inr, ⊎_elim, arith}
+use Rattle.std.proofs.lemmas.List.{get_or_default, take_more, take-append-drop}
 use Rattle.std.proofs.lemmas.Bool.{cases_lt}
 use Rattle.disk.specs.declared.update.Update.{Update}
-use Rattle.disk.specs.declared.fault.DiskFault.{DiskFault}
-use Rattle.disk.specs.declared.fault.DiskFault.TheVariants.{Range, Fault, Memory, Open}
-use Rattle.disk.specs.Moments.{Image, Moment, History, MayHold, Among, AddsOnly, wrote, synced, seen, applied}
-use Rattle.disk.specs.Cause.{IsCounted, HasCause}
+use Rattle.disk.specs.Moments.{Image, History, MayHold, Among, AddsOnly, moment, wrote, synced, seen}
+use Rattle.disk.specs.Cause.{IsCounted}
 use Rattle.journal.specs.Layout.{AreTargets, placed, copies, targets}
-use Rattle.journal.specs.Phase.{LeftWith, AddsUpdates, IsFixedAs, FailsCounted}
+use Rattle.journal.specs.Phase.{LeftWith, AddsUpdates, IsFixedAs}
 use Rattle.journal.proofs.Images.{Out, low_out, applied_out, targets_copies}
 use Rattle.journal.proofs.Stages.{Fit-of}
-use Rattle.journal.proofs.Moments.{wrote_all, AddsOnly-same, AddsOnly-weaken, AddsOnly-join, AddsOnly-wrote_all, AddsOnly-synced, seen-wrote_all, wrote_all-push}
+use Rattle.journal.proofs.Moments.{wrote_all, AddsOnly-weaken, AddsOnly-join, AddsOnly-wrote_all, AddsOnly-synced, seen-wrote_all, moment-wrote_all, wrote_all-push}
 
 Among-front : (a b : List Update) (n : ℕ) (content : List ℕ) → Among a n content → Among (a ++ b) n content
 Among-front [] b n content w = absurd w
@@ -67,6 +65,7 @@ synced_fixes all i h h1 h2 l e q =
     record {
       fixed = ap (λ (k : History). k.now.fixed) q ∙ ap (λ (k : History). seen k.now) whole ∙ seen-wrote_all all h;
       unsynced = ap (λ (k : History). k.now.unsynced) q;
+      cost = omega (arith, ap (λ (k : History). moment k) q, ap (λ (k : History). moment k) whole, moment-wrote_all all h);
     }
 
 pub length-placed : (place : ℕ) (us : List Update) → length (placed place us) ≡ length us
@@ -140,3 +139,8 @@ home_at size to i h h1 content fit few l e read =
     get_or-copies (seen h.now) 2 to i u l
     ∙ ap (λ (bytes : List ℕ). let r : Update = record { target = get_or to i 0; content = bytes } in r)
     (sym (payload_stays size to i h h1 fit few l e) ∙ sym read)
+
+-- an update's own write, at an index
+pub update_at : (us : List Update) (i : ℕ) (d : Update) → i < length us
+    → (let u : Update = record { target = (get_or us i d).target; content = (get_or us i d).content } in get_or us i u ≡ u)
+update_at us i d l = let u : Update = record { target = (get_or us i d).target; content = (get_or us i d).content } in get_or_default us i u d l

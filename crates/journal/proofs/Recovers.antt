@@ -1,16 +1,14 @@
 -- Recovery: an image settles to one image, and a mount keeps what it settles to.
-use Rattle.std.proofs.Common.{◌≡◌, ◌≤◌, ◌<◌, ◌^◌, ◌⊎◌, ℕ, List, [], ◌∷◌, length, refl, sym, ap, ◌∙◌, subst, inl, inr, arith, Err, IsErrOf}
+use Rattle.std.proofs.Common.{◌≡◌, ◌≤◌, ◌<◌, ◌^◌, ℕ, List, [], length, refl, sym, ap, ◌∙◌, subst, inr, arith, Err}
 use Rattle.disk.specs.Moments.{Image, History, AddsOnly, seen, synced}
-use Rattle.disk.specs.Cause.{IsCounted}
-use Rattle.journal.specs.declared.fault.JournalFault.{JournalFault}
 use Rattle.journal.specs.declared.fault.JournalFault.TheVariants as faults
-use Rattle.journal.specs.Layout.{AreTargets, NamesTargets, gate, through, words_in}
+use Rattle.journal.specs.Layout.{AreTargets, NamesTargets, gate, through}
 use Rattle.journal.specs.Settled.{AreSame, Settles, SettlesAs}
 use Rattle.journal.specs.Phase.{IsGated}
 use Rattle.journal.specs.Commit.{KeepsShown}
 use Rattle.journal.specs.Recover.{FaultsCounted}
 use Rattle.journal.proofs.GateWords.{names_one}
-use Rattle.journal.proofs.Stages.{gated_stage}
+use Rattle.journal.proofs.Stages.{gated_stage, no_targets}
 use Rattle.journal.proofs.Moments.{AddsOnly-weaken, AddsOnly-join, AddsOnly-synced}
 use Rattle.journal.proofs.Fronts.{settles_same}
 
@@ -66,9 +64,16 @@ gated_after h h1 h2 sector to q e read names = record {
   gate_is = ap (λ (k : History). seen k.now 1) q ∙ sym read ∙ names;
 }
 
-pub damaged_counted : {T : Type 0} (before after : ℕ) → before ≤ after → FaultsCounted {T = T} before after (Err faults.Damaged)
+-- a closed gate names no targets
+pub closed_none : (size : ℕ) (sector to : List ℕ) → size < 2 ^ 32 → NamesTargets size sector to → sector ≡ gate [] → to ≡ []
+closed_none size sector to small names e =
+    let none : NamesTargets size sector [] = record { few = omega arith; fit = no_targets size; gate_is = e } in
+    sym (names_one size sector to small names) ∙ names_one size sector [] small none
+
+pub damaged_counted : {T : Type 0} (before after : ℕ) → after ≡ before → FaultsCounted {T = T} before after (Err faults.Damaged)
 damaged_counted before after l = record {
-  later = l;
+  later = omega arith;
   counted = λ e. absurd (let q : faults.Damaged ≡ faults.Fault = cc in cc);
+  none = λ n. l;
   only = inr refl;
 }

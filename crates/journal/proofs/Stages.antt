@@ -1,11 +1,10 @@
 -- Images within the phases of a flush, and what they settle to.
-use Rattle.std.proofs.Common.{◌≡◌, ◌≢◌, ◌≤◌, ◌<◌, ◌⊎◌, ◌+◌, ◌==◌, ℕ, suc, zero, List, [], ◌∷◌, length, refl, sym, ap, ◌∙◌, inl, inr, ⊎_elim, arith, All, AllPairs, get_or, subst}
-use Rattle.std.proofs.lemmas.Bool.{cases_eq}
+use Rattle.std.proofs.Common.{◌≡◌, ◌≢◌, ◌≤◌, ◌<◌, ◌⊎◌, ◌+◌, ℕ, suc, List, [], ◌∷◌, length, refl, sym, ap, ◌∙◌, inl, inr, ⊎_elim, arith, get_or, subst}
 use Rattle.disk.specs.declared.update.Update.{Update}
-use Rattle.disk.specs.Moments.{Image, put, applied, Among}
+use Rattle.disk.specs.Moments.{Image, applied}
 use Rattle.journal.specs.Layout.{AreTargets, home, through, gate, targets, placed, copies}
 use Rattle.journal.specs.Settled.{IsKept, AreSame, Settles}
-use Rattle.journal.proofs.Images.{Out, Fit, Between, HoldsFrom, put_same, put_other, home_cases, home_out, low_out, applied_out, between_out, applied_home, placed_out_below, placed_out_above, applied_placed, targets_copies, holds_copies, length-targets}
+use Rattle.journal.proofs.Images.{Out, Fit, Between, home_cases, home_out, low_out, applied_out, between_out, applied_home, placed_out_below, placed_out_above, applied_placed, targets_copies, holds_copies, length-targets}
 
 Out-of : (t : ℕ) (ts : List ℕ) → ((j : ℕ) → j < length ts → t ≢ get_or ts j 0) → Out ts t
 Out-of t [] f = tt

@@ -1,16 +1,17 @@
 -- Sector 0, written by itself beside whatever the gate shows.
-use Rattle.std.proofs.Common.{◌≡◌, ◌≤◌, ◌<◌, ◌⊎◌, ◌+◌, ℕ, List, [], ◌∷◌, length, refl, sym, ap, ◌∙◌, subst, inl, inr, ⊎_elim, arith}
+use Rattle.std.proofs.Common.{◌≡◌, ◌≤◌, ◌<◌, ◌⊎◌, ◌+◌, ℕ, List, [], ◌∷◌, length, refl, sym, ap, ◌∙◌, inl, inr, ⊎_elim, arith}
 use Rattle.std.proofs.lemmas.Bool.{cases_eq}
 use Rattle.disk.specs.declared.update.Update.{Update}
 use Rattle.disk.specs.Moments.{Image, History, seen, put, applied}
-use Rattle.journal.specs.Layout.{AreTargets, gate, home, through}
-use Rattle.journal.specs.Settled.{IsKept, AreSame, Settles}
+use Rattle.journal.specs.Layout.{AreTargets, gate, home, through, targets}
+use Rattle.journal.specs.Settled.{AreSame, Settles}
 use Rattle.journal.specs.Phase.{LeftWith, AddsUpdates, IsFixedAs, IsGated}
 use Rattle.journal.specs.Commit.{AddsEither}
-use Rattle.journal.proofs.Images.{Out, Between, put_same, put_other, home_cases, home_other, low_out}
+use Rattle.journal.proofs.Images.{Out, Fit, applied_out, Between, put_same, put_other, home_cases, home_other, low_out}
 use Rattle.journal.proofs.Stages.{Fit-of, between_one}
 use Rattle.journal.proofs.Moments.{AddsOnly-weaken, between_of}
 use Rattle.journal.proofs.Commits.{seen_fixed}
+use Rattle.journal.proofs.Lists.{applied_at}
 
 home_of_out : (to : List ℕ) (place n : ℕ) → Out to n → home to place n ≡ n
 home_of_out [] place n o = refl
@@ -64,6 +65,20 @@ module _ (size : ℕ) (to : List ℕ) (F : Image) (content : List ℕ) (few : le
             (cases_eq n 0);
       }))
       one.0
+
+-- what reads give: no transaction names sector 0
+pub superblock_contents : (size : ℕ) (us : List Update) (base base1 : Image) (content : List ℕ) → Fit size (targets us)
+    → (let u : Update = record { target = 0; content = content } in AreSame size (put base u) base1 → AreSame size (put (applied us base) u) (applied us base1))
+superblock_contents size us base base1 content fit same n k =
+    let u : Update = record { target = 0; content = content } in
+    ⊎_elim
+    (λ (q : n ≡ 0).
+    let out : Out (targets us) n = low_out size (targets us) n fit (omega (arith, q)) in
+    put_same (applied us base) u n (sym q) ∙ sym (put_same base u n (sym q)) ∙ same n k ∙ sym (applied_out us base1 n out))
+    (λ (q : n ≡ 0 → ⊥).
+    put_other (applied us base) u n (λ e. q (sym e))
+    ∙ applied_at us base base1 n (sym (put_other base u n (λ e. q (sym e))) ∙ same n k))
+    (cases_eq n 0)
 
 module _ (size : ℕ) (to : List ℕ) (content : List ℕ) (h h1 : History) (few : length to ≤ 96) (fit : AreTargets size to) (gated : IsGated to h) where
   pub superblock_moments : (let u : Update = record { target = 0; content = content } in

@@ -10,15 +10,21 @@ use Rattle.journal.specs.Settled.{Settles}
 abbrev pub formatted : List ℕ → List Update → Image
 formatted sector0 updates = applied updates (λ n. if n == 0 then sector0 else zero_sector)
 
--- zeros with the updates, at every sector but 0, by rising number
+-- sector n of zeros with the updates
+abbrev pub fresh_at : List Update → ℕ → Update
+fresh_at updates n = record { target = n; content = applied updates (λ _. zero_sector) n }
+
+-- these at every sector but 0, by rising number
 abbrev pub fresh : ℕ → List Update → List Update
-fresh size updates = map (λ n. let update : Update = record { target = n; content = applied updates (λ _. zero_sector) n } in update) (range_with_len 1 (size - 1))
+fresh size updates = map (fresh_at updates) (range_with_len 1 (size - 1))
 
 -- at every moment since, a map left is one left before, or has a sector 0 of zeros, or is formatted
 abbrev pub AddsFormats : ℕ → List ℕ → List Update → History → History → Type 0
 AddsFormats size sector0 updates old new =
-    AddsOnly (λ image. (image 0 ≡ zero_sector) ⊎ Settles size image (formatted sector0 updates)) old new
+    AddsOnly (λ image. (image 0 ≡ zero_sector) ⊎ Settles size image (formatted sector0 updates))
+    old new
 
 -- every map that a crash leaves now is formatted
 abbrev pub IsFormatted : ℕ → List ℕ → List Update → History → Type 0
-IsFormatted size sector0 updates new = (image : Image) → Left new.now image → Settles size image (formatted sector0 updates)
+IsFormatted size sector0 updates new = (image : Image) → Left new.now image
+    → Settles size image (formatted sector0 updates)

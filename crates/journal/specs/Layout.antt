@@ -4,7 +4,7 @@
 --   sector 1            the gate
 --   sectors 2 to 97     the payload
 --   from sector 98 on   the caller's, written by transactions
-use Rattle.std.specs.Prelude.{◌≡◌, ◌≢◌, ◌≤◌, ◌<◌, ◌⊎◌, ◌==◌, ◌+◌, ◌*◌, ◌-◌, ℕ, List, [], ◌∷◌, ◌++◌, length, replicate, flat_map, map, drop, All, AllPairs, if◌then◌else◌}
+use Rattle.std.specs.Prelude.{◌≡◌, ◌≢◌, ◌≤◌, ◌<◌, ◌==◌, ◌+◌, ◌*◌, ◌-◌, ℕ, List, [], ◌∷◌, ◌++◌, length, replicate, flat_map, map, drop, All, AllPairs, if◌then◌else◌}
 use Rattle.std.specs.List.{range_with_len}
 use Rattle.byteorder.specs.Endian.{big_bytes, big_number}
 use Rattle.disk.specs.declared.update.Update.{Update}
@@ -29,7 +29,8 @@ gate_words to = 1 ∷ length to ∷ to
 unfoldable pub gate : List ℕ → List ℕ
 gate [] = zero_sector
 gate (target ∷ targets) =
-    words (gate_words (target ∷ targets)) ++ replicate (4096 - 4 * length (gate_words (target ∷ targets))) 0
+    words (gate_words (target ∷ targets))
+    ++ replicate (4096 - 4 * length (gate_words (target ∷ targets))) 0
 
 -- where sector n stands while the gate is open: its content is in the payload if it is a target
 abbrev pub home : List ℕ → ℕ → ℕ → ℕ
@@ -48,12 +49,14 @@ targets (update ∷ updates) = update.target ∷ targets updates
 -- the updates' contents, as updates of the sectors from a place on
 abbrev pub placed : ℕ → List Update → List Update
 placed place [] = []
-placed place (update ∷ updates) = (record { target = place; content = update.content }) ∷ placed (place + 1) updates
+placed place (update ∷ updates) =
+    (record { target = place; content = update.content }) ∷ placed (place + 1) updates
 
 -- what copies an image's sectors from a place on to these targets
 abbrev pub copies : Image → ℕ → List ℕ → List Update
 copies image place [] = []
-copies image place (target ∷ targets) = (record { target = target; content = image place }) ∷ copies image (place + 1) targets
+copies image place (target ∷ targets) =
+    (record { target = target; content = image place }) ∷ copies image (place + 1) targets
 
 -- a gate sector names these targets
 pub record NamesTargets (size : ℕ) (sector : List ℕ) (to : List ℕ) : Type 0 where
@@ -61,6 +64,8 @@ pub record NamesTargets (size : ℕ) (sector : List ℕ) (to : List ℕ) : Type 
   pub fit : AreTargets size to
   pub gate_is : sector ≡ gate to
 
--- the targets that a gate sector's words tell of: the second word's number of them, from the third on
+-- the targets that a gate sector's words tell of: the second word's number of them, from the third
+-- on
 abbrev pub words_in : List ℕ → List ℕ
-words_in sector = map (λ i. big_number 4 (drop (8 + 4 * i) sector)) (range_with_len 0 (big_number 4 (drop 4 sector)))
+words_in sector = map (λ i. big_number 4 (drop (8 + 4 * i) sector))
+    (range_with_len 0 (big_number 4 (drop 4 sector)))

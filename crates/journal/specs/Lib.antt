@@ -4,6 +4,8 @@ pub mod Phase
 pub mod Commit
 pub mod Transactions
 pub mod Log
+pub mod Calls
 pub mod Journal
 pub mod Recover
+pub mod MountAnswers
 pub mod Format

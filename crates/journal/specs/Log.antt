@@ -1,8 +1,8 @@
--- What a journal is to its caller: a base, an ordered list of transactions that a stop may still take
--- away from its end, and the moments of its device.
-use Rattle.std.specs.Prelude.{◌≡◌, ◌≤◌, ◌⊎◌, ◌↔◌, ℕ, Bool, true, false, List, [], ◌∷◌, ◌++◌, length, take, drop, Result, IsErrOf}
+-- What a journal is to its caller: a base, an ordered list of transactions that a stop may still
+-- take away from its end, and the moments of its device.
+use Rattle.std.specs.Prelude.{◌≡◌, ◌≤◌, ◌↔◌, ℕ, Bool, true, false, List, [], ◌∷◌, ◌++◌, ◌+◌, ◌*◌, length, take, drop, Result, IsErrOf}
 use Rattle.disk.specs.declared.update.Update.{Update}
-use Rattle.disk.specs.Moments.{Image, History, Left, AddsOnly, applied}
+use Rattle.disk.specs.Moments.{Image, History, Left, AddsOnly, applied, moment}
 use Rattle.disk.specs.Cause.{IsCounted}
 use Rattle.journal.specs.declared.fault.JournalFault.{JournalFault}
 use Rattle.journal.specs.declared.fault.JournalFault.TheVariants as faults
@@ -25,12 +25,14 @@ abbrev pub contents : Log → Image
 contents log = applied_all log.list log.base
 
 -- an image settles to a base with a front of a list of transactions
-pub record StandsForFront (size : ℕ) (base : Image) (list : List (List Update)) (image : Image) : Type 0 where
+pub record StandsForFront (size : ℕ) (base : Image) (list : List (List Update)) (image : Image)
+    : Type 0 where
   pub count : ℕ
   pub within : count ≤ length list
   pub settles : Settles size image (applied_all (take count list) base)
 
--- at every moment since, a map left is one left before, or the old base with a front of the old list
+-- at every moment since, a map left is one left before, or the old base with a front of the old
+-- list
 abbrev pub AddsFronts : Log → Log → Type 0
 AddsFronts old new = AddsOnly (StandsForFront old.size old.base old.list) old.history new.history
 
@@ -38,19 +40,49 @@ AddsFronts old new = AddsOnly (StandsForFront old.size old.base old.list) old.hi
 abbrev pub IsSettled : Log → Type 0
 IsSettled log = (image : Image) → Left log.history.now image → Settles log.size image log.base
 
--- of all these transactions the first ones went into the base, and the list is the rest
+-- a transaction that does what these do, one after the other
+abbrev pub DoesAs : List Update → List (List Update) → Type 0
+DoesAs updates list = (image : Image) (n : ℕ) → applied updates image n ≡ applied_all list image n
+
+-- The list, where neighbours may have become one: each transaction of the joined list does what the
+-- next ones of the list do, and what is left behind the last one alters nothing. So each front of
+-- the joined list is a front of the list.
+abbrev pub IsJoined : List (List Update) → List (List Update) → Type 0
+IsJoined list [] = DoesAs [] list
+IsJoined list (updates ∷ joined) = (count : ℕ) × (count ≤ length list)
+    × DoesAs updates (take count list) × IsJoined (drop count list) joined
+
+-- of all these transactions the first ones went into the base, and the list is the rest, joined
 pub record Moved (all : List (List Update)) (old new : Log) : Type 0 where
   pub count : ℕ
   pub within : count ≤ length all
   pub base : AreSame old.size (applied_all (take count all) old.base) new.base
-  pub list : new.list ≡ drop count all
+  pub list : IsJoined (drop count all) new.list
 
--- how a call answers by its device: Down exactly where the journal was down, and then nothing happens;
--- Fault only where the device counted a failure, and then the journal is down; else it is not
-pub record Answers {T : Type 0} (old new : Log) (before after : ℕ) (result : Result T JournalFault) : Type 0 where
+-- one more transaction was put at the list's end, and nothing else happened
+pub record Takes (updates : List Update) (old new : Log) : Type 0 where
+  pub list : IsJoined (old.list ++ updates ∷ []) new.list
+  pub only : new ≡ record old { list = new.list }
+
+-- so many writes and syncs were done
+abbrev pub Costs : ℕ → Log → Log → Type 0
+Costs count old new = moment new.history ≡ moment old.history + count
+
+-- What it costs to take a list into the base. Of each transaction: its contents are written to the
+-- payload and to their homes, the gate is opened and closed, and behind each of the four is a sync.
+abbrev pub flush_cost : List (List Update) → ℕ
+flush_cost [] = 0
+flush_cost (updates ∷ list) = 2 * length updates + 6 + flush_cost list
+
+-- how a call answers by its device: Down exactly where the journal was down, and then nothing
+-- happens; Fault exactly where the device counted a failure, and then the journal is down; else it
+-- is not
+pub record Answers {T : Type 0} (old new : Log) (before after : ℕ)
+    (result : Result T JournalFault) : Type 0 where
   pub down : IsErrOf result faults.Down ↔ (old.is_down ≡ true)
   pub untouched : IsErrOf result faults.Down → (new ≡ old) × (after ≡ before)
   pub later : before ≤ after
   pub counted : IsErrOf result faults.Fault → IsCounted before after
+  pub none : (IsErrOf result faults.Fault → ⊥) → after ≡ before
   pub goes_down : IsErrOf result faults.Fault → new.is_down ≡ true
   pub stays_up : old.is_down ≡ false → (IsErrOf result faults.Fault → ⊥) → new.is_down ≡ false

@@ -1,7 +1,7 @@
 -- What one phase does to a device: it writes some sectors, and then syncs.
-use Rattle.std.specs.Prelude.{◌≡◌, ◌≤◌, ◌⊎◌, ℕ, List, [], ◌∷◌, Result, OnErr}
+use Rattle.std.specs.Prelude.{◌≡◌, ◌≤◌, ◌⊎◌, ◌+◌, ℕ, List, [], length, Result, OnOk, OnErr}
 use Rattle.disk.specs.declared.update.Update.{Update}
-use Rattle.disk.specs.Moments.{Image, Moment, History, MayHold, Among, AddsOnly, applied, seen}
+use Rattle.disk.specs.Moments.{Image, Moment, History, MayHold, Among, AddsOnly, applied, seen, moment}
 use Rattle.disk.specs.Cause.{IsCounted}
 use Rattle.journal.specs.Layout.{gate}
 
@@ -9,18 +9,20 @@ use Rattle.journal.specs.Layout.{gate}
 abbrev pub LeftWith : List Update → Moment → Image → Type 0
 LeftWith updates m image = (n : ℕ) → MayHold m n (image n) ⊎ Among updates n (image n)
 
--- all is fixed, with the updates applied to what a read gave before
+-- all is fixed, with the updates applied to what a read gave before; so many writes, and a sync
 pub record IsFixedAs (updates : List Update) (old new : History) : Type 0 where
   pub fixed : new.now.fixed ≡ applied updates (seen old.now)
   pub unsynced : new.now.unsynced ≡ []
+  pub cost : moment new ≡ moment old + (length updates + 1)
 
 -- at every moment since, a map left is one left before, but for sectors with an update's content
 abbrev pub AddsUpdates : List Update → History → History → Type 0
 AddsUpdates updates old new = AddsOnly (LeftWith updates old.now) old new
 
--- a failure is one that the device counted
+-- a failure is one that the device counted, and where nothing failed it counted none
 pub record FailsCounted {T E : Type 0} (before after : ℕ) (result : Result T E) : Type 0 where
   pub later : before ≤ after
+  pub ok : OnOk result (after ≡ before)
   pub counted : OnErr result (IsCounted before after)
 
 -- all is fixed, and the gate is open for these targets

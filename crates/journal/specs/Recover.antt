@@ -1,24 +1,39 @@
 -- What a mount finds and leaves.
-use Rattle.std.specs.Prelude.{◌≡◌, ◌≤◌, ◌⊎◌, ℕ, List, [], Result, OnErr, IfErr, IsErrOf}
-use Rattle.disk.specs.Moments.{Image, History, seen, synced}
+use Rattle.std.specs.Prelude.{◌≡◌, ◌≤◌, ◌⊎◌, ◌+◌, ℕ, [], Result, OnOk, OnErr, IfErr, IsErrOf}
+use Rattle.disk.specs.Moments.{Image, History, AddsOnly, seen, synced, moment}
 use Rattle.disk.specs.Cause.{IsCounted}
 use Rattle.journal.specs.declared.fault.JournalFault.{JournalFault}
 use Rattle.journal.specs.declared.fault.JournalFault.TheVariants as faults
-use Rattle.journal.specs.Settled.{Settles}
+use Rattle.journal.specs.Settled.{Settles, SettlesAs}
+use Rattle.journal.specs.Layout.{gate}
 use Rattle.journal.specs.Phase.{IsGated}
 
--- the gate is closed, and the device reads as what it settled to
+-- The gate is closed, and the device reads as what it settled to. From the first sync on each map
+-- left settles to that.
 pub record Recovers (size : ℕ) (old new : History) : Type 0 where
   pub gated : IsGated [] new
   pub settles : Settles size (seen old.now) (seen new.now)
+  pub since_sync : AddsOnly (SettlesAs size (seen old.now)) (synced old) new
+  pub cost : moment new ≤ moment old + 100
+
+-- the gate of what a read gives is closed
+abbrev pub IsClosed : History → Type 0
+IsClosed h = seen h.now 1 ≡ gate []
+
+-- nothing was written: one sync, if all went well
+pub record WritesNothing {T E : Type 0} (old new : History) (result : Result T E) : Type 0 where
+  pub ok : OnOk result (new ≡ synced old)
+  pub err : OnErr result ((new ≡ old) ⊎ (new ≡ synced old))
 
 -- the gate had no form, and nothing was written
 pub record LeavesOnlySynced (size : ℕ) (old new : History) : Type 0 where
   pub formless : (settled : Image) → Settles size (seen old.now) settled → ⊥
   pub only_synced : new ≡ synced old
 
--- a mount's failures: of the device, which counted it, or the gate's
-pub record FaultsCounted {T : Type 0} (before after : ℕ) (result : Result T JournalFault) : Type 0 where
+-- a mount's failures: of the device, which counted it, or the gate's, and then it counted none
+pub record FaultsCounted {T : Type 0} (before after : ℕ) (result : Result T JournalFault)
+    : Type 0 where
   pub later : before ≤ after
   pub counted : IsErrOf result faults.Fault → IsCounted before after
+  pub none : (IsErrOf result faults.Fault → ⊥) → after ≡ before
   pub only : IfErr result (λ fault. (fault ≡ faults.Fault) ⊎ (fault ≡ faults.Damaged))

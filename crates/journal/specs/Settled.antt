@@ -21,4 +21,5 @@ pub record Settles (size : ℕ) (image settled : Image) : Type 0 where
 
 -- an image settles to all that this one settles to
 abbrev pub SettlesAs : ℕ → Image → Image → Type 0
-SettlesAs size first image = (settled : Image) → Settles size first settled → Settles size image settled
+SettlesAs size first image =
+    (settled : Image) → Settles size first settled → Settles size image settled

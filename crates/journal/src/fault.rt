@@ -16,7 +16,7 @@ pub enum JournalFault {
     /// A transaction of more than 48 sectors. Nothing changed.
     #[error("more than 48 sectors in a transaction")]
     TooMany,
-    /// No memory. Nothing changed.
+    /// No memory to mount. The device was not touched.
     #[error("out of memory")]
     Memory,
     /// The device failed in an earlier call.

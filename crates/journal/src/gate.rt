@@ -2,9 +2,9 @@
 
 ghost use Rattle.std.specs.Prelude.{◌≡◌, ◌≤◌, ◌<◌, ◌*◌, ◌↔◌, ℕ, List, [], ◌++◌, length, drop, false, IsTrue, vec_capacity};
 ghost use Rattle.byteorder.specs.Endian.{big_number};
-ghost use Rattle.journal.specs.Layout.{AreTargets, NamesTargets, gate, home, words, gate_words, words_in};
+ghost use Rattle.journal.specs.Layout.{AreTargets, NamesTargets, gate, words, gate_words, words_in};
 
-use crate::layout::{FIRST_TARGET, PAYLOAD, PAYLOAD_SECTORS};
+use crate::layout::{FIRST_TARGET, PAYLOAD_SECTORS};
 use byteorder::{BigEndian, ByteOrder};
 use disk::SECTOR;
 
@@ -35,7 +35,8 @@ pub(crate) fn closed() -> [u8; SECTOR]
 fn write_words(targets: &[u32], sector: &mut [u8])
     requires few { length targets.now ≤ 96 }
     requires long { length sector.old ≡ 4096 }
-    ensures { sector.new ≡ words (gate_words targets.now) ++ drop (4 * length (gate_words targets.now)) sector.old }
+    ensures { sector.new ≡ words (gate_words targets.now)
+        ++ drop (4 * length (gate_words targets.now)) sector.old }
 {
     BigEndian::write_u32(sector, OPEN);
     BigEndian::write_u32(&mut sector[4..], targets.len() as u32);
@@ -60,7 +61,8 @@ fn read_words(sector: &[u8], named: &mut Vec<u32>) -> bool
     requires room { 96 ≤ vec_capacity named.old }
     requires long { length sector.now ≡ 4096 }
     ensures many { result ≡ false → 96 < big_number 4 (drop 4 sector.now) }
-    ensures named { IsTrue result → (length named.new.items ≤ 96) × (named.new.items ≡ words_in sector.now) }
+    ensures named { IsTrue result
+        → (length named.new.items ≤ 96) × (named.new.items ≡ words_in sector.now) }
     ensures capacity { vec_capacity named.new ≡ vec_capacity named.old }
 {
     named.clear();
@@ -84,17 +86,4 @@ pub(crate) fn are_targets(to: &[u32], sectors: u32) -> bool
         }
     }
     true
-}
-
-/// Where sector `n` stands while the gate is open for these targets.
-pub(crate) fn place_of(to: &[u32], n: u32) -> u32
-    requires { length to.now ≤ 96 }
-    ensures { result ≡ home to.now 2 n }
-{
-    for (i, target) in to.iter().enumerate() {
-        if *target == n {
-            return PAYLOAD + i as u32;
-        }
-    }
-    n
 }

@@ -1,48 +1,46 @@
 //! The journal: a base, and a list of transactions that go into it through the gate.
 
-ghost use Rattle.std.specs.Prelude.{◌≡◌, ◌≤◌, ◌<◌, ◌⊎◌, ℕ, [], length, get_or, false, is_err, vec_len, vec_capacity, OnOk, IfOk, IfErr, IsErrOf, ◌∷◌, ◌++◌};
-ghost use Rattle.disk.specs.Moments.{seen, synced, put, AddsOnly, applied};
-ghost use Rattle.journal.specs.Layout.{AreTargets, gate, targets};
-ghost use Rattle.journal.specs.Settled.{AreSame, Settles, SettlesAs};
-ghost use Rattle.journal.specs.Recover.{LeavesOnlySynced};
-ghost use Rattle.disk.specs.Cause.{IsCounted};
-ghost use Rattle.journal.specs.Phase.{FailsCounted};
-ghost use Rattle.journal.specs.Commit.{AddsEither};
-ghost use Rattle.journal.specs.Log.{AddsFronts, Answers, IsSettled, Moved, contents};
+ghost use Rattle.std.specs.Prelude.{◌≡◌, ◌≤◌, ◌<◌, ◌⊎◌, ◌+◌, ◌↔◌, [], length, false, vec_capacity, OnOk, IfOk, IfErr, IsErrOf};
+ghost use Rattle.disk.specs.Moments.{seen, moment};
+ghost use Rattle.journal.specs.Calls.{AddsFirst, HasApplied, HasFlushed, HasWritten, IsPart, IsSafe, list_with};
 ghost use Rattle.journal.specs.Format.{AddsFormats, IsFormatted};
-ghost use Rattle.journal.specs.Transactions.{transactions, FitTogether};
-ghost use Rattle.std.specs.VecDeque.{deque_len, deque_capacity};
+ghost use Rattle.journal.specs.Layout.{AreTargets, gate, targets};
+ghost use Rattle.journal.specs.Log.{Answers, Moved, contents};
+ghost use Rattle.journal.specs.MountAnswers.{ComesBack, HasMounted, IsNew, IsRefused};
+ghost use Rattle.journal.specs.Phase.{FailsCounted};
+ghost use Rattle.journal.specs.Transactions.{FitTogether, gathered, sectors_of};
 
 use crate::layout::{self, MAX_UPDATES, PAYLOAD_SECTORS, SUPERBLOCK};
-use crate::{JournalFault, MountFault, commit, gate, list, phase, recover};
+use crate::{JournalFault, MountFault, commit, list, phase, recover};
 use disk::{Device, DiskFault, SECTOR, Update};
 use std::alloc::Global;
-use std::collections::VecDeque;
 
 /// A journal over a device.
+///
+/// What waits for a flush is kept as one transaction: neighbours of the list become one as they
+/// come.
 #[derive(Drop)]
 pub struct Journal<D: Device> {
-    alloc: Global,
     device: D,
-    gate_targets: Vec<u32>,
-    list: VecDeque<Vec<Update>>,
+    list: Vec<Update>,
+    named: Vec<u32>,
     is_down: bool,
     ghost large: { 256 ≤ D.size device },
-    ghost few: { length gate_targets.items ≤ 96 },
-    ghost room: { 96 ≤ vec_capacity gate_targets },
-    ghost fit: { AreTargets (D.size device) gate_targets.items },
+    ghost few: { length list.items ≤ 96 },
+    ghost room: { 96 ≤ vec_capacity list },
+    ghost named_room: { 96 ≤ vec_capacity named },
+    ghost named_are: { named.items ≡ targets list.items },
+    ghost fit: { AreTargets (D.size device) (targets list.items) },
     ghost rests: { D.keeps_word → is_down ≡ false → length (D.history device).now.unsynced ≡ 0 },
-    ghost gate_is: { D.keeps_word → is_down ≡ false → seen (D.history device).now 1 ≡ gate gate_targets.items },
-    ghost short: { (k : ℕ) → length (get_or (transactions list.items) k []) ≤ 48 },
-    ghost listed: { (k : ℕ) → AreTargets (D.size device) (targets (get_or (transactions list.items) k [])) },
+    ghost gate_is: { D.keeps_word → is_down ≡ false → seen (D.history device).now 1 ≡ gate [] },
 }
 
 #[tactic(auto, unfolding(crate::specs::Journal::log_of, crate::specs::Journal::failures_of))]
 impl<D: Device> Journal<D> {
     ghost use Rattle.journal.specs.Journal.{log_of, failures_of};
 
-    /// Formats a device: zeros, with this sector 0 and these updates. Until sector 0 is written, last
-    /// of all, a stop leaves what was there before or a sector 0 of zeros.
+    /// Formats a device: zeros, with this sector 0 and these updates. Until sector 0 is written,
+    /// last of all, a stop leaves what was there before or a sector 0 of zeros.
     ///
     /// # Errors
     ///
@@ -54,10 +52,14 @@ impl<D: Device> Journal<D> {
     ) -> Result<(), JournalFault>
         requires large { 256 ≤ D.size device.old }
         requires fit { AreTargets (D.size device.old) (targets updates.now) }
-        ensures moments { D.keeps_word
-            → AddsFormats (D.size device.old) sector0.now updates.now (D.history device.old) (D.history device.new) }
-        ensures ok { D.keeps_word → OnOk result (IsFormatted (D.size device.old) sector0.now updates.now (D.history device.new)) }
+        ensures moments { D.keeps_word → AddsFormats (D.size device.old) sector0.now updates.now
+            (D.history device.old) (D.history device.new) }
+        ensures ok { D.keeps_word → OnOk result
+            (IsFormatted (D.size device.old) sector0.now updates.now (D.history device.new)) }
+        ensures cost { D.keeps_word → OnOk result (moment (D.history device.new)
+            ≡ moment (D.history device.old) + (D.size device.old + 4)) }
         ensures size { D.size device.new ≡ D.size device.old }
+        // Refused
         ensures failures { FailsCounted (D.failed device.old) (D.failed device.new) result }
         ensures refuses { IfErr result (λ fault. fault ≡ JournalFault.Fault) }
     {
@@ -71,36 +73,22 @@ impl<D: Device> Journal<D> {
     ///
     /// # Errors
     ///
-    /// The device comes back with the reason: `Damaged` where the gate has no form, and then nothing
-    /// was written; `Fault` where the device failed; `Memory`, and then it was not touched.
+    /// The device comes back with the reason: `Damaged` where the gate has no form, and then
+    /// nothing was written; `Fault` where the device failed; `Memory`, and then it was not touched.
     pub fn mount(alloc: Global, device: D) -> Result<Journal<D>, MountFault<D>>
         requires { 256 ≤ D.size device }
-        ensures moments { D.keeps_word → IfOk result (λ journal.
-            AddsOnly (SettlesAs (D.size device) (seen (D.history device).now)) (D.history device) (log_of journal).history) }
-        ensures since_sync { D.keeps_word → IfOk result (λ journal.
-            AddsOnly (SettlesAs (D.size device) (seen (D.history device).now)) (synced (D.history device)) (log_of journal).history) }
-        ensures base { D.keeps_word → IfOk result (λ journal. Settles (D.size device) (seen (D.history device).now) (log_of journal).base) }
-        ensures settled { D.keeps_word → IfOk result (λ journal. IsSettled (log_of journal)) }
-        ensures list { IfOk result (λ journal. (log_of journal).list ≡ []) }
-        ensures is_down { IfOk result (λ journal. (log_of journal).is_down ≡ false) }
-        ensures size { IfOk result (λ journal. (log_of journal).size ≡ D.size device) }
-        ensures failures { IfOk result (λ journal. D.failed device ≤ failures_of journal) }
-
-        ensures refused { D.keeps_word → IfErr result (λ refused.
-            AddsOnly (SettlesAs (D.size device) (seen (D.history device).now)) (D.history device) (D.history refused.device)) }
-        ensures damaged { D.keeps_word → IfErr result (λ refused. refused.fault ≡ JournalFault.Damaged
-            → LeavesOnlySynced (D.size device) (D.history device) (D.history refused.device)) }
-        ensures memory { IfErr result (λ refused. refused.fault ≡ JournalFault.Memory → refused.device ≡ device) }
-        ensures refused_size { IfErr result (λ refused. D.size refused.device ≡ D.size device) }
-        ensures later { IfErr result (λ refused. D.failed device ≤ D.failed refused.device) }
-        ensures counted { IfErr result (λ refused. refused.fault ≡ JournalFault.Fault
-            → IsCounted (D.failed device) (D.failed refused.device)) }
-        ensures reasons { IfErr result (λ refused. (refused.fault ≡ JournalFault.Fault)
-            ⊎ ((refused.fault ≡ JournalFault.Damaged) ⊎ (refused.fault ≡ JournalFault.Memory))) }
+        ensures new { IfOk result (λ journal.
+            IsNew (D.size device) (D.failed device) (log_of journal) (failures_of journal)) }
+        ensures mounted { D.keeps_word → IfOk result (λ journal.
+            HasMounted (D.size device) (D.history device) (log_of journal)) }
+        // Refused
+        ensures back { IfErr result (ComesBack D.size D.failed device) }
+        ensures refused { D.keeps_word → IfErr result (λ refused. IsRefused (D.size device)
+            (D.history device) (D.history refused.device) refused.fault) }
     {
         let mut device = device;
-        let mut gate_targets = match Vec::with_capacity(alloc, PAYLOAD_SECTORS) {
-            Ok(targets) => targets,
+        let mut named = match Vec::with_capacity(alloc, PAYLOAD_SECTORS) {
+            Ok(named) => named,
             Err(_) => {
                 return Err(MountFault {
                     device,
@@ -108,12 +96,20 @@ impl<D: Device> Journal<D> {
                 });
             }
         };
-        match recover::recover(&mut device, &mut gate_targets) {
+        let list = match Vec::with_capacity(alloc, PAYLOAD_SECTORS) {
+            Ok(list) => list,
+            Err(_) => {
+                return Err(MountFault {
+                    device,
+                    fault: JournalFault::Memory,
+                });
+            }
+        };
+        match recover::recover(&mut device, &mut named) {
             Ok(()) => Ok(Journal {
-                alloc,
                 device,
-                gate_targets,
-                list: VecDeque::new(alloc),
+                list,
+                named,
                 is_down: false,
             }),
             Err(fault) => Err(MountFault { device, fault }),
@@ -129,49 +125,58 @@ impl<D: Device> Journal<D> {
         self.device
     }
 
-    /// The newest content of sector `n`, whether it went into the base yet or not. What is read of
-    /// the journal's own sectors, 1 to 97, says nothing.
+    /// Puts into `content` the newest content of sector `n`, whether it went into the base yet or
+    /// not. After `Fault` it may hold anything. What is read of the journal's own sectors, 1 to 97,
+    /// says nothing.
     ///
     /// # Errors
     ///
-    /// [`JournalFault::Fault`] where the device failed, and [`JournalFault::Down`] after such a call.
-    pub fn read(&mut self, n: u32) -> Result<[u8; SECTOR], JournalFault>
+    /// [`JournalFault::Fault`] where the device failed, and [`JournalFault::Down`] from then on.
+    pub fn read(&mut self, n: u32, content: &mut [u8; SECTOR]) -> Result<(), JournalFault>
         requires { n < (log_of self.old).size }
-        ensures content { D.keeps_word → IfOk result (λ content. content ≡ contents (log_of self.old) n) }
-        ensures log { log_of self.new ≡ record (log_of self.old) { is_down = (log_of self.new).is_down } }
-        ensures answers { Answers (log_of self.old) (log_of self.new) (failures_of self.old) (failures_of self.new) result }
-        ensures refuses { IfErr result (λ fault. (fault ≡ JournalFault.Fault) ⊎ (fault ≡ JournalFault.Down)) }
+        ensures ok { D.keeps_word → OnOk result (content.new ≡ contents (log_of self.old) n) }
+        // Nothing is written, and the list stays
+        ensures log { log_of self.new ≡ record (log_of self.old)
+            { is_down = (log_of self.new).is_down } }
+        ensures contents { contents (log_of self.new) ≡ contents (log_of self.old) }
+        // Refused
+        ensures untouched { IsErrOf result JournalFault.Down → content.new ≡ content.old }
+        ensures answers { Answers (log_of self.old) (log_of self.new)
+            (failures_of self.old) (failures_of self.new) result }
+        ensures refuses { IfErr result
+            (λ fault. (fault ≡ JournalFault.Fault) ⊎ (fault ≡ JournalFault.Down)) }
     {
         if self.is_down {
             return Err(JournalFault::Down);
         }
-        if let Some(content) = list::newest(&self.list, n) {
-            return Ok(content);
+        if let Some(place) = list::find(&self.named, n) {
+            *content = self.list[place].content;
+            return Ok(());
         }
-        let mut content = [0; SECTOR];
-        let place = gate::place_of(&self.gate_targets, n);
-        if self.device.read(place, &mut content).is_err() {
+        if self.device.read(n, content).is_err() {
             self.is_down = true;
             return Err(JournalFault::Fault);
         }
-        Ok(content)
+        Ok(())
     }
 
     /// Writes sector 0 by itself, and syncs. A stop leaves the old one or the new one.
     ///
     /// # Errors
     ///
-    /// [`JournalFault::Fault`] where the device failed, and [`JournalFault::Down`] after such a call.
+    /// [`JournalFault::Fault`] where the device failed, and [`JournalFault::Down`] from then on.
     pub fn superblock(&mut self, content: &[u8; SECTOR]) -> Result<(), JournalFault>
-        ensures moments { D.keeps_word → AddsEither (log_of self.old).size ((record { target = 0; content = content.now }) ∷ [])
-            (log_of self.old).base (log_of self.old).history (log_of self.new).history }
-        ensures ok { D.keeps_word → OnOk result (AreSame (log_of self.old).size
-            (put (log_of self.old).base (record { target = 0; content = content.now })) (log_of self.new).base) }
+        ensures moments { D.keeps_word
+            → AddsFirst content.now (log_of self.old) (log_of self.new) }
+        ensures ok { OnOk result
+            (HasWritten D.keeps_word content.now (log_of self.old) (log_of self.new)) }
         ensures list { (log_of self.new).list ≡ (log_of self.old).list }
-        ensures settled { D.keeps_word → OnOk result (IsSettled (log_of self.new)) }
         ensures size { (log_of self.new).size ≡ (log_of self.old).size }
-        ensures answers { Answers (log_of self.old) (log_of self.new) (failures_of self.old) (failures_of self.new) result }
-        ensures refuses { IfErr result (λ fault. (fault ≡ JournalFault.Fault) ⊎ (fault ≡ JournalFault.Down)) }
+        // Refused
+        ensures answers { Answers (log_of self.old) (log_of self.new)
+            (failures_of self.old) (failures_of self.new) result }
+        ensures refuses { IfErr result
+            (λ fault. (fault ≡ JournalFault.Fault) ⊎ (fault ≡ JournalFault.Down)) }
     {
         if self.is_down {
             return Err(JournalFault::Down);
@@ -184,136 +189,75 @@ impl<D: Device> Journal<D> {
         Ok(())
     }
 
-    /// Copies the payload home and closes the gate, if it is open.
-    fn close_gate(&mut self) -> Result<(), DiskFault>
+    /// Takes the list into the base, if there is one.
+    fn take_all(&mut self) -> Result<(), DiskFault>
         requires { (log_of self.old).is_down ≡ false }
-        ensures moments { D.keeps_word → AddsOnly (λ image. Settles (log_of self.old).size image (log_of self.old).base)
-            (log_of self.old).history (log_of self.new).history }
-        ensures same { D.keeps_word → OnOk result (AreSame (log_of self.old).size (log_of self.old).base (log_of self.new).base) }
-        ensures closed { OnOk result (self.new.gate_targets.items ≡ []) }
-        ensures list { (log_of self.new).list ≡ (log_of self.old).list }
-        ensures same_list { self.new.list ≡ self.old.list }
-        ensures size { (log_of self.new).size ≡ (log_of self.old).size }
-        ensures is_down { (log_of self.new).is_down ≡ is_err result }
-        ensures failures { FailsCounted (failures_of self.old) (failures_of self.new) result }
+        ensures part { IsPart D.keeps_word (log_of self.old) (log_of self.new)
+            (failures_of self.old) (failures_of self.new) result }
+        ensures flushed { OnOk result
+            (HasFlushed D.keeps_word (log_of self.old) (log_of self.new)) }
+        ensures emptied { OnOk result (self.new.list.items ≡ []) }
+        ensures nothing { (log_of self.old).list ≡ [] → log_of self.new ≡ log_of self.old }
     {
-        if self.gate_targets.is_empty() {
+        if self.list.is_empty() {
             return Ok(());
         }
         self.is_down = true;
-        if commit::copy_home(&mut self.device, &self.gate_targets).is_err() {
+        if commit::commit(&mut self.device, &self.named, &self.list).is_err() {
             return Err(DiskFault::Fault);
         }
-        self.gate_targets.clear();
+        self.list.clear();
+        self.named.clear();
         self.is_down = false;
-        Ok(())
-    }
-    /// Records updates behind the gate, which is closed.
-    fn open_gate(&mut self, updates: &[Update]) -> Result<(), DiskFault>
-        requires up { (log_of self.old).is_down ≡ false }
-        requires closed { self.old.gate_targets.items ≡ [] }
-        requires few { length updates.now ≤ 48 }
-        requires fit { AreTargets (log_of self.old).size (targets updates.now) }
-        ensures moments { D.keeps_word → AddsEither (log_of self.old).size updates.now (log_of self.old).base
-            (log_of self.old).history (log_of self.new).history }
-        ensures same { D.keeps_word → OnOk result
-            (AreSame (log_of self.old).size (applied updates.now (log_of self.old).base) (log_of self.new).base) }
-        ensures list { (log_of self.new).list ≡ (log_of self.old).list }
-        ensures same_list { self.new.list ≡ self.old.list }
-        ensures size { (log_of self.new).size ≡ (log_of self.old).size }
-        ensures is_down { (log_of self.new).is_down ≡ is_err result }
-        ensures failures { FailsCounted (failures_of self.old) (failures_of self.new) result }
-    {
-        self.is_down = true;
-        name_targets(&mut self.gate_targets, updates);
-        if commit::record(&mut self.device, &self.gate_targets, updates).is_err() {
-            return Err(DiskFault::Fault);
-        }
-        self.is_down = false;
-        Ok(())
-    }
-
-    /// Takes one transaction into the base.
-    fn commit(&mut self, updates: &[Update]) -> Result<(), DiskFault>
-        requires up { (log_of self.old).is_down ≡ false }
-        requires few { length updates.now ≤ 48 }
-        requires fit { AreTargets (log_of self.old).size (targets updates.now) }
-        ensures moments { D.keeps_word → AddsEither (log_of self.old).size updates.now (log_of self.old).base
-            (log_of self.old).history (log_of self.new).history }
-        ensures same { D.keeps_word → OnOk result
-            (AreSame (log_of self.old).size (applied updates.now (log_of self.old).base) (log_of self.new).base) }
-        ensures list { (log_of self.new).list ≡ (log_of self.old).list }
-        ensures same_list { self.new.list ≡ self.old.list }
-        ensures size { (log_of self.new).size ≡ (log_of self.old).size }
-        ensures is_down { (log_of self.new).is_down ≡ is_err result }
-        ensures failures { FailsCounted (failures_of self.old) (failures_of self.new) result }
-    {
-        self.close_gate()?;
-        self.open_gate(updates)?;
-        self.close_gate()?;
-        Ok(())
-    }
-
-    /// Takes the whole list into the base, one transaction after the other.
-    fn take_all(&mut self) -> Result<(), DiskFault>
-        requires { (log_of self.old).is_down ≡ false }
-        ensures moments { D.keeps_word → AddsFronts (log_of self.old) (log_of self.new) }
-        ensures moved { D.keeps_word → OnOk result (Moved (log_of self.old).list (log_of self.old) (log_of self.new)) }
-        ensures emptied { OnOk result ((log_of self.new).list ≡ []) }
-        ensures size { (log_of self.new).size ≡ (log_of self.old).size }
-        ensures capacity { deque_capacity self.new.list ≡ deque_capacity self.old.list }
-        ensures is_down { (log_of self.new).is_down ≡ is_err result }
-        ensures failures { FailsCounted (failures_of self.old) (failures_of self.new) result }
-    {
-        while let Some(updates) = self.list.pop_front() {
-            self.commit(&updates)?;
-        }
         Ok(())
     }
 
     /// Takes the list into the base if the updates would not fit the payload beside it.
-    fn make_room(&mut self, updates: &[Update], seen: &mut Vec<u32>) -> Result<(), DiskFault>
+    fn make_room(&mut self, updates: &[Update]) -> Result<(), DiskFault>
         requires up { (log_of self.old).is_down ≡ false }
-        requires space { 96 ≤ vec_capacity seen.old }
-        requires place { deque_len self.old.list < deque_capacity self.old.list }
-        ensures moments { D.keeps_word → AddsFronts (log_of self.old) (log_of self.new) }
-        ensures moved { D.keeps_word → OnOk result (Moved (log_of self.old).list (log_of self.old) (log_of self.new)) }
-        ensures kept { OnOk result (FitTogether ((log_of self.old).list ++ updates.now ∷ []) → log_of self.new ≡ log_of self.old) }
-        ensures emptied { OnOk result ((FitTogether ((log_of self.old).list ++ updates.now ∷ []) → ⊥) → (log_of self.new).list ≡ []) }
-        ensures size { (log_of self.new).size ≡ (log_of self.old).size }
-        ensures room { OnOk result (deque_len self.new.list < deque_capacity self.new.list) }
-        ensures is_down { (log_of self.new).is_down ≡ is_err result }
-        ensures failures { FailsCounted (failures_of self.old) (failures_of self.new) result }
+        requires short { length updates.now ≤ 48 }
+        requires fit { AreTargets (log_of self.old).size (targets updates.now) }
+        ensures part { IsPart D.keeps_word (log_of self.old) (log_of self.new)
+            (failures_of self.old) (failures_of self.new) result }
+        ensures kept { FitTogether (list_with (log_of self.old) updates.now)
+            → (log_of self.new ≡ log_of self.old) × (self.new.list.items ≡ self.old.list.items) }
+        ensures flushed { OnOk result ((FitTogether (list_with (log_of self.old) updates.now) → ⊥)
+            → HasFlushed D.keeps_word (log_of self.old) (log_of self.new)) }
+        ensures emptied { OnOk result ((FitTogether (list_with (log_of self.old) updates.now) → ⊥)
+            → self.new.list.items ≡ []) }
+        ensures room { OnOk result
+            (length (gathered self.new.named.items (targets updates.now)) ≤ 96) }
     {
-        if !list::fits(&self.list, updates, seen) {
-            self.take_all()?;
+        if list::fits(&self.named, updates) {
+            return Ok(());
         }
+        self.take_all()?;
         Ok(())
     }
 
-    /// Puts a transaction at the list's end: all of its updates, or after a stop none. Where the list
-    /// and it together have more than 96 different sectors, the list is flushed first.
+    /// Puts a transaction at the list's end: all of its updates, or after a stop none. Where the
+    /// list and it together have more than 96 different sectors, the list is flushed first.
+    /// Takes no memory.
     ///
     /// # Errors
     ///
-    /// [`JournalFault::TooMany`] above 48 updates, and [`JournalFault::Memory`]: nothing changed.
-    /// [`JournalFault::Fault`] where the device failed, and [`JournalFault::Down`] after such a call.
-    pub fn apply(&mut self, updates: &[Update]) -> Result<(), JournalFault>
-        requires { AreTargets (log_of self.old).size (targets updates.now) }
-        ensures moments { D.keeps_word → AddsFronts (log_of self.old) (log_of self.new) }
-        ensures moved { D.keeps_word → OnOk result (Moved ((log_of self.old).list ++ updates.now ∷ []) (log_of self.old) (log_of self.new)) }
-        ensures kept { OnOk result (FitTogether ((log_of self.old).list ++ updates.now ∷ [])
-            → log_of self.new ≡ record (log_of self.old) { list = (log_of self.old).list ++ updates.now ∷ [] }) }
-        ensures flushed { OnOk result ((FitTogether ((log_of self.old).list ++ updates.now ∷ []) → ⊥)
-            → (log_of self.new).list ≡ updates.now ∷ []) }
-        ensures settled { D.keeps_word → (log_of self.new).is_down ≡ false → IsSettled (log_of self.new) }
-        ensures size { (log_of self.new).size ≡ (log_of self.old).size }
-        ensures few { OnOk result (length updates.now ≤ 48) }
-        ensures too_many { IsErrOf result JournalFault.TooMany → 48 < length updates.now }
-        ensures unchanged { IfErr result (λ fault. ((fault ≡ JournalFault.TooMany) ⊎ (fault ≡ JournalFault.Memory))
-            → log_of self.new ≡ log_of self.old) }
-        ensures answers { Answers (log_of self.old) (log_of self.new) (failures_of self.old) (failures_of self.new) result }
-        ensures not_damaged { IsErrOf result JournalFault.Damaged → ⊥ }
+    /// [`JournalFault::TooMany`] above 48 updates: nothing changed.
+    /// [`JournalFault::Fault`] where the device failed, and [`JournalFault::Down`] from then on.
+    pub fn apply(&mut self, updates: Vec<Update>) -> Result<(), JournalFault>
+        requires { AreTargets (log_of self.old).size (targets updates.items) }
+        ensures safe { IsSafe D.keeps_word (log_of self.old) (log_of self.new) }
+        ensures bounded { length (sectors_of (log_of self.new).list) ≤ 96 }
+        ensures ok { OnOk result
+            (HasApplied D.keeps_word updates.items (log_of self.old) (log_of self.new)) }
+        // Refused
+        ensures too_many { (log_of self.old).is_down ≡ false
+            → IsErrOf result JournalFault.TooMany ↔ (48 < length updates.items) }
+        ensures unchanged { IsErrOf result JournalFault.TooMany
+            → log_of self.new ≡ log_of self.old }
+        ensures answers { Answers (log_of self.old) (log_of self.new)
+            (failures_of self.old) (failures_of self.new) result }
+        ensures refuses { IfErr result (λ fault. (fault ≡ JournalFault.TooMany)
+            ⊎ ((fault ≡ JournalFault.Fault) ⊎ (fault ≡ JournalFault.Down))) }
     {
         if self.is_down {
             return Err(JournalFault::Down);
@@ -321,48 +265,32 @@ impl<D: Device> Journal<D> {
         if updates.len() > MAX_UPDATES {
             return Err(JournalFault::TooMany);
         }
-        let copy = list::copied(self.alloc, updates)?;
-        let mut seen = Vec::with_capacity(self.alloc, PAYLOAD_SECTORS)?;
-        if self.list.reserve(1).is_err() {
-            return Err(JournalFault::Memory);
-        }
-        self.make_room(updates, &mut seen)?;
-        self.list.push_back_reserved(copy);
+        self.make_room(&updates)?;
+        list::put_all(&mut self.list, &mut self.named, updates);
         Ok(())
     }
 
-    /// Takes the whole list into the base, one transaction after the other: no stop loses it.
+    /// Takes the whole list into the base: no stop loses it. Where it is empty, nothing is written.
     ///
     /// # Errors
     ///
-    /// [`JournalFault::Fault`] where the device failed, and [`JournalFault::Down`] after such a call.
+    /// [`JournalFault::Fault`] where the device failed, and [`JournalFault::Down`] from then on.
     pub fn flush(&mut self) -> Result<(), JournalFault>
-        ensures moments { D.keeps_word → AddsFronts (log_of self.old) (log_of self.new) }
-        ensures ok { D.keeps_word → OnOk result (AreSame (log_of self.old).size (contents (log_of self.old)) (log_of self.new).base) }
-        ensures emptied { OnOk result ((log_of self.new).list ≡ []) }
+        ensures safe { IsSafe D.keeps_word (log_of self.old) (log_of self.new) }
+        ensures ok { OnOk result (HasFlushed D.keeps_word (log_of self.old) (log_of self.new)) }
         ensures moved { D.keeps_word → (log_of self.new).is_down ≡ false
             → Moved (log_of self.old).list (log_of self.old) (log_of self.new) }
-        ensures settled { D.keeps_word → (log_of self.new).is_down ≡ false → IsSettled (log_of self.new) }
-        ensures size { (log_of self.new).size ≡ (log_of self.old).size }
-        ensures answers { Answers (log_of self.old) (log_of self.new) (failures_of self.old) (failures_of self.new) result }
-        ensures refuses { IfErr result (λ fault. (fault ≡ JournalFault.Fault) ⊎ (fault ≡ JournalFault.Down)) }
+        ensures nothing { (log_of self.old).list ≡ [] → log_of self.new ≡ log_of self.old }
+        // Refused
+        ensures answers { Answers (log_of self.old) (log_of self.new)
+            (failures_of self.old) (failures_of self.new) result }
+        ensures refuses { IfErr result
+            (λ fault. (fault ≡ JournalFault.Fault) ⊎ (fault ≡ JournalFault.Down)) }
     {
         if self.is_down {
             return Err(JournalFault::Down);
         }
         self.take_all()?;
         Ok(())
-    }
-}
-
-/// Puts the updates' targets in place of what `named` held.
-pub(crate) fn name_targets(named: &mut Vec<u32>, updates: &[Update])
-    requires { length updates.now ≤ vec_capacity named.old }
-    ensures items { named.new.items ≡ targets updates.now }
-    ensures capacity { vec_capacity named.new ≡ vec_capacity named.old }
-{
-    named.clear();
-    for update in updates {
-        named.push_reserved(update.target);
     }
 }

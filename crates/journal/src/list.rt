@@ -1,26 +1,13 @@
-//! The list of transactions that are not in the base yet.
+//! What waits for a flush: updates of different sectors, and the sectors by themselves.
 
-ghost use Rattle.std.specs.Prelude.{◌≡◌, ◌≤◌, ◌<◌, ◌↔◌, ◌++◌, ◌∷◌, [], ℕ, None, length, false, unwrap_or, IsTrue, IfOk, vec_capacity};
-ghost use Rattle.disk.specs.Moments.{Image, applied};
+ghost use Rattle.std.specs.Prelude.{◌≡◌, ◌≢◌, ◌≤◌, ◌<◌, ◌↔◌, ◌∷◌, [], ℕ, false, length, unwrap_or, AllPairs, IsTrue, vec_capacity};
+ghost use Rattle.std.specs.Option.{IfSome, IfNone};
+ghost use Rattle.disk.specs.Moments.{Image, applied, put as with};
 ghost use Rattle.journal.specs.Layout.{targets};
-ghost use Rattle.journal.specs.Log.{applied_all};
-ghost use Rattle.journal.specs.Transactions.{transactions, gathered, FitTogether};
+ghost use Rattle.journal.specs.Transactions.{gathered, has, IsLastPlace};
 
 use crate::layout::PAYLOAD_SECTORS;
 use disk::{SECTOR, Update};
-use std::alloc::{AllocError, Global};
-use std::collections::VecDeque;
-
-/// The newest content that the list gives sector `n`.
-pub(crate) fn newest(list: &VecDeque<Vec<Update>>, n: u32) -> Option<[u8; SECTOR]>
-    ensures { (base : Image) → applied_all (transactions list.now.items) base n ≡ unwrap_or result (base n) }
-{
-    let mut found = None;
-    for i in 0..list.len() {
-        found = newer(&list[i], n, found);
-    }
-    found
-}
 
 /// The newest content that the updates give sector `n`, or else what was found before.
 pub(crate) fn newer(
@@ -28,7 +15,8 @@ pub(crate) fn newer(
     n: u32,
     before: Option<[u8; SECTOR]>,
 ) -> Option<[u8; SECTOR]>
-    ensures { (image base : Image) → image n ≡ unwrap_or before (base n) → applied updates.now image n ≡ unwrap_or result (base n) }
+    ensures { (image base : Image) → image n ≡ unwrap_or before (base n)
+        → applied updates.now image n ≡ unwrap_or result (base n) }
 {
     let mut found = before;
     for update in updates {
@@ -39,51 +27,74 @@ pub(crate) fn newer(
     found
 }
 
-/// A copy of the updates.
-pub(crate) fn copied(alloc: Global, updates: &[Update]) -> Result<Vec<Update>, AllocError>
-    ensures { IfOk result (λ copy. copy.items ≡ updates.now) }
+/// The last place of a sector among those that are named.
+pub(crate) fn find(named: &[u32], n: u32) -> Option<usize>
+    ensures found { IfSome result (λ place. IsLastPlace named.now n place) }
+    ensures none { IfNone result (has named.now n ≡ false) }
 {
-    let mut copy = Vec::new(alloc);
-    for update in updates {
-        copy.push(Update {
-            target: update.target,
-            content: update.content,
-        })?;
-    }
-    Ok(copy)
-}
-
-/// Whether the list and the updates together have few enough different sectors for one payload.
-/// `seen` gives room to gather them.
-pub(crate) fn fits(list: &VecDeque<Vec<Update>>, updates: &[Update], seen: &mut Vec<u32>) -> bool
-    requires { 96 ≤ vec_capacity seen.old }
-    ensures { IsTrue result ↔ FitTogether (transactions list.now.items ++ updates.now ∷ []) }
-{
-    seen.clear();
-    for i in 0..list.len() {
-        if !gather(seen, &list[i]) {
-            return false;
+    for back in 0..named.len() {
+        let place = named.len() - 1 - back;
+        if named[place] == n {
+            return Some(place);
         }
     }
-    gather(seen, updates)
+    None
 }
 
-/// Puts those of the updates' sectors that are not seen yet behind the others; false where they
-/// would be too many.
-fn gather(seen: &mut Vec<u32>, updates: &[Update]) -> bool
-    requires room { 96 ≤ vec_capacity seen.old }
-    requires few { length seen.old.items ≤ 96 }
-    ensures gathered { IsTrue result → (seen.new.items ≡ gathered seen.old.items (targets updates.now)) × (length seen.new.items ≤ 96) }
-    ensures full { result ≡ false → 96 < length (gathered seen.old.items (targets updates.now)) }
-    ensures capacity { vec_capacity seen.new ≡ vec_capacity seen.old }
+/// Whether the sectors that are named and those of the updates are few enough for one payload.
+pub(crate) fn fits(named: &[u32], updates: &[Update]) -> bool
+    requires few { length named.now ≤ 96 }
+    requires short { length updates.now ≤ 48 }
+    requires apart { AllPairs (λ a b. a ≢ b) (targets updates.now) }
+    ensures { IsTrue result ↔ (length (gathered named.now (targets updates.now)) ≤ 96) }
 {
+    let mut fresh = 0;
     for update in updates {
-        if !seen.contains(&update.target) {
-            if seen.len() >= PAYLOAD_SECTORS {
-                return false;
-            }
-            seen.push_reserved(update.target);
+        if !named.contains(&update.target) {
+            fresh += 1;
         }
     }
-    true
+    named.len() + fresh <= PAYLOAD_SECTORS
+}
+
+/// Puts an update in the place of the one of its sector, or else behind the others.
+pub(crate) fn put(list: &mut Vec<Update>, named: &mut Vec<u32>, update: Update)
+    requires named_are { named.old.items ≡ targets list.old.items }
+    requires few { length (gathered named.old.items (update.target ∷ [])) ≤ 96 }
+    requires room { 96 ≤ vec_capacity list.old }
+    requires named_room { 96 ≤ vec_capacity named.old }
+    ensures applied { (image : Image) (n : ℕ) → applied list.new.items image n
+        ≡ with (applied list.old.items image) update n }
+    ensures targets { targets list.new.items
+        ≡ gathered (targets list.old.items) (update.target ∷ []) }
+    ensures named_are { named.new.items ≡ targets list.new.items }
+    ensures capacity { vec_capacity list.new ≡ vec_capacity list.old }
+    ensures named_capacity { vec_capacity named.new ≡ vec_capacity named.old }
+{
+    match find(named, update.target) {
+        Some(place) => list[place] = update,
+        None => {
+            named.push_reserved(update.target);
+            list.push_reserved(update);
+        }
+    }
+}
+
+/// Puts updates one after the other.
+pub(crate) fn put_all(list: &mut Vec<Update>, named: &mut Vec<u32>, updates: Vec<Update>)
+    requires named_are { named.old.items ≡ targets list.old.items }
+    requires few { length (gathered named.old.items (targets updates.items)) ≤ 96 }
+    requires room { 96 ≤ vec_capacity list.old }
+    requires named_room { 96 ≤ vec_capacity named.old }
+    ensures applied { (image : Image) (n : ℕ) → applied list.new.items image n
+        ≡ applied updates.items (applied list.old.items image) n }
+    ensures targets { targets list.new.items
+        ≡ gathered (targets list.old.items) (targets updates.items) }
+    ensures named_are { named.new.items ≡ targets list.new.items }
+    ensures capacity { vec_capacity list.new ≡ vec_capacity list.old }
+    ensures named_capacity { vec_capacity named.new ≡ vec_capacity named.old }
+{
+    for update in updates {
+        put(list, named, update);
+    }
 }

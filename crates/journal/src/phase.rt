@@ -2,7 +2,7 @@
 
 ghost use Rattle.std.specs.Prelude.{OnOk, ◌≡◌, ◌≤◌, ◌<◌, ◌+◌, [], ◌∷◌, length};
 ghost use Rattle.disk.specs.Moments.{seen};
-ghost use Rattle.journal.specs.Layout.{AreTargets, placed, copies};
+ghost use Rattle.journal.specs.Layout.{AreTargets, placed, copies, targets};
 ghost use Rattle.journal.specs.Format.{fresh};
 ghost use Rattle.journal.specs.Phase.{AddsUpdates, IsFixedAs, FailsCounted};
 
@@ -14,8 +14,10 @@ use disk::{Device, DiskFault, SECTOR, Update};
 pub(crate) fn write_payload<D: Device>(device: &mut D, updates: &[Update]) -> Result<(), DiskFault>
     requires few { length updates.now ≤ 96 }
     requires large { 98 ≤ D.size device.old }
-    ensures moments { D.keeps_word → AddsUpdates (placed 2 updates.now) (D.history device.old) (D.history device.new) }
-    ensures ok { D.keeps_word → OnOk result (IsFixedAs (placed 2 updates.now) (D.history device.old) (D.history device.new)) }
+    ensures moments { D.keeps_word → AddsUpdates (placed 2 updates.now)
+        (D.history device.old) (D.history device.new) }
+    ensures ok { D.keeps_word → OnOk result (IsFixedAs (placed 2 updates.now)
+        (D.history device.old) (D.history device.new)) }
     ensures size { D.size device.new ≡ D.size device.old }
     ensures failures { FailsCounted (D.failed device.old) (D.failed device.new) result }
 {
@@ -26,15 +28,34 @@ pub(crate) fn write_payload<D: Device>(device: &mut D, updates: &[Update]) -> Re
     Ok(())
 }
 
+/// Writes the updates' contents to their targets, one after the other.
+pub(crate) fn write_homes<D: Device>(device: &mut D, updates: &[Update]) -> Result<(), DiskFault>
+    requires fit { AreTargets (D.size device.old) (targets updates.now) }
+    ensures moments { D.keeps_word → AddsUpdates updates.now
+        (D.history device.old) (D.history device.new) }
+    ensures ok { D.keeps_word → OnOk result (IsFixedAs updates.now
+        (D.history device.old) (D.history device.new)) }
+    ensures size { D.size device.new ≡ D.size device.old }
+    ensures failures { FailsCounted (D.failed device.old) (D.failed device.new) result }
+{
+    for update in updates {
+        device.write(update.target, &update.content)?;
+    }
+    device.sync()?;
+    Ok(())
+}
+
 /// Copies the payload to its targets.
-pub(crate) fn write_homes<D: Device>(device: &mut D, targets: &[u32]) -> Result<(), DiskFault>
+pub(crate) fn copy_payload<D: Device>(device: &mut D, targets: &[u32]) -> Result<(), DiskFault>
     requires few { length targets.now ≤ 96 }
     requires fit { AreTargets (D.size device.old) targets.now }
     requires large { 98 ≤ D.size device.old }
     ensures moments { D.keeps_word
-        → AddsUpdates (copies (seen (D.history device.old).now) 2 targets.now) (D.history device.old) (D.history device.new) }
+        → AddsUpdates (copies (seen (D.history device.old).now) 2 targets.now)
+        (D.history device.old) (D.history device.new) }
     ensures ok { D.keeps_word → OnOk result
-        (IsFixedAs (copies (seen (D.history device.old).now) 2 targets.now) (D.history device.old) (D.history device.new)) }
+        (IsFixedAs (copies (seen (D.history device.old).now) 2 targets.now)
+        (D.history device.old) (D.history device.new)) }
     ensures size { D.size device.new ≡ D.size device.old }
     ensures failures { FailsCounted (D.failed device.old) (D.failed device.new) result }
 {
@@ -55,9 +76,11 @@ pub(crate) fn write_sector<D: Device>(
 ) -> Result<(), DiskFault>
     requires { n < D.size device.old }
     ensures moments { D.keeps_word
-        → AddsUpdates ((record { target = n; content = content.now }) ∷ []) (D.history device.old) (D.history device.new) }
+        → AddsUpdates ((record { target = n; content = content.now }) ∷ [])
+        (D.history device.old) (D.history device.new) }
     ensures ok { D.keeps_word → OnOk result
-        (IsFixedAs ((record { target = n; content = content.now }) ∷ []) (D.history device.old) (D.history device.new)) }
+        (IsFixedAs ((record { target = n; content = content.now }) ∷ [])
+        (D.history device.old) (D.history device.new)) }
     ensures size { D.size device.new ≡ D.size device.old }
     ensures failures { FailsCounted (D.failed device.old) (D.failed device.new) result }
 {
@@ -70,9 +93,11 @@ pub(crate) fn write_sector<D: Device>(
 pub(crate) fn write_fresh<D: Device>(device: &mut D, updates: &[Update]) -> Result<(), DiskFault>
     requires { 256 ≤ D.size device.old }
     ensures moments { D.keeps_word
-        → AddsUpdates (fresh (D.size device.old) updates.now) (D.history device.old) (D.history device.new) }
+        → AddsUpdates (fresh (D.size device.old) updates.now)
+        (D.history device.old) (D.history device.new) }
     ensures ok { D.keeps_word → OnOk result
-        (IsFixedAs (fresh (D.size device.old) updates.now) (D.history device.old) (D.history device.new)) }
+        (IsFixedAs (fresh (D.size device.old) updates.now)
+        (D.history device.old) (D.history device.new)) }
     ensures size { D.size device.new ≡ D.size device.old }
     ensures failures { FailsCounted (D.failed device.old) (D.failed device.new) result }
 {

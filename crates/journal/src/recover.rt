@@ -1,29 +1,30 @@
 //! What a mount does to a device before anything else.
 
 ghost use Rattle.std.specs.Prelude.{◌≡◌, ◌≤◌, [], OnOk, IsErrOf, vec_capacity};
-ghost use Rattle.disk.specs.Moments.{AddsOnly, seen, synced, Image};
-ghost use Rattle.journal.specs.Settled.{Settles, SettlesAs};
-ghost use Rattle.journal.specs.Phase.{IsGated};
-ghost use Rattle.journal.specs.Recover.{Recovers, LeavesOnlySynced, FaultsCounted};
+ghost use Rattle.disk.specs.Moments.{AddsOnly, seen};
+ghost use Rattle.journal.specs.Settled.{SettlesAs};
+ghost use Rattle.journal.specs.Recover.{Recovers, LeavesOnlySynced, IsClosed, WritesNothing, FaultsCounted};
 
 use crate::{JournalFault, commit, gate, layout};
 use disk::{Device, DiskFault, SECTOR};
 
 /// Syncs, since contents of an earlier run may still be unsynced, and then copies an open gate's
-/// payload home. `named` is left empty where that went well.
+/// payload home. Where that went well, `named` is left empty, with the room that it had.
 pub(crate) fn recover<D: Device>(device: &mut D, named: &mut Vec<u32>) -> Result<(), JournalFault>
     requires large { 256 ≤ D.size device.old }
     requires room { 96 ≤ vec_capacity named.old }
-    ensures moments { D.keeps_word → AddsOnly (SettlesAs (D.size device.old) (seen (D.history device.old).now))
+    ensures moments { D.keeps_word
+        → AddsOnly (SettlesAs (D.size device.old) (seen (D.history device.old).now))
         (D.history device.old) (D.history device.new) }
-    ensures ok { D.keeps_word → OnOk result (Recovers (D.size device.old) (D.history device.old) (D.history device.new)) }
-    ensures since_sync { D.keeps_word → OnOk result (AddsOnly (SettlesAs (D.size device.old) (seen (D.history device.old).now))
-        (synced (D.history device.old)) (D.history device.new)) }
-    ensures closed { OnOk result (named.new.items ≡ []) }
+    ensures ok { D.keeps_word → OnOk result
+        (Recovers (D.size device.old) (D.history device.old) (D.history device.new)) }
+    ensures closed { D.keeps_word → IsClosed (D.history device.old)
+        → WritesNothing (D.history device.old) (D.history device.new) result }
     ensures damaged { D.keeps_word → IsErrOf result JournalFault.Damaged
         → LeavesOnlySynced (D.size device.old) (D.history device.old) (D.history device.new) }
+    ensures none { OnOk result
+        ((named.new.items ≡ []) × (vec_capacity named.new ≡ vec_capacity named.old)) }
     ensures size { D.size device.new ≡ D.size device.old }
-    ensures capacity { vec_capacity named.new ≡ vec_capacity named.old }
     ensures failures { FaultsCounted (D.failed device.old) (D.failed device.new) result }
 {
     device.sync()?;
@@ -36,7 +37,7 @@ pub(crate) fn recover<D: Device>(device: &mut D, named: &mut Vec<u32>) -> Result
     if named.is_empty() {
         return Ok(());
     }
-    commit::copy_home(device, named)?;
+    commit::replay(device, named)?;
     named.clear();
     Ok(())
 }

@@ -1,4 +1,4 @@
-use Rattle.std.proofs.Common.{◌≡◌, ◌∙◌, ap, ℕ, List, length, [], ◌∷◌, arith}
+use Rattle.std.proofs.Common.{◌∙◌, ap, ℕ, List, length, arith}
 use Rattle.journal.specs.Layout.{gate, targets}
 use Rattle.journal.proofs.Images.{length-targets}
 use Rattle.journal.proofs.Commits.{payload_moments, gate_moments, recorded, AddsUpdates-gate, IsFixedAs-gate}

@@ -1,6 +1,6 @@
-use Rattle.std.proofs.Common.{◌≡◌, ◌≤◌, ◌<◌, ℕ, List, length, drop, true, false, arith, sym, ◌∙◌, refl, ap, subst, IsTrue, Bool, ◌^◌}
+use Rattle.std.proofs.Common.{◌≡◌, ◌<◌, ℕ, List, length, drop, true, false, arith, sym, ◌∙◌, refl, ap, subst, IsTrue, ◌^◌}
 use Rattle.byteorder.specs.Endian.{big_number}
-use Rattle.journal.specs.Layout.{AreTargets, NamesTargets, gate, words_in}
+use Rattle.journal.specs.Layout.{AreTargets, gate}
 use Rattle.journal.proofs.GateWords.{count_in, names_one, pointwise_same}
 use Rattle.journal.proofs.gate.decode.Goals as goal
 use Rattle.journal.proofs.gate.decode.Goals.{After-are_targets}

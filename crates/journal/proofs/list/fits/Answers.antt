@@ -1,33 +1,52 @@
-use Rattle.std.proofs.Common.{◌≡◌, ◌≤◌, ◌<◌, ap, sym, ◌∙◌, arith, List, ℕ, length, false, true, take, refl}
-use Rattle.std.proofs.lemmas.List.{length-map}
-use Rattle.journal.specs.Transactions.{transactions}
-use Rattle.journal.proofs.Lists.{fits_more, fits_over, fits_all, front_more}
+use Rattle.std.proofs.Common.{◌≡◌, ◌∙◌, sym, arith, take, rules, get_or}
+use Rattle.std.proofs.lemmas.List.{length-take}
+use Rattle.journal.specs.Layout.{targets}
+use Rattle.journal.specs.Transactions.{has}
+use Rattle.journal.proofs.Images.{length-targets}
+use Rattle.journal.proofs.Lists.{no_update, fresh_few, fresh_more_new, fresh_more_old, fresh_all, Apart-of}
 use Rattle.journal.proofs.list.fits.Goals as goal
+use Rattle.journal.proofs.list.fits.Goals.{After-contains, then-not-contains, else-not-contains}
 
-pub returns-then-not-gather : goal.returns-then-not-gather
-returns-then-not-gather c =
-    let within : c.loop-i.i < length c.args.list.now.items = omega (arith, c.args.list.now.ok) in (
-      (λ t. absurd (let q : false ≡ true = t in cc)),
-      (λ fit. absurd (fits_over (transactions c.args.list.now.items) c.loop-i.i c.deref.result.now c.args.updates.now c.loop-i.seen.items
-          (front_more c.args.list.now.items c.loop-i.i c.index.result.now c.deref.result.now within c.index.ensures c.deref.ensures.value)
-          c.loop-i.invariant.seen_is (c.if-not-gather.ensures.full refl) fit)),
+pub overflow_add-fresh : goal.overflow_add-fresh
+overflow_add-fresh c =
+    omega (
+      arith,
+      c.loop-update.invariant,
+      fresh_few c.args.named.now (targets (take c.loop-update.update-index c.args.updates.now)),
+      length-targets (take c.loop-update.update-index c.args.updates.now),
+      length-take c.loop-update.update-index c.args.updates.now,
+      c.requires.short,
     )
 
-pub loop-i-preserved : goal.loop-i-preserved
-loop-i-preserved c =
-    let within : c.loop-i.i < length c.args.list.now.items = omega (arith, c.args.list.now.ok) in
-    let got = c.if-not-gather.ensures.gathered refl in
-    record {
-      seen_is = fits_more (transactions c.args.list.now.items) c.loop-i.i c.deref.result.now c.loop-i.seen.items c.gather.new.seen.items
-          (front_more c.args.list.now.items c.loop-i.i c.index.result.now c.deref.result.now within c.index.ensures c.deref.ensures.value)
-          c.loop-i.invariant.seen_is got.0;
-      few = got.1;
-      capacity = c.if-not-gather.ensures.capacity ∙ c.loop-i.invariant.capacity;
-    }
+looked : (c : After-contains) → has c.args.named.now (get_or c.args.updates.now c.loop-update.update-index no_update).target ≡ c.contains.result
+looked c = sym c.contains.ensures.value
+
+pub loop-update-preserved : goal.loop-update-preserved
+loop-update-preserved c =
+    let at = (goal.at.loop-update-preserved c).After-contains in
+    elim c.if-not-contains.branch [
+      | then-not-contains w ↦ w.fresh-is
+          ∙ fresh_more_new c.args.named.now c.args.updates.now c.loop-update.update-index c.loop-update.fresh (omega arith) c.loop-update.invariant
+          (looked at ∙ w.if-not-contains.true)
+      | else-not-contains w ↦ w.fresh-is
+          ∙ fresh_more_old c.args.named.now c.args.updates.now c.loop-update.update-index c.loop-update.fresh (omega arith) c.loop-update.invariant
+          (looked at ∙ w.if-not-contains.false)
+    ]
+
+pub overflow_add-result : goal.overflow_add-result
+overflow_add-result c =
+    omega (
+      arith,
+      c.loop-update.invariant,
+      fresh_few c.args.named.now (targets (take c.loop-update.update-index c.args.updates.now)),
+      length-targets (take c.loop-update.update-index c.args.updates.now),
+      length-take c.loop-update.update-index c.args.updates.now,
+      c.requires.short,
+      c.requires.few,
+    )
 
 pub returns : goal.returns
 returns c =
-    let past : length (transactions c.args.list.now.items) ≤ c.loop-i.i =
-    omega (arith, c.args.list.now.ok, length-map c.args.list.now.items (λ v. v.items)) in
-    fits_all (transactions c.args.list.now.items) c.loop-i.i c.args.updates.now c.loop-i.seen.items c.gather-2.new.seen.items c.gather-2.result
-    past c.loop-i.invariant.seen_is c.gather-2.ensures.gathered c.gather-2.ensures.full
+    let all = fresh_all c.args.named.now c.args.updates.now c.loop-update.update-index c.loop-update.fresh c.loop-update-test.false
+    (Apart-of (targets c.args.updates.now) c.requires.apart) c.loop-update.invariant in
+    rw all (search rules)

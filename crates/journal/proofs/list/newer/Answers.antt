@@ -1,4 +1,4 @@
-use Rattle.std.proofs.Common.{◌≡◌, ap, sym, ◌∙◌, arith, Some, List, ℕ, Option}
+use Rattle.std.proofs.Common.{ap, sym, ◌∙◌, arith, List, ℕ, Option}
 use Rattle.std.specs.Prelude.{unwrap_or}
 use Rattle.journal.proofs.Lists.{newer_same, newer_other}
 use Rattle.journal.proofs.list.newer.Goals as goal

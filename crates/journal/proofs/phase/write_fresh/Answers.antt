@@ -1,11 +1,11 @@
-use Rattle.std.proofs.Common.{◌≡◌, ◌≤◌, ◌<◌, ◌+◌, ◌-◌, ℕ, List, length, get_or, take, arith, sym, ◌∙◌, ap, refl, None}
+use Rattle.std.proofs.Common.{◌≡◌, ◌<◌, ◌+◌, ◌-◌, ℕ, List, length, get_or, take, arith, sym, ◌∙◌, ap, refl}
 use Rattle.std.specs.Prelude.{unwrap_or}
 use Rattle.disk.specs.declared.update.Update.{Update}
-use Rattle.disk.specs.Moments.{History, applied}
+use Rattle.disk.specs.Moments.{applied}
 use Rattle.disk.specs.Calls.{zero_sector}
 use Rattle.journal.specs.Format.{fresh}
 use Rattle.journal.proofs.Moments.{wrote_all}
-use Rattle.journal.proofs.Formats.{fresh_at, length-fresh, get_or-fresh}
+use Rattle.journal.proofs.Formats.{length-fresh, get_or-fresh}
 use Rattle.journal.proofs.Phases.{write_failed, left_alone, synced_moments, synced_fixes, wrote_more}
 use Rattle.journal.proofs.phase.write_fresh.Goals as goal
 use Rattle.journal.proofs.phase.write_fresh.Given.{Over}
@@ -46,7 +46,7 @@ loop-n-preserved g c =
           (c.loop-n.invariant.wrote k) (c.in_ok-write.ensures.ok k)
           ∙ ap (λ (i : ℕ). wrote_all (take i all) (g.D.Device.history c.args.device.now)) (let q : c.loop-n.n - 1 + 1 ≡ c.loop-n.n + 1 - 1 = omega arith in q);
       size = c.in_ok-write.ensures.size ∙ c.loop-n.invariant.size;
-      later = omega (arith, c.in_ok-write.ensures.cause.later);
+      none = c.in_ok-write.ensures.cause.ok ∙ c.loop-n.invariant.none;
     }
 
 pub returns-in_err-sync-clause-moments : goal.returns-in_err-sync-clause-moments

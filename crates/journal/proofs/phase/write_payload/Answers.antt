@@ -1,6 +1,5 @@
-use Rattle.std.proofs.Common.{List, ◌≡◌, ◌≤◌, ◌<◌, ◌+◌, ℕ, length, get_or, arith, sym, ◌∙◌}
+use Rattle.std.proofs.Common.{List, ◌<◌, length, arith, ◌∙◌}
 use Rattle.disk.specs.declared.update.Update.{Update}
-use Rattle.disk.specs.Moments.{History}
 use Rattle.journal.specs.Layout.{placed}
 use Rattle.journal.proofs.Phases.{write_failed, left_alone, synced_moments, synced_fixes, wrote_more, length-placed, payload_at}
 use Rattle.journal.proofs.phase.write_payload.Goals as goal
@@ -22,7 +21,7 @@ loop-i-preserved g c = record {
       (g.D.Device.history c.write.new.self) within (payload_at c.args.updates.now c.loop-i.i (omega arith))
       (c.loop-i.invariant.wrote k) (c.in_ok-write.ensures.ok k);
   size = c.in_ok-write.ensures.size ∙ c.loop-i.invariant.size;
-  later = omega (arith, c.in_ok-write.ensures.cause.later);
+  none = c.in_ok-write.ensures.cause.ok ∙ c.loop-i.invariant.none;
 }
 
 pub returns-in_err-sync-clause-moments : goal.returns-in_err-sync-clause-moments

@@ -8,7 +8,7 @@ invariant_of-self c =
     let self = c.args.self.now in
     let told = maybe_synced_is_told (vec_len self.sectors) self.sectors.items self.first.items self.calls.items _ _
     c.push.ensures.items (record { told = self.told; within = self.within }) in
-    record { few = self.few; same_size = self.same_size; told = told.told; within = told.within }
+    record { few = self.few; same_size = self.same_size; told = told.told; within = told.within; rows = self.rows }
 
 pub returns-then-is_err-clause-cause : goal.returns-then-is_err-clause-cause
 returns-then-is_err-clause-cause c = rw c.fail.ensures.fault (counted_fault _ _ c.fail.ensures.counted)

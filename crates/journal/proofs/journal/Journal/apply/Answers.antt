@@ -1,64 +1,120 @@
-use Rattle.std.proofs.Common.{◌≡◌, ◌≤◌, length, arith, ap, sym, ◌∙◌, ℕ, List, refl, [], ◌∷◌, ◌++◌, subst, Vec}
-use Rattle.std.specs.declared.alloc.Global.{Global}
+use Rattle.std.proofs.Common.{◌≤◌, ◌<◌, ◌∙◌, ◌++◌, ◌∷◌, [], ap, sym, subst, arith, length, ℕ, List, ⊎_elim}
+use Rattle.std.proofs.lemmas.Bool.{cases_lt}
 use Rattle.disk.specs.declared.update.Update.{Update}
-use Rattle.journal.specs.Layout.{AreTargets, targets}
-use Rattle.journal.specs.Transactions.{transactions}
-use Rattle.journal.specs.Log.{Log, Moved}
-use Rattle.journal.specs.Journal.{log_of, failures_of}
-use Rattle.journal.proofs.Stages.{no_targets}
+use Rattle.disk.specs.Moments.{seen, applied}
+use Rattle.journal.specs.Journal.{log_of, listed}
+use Rattle.journal.specs.Layout.{targets}
+use Rattle.journal.specs.Log.{Log, IsJoined, Moved, Takes}
+use Rattle.journal.specs.Transactions.{FitTogether, gathered, sectors_of}
+use Rattle.journal.proofs.Fronts.{joined_as_one, listed_sectors, moved_flushed, moved_takes, put_alone, put_does}
+use Rattle.journal.proofs.Images.{Fit, length-targets}
+use Rattle.journal.proofs.Joins.{pushed_contents}
 use Rattle.journal.proofs.Journals.{same_fit}
-use Rattle.journal.proofs.Answerings.{each_same, each_pushed, pushed_at, moved_push}
+use Rattle.journal.proofs.Lists.{Fit-gathered, targets_of-Fit}
+use Rattle.journal.proofs.Stages.{Fit-of}
 use Rattle.journal.proofs.journal.Journal.apply.Goals as goal
+use Rattle.journal.proofs.journal.Journal.apply.Given.{Over}
+use Rattle.journal.proofs.journal.Journal.apply.Goals.{After-put_all}
 
-pub invariant_of-self-clause-short : goal.invariant_of-self-clause-short
-invariant_of-self-clause-short g c =
-    each_same (λ us. length us ≤ 48) c.args.self.now.list.items c.reserve.new.self.items c.reserve.ensures.items c.args.self.now.short
+-- the log behind the call
+after : (g : Over) (c : After-put_all g) → Log
+after g c = record {
+  base = seen (g.D.Device.history c.make_room.new.self.device).now;
+  list = listed c.put_all.new.list.items;
+  is_down = c.make_room.new.self.is_down;
+  size = g.D.Device.size c.make_room.new.self.device;
+  history = g.D.Device.history c.make_room.new.self.device;
+}
 
-pub invariant_of-self-clause-listed : goal.invariant_of-self-clause-listed
-invariant_of-self-clause-listed g c =
-    each_same (λ us. AreTargets (g.D.Device.size c.args.self.now.device) (targets us)) c.args.self.now.list.items c.reserve.new.self.items
-    c.reserve.ensures.items c.args.self.now.listed
+taken : (g : Over) (c : After-put_all g) → FitTogether ((log_of c.args.self.now).list ++ c.args.updates.items ∷ [])
+    → Takes c.args.updates.items (log_of c.args.self.now) (after g c)
+unfolding log_of after
+taken g c fit =
+    let was = c.args.self.now.list.items in
+    let us = c.args.updates.items in
+    let P : List Update → Type 0 = λ vs. FitTogether (listed was ++ vs ∷ []) in
+    let kept = c.make_room.ensures.kept (subst P (sym c.deref.ensures.value) fit) in
+    record {
+      list = joined_as_one (listed was ++ us ∷ []) c.put_all.new.list.items (put_does was us c.put_all.new.list.items
+          (λ image n. c.put_all.ensures.applied image n ∙ ap (λ (xs : List Update). applied us (applied xs image) n) kept.1));
+      only = ap (λ (log : Log). let next : Log = record log { list = listed c.put_all.new.list.items } in next) kept.0;
+    }
 
-pub invariant_of-self-2-clause-short : goal.invariant_of-self-2-clause-short
-invariant_of-self-2-clause-short g c =
-    each_pushed (λ us. length us ≤ 48) c.make_room.new.self.list.items c.push_back_reserved.new.self.items c.in_ok-copy.copy c.args.updates.now
-    c.push_back_reserved.ensures.items c.in_ok-copy.ensures (omega arith) c.if-updates-gt-MAX_UPDATES.false c.make_room.new.self.short
+alone : (g : Over) (c : After-put_all g) → (FitTogether ((log_of c.args.self.now).list ++ c.args.updates.items ∷ []) → ⊥)
+    → IsJoined (c.args.updates.items ∷ []) (after g c).list
+unfolding log_of after
+alone g c over =
+    let was = c.args.self.now.list.items in
+    let us = c.args.updates.items in
+    let P : List Update → Type 0 = λ vs. FitTogether (listed was ++ vs ∷ []) in
+    joined_as_one (us ∷ []) c.put_all.new.list.items (put_alone c.make_room.new.self.list.items us c.put_all.new.list.items
+    (c.in_ok-make_room.ensures.emptied (λ fit. over (subst P c.deref.ensures.value fit))) c.put_all.ensures.applied)
 
-pub invariant_of-self-2-clause-listed : goal.invariant_of-self-2-clause-listed
+moved : (g : Over) (c : After-put_all g) → g.D.Device.keeps_word
+    → Moved ((log_of c.args.self.now).list ++ c.args.updates.items ∷ []) (log_of c.args.self.now) (after g c)
+unfolding log_of after
+moved g c k =
+    let was = c.args.self.now.list.items in
+    let us = c.args.updates.items in
+    let P : List Update → Type 0 = λ vs. FitTogether (listed was ++ vs ∷ []) in
+    ⊎_elim
+    (λ (above : 96 < length (gathered [] (sectors_of (listed was ++ us ∷ [])))).
+    let over : FitTogether (listed was ++ us ∷ []) → ⊥ = λ fit. omega (arith, above, fit) in
+    moved_flushed (log_of c.args.self.now) (after g c) us ((c.in_ok-make_room.ensures.flushed (λ fit. over (subst P c.deref.ensures.value fit))).ok k) (alone g c over))
+    (λ (fit : length (gathered [] (sectors_of (listed was ++ us ∷ []))) ≤ 96). moved_takes (log_of c.args.self.now) (after g c) us (taken g c fit))
+    (cases_lt 96 (length (gathered [] (sectors_of (listed was ++ us ∷ [])))))
+
+pub returns-then-self-clause-bounded : goal.returns-then-self-clause-bounded
 unfolding log_of
-invariant_of-self-2-clause-listed g c =
-    each_pushed (λ us. AreTargets (g.D.Device.size c.make_room.new.self.device) (targets us)) c.make_room.new.self.list.items
-    c.push_back_reserved.new.self.items c.in_ok-copy.copy c.args.updates.now
-    c.push_back_reserved.ensures.items c.in_ok-copy.ensures (no_targets (g.D.Device.size c.make_room.new.self.device))
-    (same_fit (g.D.Device.size c.args.self.now.device) (g.D.Device.size c.make_room.new.self.device) (targets c.args.updates.now)
-    c.in_ok-make_room.ensures.size c.requires)
-    c.make_room.new.self.listed
+returns-then-self-clause-bounded g c = omega (arith, listed_sectors c.args.self.now.list.items, c.args.self.now.few)
 
-pub returns-clause-moved : goal.returns-clause-moved
+pub returns-then-len-gt-MAX_UPDATES-clause-bounded : goal.returns-then-len-gt-MAX_UPDATES-clause-bounded
 unfolding log_of
-returns-clause-moved g c = λ k.
-    let old : Log = record {
-      base = (log_of c.args.self.now).base;
-      list = (log_of c.args.self.now).list;
-      is_down = (log_of c.args.self.now).is_down;
-      size = (log_of c.args.self.now).size;
-      history = (log_of c.args.self.now).history;
-    } in
-    let new : Log = record {
-      base = (log_of c.make_room.new.self).base;
-      list = transactions c.push_back_reserved.new.self.items;
-      is_down = c.make_room.new.self.is_down;
-      size = (log_of c.make_room.new.self).size;
-      history = (log_of c.make_room.new.self).history;
-    } in
-    let P : List (List Update) → Type 0 = λ list. let from : Log = record {
-      base = (log_of c.args.self.now).base;
-      list = list;
-      is_down = (log_of c.args.self.now).is_down;
-      size = (log_of c.args.self.now).size;
-      history = (log_of c.args.self.now).history;
-    } in Moved list from (log_of c.make_room.new.self) in
-    let moved = subst P (ap (λ (xs : List (Vec Update Global)). transactions xs) c.reserve.ensures.items) (c.in_ok-make_room.ensures.moved k) in
-    moved_push old (log_of c.make_room.new.self) new c.args.updates.now moved refl
-    (pushed_at c.make_room.new.self.list.items c.push_back_reserved.new.self.items c.in_ok-copy.copy c.args.updates.now
-    c.push_back_reserved.ensures.items c.in_ok-copy.ensures)
+returns-then-len-gt-MAX_UPDATES-clause-bounded g c = omega (arith, listed_sectors c.args.self.now.list.items, c.args.self.now.few)
+
+pub returns-in_err-make_room-clause-bounded : goal.returns-in_err-make_room-clause-bounded
+unfolding log_of
+returns-in_err-make_room-clause-bounded g c = omega (arith, listed_sectors c.make_room.new.self.list.items, c.make_room.new.self.few)
+
+few : (g : Over) (c : After-put_all g) → length c.put_all.new.list.items ≤ 96
+few g c = omega (
+  arith,
+  length-targets c.put_all.new.list.items,
+  ap (λ (ts : List ℕ). length ts) c.put_all.ensures.targets,
+  ap (λ (ts : List ℕ). length (gathered ts (targets c.args.updates.items))) c.make_room.new.self.named_are,
+  ap (λ (us : List Update). length (gathered c.make_room.new.self.named.items (targets us))) c.deref.ensures.value,
+  c.in_ok-make_room.ensures.room,
+)
+
+pub invariant_of-self-clause-few : goal.invariant_of-self-clause-few
+invariant_of-self-clause-few g c = few g (goal.at.invariant_of-self-clause-few g c).After-put_all
+
+pub invariant_of-self-clause-fit : goal.invariant_of-self-clause-fit
+unfolding log_of
+invariant_of-self-clause-fit g c =
+    let mid = c.make_room.new.self in
+    let size = g.D.Device.size mid.device in
+    let us = c.args.updates.items in
+    let P : List ℕ → Type 0 = λ ts. Fit size ts in
+    targets_of-Fit size (targets c.put_all.new.list.items) (subst P (sym c.put_all.ensures.targets)
+    (Fit-gathered size (targets mid.list.items) (targets us) (Fit-of size (targets mid.list.items) mid.fit)
+    (Fit-of size (targets us) (same_fit (g.D.Device.size c.args.self.now.device) size (targets us) c.make_room.ensures.part.size c.requires))))
+
+pub returns-clause-bounded : goal.returns-clause-bounded
+unfolding log_of
+returns-clause-bounded g c = omega (arith, listed_sectors c.put_all.new.list.items, few g (goal.at.returns-clause-bounded g c).After-put_all)
+
+pub returns-clause-ok : goal.returns-clause-ok
+unfolding log_of after
+returns-clause-ok g c =
+    let at = (goal.at.returns-clause-ok g c).After-put_all in
+    let was = c.args.self.now.list.items in
+    record {
+      kept = λ fit. taken g at fit;
+      flushed = λ over. alone g at over;
+      moved = λ k. moved g at k;
+      contents = λ k. pushed_contents c.args.updates.items (log_of c.args.self.now) (after g at) (moved g at k);
+      cost = λ k over.
+          let P : List Update → Type 0 = λ vs. FitTogether (listed was ++ vs ∷ []) in
+          (c.in_ok-make_room.ensures.flushed (λ fit. over (subst P c.deref.ensures.value fit))).cost k;
+    }

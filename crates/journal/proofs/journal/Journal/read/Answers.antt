@@ -1,31 +1,41 @@
-use Rattle.std.proofs.Common.{◌≡◌, ◌≤◌, ◌<◌, length, arith, ap, sym, ◌∙◌, ℕ, List, refl}
-use Rattle.journal.specs.Layout.{home}
-use Rattle.disk.specs.Moments.{History, seen}
-use Rattle.journal.specs.Journal.{log_of, failures_of}
-use Rattle.journal.proofs.Journals.{same_fit}
-use Rattle.journal.proofs.Answerings.{home_below, counted_of, answers_fault}
+use Rattle.std.proofs.Common.{◌∙◌, ap, sym, arith}
+use Rattle.std.proofs.lemmas.List.{get_or_default}
+use Rattle.disk.specs.declared.update.Update.{Update}
+use Rattle.disk.specs.Moments.{Image, seen}
+use Rattle.journal.specs.Journal.{log_of}
+use Rattle.journal.specs.Layout.{targets}
+use Rattle.journal.proofs.Fronts.{listed_applied}
+use Rattle.journal.proofs.Images.{applied_out}
+use Rattle.journal.proofs.Journals.{on_ok}
+use Rattle.journal.proofs.Lists.{IsLastUpdate, last_update, not_named, not_has-out, applied_last, no_update}
 use Rattle.journal.proofs.journal.Journal.read.Goals as goal
+use Rattle.journal.proofs.journal.Journal.read.Given.{Over}
+use Rattle.journal.proofs.journal.Journal.read.Goals.{In-Some}
 
-pub invariant_of-self-clause-listed : goal.invariant_of-self-clause-listed
-invariant_of-self-clause-listed g c = λ i.
-    same_fit (g.D.Device.size c.args.self.now.device) (g.D.Device.size c.read.new.self) _ c.read.ensures.size (c.args.self.now.listed i)
+found : (g : Over) (c : In-Some g) → IsLastUpdate c.args.self.now.list.items c.args.n c.in-Some.place
+found g c = last_update c.args.self.now.list.items c.deref.result.now c.args.self.now.named.items c.args.n c.in-Some.place
+    c.deref.ensures.value c.args.self.now.named_are c.in-Some.ensures.found
 
-pub returns-then-is_err-clause-answers : goal.returns-then-is_err-clause-answers
-unfolding log_of failures_of
-returns-then-is_err-clause-answers g c =
-    let below = home_below (g.D.Device.size c.args.self.now.device) c.args.self.now.gate_targets.items c.args.n c.requires
-    (let l : 98 ≤ g.D.Device.size c.args.self.now.device = omega (arith, c.args.self.now.large) in l) c.args.self.now.few in
-    answers_fault _ _ _ _ c.if-self.false refl c.read.ensures.cause.later
-    (counted_of (g.D.Device.failed c.args.self.now.device) (g.D.Device.failed c.read.new.self) c.read.result
-    (sym c.is_err.ensures.value ∙ c.if-is_err.true) c.read.ensures.cause
-    (λ e. let past = c.read.ensures.range.0 e in omega (
-      arith,
-      past,
-      below,
-      c.place_of-place.ensures,
-      ap (λ (to : List ℕ). home to 2 c.args.n) c.deref.ensures.value,
-    )))
+pub index-requires : goal.index-requires
+index-requires g c = omega (arith, (found g (goal.at.index-requires g c).In-Some).there, c.args.self.now.list.ok)
 
-pub invariant_of-self-else-is_err-clause-listed : goal.invariant_of-self-else-is_err-clause-listed
-invariant_of-self-else-is_err-clause-listed g c = λ i.
-    same_fit (g.D.Device.size c.args.self.now.device) (g.D.Device.size c.read.new.self) _ c.read.ensures.size (c.args.self.now.listed i)
+pub returns-in-Some-clause-ok : goal.returns-in-Some-clause-ok
+unfolding log_of
+returns-in-Some-clause-ok g c = λ k.
+    let last = found g (goal.at.returns-in-Some-clause-ok g c).In-Some in
+    let base = seen (g.D.Device.history c.args.self.now.device).now in
+    let items = c.args.self.now.list.items in
+    ap (λ (u : Update). u.content) (c.index.ensures ∙ get_or_default items c.in-Some.place c.index.result.now no_update last.there)
+    ∙ sym (applied_last items c.in-Some.place c.args.n base last.there last.is last.last)
+    ∙ ap (λ (f : Image). f c.args.n) (sym (listed_applied items base))
+
+pub returns-clause-ok : goal.returns-clause-ok
+unfolding log_of
+returns-clause-ok g c = λ k.
+    let base = seen (g.D.Device.history c.args.self.now.device).now in
+    let none = not_named c.args.self.now.list.items c.deref.result.now c.args.self.now.named.items c.args.n
+    c.deref.ensures.value c.args.self.now.named_are c.in_default.ensures.none in
+    let items = c.args.self.now.list.items in
+    on_ok c.read.result (sym c.is_err.ensures.value ∙ c.if-is_err.false) (c.read.ensures.ok k)
+    ∙ sym (applied_out items base c.args.n (not_has-out (targets items) c.args.n none))
+    ∙ ap (λ (f : Image). f c.args.n) (sym (listed_applied items base))

@@ -1,55 +1,51 @@
-use Rattle.std.proofs.Common.{◌≡◌, ◌≤◌, ◌<◌, ℕ, List, [], ◌∷◌, length, get_or, ap, sym, ◌∙◌, subst, arith, Vec}
-use Rattle.std.specs.declared.alloc.Global.{Global}
-use Rattle.std.specs.VecDeque.{deque_capacity}
-use Rattle.std.specs.declared.collections.VecDeque.{VecDeque}
-use Rattle.disk.specs.declared.update.Update.{Update}
-use Rattle.journal.specs.Layout.{AreTargets, targets}
-use Rattle.journal.specs.Transactions.{transactions}
-use Rattle.journal.specs.Log.{Log, AddsFronts}
-use Rattle.journal.specs.Journal.{log_of, failures_of}
-use Rattle.journal.proofs.Fronts.{each_of_rest, popped, flush_moments, flush_moved}
+use Rattle.std.proofs.Common.{◌≡◌, ◌∙◌, sym, [], false, rules}
+use Rattle.disk.specs.Moments.{AddsOnly, seen}
+use Rattle.journal.specs.Commit.{IsCommitted}
+use Rattle.journal.specs.Phase.{IsGated}
+use Rattle.journal.specs.Journal.{log_of, failures_of, listed}
+use Rattle.journal.specs.Log.{StandsForFront}
+use Rattle.journal.proofs.Fronts.{fronts_either}
+use Rattle.journal.proofs.Journals.{gated_of, committed_at, either_at}
 use Rattle.journal.proofs.journal.Journal.take_all.Goals as goal
+use Rattle.journal.proofs.journal.Journal.take_all.Given.{Over}
+use Rattle.journal.proofs.journal.Journal.take_all.Goals.{After-is_err}
 
-pub invariant_of-self-clause-short : goal.invariant_of-self-clause-short
-invariant_of-self-clause-short g c =
-    each_of_rest (λ us. length us ≤ 48) c.loop-updates.self.list.items c.pop_front.new.self.items c.pop_front.ensures.rest c.loop-updates.self.short
-
-pub invariant_of-self-clause-listed : goal.invariant_of-self-clause-listed
-invariant_of-self-clause-listed g c =
-    each_of_rest (λ us. AreTargets (g.D.Device.size c.loop-updates.self.device) (targets us)) c.loop-updates.self.list.items c.pop_front.new.self.items
-    c.pop_front.ensures.rest c.loop-updates.self.listed
-
-pub commit-requires-clause-few : goal.commit-requires-clause-few
-commit-requires-clause-few g c =
-    let e = popped c.loop-updates.self.list.items c.pop_front.new.self.items c.in-Some.updates c.deref.result.now c.in-Some.ensures.items c.deref.ensures.value in
-    let P : List (List Update) → Type 0 = λ list. length (get_or list 0 []) ≤ 48 in
-    subst P e (c.loop-updates.self.short 0)
-
-pub commit-requires-clause-fit : goal.commit-requires-clause-fit
+gated : (g : Over) (c : After-is_err g) → g.D.Device.keeps_word → IsGated [] (g.D.Device.history c.args.self.now.device)
 unfolding log_of
-commit-requires-clause-fit g c =
-    let e = popped c.loop-updates.self.list.items c.pop_front.new.self.items c.in-Some.updates c.deref.result.now c.in-Some.ensures.items c.deref.ensures.value in
-    let P : List (List Update) → Type 0 = λ list. AreTargets (g.D.Device.size c.loop-updates.self.device) (targets (get_or list 0 [])) in
-    subst P e (c.loop-updates.self.listed 0)
+gated g c k = gated_of [] (g.D.Device.history c.args.self.now.device) (c.args.self.now.rests k c.requires) (c.args.self.now.gate_is k c.requires)
 
-pub returns-in_err-commit-clause-moments : goal.returns-in_err-commit-clause-moments
+done : (g : Over) (c : After-is_err g) → c.is_err.result ≡ false → g.D.Device.keeps_word
+    → IsCommitted (g.D.Device.size c.args.self.now.device) c.args.self.now.list.items (g.D.Device.history c.args.self.now.device) (g.D.Device.history c.commit.new.device)
+done g c e k = committed_at c.commit.result (g.D.Device.size c.args.self.now.device) c.deref-2.result.now c.args.self.now.list.items
+    (g.D.Device.history c.args.self.now.device) (g.D.Device.history c.commit.new.device)
+    (sym c.is_err.ensures.value ∙ e) c.deref-2.ensures.value (c.commit.ensures.ok k) (gated g c k)
+
+moments : (g : Over) (c : After-is_err g) → g.D.Device.keeps_word
+    → AddsOnly (StandsForFront (g.D.Device.size c.args.self.now.device) (seen (g.D.Device.history c.args.self.now.device).now) (listed c.args.self.now.list.items))
+    (g.D.Device.history c.args.self.now.device) (g.D.Device.history c.commit.new.device)
 unfolding log_of
-returns-in_err-commit-clause-moments g c = λ k.
-    let e = popped c.loop-updates.self.list.items c.pop_front.new.self.items c.in-Some.updates c.deref.result.now c.in-Some.ensures.items c.deref.ensures.value in
-    flush_moments (log_of c.args.self.now) (log_of c.loop-updates.self) c.deref.result.now (transactions c.pop_front.new.self.items) (log_of c.commit.new.self).history
-    c.loop-updates.invariant.size (c.loop-updates.invariant.moved k) e (c.loop-updates.invariant.moments k) (c.in_err-commit.ensures.moments k)
+moments g c k =
+    let size = g.D.Device.size c.args.self.now.device in
+    let h = g.D.Device.history c.args.self.now.device in
+    let h1 = g.D.Device.history c.commit.new.device in
+    fronts_either size c.args.self.now.list.items (seen h.now) h h1
+    (either_at size c.deref-2.result.now c.args.self.now.list.items (seen h.now) h h1 c.deref-2.ensures.value
+    (c.commit.ensures.moments k (gated g c k)))
 
-pub loop-updates-preserved : goal.loop-updates-preserved
+pub returns-then-is_err-clause-part : goal.returns-then-is_err-clause-part
 unfolding log_of failures_of
-loop-updates-preserved g c =
-    let e = popped c.loop-updates.self.list.items c.pop_front.new.self.items c.in-Some.updates c.deref.result.now c.in-Some.ensures.items c.deref.ensures.value in
-    record {
-      capacity = ap (λ (list : VecDeque (Vec Update Global) Global). deque_capacity list) c.in_ok-commit.ensures.same_list ∙ c.in-Some.ensures.capacity ∙ c.loop-updates.invariant.capacity;
-      up = c.in_ok-commit.ensures.is_down;
-      size = c.in_ok-commit.ensures.size ∙ c.loop-updates.invariant.size;
-      later = omega (arith, c.in_ok-commit.ensures.failures.later);
-      moments = λ k. flush_moments (log_of c.args.self.now) (log_of c.loop-updates.self) c.deref.result.now (transactions c.pop_front.new.self.items) (log_of c.commit.new.self).history
-          c.loop-updates.invariant.size (c.loop-updates.invariant.moved k) e (c.loop-updates.invariant.moments k) (c.in_ok-commit.ensures.moments k);
-      moved = λ k. flush_moved (log_of c.args.self.now) (log_of c.loop-updates.self) (log_of c.commit.new.self) c.deref.result.now (transactions c.pop_front.new.self.items)
-          c.loop-updates.invariant.size (c.loop-updates.invariant.moved k) e (c.in_ok-commit.ensures.same k) c.in_ok-commit.ensures.list;
-    }
+returns-then-is_err-clause-part g c = record {
+  moments = λ k. moments g (goal.at.returns-then-is_err-clause-part g c).After-is_err k;
+  size = search rules;
+  is_down = search rules;
+  failures = search rules;
+}
+
+pub returns-clause-part : goal.returns-clause-part
+unfolding log_of failures_of
+returns-clause-part g c = record {
+  moments = λ k. moments g (goal.at.returns-clause-part g c).After-is_err k;
+  size = search rules;
+  is_down = search rules;
+  failures = search rules;
+}

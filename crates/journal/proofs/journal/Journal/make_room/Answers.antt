@@ -1,0 +1,67 @@
+use Rattle.std.proofs.Common.{◌≡◌, ◌∙◌, ◌++◌, ◌∷◌, [], ap, arith, length, ℕ, List, false, true}
+use Rattle.journal.specs.Journal.{log_of, listed}
+use Rattle.journal.specs.Layout.{targets}
+use Rattle.journal.specs.Transactions.{gathered, sectors_of}
+use Rattle.journal.proofs.Fronts.{together}
+use Rattle.journal.proofs.Images.{length-targets}
+use Rattle.journal.proofs.Lists.{Apart-Fit, gathered_short}
+use Rattle.journal.proofs.Stages.{Fit-of}
+use Rattle.journal.proofs.journal.Journal.make_room.Goals as goal
+use Rattle.journal.proofs.journal.Journal.make_room.Given.{Over}
+use Rattle.journal.proofs.journal.Journal.make_room.Goals.{After-fits}
+
+-- what is named is gathered with the updates as the list with one more
+same : (g : Over) (c : After-fits g) → length (gathered c.deref.result.now (targets c.args.updates.now))
+    ≡ length (gathered [] (sectors_of (listed c.args.self.now.list.items ++ c.args.updates.now ∷ [])))
+same g c =
+    let was = c.args.self.now in
+    let size = g.D.Device.size was.device in
+    ap (λ (ts : List ℕ). length ts) (together was.list.items c.args.updates.now c.deref.result.now (c.deref.ensures.value ∙ was.named_are)
+    (Apart-Fit size (targets was.list.items) (Fit-of size (targets was.list.items) was.fit)))
+
+pub fits-requires-clause-few : goal.fits-requires-clause-few
+fits-requires-clause-few g c = omega (
+  arith,
+  ap (λ (xs : List ℕ). length xs) c.deref.ensures.value,
+  ap (λ (xs : List ℕ). length xs) c.args.self.now.named_are,
+  length-targets c.args.self.now.list.items,
+  c.args.self.now.few,
+)
+
+pub returns-then-fits-clause-emptied : goal.returns-then-fits-clause-emptied
+unfolding log_of
+returns-then-fits-clause-emptied g c = λ over.
+    let at = (goal.at.returns-then-fits-clause-emptied g c).After-fits in
+    absurd (over (omega (arith, same g at, c.fits.ensures.0 c.if-fits.true)))
+
+pub returns-then-fits-clause-flushed : goal.returns-then-fits-clause-flushed
+unfolding log_of
+returns-then-fits-clause-flushed g c = λ over.
+    let at = (goal.at.returns-then-fits-clause-flushed g c).After-fits in
+    absurd (over (omega (arith, same g at, c.fits.ensures.0 c.if-fits.true)))
+
+pub returns-in_err-take_all-clause-kept : goal.returns-in_err-take_all-clause-kept
+unfolding log_of
+returns-in_err-take_all-clause-kept g c = λ fit.
+    let at = (goal.at.returns-in_err-take_all-clause-kept g c).After-fits in
+    let yes : c.fits.result ≡ true = c.fits.ensures.1 (omega (arith, same g at, fit)) in
+    absurd (let over : c.fits.result ≡ false = c.if-fits.false in cc)
+
+pub returns-clause-kept : goal.returns-clause-kept
+unfolding log_of
+returns-clause-kept g c = λ fit.
+    let at = (goal.at.returns-clause-kept g c).After-fits in
+    let yes : c.fits.result ≡ true = c.fits.ensures.1 (omega (arith, same g at, fit)) in
+    absurd (let over : c.fits.result ≡ false = c.if-fits.false in cc)
+
+pub returns-clause-room : goal.returns-clause-room
+returns-clause-room g c =
+    let now = c.take_all.new.self in
+    omega (
+      arith,
+      gathered_short now.named.items (targets c.args.updates.now),
+      ap (λ (xs : List ℕ). length xs) now.named_are,
+      ap (λ us. length (targets us)) c.in_ok-take_all.ensures.emptied,
+      length-targets c.args.updates.now,
+      c.requires.short,
+    )

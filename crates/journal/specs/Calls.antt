@@ -1,0 +1,63 @@
+-- What the calls of a journal do to its log.
+use Rattle.std.specs.Prelude.{ℕ, false, List, [], ◌∷◌, ◌++◌, ◌≡◌, Result, is_err}
+use Rattle.disk.specs.declared.update.Update.{Update}
+use Rattle.disk.specs.Moments.{applied, put}
+use Rattle.journal.specs.Commit.{AddsEither}
+use Rattle.journal.specs.Log.{Log, AddsFronts, Costs, IsJoined, IsSettled, Moved, Takes, contents, flush_cost}
+use Rattle.journal.specs.Phase.{FailsCounted}
+use Rattle.journal.specs.Settled.{AreSame}
+use Rattle.journal.specs.Transactions.{FitTogether}
+
+-- However a call answers: a stop within it leaves a front, and where the journal is still up, one
+-- behind it leaves the base.
+pub record IsSafe (keeps_word : Type 0) (old new : Log) : Type 0 where
+  pub size : new.size ≡ old.size
+  pub moments : keeps_word → AddsFronts old new
+  pub settled : keeps_word → new.is_down ≡ false → IsSettled new
+
+-- the list with one transaction more
+abbrev pub list_with : Log → List Update → List (List Update)
+list_with log updates = log.list ++ updates ∷ []
+
+-- A transaction was put at the list's end. Where the two have more than 96 different sectors, the
+-- list went into the base first.
+pub record HasApplied (keeps_word : Type 0) (updates : List Update) (old new : Log) : Type 0 where
+  pub kept : FitTogether (list_with old updates) → Takes updates old new
+  pub flushed : (FitTogether (list_with old updates) → ⊥) → IsJoined (updates ∷ []) new.list
+  pub moved : keeps_word → Moved (list_with old updates) old new
+  pub contents : keeps_word → AreSame old.size (applied updates (contents old)) (contents new)
+  pub cost : keeps_word → (FitTogether (list_with old updates) → ⊥)
+      → Costs (flush_cost old.list) old new
+
+-- The whole list went into the base.
+pub record HasFlushed (keeps_word : Type 0) (old new : Log) : Type 0 where
+  pub emptied : new.list ≡ []
+  pub ok : keeps_word → AreSame old.size (contents old) new.base
+  pub contents : keeps_word → AreSame old.size (contents old) (contents new)
+  pub cost : keeps_word → Costs (flush_cost old.list) old new
+
+-- sector 0 with this content
+abbrev pub first_sector : List ℕ → Update
+first_sector content = record { target = 0; content = content }
+
+-- at every moment since, a map left is one left before, or settles to the old base, with this
+-- sector 0 or without it
+abbrev pub AddsFirst : List ℕ → Log → Log → Type 0
+AddsFirst content old new =
+    AddsEither old.size (first_sector content ∷ []) old.base old.history new.history
+
+-- Sector 0 was written, and no stop loses it.
+pub record HasWritten (keeps_word : Type 0) (content : List ℕ) (old new : Log) : Type 0 where
+  pub ok : keeps_word → AreSame old.size (put old.base (first_sector content)) new.base
+  pub contents : keeps_word
+      → AreSame old.size (put (contents old) (first_sector content)) (contents new)
+  pub settled : keeps_word → IsSettled new
+  pub cost : keeps_word → Costs 2 old new
+
+-- A part of a call on a journal that is up, which goes down exactly where the part fails.
+pub record IsPart {T E : Type 0} (keeps_word : Type 0) (old new : Log) (before after : ℕ)
+    (result : Result T E) : Type 0 where
+  pub moments : keeps_word → AddsFronts old new
+  pub size : new.size ≡ old.size
+  pub is_down : new.is_down ≡ is_err result
+  pub failures : FailsCounted before after result

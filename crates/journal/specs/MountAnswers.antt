@@ -1,0 +1,46 @@
+-- What a mount of a journal says by its answer.
+use Rattle.std.specs.Prelude.{ℕ, [], false, ◌≡◌, ◌≤◌, ◌<◌, ◌+◌, ◌⊎◌}
+use Rattle.disk.specs.Cause.{IsCounted}
+use Rattle.disk.specs.Moments.{History, IsSector, AddsOnly, moment, seen, synced}
+use Rattle.journal.specs.declared.fault.JournalFault.{JournalFault}
+use Rattle.journal.specs.declared.fault.JournalFault.TheVariants as faults
+use Rattle.journal.specs.declared.fault.MountFault.{MountFault}
+use Rattle.journal.specs.Log.{Log, IsSettled}
+use Rattle.journal.specs.Recover.{IsClosed, LeavesOnlySynced}
+use Rattle.journal.specs.Settled.{Settles, SettlesAs}
+
+-- the journal of a device of so many sectors and failures: it is up, and nothing waits
+pub record IsNew (sectors before : ℕ) (log : Log) (after : ℕ) : Type 0 where
+  pub list : log.list ≡ []
+  pub is_down : log.is_down ≡ false
+  pub size : log.size ≡ sectors
+  pub failures : after ≡ before
+
+-- The base is what the device settled to, sectors of bytes. Each map that a stop leaves within the mount settles as
+-- the device did, and from its first sync on no other is left. A closed gate asks for that sync
+-- alone.
+pub record HasMounted (size : ℕ) (old : History) (log : Log) : Type 0 where
+  pub base : Settles size (seen old.now) log.base
+  pub sectors : (n : ℕ) → n < size → IsSector (log.base n)
+  pub settled : IsSettled log
+  pub moments : AddsOnly (SettlesAs size (seen old.now)) old log.history
+  pub since_sync : AddsOnly (SettlesAs size (seen old.now)) (synced old) log.history
+  pub closed : IsClosed old → log.history ≡ synced old
+  pub cost : moment log.history ≤ moment old + 100
+
+-- What a mount that is refused did. Damaged comes only where the gate has no form.
+pub record IsRefused (size : ℕ) (old new : History) (fault : JournalFault) : Type 0 where
+  pub refused : AddsOnly (SettlesAs size (seen old.now)) old new
+  pub closed_refused : IsClosed old → (new ≡ old) ⊎ (new ≡ synced old)
+  pub damaged : fault ≡ faults.Damaged → LeavesOnlySynced size old new
+
+-- The device that comes back, with the reason: Fault is answered exactly where it counted a failure
+pub record ComesBack {D : Type 0} (size failed : D → ℕ) (device : D) (refused : MountFault D)
+    : Type 0 where
+  pub refused_size : size refused.device ≡ size device
+  pub memory : refused.fault ≡ faults.Memory → refused.device ≡ device
+  pub later : failed device ≤ failed refused.device
+  pub counted : refused.fault ≡ faults.Fault → IsCounted (failed device) (failed refused.device)
+  pub none : (refused.fault ≡ faults.Fault → ⊥) → failed refused.device ≡ failed device
+  pub reasons : (refused.fault ≡ faults.Fault)
+      ⊎ ((refused.fault ≡ faults.Damaged) ⊎ (refused.fault ≡ faults.Memory))
