@@ -38,6 +38,15 @@ some_found entries name p entry is h at =
     sym (entry_of-place name (map record_of entries) ∙ ap (slice_get (map record_of entries)) (sym is) ∙ slice_get-within (map record_of entries) p (record_of entry) within
     ∙ ap (λ (r : Record). Some r) (here ∙ ap (λ (n : List ℕ). record_from entry.stamp n entry.number) (has_name entries name p entry is h at)))
 
+-- the record of the name is the entry at its place
+pub found_entry : (entries : List Entry) (name : List ℕ) (p : ℕ) (entry : Entry) → p ≡ place_of name (map record_of entries) → p < length entries → entry ≡ get_or entries p entry
+    → entry_of name (map record_of entries) ≡ Some (record_of entry)
+found_entry entries name p entry is h at =
+    let here : get_or (map record_of entries) p (record_of entry) ≡ record_of entry = get_or-map record_of entries p entry (record_of entry) h ∙ ap record_of (sym at) in
+    let within : p < length (map record_of entries) = omega (arith, length-map entries record_of) in
+    entry_of-place name (map record_of entries) ∙ ap (slice_get (map record_of entries)) (sym is) ∙ slice_get-within (map record_of entries) p (record_of entry) within
+    ∙ ap (λ (r : Record). Some r) here
+
 -- ---- put, where the name is there
 
 module _ (entries : List Entry) (name : List ℕ) (stamp number p : ℕ) (entry changed : Entry) (is : p ≡ place_of name (map record_of entries)) (h : p < length entries) (at : entry ≡ get_or entries p entry)

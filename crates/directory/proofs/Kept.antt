@@ -50,6 +50,33 @@ IsDirectory-push xs new kept room fresh is = record {
       ];
 }
 
+-- a key that no record has, in the place of another one or at the end
+
+module _ {K : Type 0} (key_of : Record → K) (xs : List Record) (new : Record) (fresh : (i : ℕ) (d : Record) → i < length xs → key_of (get_or xs i d) ≢ key_of new) (apart : ApartBy key_of xs) where
+  pub set_apart : (p : ℕ) → p < length xs → ApartBy key_of (set xs p new)
+  set_apart p h i j d lt within =
+      let end : j < length xs = omega (arith, length-set xs p new) in
+      elim (cases_eq i p) [
+        | inl here ↦
+            let other : j ≢ p = omega arith in
+            λ e. fresh j d end (sym (sym (ap (λ (k : ℕ). key_of (get_or (set xs p new) k d)) here ∙ ap key_of (get_or-set_same xs p new d h)) ∙ e ∙ ap key_of (get_or-set_other xs p j new d other)))
+        | inr away ↦
+            elim (cases_eq j p) [
+              | inl here ↦ λ e. fresh i d (omega arith) (sym (ap key_of (get_or-set_other xs p i new d away)) ∙ e ∙ (ap (λ (k : ℕ). key_of (get_or (set xs p new) k d)) here ∙ ap key_of (get_or-set_same xs p new d h)))
+              | inr other ↦ λ e. apart i j d lt end (sym (ap key_of (get_or-set_other xs p i new d away)) ∙ e ∙ ap key_of (get_or-set_other xs p j new d other))
+            ]
+      ]
+
+  pub push_apart : ApartBy key_of (xs ++ new ∷ [])
+  push_apart i j d lt within =
+      let front : get_or (xs ++ new ∷ []) i d ≡ get_or xs i d = get_or_append_left xs (new ∷ []) d i (omega (arith, length_push xs new)) in
+      elim (cases_lt j (length xs)) [
+        | inl old ↦ λ e. apart i j d lt old (sym (ap key_of front) ∙ e ∙ ap key_of (get_or_append_left xs (new ∷ []) d j old))
+        | inr last ↦
+            let back : get_or (xs ++ new ∷ []) j d ≡ new = get_or_push xs new d j (omega (arith, length_push xs new)) in
+            λ e. fresh i d (omega (arith, length_push xs new)) (sym (ap key_of front) ∙ e ∙ ap key_of back)
+      ]
+
 -- the last record, and what stands at a place once it moved
 module _ (xs : List Record) (p : ℕ) (h : p < length xs) (last : Record) (is : last ≡ get_or xs (length xs - 1) last) where
   pub moved_at : (i : ℕ) (d : Record) → i < length xs - 1 → (i ≢ p) → get_or (take (length xs - 1) (set xs p last)) i d ≡ get_or xs i d

@@ -8,9 +8,9 @@ use Rattle.model.specs.Keyed.{Keyed, at, here_or, with, without, IsAbove}
 use Rattle.model.specs.Tree.{DirEntry, entry_of, found_or}
 use Rattle.model.proofs.KeyedLaws.{only_map, at-with_same, at-with_other, at-without_same, at-without_other, IsAbove-with, IsAbove-without, some≢none}
 use Rattle.directory.specs.Records.{Record, record_from, place_of, with_record, without_place, name_of, stamp_of, ApartBy, AreStamped}
-use Rattle.directory.specs.Listing.{by_stamp, without_entry}
+use Rattle.directory.specs.Listing.{by_stamp, without_entry, PutsByStamp, RemovesByStamp}
 use Rattle.directory.proofs.ByStamp.{at-by_stamp}
-use Rattle.directory.proofs.Kept.{each_take, each_set}
+use Rattle.directory.proofs.Kept.{each_take, each_set, moved_apart, set_apart, push_apart}
 use Rattle.directory.proofs.MapLaws.{first, none_has, taken_gone, others_stay, set_other, set_fresh, set_same, set_gone, push_other, push_fresh}
 use Rattle.directory.proofs.Places.{bytes_eq-true, bytes_eq-same, named_there, entry_of-place, with_record-set, with_record-push}
 use Rattle.sector.specs.Written.{each_at, each_push}
@@ -105,7 +105,13 @@ module _ (name : List ℕ) (xs : List Record) (within : place_of name xs < lengt
       (let P : Record → Type 0 = λ entry. 0 < entry.0 in
       subst P (sym last_is) (each_at P xs (length xs - 1) last all (omega arith))))
 
-  pub removed_by_stamp : AreStamped xs → by_stamp (without_place xs place) ≡ without_entry (by_stamp xs) (entry_of name xs)
+  removed_stamped : AreStamped xs → AreStamped (without_place xs place)
+  removed_stamped stamped = record {
+    above = removed_above stamped.above;
+    apart = moved_apart xs place within last last_is stamp_of stamped.apart;
+  }
+
+  removed_by_stamp : AreStamped xs → by_stamp (without_place xs place) ≡ without_entry (by_stamp xs) (entry_of name xs)
   removed_by_stamp stamped =
       let ys = without_place xs place in
       let stamp = stamp_of (get_or xs place last) in
@@ -125,6 +131,9 @@ module _ (name : List ℕ) (xs : List Record) (within : place_of name xs < lengt
           ap entry_in (others_stay stamp_of eqb eqb-true eqb-same xs place within last last_is stamped.apart key last differs)
           ∙ (sym (at-first_stamped key xs) ∙ (sym (at-by_stamp key xs)
           ∙ sym (at-without_other (by_stamp xs) (stamp_of (get_or xs place last)) key differs)))
+
+  pub removes_by_stamp : AreStamped xs → RemovesByStamp xs (without_place xs place) name
+  removes_by_stamp stamped = record { stamped = removed_stamped stamped; entries = removed_by_stamp stamped }
 
 -- A name is put
 
@@ -225,7 +234,7 @@ module _ (xs : List Record) (new : Record) (apart : ApartBy name_of xs) where
         (IsAbove-with (by_stamp xs) (stamp_of new) 0 new.1 (above_by_stamp xs stamped.above) high)
         (λ key. at-by_stamp key (xs ++ new ∷ []) ∙ (at-first_stamped key (xs ++ new ∷ []) ∙ added_at key))
 
-    pub put_by_stamp : by_stamp (with_record xs new) ≡ with (without_entry (by_stamp xs) (entry_of (name_of new) xs)) (stamp_of new) new.1
+    put_by_stamp : by_stamp (with_record xs new) ≡ with (without_entry (by_stamp xs) (entry_of (name_of new) xs)) (stamp_of new) new.1
     put_by_stamp = go is_put
       where
         go : Put → by_stamp (with_record xs new) ≡ with (without_entry (by_stamp xs) (entry_of (name_of new) xs)) (stamp_of new) new.1
@@ -235,3 +244,24 @@ module _ (xs : List Record) (new : Record) (apart : ApartBy name_of xs) where
         go (Added past is) =
             ap by_stamp is
             ∙ (added ∙ ap (λ o. with (without_entry (by_stamp xs) o) (stamp_of new) new.1) (sym (entry_of-first (name_of new) xs ∙ not_named past)))
+
+    no_other : (i : ℕ) (d : Record) → i < length xs → stamp_of (get_or xs i d) ≢ stamp_of new
+    no_other i d h = none_has stamp_of eqb eqb-true eqb-same (stamp_of new) xs i d no_stamp h
+
+    put_stamped : AreStamped (with_record xs new)
+    put_stamped = go is_put
+      where
+        go : Put → AreStamped (with_record xs new)
+        go (Replaced within is) =
+            subst AreStamped (sym is) (record {
+              above = each_set (λ (entry : Record). 0 < entry.0) xs target new stamped.above high;
+              apart = set_apart stamp_of xs new no_other stamped.apart target within;
+            })
+        go (Added past is) =
+            subst AreStamped (sym is) (record {
+              above = each_push (λ (entry : Record). 0 < entry.0) xs new stamped.above high;
+              apart = push_apart stamp_of xs new no_other stamped.apart;
+            })
+
+    pub puts_by_stamp : PutsByStamp xs (with_record xs new) new
+    puts_by_stamp = record { stamped = put_stamped; entries = put_by_stamp }

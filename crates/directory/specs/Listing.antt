@@ -3,8 +3,8 @@
 use Rattle.std.specs.Prelude.{ℕ, List, [], ◌∷◌, ◌++◌, Option, Some, None, ◌≡◌, ◌≢◌, ◌<◌, nat_lt, length, filter, slice_index_or}
 use Rattle.std.specs.List.{flat_map, AllByRecursion}
 use Rattle.model.specs.Keyed.{Keyed, at, with, without, IsAbove}
-use Rattle.model.specs.Tree.{DirEntry}
-use Rattle.directory.specs.Records.{Record}
+use Rattle.model.specs.Tree.{DirEntry, entry_of}
+use Rattle.directory.specs.Records.{Record, name_of, stamp_of, AreStamped}
 
 -- the map of these records, by rising stamp: of two records of one stamp it has the first
 abbrev pub by_stamp : List Record → Keyed DirEntry
@@ -15,6 +15,16 @@ by_stamp (entry ∷ rest) = with (by_stamp rest) entry.0 entry.1
 abbrev pub without_entry : Keyed DirEntry → Option Record → Keyed DirEntry
 without_entry entries None = entries
 without_entry entries (Some entry) = without entries entry.0
+
+-- What a name that is put under a new stamp makes of the map: stamps stay apart, and the name has the new one alone.
+pub record PutsByStamp (old new : List Record) (entry : Record) : Type 0 where
+  pub stamped : AreStamped new
+  pub entries : by_stamp new ≡ with (without_entry (by_stamp old) (entry_of (name_of entry) old)) (stamp_of entry) entry.1
+
+-- what a name that is removed makes of it
+pub record RemovesByStamp (old new : List Record) (name : List ℕ) : Type 0 where
+  pub stamped : AreStamped new
+  pub entries : by_stamp new ≡ without_entry (by_stamp old) (entry_of name old)
 
 -- what is behind a cookie
 abbrev pub after : (cookie : ℕ) → Keyed DirEntry → Keyed DirEntry

@@ -5,15 +5,15 @@ ghost use Rattle.std.specs.List.{AllByRecursion};
 ghost use Rattle.model.specs.Tree.{entry_of};
 ghost use Rattle.directory.specs.Spelling.{directory_sector};
 ghost use Rattle.directory.specs.Records.{record_of, record_from, place_of, with_record, without_place, AreApart, AreStamped, IsRecord, IsDirectory};
-ghost use Rattle.directory.specs.Listing.{by_stamp, after, without_entry};
-ghost use Rattle.model.specs.Keyed.{at, with};
+ghost use Rattle.directory.specs.Listing.{by_stamp, after, PutsByStamp, RemovesByStamp};
+ghost use Rattle.model.specs.Keyed.{at};
 ghost use Rattle.directory.specs.Rest.{rest_of};
 
 use crate::entry::Entry;
 use crate::fault::DirectoryFault;
 use crate::listing::ListAfter;
 use crate::sectors::{self, RECORDS};
-use std::alloc::Global;
+use std::alloc::{AllocError, Global};
 use std::marker::Model;
 
 /// The names of a directory, at most 1,024, in the order of their records.
@@ -54,7 +54,8 @@ impl Names {
 
     /// The names of these records, which stand in one order in both.
     ///
-    /// None exactly where they are no directory's: more than 1,024, two of one name, or a name without bytes or of more than 255.
+    /// None exactly where they are no directory's: more than 1,024, two of one name, or a name
+    /// without bytes or of more than 255.
     pub fn from_entries(alloc: Global, entries: Vec<Entry>) -> Option<Names>
         ensures some { IfSome result (λ names. names ≡ map record_of entries.items) }
         ensures none { IfNone result (¬ IsDirectory (map record_of entries.items)) }
@@ -65,7 +66,18 @@ impl Names {
         Some(Names { alloc, entries })
     }
 
-    /// The names whose stamps are above this one, by rising stamp: what READDIR gives behind a cookie. Takes no memory.
+    /// The same names once more, in the same records, in memory of their own.
+    pub fn try_clone(&self) -> Result<Names, AllocError>
+        ensures { IfOk result (λ names. names ≡ self.now) }
+    {
+        Ok(Names {
+            alloc: self.alloc,
+            entries: clone_entries(self.alloc, &self.entries)?,
+        })
+    }
+
+    /// The names whose stamps are above this one, by rising stamp: what READDIR gives behind a
+    /// cookie. Takes no memory.
     pub fn list_after(&self, stamp: u64) -> ListAfter<'_>
         ensures { rest_of result ≡ after stamp (by_stamp self.entry.now) }
     {
@@ -83,35 +95,48 @@ impl Names {
         self.entries.len()
     }
 
+    /// The names, in the order of their records.
+    pub fn entries(&self) -> &[Entry]
+        ensures { map record_of result.now ≡ self.now }
+    {
+        &self.entries
+    }
+
     /// The name's stamp and the number of its node.
     pub fn get(&self, name: &[u8]) -> Option<(u64, u64)>
-        ensures found { option_map (λ found. record_from found.0 name.now found.1) result ≡ entry_of name.now self.now }
+        ensures found { option_map (λ found. record_from found.0 name.now found.1) result
+            ≡ entry_of name.now self.now }
         ensures by_stamp { AreStamped self.now
-            → option_map (λ found. record_from found.0 name.now found.1) result ≡ entry_of name.now (by_stamp self.now) }
+            → option_map (λ found. record_from found.0 name.now found.1) result
+            ≡ entry_of name.now (by_stamp self.now) }
     {
         let place = place_in(&self.entries, name);
         let entry = self.entries.get(place)?;
         Some((entry.stamp, entry.number))
     }
 
-    /// Puts a name: in the place of its record, or behind the last record. The answer is the record's place. An `Err` changes
-    /// nothing.
+    /// Puts a name: in the place of its record, or behind the last record. The answer is the
+    /// record's place. An `Err` changes nothing.
     ///
     /// # Errors
     /// `Full` exactly where the name is new and there are 1,024 names.
     pub fn put(&mut self, name: &[u8], stamp: u64, number: u64) -> Result<usize, DirectoryFault>
         requires some { 0 < length name.now }
         requires few { length name.now ≤ 255 }
-        ensures ok { OnOk result (self.new ≡ with_record self.old (record_from stamp name.now number)) }
+        ensures ok { OnOk result
+            (self.new ≡ with_record self.old (record_from stamp name.now number)) }
         ensures place { IfOk result (λ place. place ≡ place_of name.now self.old) }
-        ensures full { IsErrOf result DirectoryFault.Full → (place_of name.now self.old ≡ length self.old) × (length self.old ≡ 1024) }
+        ensures full { IsErrOf result DirectoryFault.Full
+            → (place_of name.now self.old ≡ length self.old) × (length self.old ≡ 1024) }
         ensures err { OnErr result (self.new ≡ self.old) }
 
         // The map from names, and the map by stamp.
-        ensures found { OnOk result (entry_of name.now self.new ≡ Some (record_from stamp name.now number)) }
-        ensures others { OnOk result ((other : List ℕ) → other ≢ name.now → entry_of other self.new ≡ entry_of other self.old) }
+        ensures found { OnOk result
+            (entry_of name.now self.new ≡ Some (record_from stamp name.now number)) }
+        ensures others { OnOk result ((other : List ℕ) → other ≢ name.now
+            → entry_of other self.new ≡ entry_of other self.old) }
         ensures by_stamp { OnOk result (AreStamped self.old → 0 < stamp → at stamp self.old ≡ None
-            → by_stamp self.new ≡ with (without_entry (by_stamp self.old) (entry_of name.now self.old)) stamp (record { name = name.now; number = number })) }
+            → PutsByStamp self.old self.new (record_from stamp name.now number)) }
     {
         let place = place_in(&self.entries, name);
         if place < self.entries.len() {
@@ -141,25 +166,39 @@ impl Names {
         sectors::write(&self.entries[from..to], sector);
     }
 
-    /// Removes a name, and moves the last record into its place. The answer is that place.
-    pub fn remove(&mut self, name: &[u8]) -> Option<usize>
-        ensures place { IfSome result (λ place. (place ≡ place_of name.now self.old) × (place < length self.old)) }
-        ensures removed { IfSome result (λ place. self.new ≡ without_place self.old place) }
+    /// Removes a name, and moves the last record into its place. The answer is that place, and what
+    /// stood there. Takes no memory.
+    pub fn remove(&mut self, name: &[u8]) -> Option<(usize, Entry)>
+        ensures place { IfSome result
+            (λ it. (it.0 ≡ place_of name.now self.old) × (it.0 < length self.old)) }
+        ensures record { IfSome result (λ it. entry_of name.now self.old ≡ Some (record_of it.1)) }
+        ensures removed { IfSome result (λ it. self.new ≡ without_place self.old it.0) }
         ensures absent { IfNone result (place_of name.now self.old ≡ length self.old) }
         ensures unchanged { IfNone result (self.new ≡ self.old) }
 
         // The map from names, and the map by stamp.
         ensures gone { entry_of name.now self.new ≡ None }
-        ensures others { (other : List ℕ) → other ≢ name.now → entry_of other self.new ≡ entry_of other self.old }
-        ensures by_stamp { AreStamped self.old → by_stamp self.new ≡ without_entry (by_stamp self.old) (entry_of name.now self.old) }
+        ensures others { (other : List ℕ) → other ≢ name.now
+            → entry_of other self.new ≡ entry_of other self.old }
+        ensures by_stamp { AreStamped self.old → RemovesByStamp self.old self.new name.now }
     {
         let place = place_in(&self.entries, name);
         if place >= self.entries.len() {
             return None;
         }
-        self.entries.swap_remove(place);
-        Some(place)
+        let entry = self.entries.swap_remove(place);
+        Some((place, entry))
     }
+}
+
+fn clone_entries(alloc: Global, entries: &[Entry]) -> Result<Vec<Entry>, AllocError>
+    ensures { IfOk result (λ copy. map record_of copy.items ≡ map record_of entries.now) }
+{
+    let mut copy = Vec::new(alloc);
+    for entry in entries {
+        copy.push(entry.try_clone(alloc)?)?;
+    }
+    Ok(copy)
 }
 
 // Whether each name has 1 to 255 bytes.
@@ -177,9 +216,6 @@ fn are_records(entries: &[Entry]) -> bool
 fn is_record(entry: &Entry) -> bool
     ensures { IsTrue result ↔ IsRecord (record_of entry.now) }
 {
-    // Read, so that their range is known.
-    let _stamp = entry.stamp;
-    let _number = entry.number;
     !entry.name.is_empty() && entry.name.len() <= 255
 }
 

@@ -1,14 +1,17 @@
 //! The sectors of a node's blocks.
 
-ghost use Rattle.std.specs.Prelude.{◌≡◌, ◌<◌, ◌≤◌, ◌+◌, ◌^◌, ℕ, List, [], Option, Some, None, length, take, count_by, is_some, slice_index_or, slice_set, vec_len, IsErrOf, IsTrue, IfOk, OnOk, OnErr, ◌↔◌};
-ghost use Rattle.extents.specs.Runs.{AreRising, AreRunsOf, IsRunAt, IsLaidBehind, with_holes};
+ghost use Rattle.std.specs.Prelude.{◌≡◌, ◌≢◌, ◌<◌, ◌≤◌, ◌+◌, ◌^◌, ℕ, List, [], Option, Some, None, length, take, count_by, is_some, slice_index_or, slice_set, vec_len, IsErrOf, IsTrue, IfOk, OnOk, OnErr, ◌↔◌};
+ghost use Rattle.std.specs.List.{AllByRecursion};
+ghost use Rattle.extents.specs.Runs.{AreApart, AreRising, AreRunsOf, IsRunAt, IsLaidBehind, with_holes};
+ghost use Rattle.extents.specs.Sector.{IsRun};
 
 use crate::fault::ExtentsFault;
 use crate::run::Run;
 use std::alloc::{AllocError, Global};
 use std::marker::Model;
 
-/// The sector of each block of a node, up to 4,096 blocks; a block without a sector is a hole, all zero.
+/// The sector of each block of a node, up to 4,096 blocks; a block without a sector is a hole, all
+/// zero.
 ///
 /// Contracts see the list of the sectors.
 #[derive(Debug, Drop)]
@@ -39,9 +42,18 @@ impl BlockList {
         }
     }
 
+    /// The same list once more, in memory of its own.
+    pub fn try_clone(&self) -> Result<BlockList, AllocError>
+        ensures { IfOk result (λ list. list ≡ self.now) }
+    {
+        let sectors = self.sectors.clone()?;
+        Ok(BlockList { sectors })
+    }
+
     /// How many blocks there are, holes included.
     pub fn count(&self) -> u32
-        ensures { result ≡ length self.now }
+        ensures count { result ≡ length self.now }
+        ensures most { length self.now ≤ 4096 }
     {
         self.sectors.len() as u32
     }
@@ -53,10 +65,12 @@ impl BlockList {
         sector_at(&self.sectors, block as usize)
     }
 
-    /// Puts a block into a sector. The blocks between the last one and this one become holes. An `Err` changes nothing.
+    /// Puts a block into a sector. The blocks between the last one and this one become holes. An
+    /// `Err` changes nothing.
     pub fn set(&mut self, block: u32, sector: u32) -> Result<(), AllocError>
         requires { block < 4096 }
-        ensures ok { OnOk result (self.new ≡ slice_set (with_holes self.old (block + 1)) block (Some sector)) }
+        ensures ok { OnOk result
+            (self.new ≡ slice_set (with_holes self.old (block + 1)) block (Some sector)) }
         ensures err { OnErr result (self.new ≡ self.old) }
     {
         let block = block as usize;
@@ -87,10 +101,15 @@ impl BlockList {
         self.sectors.truncate(count as usize);
     }
 
-    /// Runs of these blocks, at most as many as there are blocks that are no holes.
+    /// The shortest list of runs of these blocks: no two neighbours could be one.
     pub fn to_runs(&self, alloc: Global) -> Result<Vec<Run>, AllocError>
         ensures runs { IfOk result (λ runs. AreRunsOf runs.items self.now) }
+        ensures shortest { IfOk result (λ runs. AreApart runs.items) }
+
+        // Each has a spelling, and there are at most as many as there are blocks that are no holes.
+        ensures each { IfOk result (λ runs. AllByRecursion IsRun runs.items) }
         ensures few { IfOk result (λ runs. vec_len runs ≤ count_by is_some self.now) }
+        ensures most { IfOk result (λ runs. vec_len runs ≤ 4096) }
     {
         runs_of(alloc, &self.sectors)
     }
@@ -98,8 +117,8 @@ impl BlockList {
     /// The `count` blocks that these are the runs of.
     ///
     /// # Errors
-    /// `NotRuns` exactly where these are runs of no so many blocks: one is empty, begins before the end of the one in front of
-    /// it, or passes the last block or the last number of a sector.
+    /// `NotRuns` exactly where these are runs of no so many blocks: one is empty, begins before the
+    /// end of the one in front of it, or passes the last block or the last number of a sector.
     pub fn from_runs(alloc: Global, count: u32, runs: &[Run]) -> Result<BlockList, ExtentsFault>
         requires { count ≤ 4096 }
         ensures count { IfOk result (λ list. length list ≡ count) }
@@ -137,7 +156,8 @@ fn run_length(sectors: &[Option<u32>], start: usize, first: u32) -> u16
     requires small { length sectors.now ≤ 4096 }
     requires within { start < length sectors.now }
     requires starts { slice_index_or sectors.now start None ≡ Some first }
-    ensures { IsRunAt sectors.now start first result }
+    ensures run { IsRunAt sectors.now start first result }
+    ensures whole { slice_index_or sectors.now (start + result) None ≢ Some (first + result) }
 {
     let mut length = 1;
     while start + length < sectors.len() && follows(sectors[start + length], first, length) {
@@ -149,6 +169,8 @@ fn run_length(sectors: &[Option<u32>], start: usize, first: u32) -> u16
 fn runs_of(alloc: Global, sectors: &[Option<u32>]) -> Result<Vec<Run>, AllocError>
     requires { length sectors.now ≤ 4096 }
     ensures runs { IfOk result (λ runs. AreRunsOf runs.items sectors.now) }
+    ensures shortest { IfOk result (λ runs. AreApart runs.items) }
+    ensures each { IfOk result (λ runs. AllByRecursion IsRun runs.items) }
     ensures few { IfOk result (λ runs. vec_len runs ≤ count_by is_some sectors.now) }
 {
     let mut runs = Vec::new(alloc);
@@ -184,9 +206,11 @@ fn put_run(sectors: &mut Vec<Option<u32>>, run: Run) -> Result<(), AllocError>
     Ok(())
 }
 
-/// Whether a run begins at block `from` or behind it, and passes neither the last block nor the last number of a sector.
+/// Whether a run begins at block `from` or behind it, and passes neither the last block nor the last
+/// number of a sector.
 fn fits(run: Run, from: usize, count: usize) -> bool
-    ensures { IsTrue result ↔ ((from ≤ run.block) × (0 < run.length) × (run.block + run.length ≤ count) × (run.sector + run.length ≤ 2 ^ 32)) }
+    ensures { IsTrue result ↔ ((from ≤ run.block) × (0 < run.length)
+        × (run.block + run.length ≤ count) × (run.sector + run.length ≤ 2 ^ 32)) }
 {
     let end = usize::from(run.block) + usize::from(run.length);
     from <= usize::from(run.block)

@@ -1,70 +1,48 @@
--- A byte that is made bit by bit.
-use Rattle.std.proofs.Common.{◌≡◌, ◌≢◌, ◌<◌, ◌≤◌, ◌+◌, ◌-◌, ◌*◌, ◌/◌, ◌%◌, ◌^◌, min, ℕ, Bool, true, false, List, length, get_or, set, below_more, [], ◌∷◌, ◌++◌, ltb, refl, sym, ap, ◌∙◌, arith, add-one, zero-add, inl, inr}
-use Rattle.std.proofs.Math.Nat.{pow-suc, div-one}
-use Rattle.std.proofs.lemmas.Nat.{shr-shr, div-mul-add, mod-mul-add}
-use Rattle.std.proofs.lemmas.List.{length-set, length_push, get_or_push, get_or_append_left, get_or_past, get_or-set_same, get_or-set_other}
+-- Bits of bytes, and the places that they show.
+use Rattle.std.proofs.Common.{◌≡◌, ◌<◌, ◌≤◌, ◌+◌, ◌-◌, ◌*◌, ◌/◌, ◌%◌, ◌^◌, ℕ, zero, suc, Bool, true, false, not, cond, List, length, get_or, set, take, drop, ◌++◌, ltb, refl, sym, ap, ◌∙◌, arith, zero-add, inl, inr, replicate, Some, All}
+use Rattle.std.proofs.lemmas.List.{get_or_past, get_or_append_left, get_or-append_right, get_or-replicate, get_or-take, get_or-drop, length-replicate, ext_get_or}
+use Rattle.std.proofs.lemmas.List.FromFn.{length-map-range_with_len, get_or-map-range_with_len, sum_by-map-range_with_len_more}
+use Rattle.std.proofs.lemmas.Nat.Bits.{bit_at-lt, bit_at-zero}
+use Rattle.std.proofs.lemmas.List.Folds.{sum_by-replicate}
+use Rattle.std.proofs.lemmas.List.Sums.{count_by-le-length}
+use Rattle.std.proofs.lemmas.List.Elements.{All-from_get_or}
+use Rattle.std.proofs.lemmas.Option.{get_or_from_slice_get}
+use Rattle.std.specs.Prelude.{slice_get}
 use Rattle.std.proofs.lemmas.Bool.{cases_lt, lt-ltb, le-ltb}
-use Rattle.freemap.specs.Places.{bit_from, bit_of, bit_in, mark_of, Shows, Show}
+use Rattle.freemap.specs.Places.{bit_from, bit_of, bit_in, is_one, mark_of, places_in, Shows, Show}
+use Rattle.freemap.specs.Kept.{free_places, IsClearFrom, IsSetBelow}
 
--- a bit that is put at the low end moves the others up by one
-shifted : (byte bit m : ℕ) → bit < 2 → (byte * 2 + bit) / 2 ^ (1 + m) ≡ byte / 2 ^ m
-shifted byte bit m low = sym (shr-shr (byte * 2 + bit) 1 m) ∙ ap (λ (n : ℕ). n / 2 ^ m) (div-mul-add byte 2 bit low)
+-- a number below 2 is the bit of the place that it is read as
+pub bit_from-is_one : (bit : ℕ) → bit < 2 → bit_from (is_one bit) ≡ bit
+bit_from-is_one zero h = refl
+bit_from-is_one (suc n) h = omega arith
 
--- the first n places from `first` on stand in a byte, the first of them highest
-pub record IsFront (byte n : ℕ) (places : List Bool) (first : ℕ) : Type 0 where
-  pub below : byte < 2 ^ n
-  pub bits : (i : ℕ) → i < n → byte / 2 ^ (n - 1 - i) % 2 ≡ mark_of places (first + i)
+pub bit_of-lt : (bytes : List ℕ) (i : ℕ) → bit_of bytes i < 2
+bit_of-lt bytes i = bit_at-lt (get_or bytes (i / 8) 0) (7 - i % 8)
 
-module _ (byte n bit : ℕ) (places : List Bool) (first : ℕ) (front : IsFront byte n places first) (low : bit < 2) where
-  older : (i : ℕ) → i < n → (byte * 2 + bit) / 2 ^ (n + 1 - 1 - i) % 2 ≡ mark_of places (first + i)
-  older i h =
-      let place : n + 1 - 1 - i ≡ 1 + (n - 1 - i) = omega arith in
-      rw place (ap (λ (x : ℕ). x % 2) (shifted byte bit (n - 1 - i) low) ∙ front.bits i h)
+pub length-places_in : (bytes : List ℕ) (count : ℕ) → length (places_in bytes count) ≡ count
+unfolding places_in
+length-places_in bytes count = length-map-range_with_len (λ i. is_one (bit_of bytes i)) 0 count
 
-  newest : bit ≡ mark_of places (first + n) → (i : ℕ) → i ≡ n → (byte * 2 + bit) / 2 ^ (n + 1 - 1 - i) % 2 ≡ mark_of places (first + i)
-  newest is i here =
-      let place : n + 1 - 1 - i ≡ 0 = omega arith in
-      rw (place, here) (ap (λ (x : ℕ). x % 2) (div-one (byte * 2 + bit)) ∙ mod-mul-add byte 2 bit low ∙ is)
+pub places_in-at : (bytes : List ℕ) (count i : ℕ) (d : Bool) → i < count → get_or (places_in bytes count) i d ≡ is_one (bit_of bytes i)
+unfolding places_in
+places_in-at bytes count i d h = get_or-map-range_with_len (λ i. is_one (bit_of bytes i)) 0 count i i d h (zero-add i)
 
-  pub IsFront-more : bit ≡ mark_of places (first + n) → IsFront (byte * 2 + bit) (n + 1) places first
-  IsFront-more is = record {
-    below = let power : 2 ^ (n + 1) ≡ 2 ^ n * 2 = rw add-one (pow-suc 2 n) in omega (arith, front.below, power);
-    bits = λ i h. elim (cases_lt i n) [ inl lt ↦ older i lt | inr le ↦ newest is i (omega arith) ];
-  }
+-- where no bit past the places is set, the bits are the marks
+pub mark-bit : (bytes : List ℕ) (count : ℕ) → IsClearFrom bytes count → (i : ℕ) → i < 65536 → bit_of bytes i ≡ mark_of (places_in bytes count) i
+mark-bit bytes count past i h = elim (cases_lt i count) [
+  | inl lt ↦ sym (bit_from-is_one (bit_of bytes i) (bit_of-lt bytes i)) ∙ ap bit_from (sym (places_in-at bytes count i false lt))
+  | inr le ↦
+      let outside : length (places_in bytes count) ≤ i = omega (arith, length-places_in bytes count) in
+      past i le h ∙ sym (ap bit_from (get_or_past (places_in bytes count) i false outside))
+]
 
-pub bit_from-lt : (used : Bool) → bit_from used < 2
-bit_from-lt true = omega arith
-bit_from-lt false = omega arith
-
--- the first n bytes of a sector show the places from `first` on, eight each
-pub record AreShown (sector : List ℕ) (n : ℕ) (places : List Bool) (first : ℕ) : Type 0 where
-  pub len : length sector ≡ 4096
-  pub bits : (k : ℕ) → k < n → (i : ℕ) → i < 8 → get_or sector k 0 / 2 ^ (7 - i) % 2 ≡ mark_of places (first + 8 * k + i)
-
-pub AreShown-more : (sector : List ℕ) (n byte : ℕ) (places : List Bool) (first : ℕ) → AreShown sector n places first → n < 4096 → ((i : ℕ) → i < 8 → byte / 2 ^ (7 - i) % 2 ≡ mark_of places (first + 8 * n + i)) → AreShown (set sector n byte) (n + 1) places first
-AreShown-more sector n byte places first shown room is =
-    let within : n < length sector = omega (arith, shown.len) in
-    record {
-      len = length-set sector n byte ∙ shown.len;
-      bits = below_more (λ k. (i : ℕ) → i < 8 → get_or (set sector n byte) k 0 / 2 ^ (7 - i) % 2 ≡ mark_of places (first + 8 * k + i)) n
-          (λ k h i small. let apart : k ≢ n = omega arith in rw get_or-set_other (shown.bits k h i small))
-          (λ i small. rw get_or-set_same (is i small));
-    }
-
-pub Shows-all : (sector : List ℕ) (n : ℕ) (places : List Bool) (first : ℕ) → AreShown sector n places first → 4096 ≤ n → Shows sector places first
-Shows-all sector n places first shown all = record {
-  len = shown.len;
-  bits = λ i h.
-      let place : first + i ≡ first + 8 * (i / 8) + i % 8 = omega arith in
-      let row : i / 8 < n = omega arith in
-      let column : i % 8 < 8 = omega arith in
-      rw place (shown.bits (i / 8) row (i % 8) column);
-}
-
--- the first n bits of the two sectors, of which those below `count` are places
-pub record AreRead (low high : List ℕ) (count n : ℕ) (places : List Bool) : Type 0 where
-  pub len : length places ≡ min n count
-  pub bits : (k : ℕ) → k < n → bit_in low high k ≡ mark_of places k
+-- a part of the bytes shows the places from its first one on
+pub bit_of-part : (bytes part : List ℕ) (first i : ℕ) → ((k : ℕ) → k < 4096 → get_or part k 0 ≡ get_or bytes (first + k) 0) → i < 32768 → bit_of part i ≡ bit_of bytes (8 * first + i)
+bit_of-part bytes part first i same h =
+    let row : (8 * first + i) / 8 ≡ first + i / 8 = omega arith in
+    let column : (8 * first + i) % 8 ≡ i % 8 = omega arith in
+    rw (row, column) (ap (λ (byte : ℕ). byte / 2 ^ (7 - i % 8) % 2) (same (i / 8) (omega arith)))
 
 low_bit : (low high : List ℕ) (i : ℕ) → i < 32768 → bit_of low i ≡ bit_in low high i
 low_bit low high i h = let test : ltb i 32768 ≡ true = lt-ltb i 32768 h in rw test refl
@@ -85,34 +63,145 @@ bit_in-shown low high count places shown i h =
           rw place (sym (high_bit low high (i - 32768)) ∙ shown.high_shows.bits (i - 32768) within)
     ]
 
--- a bit past the places is clear in two sectors that show them
-pub clear_past : (low high : List ℕ) (count : ℕ) (places : List Bool) → Show low high count places → (i : ℕ) → count ≤ i → i < 65536 → bit_in low high i ≡ 0
-clear_past low high count places shown i past h =
-    let le : length places ≤ i = omega (arith, shown.count_is) in
-    bit_in-shown low high count places shown i h ∙ ap bit_from (get_or_past places i false le)
+module _ (low high : List ℕ) (low_len : length low ≡ 4096) (high_len : length high ≡ 4096) where
+  low-there : (k : ℕ) → k < 4096 → get_or low k 0 ≡ get_or (low ++ high) (0 + k) 0
+  low-there k h =
+      let place : 0 + k ≡ k = zero-add k in
+      let within : k < length low = omega arith in
+      rw place (sym (get_or_append_left low high 0 k within))
 
-module _ (low high : List ℕ) (count n : ℕ) (places : List Bool) (read : AreRead low high count n places) where
-  pub AreRead-push : (used : Bool) → n < count → bit_from used ≡ bit_in low high n → AreRead low high count (n + 1) (places ++ used ∷ [])
-  AreRead-push used room is =
-      let len : length places ≡ n = omega (arith, read.len) in
-      record {
-        len = length_push places used ∙ omega (arith, read.len);
-        bits = below_more (λ k. bit_in low high k ≡ mark_of (places ++ used ∷ []) k) n
-            (λ k h. let within : k < length places = omega arith in read.bits k h ∙ ap bit_from (sym (get_or_append_left places (used ∷ []) false k within)))
-            (sym is ∙ ap bit_from (sym (get_or_push places used false n len)));
-      }
+  high-there : (k : ℕ) → k < 4096 → get_or high k 0 ≡ get_or (low ++ high) (4096 + k) 0
+  high-there k h =
+      let place : 4096 + k - 4096 ≡ k = omega arith in
+      sym (get_or-append_right low high 4096 (4096 + k) 0 low_len (omega arith) ∙ ap (λ i. get_or high i 0) place)
 
-  pub AreRead-skip : count ≤ n → bit_in low high n ≡ 0 → AreRead low high count (n + 1) places
-  AreRead-skip past clear =
-      let le : length places ≤ n = omega (arith, read.len) in
-      record {
-        len = omega (arith, read.len);
-        bits = below_more (λ k. bit_in low high k ≡ mark_of places k) n read.bits (clear ∙ ap bit_from (sym (get_or_past places n false le)));
-      }
+  low-bits : (i : ℕ) → i < 32768 → bit_of low i ≡ bit_of (low ++ high) i
+  low-bits i h = bit_of-part (low ++ high) low 0 i low-there h ∙ ap (bit_of (low ++ high)) (zero-add i)
 
-  pub Show-all : count ≤ 65536 → 65536 ≤ n → length low ≡ 4096 → length high ≡ 4096 → Show low high count places
-  Show-all fits all low_len high_len = record {
-    count_is = omega (arith, read.len);
-    low_shows = record { len = low_len; bits = λ i h. low_bit low high i h ∙ read.bits i (omega arith) ∙ ap (mark_of places) (sym (zero-add i)) };
-    high_shows = record { len = high_len; bits = λ i h. high_bit low high i ∙ read.bits (32768 + i) (omega arith) };
+  high-bits : (i : ℕ) → i < 32768 → bit_of high i ≡ bit_of (low ++ high) (32768 + i)
+  high-bits i h = bit_of-part (low ++ high) high 4096 i high-there h
+
+  -- two sectors that are clear past the places show them
+  pub Show-clear : (count : ℕ) → count ≤ 65536 → IsClearFrom (low ++ high) count → Show low high count (places_in (low ++ high) count)
+  Show-clear count fits past = record {
+    count_is = length-places_in (low ++ high) count;
+    low_shows = record { len = low_len; bits = λ i h. low-bits i h ∙ mark-bit (low ++ high) count past i (omega arith) ∙ ap (mark_of (places_in (low ++ high) count)) (sym (zero-add i)) };
+    high_shows = record { len = high_len; bits = λ i h. high-bits i h ∙ mark-bit (low ++ high) count past (32768 + i) (omega arith) };
   }
+
+  both : (i : ℕ) → i < 65536 → bit_of (low ++ high) i ≡ bit_in low high i
+  both i h = elim (cases_lt i 32768) [
+    | inl lt ↦ sym (low-bits i lt) ∙ low_bit low high i lt
+    | inr le ↦
+        let place : i ≡ 32768 + (i - 32768) = omega arith in
+        rw place (sym (high-bits (i - 32768) (omega arith)) ∙ high_bit low high (i - 32768))
+  ]
+
+  -- two sectors that show the places are clear past them
+  pub clear-shown : (count : ℕ) (places : List Bool) → Show low high count places → IsClearFrom (low ++ high) count
+  clear-shown count places shown i past h =
+      let outside : length places ≤ i = omega (arith, shown.count_is) in
+      both i h ∙ bit_in-shown low high count places shown i h ∙ ap bit_from (get_or_past places i false outside)
+
+-- a sector that is a part of the bytes shows the places of that part
+pub Shows-part : (bytes part : List ℕ) (count first : ℕ) → IsClearFrom bytes count → length part ≡ 4096 → ((k : ℕ) → k < 4096 → get_or part k 0 ≡ get_or bytes (first + k) 0) → first ≤ 4096 → Shows part (places_in bytes count) (8 * first)
+Shows-part bytes part count first past len same within = record {
+  len = len;
+  bits = λ i h. bit_of-part bytes part first i same h ∙ mark-bit bytes count past (8 * first + i) (omega arith);
+}
+
+-- counting places one more at a time
+
+pub free_places-none : (bytes : List ℕ) → 0 ≡ free_places (places_in bytes 0)
+unfolding places_in
+free_places-none bytes = refl
+
+-- a place as it counts among the free ones
+abbrev pub free_from : Bool → ℕ
+free_from used = cond (not used) 1 0
+
+free_places-more : (bytes : List ℕ) (n : ℕ) → free_places (places_in bytes (n + 1)) ≡ free_places (places_in bytes n) + free_from (is_one (bit_of bytes n))
+unfolding places_in
+free_places-more bytes n = sum_by-map-range_with_len_more free_from (λ i. is_one (bit_of bytes i)) 0 n n (zero-add n)
+
+pub read_from : (used : Bool) → used ≡ is_one (bit_from used)
+read_from true = refl
+read_from false = refl
+
+module _ (bytes : List ℕ) (n free : ℕ) (used : Bool) (read : bit_from used ≡ bit_of bytes n) (counted : free ≡ free_places (places_in bytes n)) where
+  place_is : is_one (bit_of bytes n) ≡ used
+  place_is = sym (read_from used ∙ ap is_one read)
+
+  pub count-free : used ≡ false → free + 1 ≡ free_places (places_in bytes (n + 1))
+  count-free is =
+      let added : free_from (is_one (bit_of bytes n)) ≡ 1 = ap free_from (place_is ∙ is) in
+      omega (arith, free_places-more bytes n, counted, added)
+
+  pub count-used : used ≡ true → free ≡ free_places (places_in bytes (n + 1))
+  count-used is =
+      let added : free_from (is_one (bit_of bytes n)) ≡ 0 = ap free_from (place_is ∙ is) in
+      omega (arith, free_places-more bytes n, counted, added)
+
+-- what a place says of its bit
+
+one_of : (bit : ℕ) → bit < 2 → is_one bit ≡ true → bit ≡ 1
+one_of zero h e = absurd cc
+one_of (suc n) h e = omega arith
+
+none_of : (bit : ℕ) → is_one bit ≡ false → bit ≡ 0
+none_of zero e = omega arith
+none_of (suc n) e = absurd cc
+
+pub place_used : (bytes : List ℕ) (count place : ℕ) → get_or (places_in bytes count) place false ≡ true → (place < count) × (bit_of bytes place ≡ 1)
+place_used bytes count place used = elim (cases_lt place count) [
+  | inl lt ↦ (lt, one_of (bit_of bytes place) (bit_of-lt bytes place) (sym (places_in-at bytes count place false lt) ∙ used))
+  | inr le ↦
+      let none : get_or (places_in bytes count) place false ≡ false = get_or_past (places_in bytes count) place false (omega (arith, length-places_in bytes count)) in
+      absurd cc
+]
+
+pub place_free : (bytes : List ℕ) (count place : ℕ) → slice_get (places_in bytes count) place ≡ Some false → (place < count) × (bit_of bytes place ≡ 0)
+place_free bytes count place is =
+    let free : get_or (places_in bytes count) place true ≡ false = get_or_from_slice_get (places_in bytes count) place false true is in
+    elim (cases_lt place count) [
+      | inl lt ↦ (lt, none_of (bit_of bytes place) (sym (places_in-at bytes count place true lt) ∙ free))
+      | inr le ↦
+          let none : get_or (places_in bytes count) place true ≡ true = get_or_past (places_in bytes count) place true (omega (arith, length-places_in bytes count)) in
+          absurd cc
+    ]
+
+-- bytes that are zero
+
+zeros-at : (n k : ℕ) → get_or (replicate {A = ℕ} n 0) k 0 ≡ 0
+zeros-at n k = elim (cases_lt k n) [
+  | inl lt ↦ get_or-replicate n k 0 0 lt
+  | inr le ↦ get_or_past (replicate n 0) k 0 (omega (arith, length-replicate {A = ℕ} n 0))
+]
+
+pub zeros-clear : (bytes : List ℕ) (n i : ℕ) → bytes ≡ replicate n 0 → bit_of bytes i ≡ 0
+zeros-clear bytes n i is = rw (is, zeros-at n (i / 8)) (bit_at-zero (7 - i % 8))
+
+pub places_in-zeros : (bytes : List ℕ) (n count : ℕ) → bytes ≡ replicate n 0 → places_in bytes count ≡ replicate count false
+places_in-zeros bytes n count is =
+    ext_get_or false (places_in bytes count) (replicate count false) (length-places_in bytes count ∙ sym (length-replicate count false)) (λ i h.
+    let inside : i < count = omega (arith, length-places_in bytes count) in
+    places_in-at bytes count i false inside ∙ ap is_one (zeros-clear bytes n i is) ∙ sym (get_or-replicate count i false false inside))
+
+pub free_places-replicate : (count : ℕ) → count ≡ free_places (replicate count false)
+free_places-replicate count =
+    let counted : free_places (replicate count false) ≡ count * 1 = sum_by-replicate free_from count false in
+    omega arith
+
+pub free_places-le : (bytes : List ℕ) (count : ℕ) → free_places (places_in bytes count) ≤ count
+free_places-le bytes count = omega (arith, count_by-le-length not (places_in bytes count), length-places_in bytes count)
+
+-- where each bit is set, each place is used
+pub all_used : (bytes : List ℕ) (count : ℕ) → IsSetBelow bytes count → All (λ used. used ≡ true) (places_in bytes count)
+all_used bytes count set = All-from_get_or (λ used. used ≡ true) (places_in bytes count) false (λ i h.
+    let inside : i < count = omega (arith, length-places_in bytes count) in
+    places_in-at bytes count i false inside ∙ ap is_one (set i inside))
+
+-- a part of the bytes that is copied
+
+pub part-there : (bytes : List ℕ) (first end k : ℕ) → k < end - first → get_or (take (end - first) (drop first bytes)) k 0 ≡ get_or bytes (first + k) 0
+part-there bytes first end k h = get_or-take (end - first) (drop first bytes) k 0 h ∙ get_or-drop first bytes k 0

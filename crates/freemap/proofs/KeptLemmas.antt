@@ -1,58 +1,76 @@
 -- What taking and giving back a place keep.
-use Rattle.std.proofs.Common.{◌≡◌, ◌≢◌, ◌<◌, ◌+◌, ◌-◌, min, ℕ, zero, suc, Bool, true, false, not, cond, List, length, get_or, set, ap, arith, inl, inr, [], ◌∷◌, Some}
-use Rattle.std.specs.Prelude.{slice_get}
-use Rattle.std.proofs.lemmas.List.{length-set, get_or-set_same, get_or-set_other}
+use Rattle.std.proofs.Common.{◌≡◌, ◌≢◌, ◌<◌, ◌≤◌, ◌+◌, ◌-◌, min, ℕ, Bool, true, false, List, length, get_or, set, sym, ap, ◌∙◌, arith, inl, inr}
+use Rattle.std.proofs.lemmas.List.{length-set, get_or-set_same, get_or-set_other, ext_get_or}
 use Rattle.std.proofs.lemmas.List.Sums.{sum_by-set}
 use Rattle.std.proofs.lemmas.Bool.{cases_eq}
 use Rattle.std.specs.List.{sum_by}
-use Rattle.freemap.specs.Kept.{IsKept, free_places}
+use Rattle.freemap.specs.Places.{bit_of, is_one, places_in}
+use Rattle.freemap.specs.Kept.{IsKept, IsSetBelow, IsClearFrom, BitBecomes, free_places}
+use Rattle.freemap.proofs.Bits.{free_from, length-places_in, places_in-at}
 
--- a place as it counts among the free ones
-free_from : Bool → ℕ
-free_from used = cond (not used) 1 0
-
-pub free_places-give : (places : List Bool) (place : ℕ) → place < length places → get_or places place false ≡ true → free_places (set places place false) ≡ free_places places + 1
-unfolding free_from
+free_places-give : (places : List Bool) (place : ℕ) → place < length places → get_or places place false ≡ true → free_places (set places place false) ≡ free_places places + 1
 free_places-give places place h used =
     let counted : sum_by free_from (set places place false) + free_from (get_or places place false) ≡ sum_by free_from places + free_from false = sum_by-set free_from places place false false h in
     let was : free_from (get_or places place false) ≡ 0 = ap free_from used in
     omega arith
 
-pub free_places-take : (places : List Bool) (place : ℕ) → place < length places → get_or places place true ≡ false → free_places (set places place true) + 1 ≡ free_places places
-unfolding free_from
+free_places-take : (places : List Bool) (place : ℕ) → place < length places → get_or places place true ≡ false → free_places (set places place true) + 1 ≡ free_places places
 free_places-take places place h free =
     let counted : sum_by free_from (set places place true) + free_from (get_or places place true) ≡ sum_by free_from places + free_from true = sum_by-set free_from places place true true h in
     let was : free_from (get_or places place true) ≡ 1 = ap free_from free in
     omega arith
 
-module _ (places : List Bool) (lowest free : ℕ) (kept : IsKept places lowest free) (place : ℕ) (h : place < length places) where
-  pub IsKept-give : get_or places place false ≡ true → IsKept (set places place false) (min lowest place) (free + 1)
-  IsKept-give used = record {
-    fits = omega (arith, length-set places place false, kept.fits);
-    lowest_in = omega (arith, length-set places place false);
-    below = λ k lt. let apart : k ≢ place = omega arith in rw get_or-set_other (kept.below k (omega arith));
-    free_is = omega (arith, free_places-give places place h used, kept.free_is);
-  }
+module _ (old new : List ℕ) (count place bit : ℕ) (becomes : BitBecomes old new place bit) (within : place < count) where
+  -- a bit that changes is a place that changes
+  pub places_in-set : places_in new count ≡ set (places_in old count) place (is_one bit)
+  places_in-set =
+      let there : place < length (places_in old count) = omega (arith, length-places_in old count) in
+      ext_get_or false (places_in new count) (set (places_in old count) place (is_one bit)) (length-places_in new count ∙ sym (length-set (places_in old count) place (is_one bit) ∙ length-places_in old count)) (λ i h.
+      let inside : i < count = omega (arith, length-places_in new count) in
+      elim (cases_eq i place) [
+        | inl e ↦ rw e (places_in-at new count place false within ∙ ap is_one becomes.here ∙ sym (get_or-set_same (places_in old count) place (is_one bit) false there))
+        | inr apart ↦ places_in-at new count i false inside ∙ ap is_one (becomes.others i apart) ∙ sym (places_in-at old count i false inside) ∙ sym (get_or-set_other (places_in old count) place i (is_one bit) false apart)
+      ])
 
-  pub IsKept-take : get_or places place true ≡ false → ((k : ℕ) → k < place → get_or places k false ≡ true) → IsKept (set places place true) (place + 1) (free - 1)
-  IsKept-take is first = record {
-    fits = omega (arith, length-set places place true, kept.fits);
-    lowest_in = omega (arith, length-set places place true);
-    below = λ k lt. elim (cases_eq k place) [
-      | inl e ↦ rw e (get_or-set_same places place true false h)
-      | inr apart ↦ rw get_or-set_other (first k (omega arith))
-    ];
-    free_is = omega (arith, free_places-take places place h is, kept.free_is);
-  }
+  past-set : IsClearFrom old count → IsClearFrom new count
+  past-set past i h small = let apart : i ≢ place = omega arith in becomes.others i apart ∙ past i h small
 
--- what `get` gave
-pub slice_get-Some : (xs : List Bool) (i : ℕ) (x d : Bool) → slice_get xs i ≡ Some x → (i < length xs) × (get_or xs i d ≡ x)
-slice_get-Some [] i x d e = absurd cc
-slice_get-Some (y ∷ ys) zero x d e = (omega arith, cc)
-slice_get-Some (y ∷ ys) (suc i) x d e = let rest = slice_get-Some ys i x d e in (omega (arith, rest.0), rest.1)
+module _ (old new : List ℕ) (count place lowest free : ℕ) (kept : IsKept old count lowest free) (len : length new ≡ 8192) (within : place < count) where
+  there : place < length (places_in old count)
+  there = omega (arith, length-places_in old count)
 
--- what is used is a place
-pub used_within : (xs : List Bool) (i : ℕ) → get_or xs i false ≡ true → i < length xs
-used_within [] i e = absurd cc
-used_within (x ∷ xs) zero e = omega arith
-used_within (x ∷ xs) (suc i) e = let rest = used_within xs i e in omega arith
+  pub free_above : bit_of old place ≡ 0 → 1 ≤ free
+  free_above clear =
+      let was : get_or (places_in old count) place true ≡ false = places_in-at old count place true within ∙ ap is_one clear in
+      omega (arith, free_places-take (places_in old count) place there was, kept.free_is)
+
+  pub IsKept-take : BitBecomes old new place 1 → bit_of old place ≡ 0 → (from : ℕ) → from ≤ count → IsSetBelow new from → IsKept new count from (free - 1)
+  IsKept-take becomes clear from from_in below =
+      let was : get_or (places_in old count) place true ≡ false = places_in-at old count place true within ∙ ap is_one clear in
+      record {
+        len = len;
+        fits = kept.fits;
+        past = past-set old new count place 1 becomes within kept.past;
+        lowest_in = from_in;
+        below = below;
+        free_is = rw (places_in-set old new count place 1 becomes within) (omega (arith, free_places-take (places_in old count) place there was, kept.free_is));
+      }
+
+  pub IsKept-give : BitBecomes old new place 0 → bit_of old place ≡ 1 → IsKept new count (min lowest place) (free + 1)
+  IsKept-give becomes was_set =
+      let was : get_or (places_in old count) place false ≡ true = places_in-at old count place false within ∙ ap is_one was_set in
+      record {
+        len = len;
+        fits = kept.fits;
+        past = past-set old new count place 0 becomes within kept.past;
+        lowest_in = omega (arith, kept.lowest_in);
+        below = λ i h. let apart : i ≢ place = omega arith in becomes.others i apart ∙ kept.below i (omega arith);
+        free_is = rw (places_in-set old new count place 0 becomes within) (omega (arith, free_places-give (places_in old count) place there was, kept.free_is));
+      }
+
+  pub below-set : BitBecomes old new place 1 → IsSetBelow new lowest
+  below-set becomes i h = elim (cases_eq i place) [ inl e ↦ rw e becomes.here | inr apart ↦ becomes.others i apart ∙ kept.below i h ]
+
+-- where all below a place are set, and then the place, all up to it are
+pub below-more : (old new : List ℕ) (place : ℕ) → BitBecomes old new place 1 → IsSetBelow old place → IsSetBelow new (place + 1)
+below-more old new place becomes below i h = elim (cases_eq i place) [ inl e ↦ rw e becomes.here | inr apart ↦ becomes.others i apart ∙ below i (omega arith) ]

@@ -1,3 +1,4 @@
 pub mod Bits
+pub mod Setting
 pub mod Laws
 pub mod KeptLemmas

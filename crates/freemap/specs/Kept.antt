@@ -1,13 +1,29 @@
--- What a `Bitmap` keeps beside its places.
-use Rattle.std.specs.Prelude.{◌≡◌, ◌<◌, ◌≤◌, ℕ, Bool, true, false, not, List, length, slice_index_or, count_by}
+-- What a `Bitmap` keeps: the bytes of the two sectors, how many of their bits are places, and where to look for a free one.
+use Rattle.std.specs.Prelude.{◌≡◌, ◌≢◌, ◌<◌, ◌≤◌, ℕ, Bool, not, List, length, count_by}
+use Rattle.freemap.specs.Places.{bit_of, places_in}
 
 -- how many places are free
 abbrev pub free_places : List Bool → ℕ
 free_places places = count_by not places
 
--- the count of free places, and a place below which none is free
-pub record IsKept (places : List Bool) (lowest free : ℕ) : Type 0 where
-  pub fits : length places ≤ 65536
-  pub lowest_in : lowest ≤ length places
-  pub below : (k : ℕ) → k < lowest → slice_index_or places k false ≡ true
-  pub free_is : free ≡ free_places places
+-- no bit is set from this one on
+abbrev pub IsClearFrom : List ℕ → ℕ → Type 0
+IsClearFrom bytes first = (i : ℕ) → first ≤ i → i < 65536 → bit_of bytes i ≡ 0
+
+-- each bit below this one is set
+abbrev pub IsSetBelow : List ℕ → ℕ → Type 0
+IsSetBelow bytes end = (i : ℕ) → i < end → bit_of bytes i ≡ 1
+
+-- the bit at a place becomes this one, and no other one changes
+pub record BitBecomes (old new : List ℕ) (place bit : ℕ) : Type 0 where
+  pub here : bit_of new place ≡ bit
+  pub others : (i : ℕ) → i ≢ place → bit_of new i ≡ bit_of old i
+
+-- the bits are the sectors', none is set past the last place, and no place below `lowest` is free
+pub record IsKept (bytes : List ℕ) (count lowest free : ℕ) : Type 0 where
+  pub len : length bytes ≡ 8192
+  pub fits : count ≤ 65536
+  pub past : IsClearFrom bytes count
+  pub lowest_in : lowest ≤ count
+  pub below : IsSetBelow bytes lowest
+  pub free_is : free ≡ free_places (places_in bytes count)

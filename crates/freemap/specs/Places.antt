@@ -1,6 +1,7 @@
 -- A set of places as the two bitmap sectors of a volume show it: bit i of the two is byte i / 8, the most significant
 -- bit first, and is 1 where place i is used.
-use Rattle.std.specs.Prelude.{◌≡◌, ◌<◌, ◌≤◌, ◌+◌, ◌-◌, ◌/◌, ◌%◌, ◌^◌, ℕ, Bool, true, false, List, length, slice_index, slice_index_or, nat_lt, if◌then◌else◌}
+use Rattle.std.specs.Prelude.{◌≡◌, ◌<◌, ◌≤◌, ◌+◌, ◌-◌, ◌/◌, ◌%◌, ◌^◌, ℕ, zero, suc, Bool, true, false, List, length, map, slice_index, slice_index_or, nat_lt, if◌then◌else◌}
+use Rattle.std.specs.List.{range_with_len}
 
 -- bit i of a list of bytes
 abbrev pub bit_of : List ℕ → ℕ → ℕ
@@ -10,6 +11,15 @@ bit_of bytes i = slice_index bytes (i / 8) / 2 ^ (7 - i % 8) % 2
 abbrev pub bit_from : Bool → ℕ
 bit_from true = 1
 bit_from false = 0
+
+-- a bit as a place
+abbrev pub is_one : ℕ → Bool
+is_one zero = false
+is_one (suc _) = true
+
+-- the first `count` places that bytes show
+unfoldable pub places_in : List ℕ → (count : ℕ) → List Bool
+places_in bytes count = map (λ i. is_one (bit_of bytes i)) (range_with_len 0 count)
 
 -- the bit of place i, which is 0 past the last place
 abbrev pub mark_of : List Bool → ℕ → ℕ

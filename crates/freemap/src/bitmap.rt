@@ -1,6 +1,6 @@
 //! The set of used places.
 
-ghost use Rattle.std.specs.Prelude.{◌≡◌, ◌<◌, ◌≤◌, ◌+◌, ◌*◌, ℕ, Bool, true, false, not, List, length, replicate, slice_index_or, slice_get, slice_set, All, IsTrue, IsErrOf, IfOk, OnErr, IfSome, IfNone};
+ghost use Rattle.std.specs.Prelude.{◌≡◌, ◌<◌, ◌≤◌, ◌*◌, Bool, true, false, List, length, replicate, slice_index_or, slice_get, slice_set, All, IsErrOf, IfOk, OnErr};
 ghost use Rattle.freemap.specs.Places.{Shows, Show, OneSet, OneSpelling};
 ghost use Rattle.freemap.specs.Kept.{free_places};
 
@@ -9,10 +9,16 @@ use crate::sectors;
 use std::alloc::{AllocError, Global};
 use std::marker::Model;
 
-/// Which places are used. Contracts see a list of booleans, true where the place is used.
+/// The bytes of a sector.
+const SECTOR_BYTES: usize = 4096;
+
+/// Which places are used: the two bitmap sectors as they lie on the device, end to end, and where to look for a free place.
+///
+/// Contracts see a list of booleans, true where the place is used.
 #[derive(Debug, Drop)]
 pub struct Bitmap {
-    used: Vec<bool>,
+    bits: Vec<u8>,
+    count: u32,
     /// No place below this one is free.
     lowest: usize,
     free: u32,
@@ -20,13 +26,14 @@ pub struct Bitmap {
 
 impl Model for Bitmap {
     ghost use Rattle.std.specs.Prelude.{Bool, List};
+    ghost use Rattle.freemap.specs.Places.{places_in};
     ghost use Rattle.freemap.specs.Kept.{IsKept};
 
     ghost Value = { List Bool };
 
-    ghost view = { λ b. b.used.items };
+    ghost view = { λ b. places_in b.bits.items b.count };
 
-    ghost invariant = { λ b. IsKept b.used.items b.lowest b.free };
+    ghost invariant = { λ b. IsKept b.bits.items b.count b.lowest b.free };
 }
 
 impl Bitmap {
@@ -35,9 +42,10 @@ impl Bitmap {
         requires { count ≤ 65536 }
         ensures { IfOk result (λ places. places ≡ replicate count false) }
     {
-        let used = vec![in alloc; false; count as usize]?;
+        let bits = vec![in alloc; 0; sectors::BYTES]?;
         Ok(Bitmap {
-            used,
+            bits,
+            count,
             lowest: 0,
             free: count,
         })
@@ -58,13 +66,39 @@ impl Bitmap {
         ensures past_end { IsErrOf result BitmapFault.PastEnd
             → (places : List Bool) → ¬ Show low.now high.now count places }
     {
-        let used = sectors::read(alloc, count as usize, low, high)?;
-        let free = count_free(&used);
+        let bits = sectors::joined(alloc, low, high)?;
+        if !sectors::is_clear_from(&bits, count as usize) {
+            return Err(BitmapFault::PastEnd);
+        }
+        let free = sectors::count_free(&bits, count as usize);
         Ok(Bitmap {
-            used,
+            bits,
+            count,
             lowest: 0,
             free,
         })
+    }
+
+    /// The same set once more, in memory of its own.
+    pub fn try_clone(&self) -> Result<Bitmap, AllocError>
+        ensures { IfOk result (λ places. places ≡ self.now) }
+    {
+        Ok(Bitmap {
+            bits: self.bits.clone()?,
+            count: self.count,
+            lowest: self.lowest,
+            free: self.free,
+        })
+    }
+
+    /// Becomes the same set as another one. Takes no memory.
+    pub fn copy_from(&mut self, other: &Bitmap)
+        ensures { self.new ≡ other.now }
+    {
+        self.bits.copy_from_slice(&other.bits);
+        self.count = other.count;
+        self.lowest = other.lowest;
+        self.free = other.free;
     }
 
     /// Writes bitmap sector `part`, 0 or 1, which shows the places from `32768 * part` on.
@@ -72,14 +106,15 @@ impl Bitmap {
         requires { part < 2 }
         ensures { Shows sector.new self.now (32768 * part) }
     {
-        sectors::write(&self.used, sectors::SECTOR_PLACES * part as usize, sector);
+        let first = SECTOR_BYTES * part as usize;
+        sector.copy_from_slice(&self.bits[first..first + SECTOR_BYTES]);
     }
 
     /// How many places there are, used or free.
     pub fn count(&self) -> u32
         ensures { result ≡ length self.now }
     {
-        self.used.len() as u32
+        self.count
     }
 
     /// How many places are free.
@@ -93,7 +128,7 @@ impl Bitmap {
     pub fn is_used(&self, place: u32) -> bool
         ensures { result ≡ slice_index_or self.now place false }
     {
-        sectors::mark(&self.used, place as usize) == 1
+        place < self.count && sectors::is_set(&self.bits, place as usize)
     }
 
     /// Takes a free place. Which one is left open.
@@ -106,14 +141,24 @@ impl Bitmap {
         ensures full { OnErr result (All (λ used. used ≡ true) self.old) }
         ensures unchanged { OnErr result (self.new ≡ self.old) }
     {
-        let Some(place) = first_free(&self.used, self.lowest) else {
-            self.lowest = self.used.len();
+        let count = self.count as usize;
+        let Some(place) = sectors::first_clear(&self.bits, self.lowest, count) else {
+            self.lowest = count;
             return Err(Full);
         };
-        self.used[place] = true;
+        sectors::set_bit(&mut self.bits, place);
         self.lowest = place + 1;
         self.free -= 1;
         Ok(place as u32)
+    }
+
+    /// Takes this free place.
+    pub fn mark(&mut self, place: u32)
+        requires { slice_get self.old place ≡ Some false }
+        ensures { self.new ≡ slice_set self.old place true }
+    {
+        sectors::set_bit(&mut self.bits, place as usize);
+        self.free -= 1;
     }
 
     /// Gives a used place back.
@@ -122,33 +167,10 @@ impl Bitmap {
         ensures { self.new ≡ slice_set self.old place false }
     {
         let place = place as usize;
-        self.used[place] = false;
+        sectors::clear_bit(&mut self.bits, place);
         self.lowest = self.lowest.min(place);
         self.free += 1;
     }
-}
-
-/// The first free place, where none below `from` is free.
-fn first_free(used: &[bool], from: usize) -> Option<usize>
-    requires within { from ≤ length used.now }
-    requires below { (k : ℕ) → k < from → slice_index_or used.now k false ≡ true }
-    ensures found { IfSome result (λ place. slice_get used.now place ≡ Some false) }
-    ensures first { IfSome result (λ place. (k : ℕ) → k < place → slice_index_or used.now k false ≡ true) }
-    ensures none { IfNone result (All (λ used. used ≡ true) used.now) }
-{
-    for place in from..used.len() {
-        if !used[place] {
-            return Some(place);
-        }
-    }
-    None
-}
-
-fn count_free(used: &[bool]) -> u32
-    requires { length used.now ≤ 65536 }
-    ensures { result ≡ free_places used.now }
-{
-    used.iter().filter(|used| !**used).count() as u32
 }
 
 /// Two sectors show one set of so many places at most, and a set is shown by one pair of sectors.

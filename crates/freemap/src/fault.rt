@@ -3,7 +3,7 @@
 ghost use Rattle.std.specs.Prelude.{◌≡◌};
 ghost use Rattle.freemap.specs.declared.fault.BitmapFault.TheVariants.{Memory};
 
-use std::alloc::AllocFailed;
+use std::alloc::AllocError;
 use thiserror::Error;
 
 /// No place is free.
@@ -22,10 +22,10 @@ pub enum BitmapFault {
     Memory,
 }
 
-impl<T: Drop> From<AllocFailed<T>> for BitmapFault {
+impl From<AllocError> for BitmapFault {
     ghost from_gives = { λ _ e. e ≡ Memory };
 
-    fn from(_e: AllocFailed<T>) -> BitmapFault {
+    fn from(_e: AllocError) -> BitmapFault {
         BitmapFault::Memory
     }
 }

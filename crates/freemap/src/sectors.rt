@@ -1,86 +1,145 @@
-//! Bits of the two bitmap sectors.
+//! Bits of the two bitmap sectors, end to end.
 
-ghost use Rattle.std.specs.Prelude.{◌≡◌, ◌<◌, ◌≤◌, ◌+◌, ◌-◌, ◌/◌, ◌%◌, ◌^◌, ◌*◌, ℕ, Bool, List, length, IfOk, IsErrOf};
-ghost use Rattle.freemap.specs.Places.{bit_from, bit_of, bit_in, mark_of, Shows, Show};
+ghost use Rattle.std.specs.Prelude.{◌≡◌, ◌<◌, ◌≤◌, ◌↔◌, ◌++◌, IsTrue, IfOk, IfSome, IfNone, length};
+ghost use Rattle.freemap.specs.Places.{bit_from, bit_of, places_in};
+ghost use Rattle.freemap.specs.Kept.{free_places, IsClearFrom, IsSetBelow, BitBecomes};
 
-use crate::fault::BitmapFault;
-use std::alloc::Global;
+use byteorder::{BigEndian, ByteOrder};
+use std::alloc::{AllocError, Global};
 
-/// The places that one sector shows.
-pub(crate) const SECTOR_PLACES: usize = 32768;
+/// The bytes of the two sectors, and the places that they show.
+pub(crate) const BYTES: usize = 8192;
 
-/// Whether the bit of a place is set in a sector.
-fn is_set(sector: &[u8; 4096], place: usize) -> bool
-    requires { place < 32768 }
-    ensures { bit_from result ≡ bit_of sector.now place }
-{
-    (sector[place / 8] >> (7 - place % 8)) % 2 == 1
-}
+pub(crate) const PLACES: usize = 65536;
 
-/// Whether the bit of a place is set in one of the two sectors.
-fn is_set_in(low: &[u8; 4096], high: &[u8; 4096], place: usize) -> bool
-    requires { place < 65536 }
-    ensures { bit_from result ≡ bit_in low.now high.now place }
-{
-    if place < SECTOR_PLACES {
-        is_set(low, place)
-    } else {
-        is_set(high, place - SECTOR_PLACES)
-    }
-}
+/// The bytes of a word, and its places.
+const WORD_BYTES: usize = 8;
 
-/// The places that two sectors show.
-pub(crate) fn read(
+const WORD_PLACES: usize = 64;
+
+/// The bytes of two sectors, end to end.
+pub(crate) fn joined(
     alloc: Global,
-    count: usize,
     low: &[u8; 4096],
     high: &[u8; 4096],
-) -> Result<Vec<bool>, BitmapFault>
-    requires { count ≤ 65536 }
-    ensures ok { IfOk result (λ places. Show low.now high.now count places.items) }
-    ensures past_end { IsErrOf result BitmapFault.PastEnd
-        → (places : List Bool) → ¬ Show low.now high.now count places }
+) -> Result<Vec<u8>, AllocError>
+    ensures { IfOk result (λ bits. bits.items ≡ low.now ++ high.now) }
 {
-    let mut places = Vec::new(alloc);
-    for place in 0..2 * SECTOR_PLACES {
-        let used = is_set_in(low, high, place);
-        if place < count {
-            places.push(used)?;
-        } else if used {
-            return Err(BitmapFault::PastEnd);
+    let mut bits = Vec::with_capacity(alloc, BYTES)?;
+    bits.extend_from_slice(low)?;
+    bits.extend_from_slice(high)?;
+    Ok(bits)
+}
+
+/// Whether the bit of a place is set.
+pub(crate) fn is_set(bits: &[u8], place: usize) -> bool
+    requires len { length bits.now ≡ 8192 }
+    requires within { place < 65536 }
+    ensures { bit_from result ≡ bit_of bits.now place }
+{
+    (bits[place / 8] >> (7 - place % 8)) % 2 == 1
+}
+
+/// Sets the bit of a place.
+pub(crate) fn set_bit(bits: &mut [u8], place: usize)
+    requires len { length bits.old ≡ 8192 }
+    requires within { place < 65536 }
+    ensures { BitBecomes bits.old bits.new place 1 }
+{
+    bits[place / 8] |= 1 << (7 - place % 8);
+}
+
+/// Clears the bit of a place.
+pub(crate) fn clear_bit(bits: &mut [u8], place: usize)
+    requires len { length bits.old ≡ 8192 }
+    requires within { place < 65536 }
+    ensures { BitBecomes bits.old bits.new place 0 }
+{
+    bits[place / 8] &= !(1 << (7 - place % 8));
+}
+
+/// Whether no bit is set from a place on.
+pub(crate) fn is_clear_from(bits: &[u8], first: usize) -> bool
+    requires len { length bits.now ≡ 8192 }
+    requires within { first ≤ 65536 }
+    ensures { IsTrue result ↔ IsClearFrom bits.now first }
+{
+    for place in first..PLACES {
+        if is_set(bits, place) {
+            return false;
         }
     }
-    Ok(places)
+    true
 }
 
-/// The bit of a place, which is 0 past the last place.
-pub(crate) fn mark(places: &[bool], place: usize) -> u8
-    ensures { result ≡ mark_of places.now place }
+/// How many of the first places are free.
+pub(crate) fn count_free(bits: &[u8], count: usize) -> u32
+    requires len { length bits.now ≡ 8192 }
+    requires within { count ≤ 65536 }
+    ensures { result ≡ free_places (places_in bits.now count) }
 {
-    match places.get(place) {
-        Some(true) => 1,
-        _ => 0,
+    let mut free = 0;
+    for place in 0..count {
+        if !is_set(bits, place) {
+            free += 1;
+        }
     }
+    free
 }
 
-/// Eight places from `first` on as a byte; a place past the last is free.
-fn byte_of(places: &[bool], first: usize) -> u8
-    requires { first < 65536 }
-    ensures { (i : ℕ) → i < 8 → result / 2 ^ (7 - i) % 2 ≡ mark_of places.now (first + i) }
+/// A place from `from` on below which all bits are set: no word between the two has a clear one.
+fn skip_words(bits: &[u8], from: usize) -> usize
+    requires len { length bits.now ≡ 8192 }
+    requires below { IsSetBelow bits.now from }
+    requires within { from ≤ 65536 }
+    ensures within { result ≤ 65536 }
+    ensures below { IsSetBelow bits.now result }
 {
-    let mut byte = 0;
-    for i in 0..8 {
-        byte = byte * 2 + mark(places, first + i);
+    let mut word = from / WORD_PLACES;
+    while word < BYTES / WORD_BYTES && is_full(&bits[WORD_BYTES * word..]) {
+        word += 1;
     }
-    byte
+    from.max(WORD_PLACES * word)
 }
 
-/// Writes the bits of the places from `first` on.
-pub(crate) fn write(places: &[bool], first: usize, sector: &mut [u8; 4096])
-    requires { first ≤ 32768 }
-    ensures { Shows sector.new places.now first }
+/// Whether each bit of the word in front is set.
+fn is_full(bytes: &[u8]) -> bool
+    requires { 8 ≤ length bytes.now }
+    ensures { IsTrue result → IsSetBelow bytes.now 64 }
 {
-    for (k, byte) in sector.iter_mut().enumerate() {
-        *byte = byte_of(places, first + 8 * k);
+    BigEndian::read_u64(bytes) == u64::MAX
+}
+
+/// The same as `skip_words`, byte by byte.
+fn skip_bytes(bits: &[u8], from: usize) -> usize
+    requires len { length bits.now ≡ 8192 }
+    requires below { IsSetBelow bits.now from }
+    requires within { from ≤ 65536 }
+    ensures within { result ≤ 65536 }
+    ensures below { IsSetBelow bits.now result }
+{
+    let mut byte = from / 8;
+    while byte < BYTES && bits[byte] == 0xff {
+        byte += 1;
     }
+    from.max(8 * byte)
+}
+
+/// The first clear bit below the one of place `count`, where none below `from` is clear.
+pub(crate) fn first_clear(bits: &[u8], from: usize, count: usize) -> Option<usize>
+    requires len { length bits.now ≡ 8192 }
+    requires within { count ≤ 65536 }
+    requires begins { from ≤ 65536 }
+    requires below { IsSetBelow bits.now from }
+    ensures found { IfSome result (λ place. (place < count) × (bit_of bits.now place ≡ 0)) }
+    ensures first { IfSome result (IsSetBelow bits.now) }
+    ensures none { IfNone result (IsSetBelow bits.now count) }
+{
+    let from = skip_bytes(bits, skip_words(bits, from));
+    for place in from..count {
+        if !is_set(bits, place) {
+            return Some(place);
+        }
+    }
+    None
 }

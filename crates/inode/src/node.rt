@@ -1,7 +1,11 @@
 //! What a node's sector says of it.
 
+ghost use Rattle.std.specs.Prelude.{◌≡◌, ◌≤◌, IfOk, OnOk, vec_capacity};
+ghost use Rattle.inode.specs.Ranges.{AreInRange};
+
 use model::acl::Acl;
 use model::node::NodeKind;
+use std::alloc::{AllocError, Global};
 
 /// The forms of node sectors.
 #[derive(Clone, Copy, Debug, PartialEq, Eq)]
@@ -29,4 +33,40 @@ pub struct Inode {
     /// The sectors that keep those runs, 500 each, the last one perhaps fewer.
     pub run_sectors: Vec<u32>,
     pub acl: Acl,
+    // What a proof knows so of the numbers without a read.
+    ghost in_range: { AreInRange number owner group change time_modify size },
+}
+
+impl Inode {
+    ghost use Rattle.inode.specs.Fields.{fields_of};
+
+    /// The most run sectors of a node.
+    pub const MOST_RUN_SECTORS: usize = 9;
+
+    /// The same node once more, in memory of its own.
+    pub fn try_clone(&self, alloc: Global) -> Result<Inode, AllocError>
+        ensures { IfOk result (λ inode. fields_of inode ≡ fields_of self.now) }
+    {
+        Ok(Inode {
+            kind: self.kind,
+            number: self.number,
+            owner: self.owner,
+            group: self.group,
+            change: self.change,
+            time_modify: self.time_modify,
+            size: self.size,
+            runs: self.runs,
+            run_sectors: Vec::from_slice(alloc, &self.run_sectors)?,
+            acl: Acl::from_slice(alloc, self.acl.as_slice())?,
+        })
+    }
+
+    /// Takes memory for as many run sectors as a node may have, in advance.
+    pub fn reserve(&mut self) -> Result<(), AllocError>
+        ensures same { fields_of self.new ≡ fields_of self.old }
+        ensures room { OnOk result (9 ≤ vec_capacity self.new.run_sectors) }
+    {
+        let additional = Inode::MOST_RUN_SECTORS.saturating_sub(self.run_sectors.len());
+        self.run_sectors.reserve(additional)
+    }
 }

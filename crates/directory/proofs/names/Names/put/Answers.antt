@@ -2,8 +2,8 @@ use Rattle.std.proofs.Common.{◌<◌, ◌≤◌, length, map, refl, ap, subst, 
 use Rattle.directory.specs.Records.{record_of, record_from, place_of, with_record, AreApart, IsDirectory}
 use Rattle.directory.proofs.Changes.{put_set, put_set_kept, put_push, put_push_kept}
 use Rattle.model.specs.Tree.{entry_of}
-use Rattle.directory.specs.Listing.{by_stamp}
-use Rattle.directory.proofs.RecordMaps.{put_found, put_others, put_by_stamp}
+use Rattle.directory.specs.Listing.{PutsByStamp}
+use Rattle.directory.proofs.RecordMaps.{put_found, put_others, puts_by_stamp}
 use Rattle.directory.proofs.names.Names.put.Goals as goal
 
 pub invariant_of-self : goal.invariant_of-self
@@ -52,8 +52,8 @@ returns-then-place-len-clause-others c = λ other differs.
 
 pub returns-then-place-len-clause-by_stamp : goal.returns-then-place-len-clause-by_stamp
 returns-then-place-len-clause-by_stamp c = λ stamped high fresh.
-    ap by_stamp (returns-then-place-len-clause-ok c)
-    ∙ put_by_stamp c.args.self.now (record_from c.args.stamp c.args.name.now c.args.number) (subst AreApart c.self.view_is c.self.invariant.apart) stamped high fresh
+    subst (λ names. PutsByStamp c.args.self.now names (record_from c.args.stamp c.args.name.now c.args.number)) (sym (returns-then-place-len-clause-ok c))
+    (puts_by_stamp c.args.self.now (record_from c.args.stamp c.args.name.now c.args.number) (subst AreApart c.self.view_is c.self.invariant.apart) stamped high fresh)
 
 pub returns-in_ok-push-clause-found : goal.returns-in_ok-push-clause-found
 returns-in_ok-push-clause-found c =
@@ -67,5 +67,5 @@ returns-in_ok-push-clause-others c = λ other differs.
 
 pub returns-in_ok-push-clause-by_stamp : goal.returns-in_ok-push-clause-by_stamp
 returns-in_ok-push-clause-by_stamp c = λ stamped high fresh.
-    ap by_stamp (returns-in_ok-push-clause-ok c)
-    ∙ put_by_stamp c.args.self.now (record_from c.args.stamp c.args.name.now c.args.number) (subst AreApart c.self.view_is c.self.invariant.apart) stamped high fresh
+    subst (λ names. PutsByStamp c.args.self.now names (record_from c.args.stamp c.args.name.now c.args.number)) (sym (returns-in_ok-push-clause-ok c))
+    (puts_by_stamp c.args.self.now (record_from c.args.stamp c.args.name.now c.args.number) (subst AreApart c.self.view_is c.self.invariant.apart) stamped high fresh)

@@ -1,24 +1,33 @@
 use Rattle.std.proofs.Common.{◌≡◌, ◌<◌, length, map, ap, subst, sym, ◌∙◌, arith}
 use Rattle.std.proofs.lemmas.List.{length-map}
 use Rattle.model.specs.Tree.{entry_of}
-use Rattle.directory.specs.Listing.{by_stamp, without_entry}
+use Rattle.directory.specs.Listing.{by_stamp, without_entry, RemovesByStamp}
 use Rattle.directory.specs.Records.{record_of, place_of, without_place, AreApart, IsDirectory}
+use Rattle.directory.proofs.Changes.{found_entry}
 use Rattle.directory.proofs.Kept.{IsDirectory-remove, records_removed}
-use Rattle.directory.proofs.RecordMaps.{absent_name, removed_gone, removed_others, removed_by_stamp}
+use Rattle.directory.proofs.RecordMaps.{absent_name, removed_gone, removed_others, removes_by_stamp}
 use Rattle.directory.proofs.names.Names.remove.Goals as goal
 
 pub invariant_of-self : goal.invariant_of-self
 invariant_of-self c =
     let entries = c.self.inside.entries.items in
     let within : c.place_in-place.result < length entries = omega (arith, c.len.ensures, c.self.inside.entries.ok.0) in
-    subst (λ es. IsDirectory (map record_of es)) (sym c.swap_remove.ensures.items)
-    (subst IsDirectory (sym (records_removed entries c.place_in-place.result c.swap_remove.result within)) (IsDirectory-remove (map record_of entries) c.place_in-place.result c.self.invariant (omega (arith, length-map entries record_of))))
+    subst (λ es. IsDirectory (map record_of es)) (sym c.swap_remove-entry.ensures.items)
+    (subst IsDirectory (sym (records_removed entries c.place_in-place.result c.swap_remove-entry.result within)) (IsDirectory-remove (map record_of entries) c.place_in-place.result c.self.invariant (omega (arith, length-map entries record_of))))
+
+pub returns-clause-record : goal.returns-clause-record
+returns-clause-record c =
+    let entries = c.self.inside.entries.items in
+    let name = c.args.name.now in
+    let is : c.place_in-place.result ≡ place_of name (map record_of entries) = c.place_in-place.ensures.place ∙ ap (λ es. place_of name (map record_of es)) c.deref.ensures.value in
+    let within : c.place_in-place.result < length entries = omega (arith, c.len.ensures, c.self.inside.entries.ok.0) in
+    ap (entry_of name) (sym c.self.view_is) ∙ found_entry entries name c.place_in-place.result c.swap_remove-entry.result is within c.swap_remove-entry.ensures.value
 
 pub returns-clause-removed : goal.returns-clause-removed
 returns-clause-removed c =
     let entries = c.self.inside.entries.items in
     let within : c.place_in-place.result < length entries = omega (arith, c.len.ensures, c.self.inside.entries.ok.0) in
-    ap (map record_of) c.swap_remove.ensures.items ∙ records_removed entries c.place_in-place.result c.swap_remove.result within ∙ ap (λ names. without_place names c.place_in-place.result) c.self.view_is
+    ap (map record_of) c.swap_remove-entry.ensures.items ∙ records_removed entries c.place_in-place.result c.swap_remove-entry.result within ∙ ap (λ names. without_place names c.place_in-place.result) c.self.view_is
 
 pub returns-then-place-len-clause-gone : goal.returns-then-place-len-clause-gone
 returns-then-place-len-clause-gone c =
@@ -31,7 +40,7 @@ returns-then-place-len-clause-gone c =
 
 pub returns-then-place-len-clause-by_stamp : goal.returns-then-place-len-clause-by_stamp
 returns-then-place-len-clause-by_stamp c = λ stamped.
-    ap (without_entry (by_stamp c.args.self.now)) (sym (returns-then-place-len-clause-gone c))
+    record { stamped = stamped; entries = ap (without_entry (by_stamp c.args.self.now)) (sym (returns-then-place-len-clause-gone c)) }
 
 pub returns-clause-gone : goal.returns-clause-gone
 returns-clause-gone c =
@@ -64,4 +73,4 @@ returns-clause-by_stamp c = λ stamped.
     let many : length names ≡ length c.self.inside.entries.items = ap length (sym c.self.view_is) ∙ length-map c.self.inside.entries.items record_of in
     let within : place_of name names < length names = omega (arith, is, many, c.len.ensures, c.self.inside.entries.ok.0) in
     let apart : AreApart names = subst AreApart c.self.view_is c.self.invariant.apart in
-    ap by_stamp (returns-clause-removed c ∙ ap (without_place names) is) ∙ removed_by_stamp name names within stamped
+    subst (λ new. RemovesByStamp names new name) (sym (returns-clause-removed c ∙ ap (without_place names) is)) (removes_by_stamp name names within stamped)
