@@ -11,6 +11,7 @@ pub mod FileStepLaws
 pub mod FreshTree
 pub mod Headline
 pub mod KeptLaws
+pub mod KeyedChanges
 pub mod KeyedLaws
 pub mod LimitLaws
 pub mod ModeLaws
@@ -18,8 +19,10 @@ pub mod NodeAttributeLaws
 pub mod NodeChangeLaws
 pub mod NumberLaws
 pub mod OpensLaws
+pub mod OpensGoOn
 pub mod OpensSteps
 pub mod PageLaws
+pub mod ReadOperations
 pub mod RecordLaws
 pub mod RecordOnly
 pub mod RpcExact
@@ -29,8 +32,11 @@ pub mod RunLaws
 pub mod ServedOnceLaws
 pub mod SessionRows
 pub mod SlotLaw
+pub mod SlotRuns
+pub mod SlotsHeld
 pub mod SoundLaws
 pub mod StampLaws
+pub mod StateIdLaws
 pub mod StateIdRows
 pub mod StepCases
 pub mod StepProofs

@@ -309,11 +309,11 @@ is_other (Argument.Open arguments) = false
 is_other (Argument.Close arguments) = false
 is_other _ = true
 
-set_opens : (some : Bool) (state : State) (now : ℕ) (arguments : SetAttrArguments) → (set_attributes some state now arguments).state.opens ≡ state.opens
+pub set_opens : (some : Bool) (state : State) (now : ℕ) (arguments : SetAttrArguments) → (set_attributes some state now arguments).state.opens ≡ state.opens
 set_opens true state now arguments = refl
 set_opens false state now arguments = refl
 
-write_opens : (some : Bool) (limits : Limits) (state : State) (now : ℕ) (arguments : WriteArguments) → (write some limits state now arguments).state.opens ≡ state.opens
+pub write_opens : (some : Bool) (limits : Limits) (state : State) (now : ℕ) (arguments : WriteArguments) → (write some limits state now arguments).state.opens ≡ state.opens
 write_opens true limits state now arguments = refl
 write_opens false limits state now arguments = refl
 

@@ -30,7 +30,7 @@ none_holds : (a b : Bool) → (a || b) ≡ false → (a ≡ false) × (b ≡ fal
 none_holds true b is = absurd (cc)
 none_holds false b is = (refl, is)
 
-found_passes : {A : Type 0} (p : A → Bool) (xs : List A) (y : A) → find p xs ≡ Some y → p y ≡ true
+pub found_passes : {A : Type 0} (p : A → Bool) (xs : List A) (y : A) → find p xs ≡ Some y → p y ≡ true
 found_passes p [] y found = absurd (cc)
 found_passes {A = A} p (x ∷ xs) y found = by_test (found_passes p xs y) (p x) refl found
   where
@@ -204,7 +204,7 @@ finish_holds limits id place reply table holds =
 
 -- Every call, and every list of them
 
-call_holds : (limits : SessionLimits) (call : Call) (table : Table) → Holds limits table → Holds limits (after limits call table)
+pub call_holds : (limits : SessionLimits) (call : Call) (table : Table) → Holds limits table → Holds limits (after limits call table)
 unfolding destroy_session destroy_client_id reclaim_complete
 call_holds limits (Exchanges has_opens uid arguments) table holds = exchange_holds limits has_opens uid arguments table holds
 call_holds limits (Creates uid arguments) table holds = create_holds limits uid arguments table holds
@@ -218,7 +218,7 @@ calls_hold : (limits : SessionLimits) (calls : List Call) (table : Table) → Ho
 calls_hold limits [] table holds = holds
 calls_hold limits (call ∷ calls) table holds = calls_hold limits calls (after limits call table) (call_holds limits call table holds)
 
-begins : (limits : SessionLimits) (run : ℕ) → Holds limits (empty_table run)
+pub begins : (limits : SessionLimits) (run : ℕ) → Holds limits (empty_table run)
 begins limits run = (
   record { confirmed = λ owner. omega arith; unconfirmed = λ owner. omega arith; differ = λ number. omega arith; given = refl; small = omega arith; few = omega arith },
   record { serials = λ number. omega arith; given = refl; small = omega arith; few = omega arith; slots = refl },
@@ -248,7 +248,7 @@ none_found {A = A} p (x ∷ xs) none = by_test (none_found p xs) (p x) none
     by_test later true none = absurd (cc)
     by_test later false none = later none
 
-ids_differ : (limits : SessionLimits) (serial : ℕ) (sessions : List Session) → Sessions limits serial sessions → (id : List ℕ) → size (is_session id) sessions ≤ 1
+pub ids_differ : (limits : SessionLimits) (serial : ℕ) (sessions : List Session) → Sessions limits serial sessions → (id : List ℕ) → size (is_session id) sessions ≤ 1
 ids_differ limits serial sessions holds id = by_found (find (is_session id) sessions) refl
   where
     small : (session : Session) → given_serial serial session ≡ true → session.serial < 2 ^ 64

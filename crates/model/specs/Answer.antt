@@ -2,6 +2,7 @@
 use Rattle.std.specs.Prelude.{ℕ, Bool, List}
 use Rattle.model.specs.declared.status.Status.{Status}
 use Rattle.model.specs.Operation.{StateId, Attributes, ChangeInfo, Channel}
+use Rattle.model.specs.OperationNumber.{OP_ACCESS, OP_CLOSE, OP_COMMIT, OP_CREATE, OP_GETATTR, OP_GETFH, OP_LOOKUP, OP_LOOKUPP, OP_OPEN, OP_PUTFH, OP_PUTROOTFH, OP_READ, OP_READDIR, OP_REMOVE, OP_RENAME, OP_RESTOREFH, OP_SAVEFH, OP_SETATTR, OP_WRITE, OP_EXCHANGE_ID, OP_CREATE_SESSION, OP_DESTROY_SESSION, OP_SEQUENCE, OP_DESTROY_CLIENTID, OP_RECLAIM_COMPLETE}
 
 pub record AccessAnswer : Type 0 where
   pub supported : ℕ
@@ -97,31 +98,31 @@ pub data Answer : Type 0 where
 
 -- nfs_opnum4
 abbrev pub operation_of : Answer → ℕ
-operation_of (Access _) = 3
-operation_of (Close _) = 4
-operation_of (Commit _) = 5
-operation_of (Create _) = 6
-operation_of (GetAttr _) = 9
-operation_of (GetFh _) = 10
-operation_of Lookup = 15
-operation_of LookupParent = 16
-operation_of (Open _) = 18
-operation_of PutFh = 22
-operation_of PutRootFh = 24
-operation_of (Read _) = 25
-operation_of (ReadDir _) = 26
-operation_of (Remove _) = 28
-operation_of (Rename _) = 29
-operation_of RestoreFh = 31
-operation_of SaveFh = 32
-operation_of (SetAttr _) = 34
-operation_of (Write _) = 38
-operation_of (ExchangeId _) = 42
-operation_of (CreateSession _) = 43
-operation_of DestroySession = 44
-operation_of (Sequence _) = 53
-operation_of DestroyClientId = 57
-operation_of ReclaimComplete = 58
+operation_of (Access _) = OP_ACCESS
+operation_of (Close _) = OP_CLOSE
+operation_of (Commit _) = OP_COMMIT
+operation_of (Create _) = OP_CREATE
+operation_of (GetAttr _) = OP_GETATTR
+operation_of (GetFh _) = OP_GETFH
+operation_of Lookup = OP_LOOKUP
+operation_of LookupParent = OP_LOOKUPP
+operation_of (Open _) = OP_OPEN
+operation_of PutFh = OP_PUTFH
+operation_of PutRootFh = OP_PUTROOTFH
+operation_of (Read _) = OP_READ
+operation_of (ReadDir _) = OP_READDIR
+operation_of (Remove _) = OP_REMOVE
+operation_of (Rename _) = OP_RENAME
+operation_of RestoreFh = OP_RESTOREFH
+operation_of SaveFh = OP_SAVEFH
+operation_of (SetAttr _) = OP_SETATTR
+operation_of (Write _) = OP_WRITE
+operation_of (ExchangeId _) = OP_EXCHANGE_ID
+operation_of (CreateSession _) = OP_CREATE_SESSION
+operation_of DestroySession = OP_DESTROY_SESSION
+operation_of (Sequence _) = OP_SEQUENCE
+operation_of DestroyClientId = OP_DESTROY_CLIENTID
+operation_of ReclaimComplete = OP_RECLAIM_COMPLETE
 
 -- One result of a COMPOUND (nfs_resop4). A refused one has its number and status alone, but for SETATTR, where an empty
 -- bitmap follows (section 18.30); the number is 10044 where the operation is none (section 15.2).

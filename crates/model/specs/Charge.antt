@@ -1,5 +1,7 @@
 -- What a node takes of the volume's data region, and when a tree fits: this server's profile; NFS4ERR_NOSPC of RFC 8881, section 15.1.4.
 use Rattle.std.specs.Prelude.{ℕ, Bool, true, [], ◌∷◌, ◌+◌, ◌/◌, ◌&&◌, nat_le, length, ◌-◌}
+use Rattle.model.specs.declared.node.NodeKind.{NodeKind}
+use Rattle.model.specs.declared.node.NodeKind.TheVariants as kind
 use Rattle.model.specs.Keyed.{total}
 use Rattle.model.specs.Limits.{Limits}
 use Rattle.model.specs.Tree.{Tree, Node, Content, File, Directory, names_of}
@@ -8,10 +10,14 @@ use Rattle.model.specs.Tree.{Tree, Node, Content, File, Directory, names_of}
 abbrev pub divided_up : (n by : ℕ) → ℕ
 divided_up n by = (n + (by - 1)) / by
 
--- sectors of bytes (4,096 each), or of names (15 each); holes count
+-- sectors of so many bytes (4,096 each), or names (15 each); holes count
+abbrev pub blocks_of : NodeKind → (size : ℕ) → ℕ
+blocks_of kind.File size = divided_up size 4096
+blocks_of kind.Directory size = divided_up size 15
+
 abbrev pub blocks : Content → ℕ
-blocks (File bytes) = divided_up (length bytes) 4096
-blocks (Directory names) = divided_up (length names) 15
+blocks (File bytes) = blocks_of kind.File (length bytes)
+blocks (Directory names) = blocks_of kind.Directory (length names)
 
 -- those, and a sector for each 500 of them that tells where they are
 abbrev pub charge_of_blocks : ℕ → ℕ

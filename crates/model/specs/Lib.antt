@@ -20,6 +20,7 @@ pub mod Fresh
 pub mod Inherit
 pub mod KeptReplies
 pub mod Keyed
+pub mod KeyedChanges
 pub mod Limits
 pub mod Mode
 pub mod Name
@@ -29,6 +30,7 @@ pub mod Open
 pub mod Opens
 pub mod OpensLaws
 pub mod Operation
+pub mod OperationNumber
 pub mod PageLaws
 pub mod ReadDir
 pub mod Record
@@ -45,9 +47,11 @@ pub mod Session
 pub mod SessionRuns
 pub mod SessionTables
 pub mod SetAttr
+pub mod SlotsHeld
 pub mod SoundRuns
 pub mod Stamp
 pub mod State
+pub mod StateIdLaws
 pub mod StateIds
 pub mod Status
 pub mod Step

@@ -10,6 +10,7 @@ use Rattle.model.specs.declared.status.Status.{Status}
 use Rattle.model.specs.declared.status.Status.TheVariants as status
 use Rattle.model.specs.Status.{code_of}
 use Rattle.model.specs.Operation.{StateId, Attributes, ChangeInfo, Channel}
+use Rattle.model.specs.OperationNumber.{OP_ACCESS, OP_CLOSE, OP_COMMIT, OP_CREATE, OP_GETATTR, OP_GETFH, OP_LOOKUP, OP_LOOKUPP, OP_OPEN, OP_PUTFH, OP_PUTROOTFH, OP_READ, OP_READDIR, OP_REMOVE, OP_RENAME, OP_RESTOREFH, OP_SAVEFH, OP_SETATTR, OP_WRITE, OP_EXCHANGE_ID, OP_CREATE_SESSION, OP_DESTROY_SESSION, OP_SEQUENCE, OP_DESTROY_CLIENTID, OP_RECLAIM_COMPLETE}
 use Rattle.model.specs.Answer.{AccessAnswer, CreateAnswer, OpenAnswer, ReadAnswer, Entry, ReadDirAnswer, RenameAnswer, WriteAnswer, ExchangeIdAnswer, CreateSessionAnswer, SequenceAnswer, Answer, Outcome, Done, Refused}
 use Rattle.model.specs.WireTypes.{any_opaque, file_handle, verifier, session_id, state_id, attributes_of, change_info, channel}
 
@@ -88,59 +89,59 @@ sequence_answer = of
 
 -- what stands behind the status OK, by the operation's number
 abbrev pub answer_told : Answer → Told
-answer_told (Answer.Access a) = tells 3 access_answer a
-answer_told (Answer.Close state) = tells 4 state_id state
-answer_told (Answer.Commit bytes) = tells 5 verifier bytes
-answer_told (Answer.Create a) = tells 6 create_answer a
-answer_told (Answer.GetAttr given) = tells 9 answered_attributes given
-answer_told (Answer.GetFh handle) = tells 10 file_handle handle
-answer_told Answer.Lookup = tells 15 void tt
-answer_told Answer.LookupParent = tells 16 void tt
-answer_told (Answer.Open a) = tells 18 open_answer a
-answer_told Answer.PutFh = tells 22 void tt
-answer_told Answer.PutRootFh = tells 24 void tt
-answer_told (Answer.Read a) = tells 25 read_answer a
-answer_told (Answer.ReadDir a) = tells 26 read_dir_answer a
-answer_told (Answer.Remove change) = tells 28 change_info change
-answer_told (Answer.Rename a) = tells 29 rename_answer a
-answer_told Answer.RestoreFh = tells 31 void tt
-answer_told Answer.SaveFh = tells 32 void tt
-answer_told (Answer.SetAttr was_set) = tells 34 trimmed_bitmap was_set
-answer_told (Answer.Write a) = tells 38 write_answer a
-answer_told (Answer.ExchangeId a) = tells 42 exchange_id_answer a
-answer_told (Answer.CreateSession a) = tells 43 create_session_answer a
-answer_told Answer.DestroySession = tells 44 void tt
-answer_told (Answer.Sequence a) = tells 53 sequence_answer a
-answer_told Answer.DestroyClientId = tells 57 void tt
-answer_told Answer.ReclaimComplete = tells 58 void tt
+answer_told (Answer.Access a) = tells OP_ACCESS access_answer a
+answer_told (Answer.Close state) = tells OP_CLOSE state_id state
+answer_told (Answer.Commit bytes) = tells OP_COMMIT verifier bytes
+answer_told (Answer.Create a) = tells OP_CREATE create_answer a
+answer_told (Answer.GetAttr given) = tells OP_GETATTR answered_attributes given
+answer_told (Answer.GetFh handle) = tells OP_GETFH file_handle handle
+answer_told Answer.Lookup = tells OP_LOOKUP void tt
+answer_told Answer.LookupParent = tells OP_LOOKUPP void tt
+answer_told (Answer.Open a) = tells OP_OPEN open_answer a
+answer_told Answer.PutFh = tells OP_PUTFH void tt
+answer_told Answer.PutRootFh = tells OP_PUTROOTFH void tt
+answer_told (Answer.Read a) = tells OP_READ read_answer a
+answer_told (Answer.ReadDir a) = tells OP_READDIR read_dir_answer a
+answer_told (Answer.Remove change) = tells OP_REMOVE change_info change
+answer_told (Answer.Rename a) = tells OP_RENAME rename_answer a
+answer_told Answer.RestoreFh = tells OP_RESTOREFH void tt
+answer_told Answer.SaveFh = tells OP_SAVEFH void tt
+answer_told (Answer.SetAttr was_set) = tells OP_SETATTR trimmed_bitmap was_set
+answer_told (Answer.Write a) = tells OP_WRITE write_answer a
+answer_told (Answer.ExchangeId a) = tells OP_EXCHANGE_ID exchange_id_answer a
+answer_told (Answer.CreateSession a) = tells OP_CREATE_SESSION create_session_answer a
+answer_told Answer.DestroySession = tells OP_DESTROY_SESSION void tt
+answer_told (Answer.Sequence a) = tells OP_SEQUENCE sequence_answer a
+answer_told Answer.DestroyClientId = tells OP_DESTROY_CLIENTID void tt
+answer_told Answer.ReclaimComplete = tells OP_RECLAIM_COMPLETE void tt
 
 abbrev pub answer_choice : Choice Answer
 answer_choice =
-    on 3 access_answer Answer.Access
-    (on 4 state_id Answer.Close
-    (on 5 verifier Answer.Commit
-    (on 6 create_answer Answer.Create
-    (on 9 answered_attributes Answer.GetAttr
-    (on 10 file_handle Answer.GetFh
-    (on 15 void (λ _. Answer.Lookup)
-    (on 16 void (λ _. Answer.LookupParent)
-    (on 18 open_answer Answer.Open
-    (on 22 void (λ _. Answer.PutFh)
-    (on 24 void (λ _. Answer.PutRootFh)
-    (on 25 read_answer Answer.Read
-    (on 26 read_dir_answer Answer.ReadDir
-    (on 28 change_info Answer.Remove
-    (on 29 rename_answer Answer.Rename
-    (on 31 void (λ _. Answer.RestoreFh)
-    (on 32 void (λ _. Answer.SaveFh)
-    (on 34 trimmed_bitmap Answer.SetAttr
-    (on 38 write_answer Answer.Write
-    (on 42 exchange_id_answer Answer.ExchangeId
-    (on 43 create_session_answer Answer.CreateSession
-    (on 44 void (λ _. Answer.DestroySession)
-    (on 53 sequence_answer Answer.Sequence
-    (on 57 void (λ _. Answer.DestroyClientId)
-    (on 58 void (λ _. Answer.ReclaimComplete) no_other))))))))))))))))))))))))
+    on OP_ACCESS access_answer Answer.Access
+    (on OP_CLOSE state_id Answer.Close
+    (on OP_COMMIT verifier Answer.Commit
+    (on OP_CREATE create_answer Answer.Create
+    (on OP_GETATTR answered_attributes Answer.GetAttr
+    (on OP_GETFH file_handle Answer.GetFh
+    (on OP_LOOKUP void (λ _. Answer.Lookup)
+    (on OP_LOOKUPP void (λ _. Answer.LookupParent)
+    (on OP_OPEN open_answer Answer.Open
+    (on OP_PUTFH void (λ _. Answer.PutFh)
+    (on OP_PUTROOTFH void (λ _. Answer.PutRootFh)
+    (on OP_READ read_answer Answer.Read
+    (on OP_READDIR read_dir_answer Answer.ReadDir
+    (on OP_REMOVE change_info Answer.Remove
+    (on OP_RENAME rename_answer Answer.Rename
+    (on OP_RESTOREFH void (λ _. Answer.RestoreFh)
+    (on OP_SAVEFH void (λ _. Answer.SaveFh)
+    (on OP_SETATTR trimmed_bitmap Answer.SetAttr
+    (on OP_WRITE write_answer Answer.Write
+    (on OP_EXCHANGE_ID exchange_id_answer Answer.ExchangeId
+    (on OP_CREATE_SESSION create_session_answer Answer.CreateSession
+    (on OP_DESTROY_SESSION void (λ _. Answer.DestroySession)
+    (on OP_SEQUENCE sequence_answer Answer.Sequence
+    (on OP_DESTROY_CLIENTID void (λ _. Answer.DestroyClientId)
+    (on OP_RECLAIM_COMPLETE void (λ _. Answer.ReclaimComplete) no_other))))))))))))))))))))))))
 
 -- Results: the operation's number, a status (section 15.1), and what stands behind it
 
@@ -161,7 +162,7 @@ refusal_of n = find (λ reason. code_of reason == n) refusals
 
 -- behind a refused SETATTR an empty bitmap stands (section 18.30)
 abbrev pub behind_refusal : (operation : ℕ) → List ℕ
-behind_refusal operation = if operation == 34 then number w32 0 else []
+behind_refusal operation = if operation == OP_SETATTR then number w32 0 else []
 
 abbrev pub outcome_told : Outcome → Told
 outcome_told (Done answer) =
@@ -172,7 +173,7 @@ outcome_told (Refused operation reason) =
 abbrev pub refused_by : (operation : ℕ) → Option Status → List ℕ → Result (Outcome × List ℕ) Refusal
 refused_by operation None bytes = Err Value
 refused_by operation (Some reason) bytes =
-    if operation == 34 then made (λ _. Refused operation reason) (always 0 unsigned_int) bytes else Ok (Refused operation reason, bytes)
+    if operation == OP_SETATTR then made (λ _. Refused operation reason) (always 0 unsigned_int) bytes else Ok (Refused operation reason, bytes)
 
 abbrev pub behind_status : (operation : ℕ) → (code_at : ℕ × List ℕ) → Result (Outcome × List ℕ) Refusal
 behind_status operation code_at =

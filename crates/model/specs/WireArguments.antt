@@ -5,6 +5,7 @@ use Rattle.xdr.specs.Grammar.{Grammar, ◌&◌, of, void, unsigned_int, unsigned
 use Rattle.xdr.specs.Forms.{below, always, boolean, array, optional, bitmap}
 use Rattle.xdr.specs.Union.{Told, tells, Choice, on, no_other, any_other, other_below, union}
 use Rattle.model.specs.Operation.{StateId, Attributes, Channel, Implementation, CallbackSecurity, CloseArguments, CommitArguments, CreateArguments, NewDirectory, OtherType, NoCreate, Unchecked, Guarded, Claim, ByName, ByHandle, OtherClaim, Opening, Opens, Exclusive, OpenArguments, ReadArguments, ReadDirArguments, RenameArguments, SetAttrArguments, WriteArguments, ExchangeIdArguments, CreateSessionArguments, SequenceArguments, Argument}
+use Rattle.model.specs.OperationNumber.{OP_ACCESS, OP_CLOSE, OP_COMMIT, OP_CREATE, OP_GETATTR, OP_GETFH, OP_LOOKUP, OP_LOOKUPP, OP_OPEN, OP_PUTFH, OP_PUTROOTFH, OP_READ, OP_READDIR, OP_REMOVE, OP_RENAME, OP_RESTOREFH, OP_SAVEFH, OP_SETATTR, OP_WRITE, OP_EXCHANGE_ID, OP_CREATE_SESSION, OP_DESTROY_SESSION, OP_SEQUENCE, OP_DESTROY_CLIENTID, OP_RECLAIM_COMPLETE}
 use Rattle.model.specs.WireTypes.{any_opaque, file_handle, verifier, session_id, owner_id, state_id, attributes, channel, implementation, callback_security}
 
 abbrev pub close_arguments : Grammar CloseArguments
@@ -124,59 +125,59 @@ sequence_arguments = of
 
 -- nfs_argop4: the operation's number chooses the arguments
 abbrev pub argument_told : Argument → Told
-argument_told (Argument.Access rights) = tells 3 unsigned_int rights
-argument_told (Argument.Close a) = tells 4 close_arguments a
-argument_told (Argument.Commit a) = tells 5 commit_arguments a
-argument_told (Argument.Create a) = tells 6 create_arguments a
-argument_told (Argument.GetAttr asked) = tells 9 bitmap asked
-argument_told Argument.GetFh = tells 10 void tt
-argument_told (Argument.Lookup name) = tells 15 any_opaque name
-argument_told Argument.LookupParent = tells 16 void tt
-argument_told (Argument.Open a) = tells 18 open_arguments a
-argument_told (Argument.PutFh handle) = tells 22 file_handle handle
-argument_told Argument.PutRootFh = tells 24 void tt
-argument_told (Argument.Read a) = tells 25 read_arguments a
-argument_told (Argument.ReadDir a) = tells 26 read_dir_arguments a
-argument_told (Argument.Remove name) = tells 28 any_opaque name
-argument_told (Argument.Rename a) = tells 29 rename_arguments a
-argument_told Argument.RestoreFh = tells 31 void tt
-argument_told Argument.SaveFh = tells 32 void tt
-argument_told (Argument.SetAttr a) = tells 34 set_attr_arguments a
-argument_told (Argument.Write a) = tells 38 write_arguments a
-argument_told (Argument.ExchangeId a) = tells 42 exchange_id_arguments a
-argument_told (Argument.CreateSession a) = tells 43 create_session_arguments a
-argument_told (Argument.DestroySession session) = tells 44 session_id session
-argument_told (Argument.Sequence a) = tells 53 sequence_arguments a
-argument_told (Argument.DestroyClientId client) = tells 57 unsigned_hyper client
-argument_told (Argument.ReclaimComplete one_fs) = tells 58 boolean one_fs
+argument_told (Argument.Access rights) = tells OP_ACCESS unsigned_int rights
+argument_told (Argument.Close a) = tells OP_CLOSE close_arguments a
+argument_told (Argument.Commit a) = tells OP_COMMIT commit_arguments a
+argument_told (Argument.Create a) = tells OP_CREATE create_arguments a
+argument_told (Argument.GetAttr asked) = tells OP_GETATTR bitmap asked
+argument_told Argument.GetFh = tells OP_GETFH void tt
+argument_told (Argument.Lookup name) = tells OP_LOOKUP any_opaque name
+argument_told Argument.LookupParent = tells OP_LOOKUPP void tt
+argument_told (Argument.Open a) = tells OP_OPEN open_arguments a
+argument_told (Argument.PutFh handle) = tells OP_PUTFH file_handle handle
+argument_told Argument.PutRootFh = tells OP_PUTROOTFH void tt
+argument_told (Argument.Read a) = tells OP_READ read_arguments a
+argument_told (Argument.ReadDir a) = tells OP_READDIR read_dir_arguments a
+argument_told (Argument.Remove name) = tells OP_REMOVE any_opaque name
+argument_told (Argument.Rename a) = tells OP_RENAME rename_arguments a
+argument_told Argument.RestoreFh = tells OP_RESTOREFH void tt
+argument_told Argument.SaveFh = tells OP_SAVEFH void tt
+argument_told (Argument.SetAttr a) = tells OP_SETATTR set_attr_arguments a
+argument_told (Argument.Write a) = tells OP_WRITE write_arguments a
+argument_told (Argument.ExchangeId a) = tells OP_EXCHANGE_ID exchange_id_arguments a
+argument_told (Argument.CreateSession a) = tells OP_CREATE_SESSION create_session_arguments a
+argument_told (Argument.DestroySession session) = tells OP_DESTROY_SESSION session_id session
+argument_told (Argument.Sequence a) = tells OP_SEQUENCE sequence_arguments a
+argument_told (Argument.DestroyClientId client) = tells OP_DESTROY_CLIENTID unsigned_hyper client
+argument_told (Argument.ReclaimComplete one_fs) = tells OP_RECLAIM_COMPLETE boolean one_fs
 
 abbrev pub argument_choice : Choice Argument
 argument_choice =
-    on 3 unsigned_int Argument.Access
-    (on 4 close_arguments Argument.Close
-    (on 5 commit_arguments Argument.Commit
-    (on 6 create_arguments Argument.Create
-    (on 9 bitmap Argument.GetAttr
-    (on 10 void (λ _. Argument.GetFh)
-    (on 15 any_opaque Argument.Lookup
-    (on 16 void (λ _. Argument.LookupParent)
-    (on 18 open_arguments Argument.Open
-    (on 22 file_handle Argument.PutFh
-    (on 24 void (λ _. Argument.PutRootFh)
-    (on 25 read_arguments Argument.Read
-    (on 26 read_dir_arguments Argument.ReadDir
-    (on 28 any_opaque Argument.Remove
-    (on 29 rename_arguments Argument.Rename
-    (on 31 void (λ _. Argument.RestoreFh)
-    (on 32 void (λ _. Argument.SaveFh)
-    (on 34 set_attr_arguments Argument.SetAttr
-    (on 38 write_arguments Argument.Write
-    (on 42 exchange_id_arguments Argument.ExchangeId
-    (on 43 create_session_arguments Argument.CreateSession
-    (on 44 session_id Argument.DestroySession
-    (on 53 sequence_arguments Argument.Sequence
-    (on 57 unsigned_hyper Argument.DestroyClientId
-    (on 58 boolean Argument.ReclaimComplete no_other))))))))))))))))))))))))
+    on OP_ACCESS unsigned_int Argument.Access
+    (on OP_CLOSE close_arguments Argument.Close
+    (on OP_COMMIT commit_arguments Argument.Commit
+    (on OP_CREATE create_arguments Argument.Create
+    (on OP_GETATTR bitmap Argument.GetAttr
+    (on OP_GETFH void (λ _. Argument.GetFh)
+    (on OP_LOOKUP any_opaque Argument.Lookup
+    (on OP_LOOKUPP void (λ _. Argument.LookupParent)
+    (on OP_OPEN open_arguments Argument.Open
+    (on OP_PUTFH file_handle Argument.PutFh
+    (on OP_PUTROOTFH void (λ _. Argument.PutRootFh)
+    (on OP_READ read_arguments Argument.Read
+    (on OP_READDIR read_dir_arguments Argument.ReadDir
+    (on OP_REMOVE any_opaque Argument.Remove
+    (on OP_RENAME rename_arguments Argument.Rename
+    (on OP_RESTOREFH void (λ _. Argument.RestoreFh)
+    (on OP_SAVEFH void (λ _. Argument.SaveFh)
+    (on OP_SETATTR set_attr_arguments Argument.SetAttr
+    (on OP_WRITE write_arguments Argument.Write
+    (on OP_EXCHANGE_ID exchange_id_arguments Argument.ExchangeId
+    (on OP_CREATE_SESSION create_session_arguments Argument.CreateSession
+    (on OP_DESTROY_SESSION session_id Argument.DestroySession
+    (on OP_SEQUENCE sequence_arguments Argument.Sequence
+    (on OP_DESTROY_CLIENTID unsigned_hyper Argument.DestroyClientId
+    (on OP_RECLAIM_COMPLETE boolean Argument.ReclaimComplete no_other))))))))))))))))))))))))
 
 -- what stands behind an operation's number
 unfoldable pub arguments_at : (operation : ℕ) → List ℕ → Result (Argument × List ℕ) Refusal

@@ -13,6 +13,7 @@ use Rattle.model.specs.Keyed.{Keyed, at, is_key, with, without}
 use Rattle.model.specs.declared.limits.Limits.{Limits}
 use Rattle.model.specs.Opens.{Opens, no_opens}
 use Rattle.model.specs.Operation.{Argument, SequenceArguments, operation_of}
+use Rattle.model.specs.OperationNumber.{OP_ACCESS, OP_EXCHANGE_ID, OP_CREATE_SESSION, OP_DESTROY_SESSION, OP_SEQUENCE, OP_DESTROY_CLIENTID, OP_RECLAIM_COMPLETE}
 use Rattle.model.specs.Record.{RecordLimits, Front, Partial, Refused, Whole, front, framed}
 use Rattle.model.specs.Refusal.{first_refusal}
 use Rattle.model.specs.Rpc.{CallRead, NoCall, OtherVersion, Calls, read_call, is_call_read, Request, Answers, Runs, request_of, Reply, VersionRefused, Success, Compound, reply_text, compound_text, is_empty}
@@ -97,13 +98,14 @@ op_illegal = 10044
 
 -- EXCHANGE_ID, CREATE_SESSION, DESTROY_SESSION and DESTROY_CLIENTID, each of which stands alone
 abbrev pub stands_alone : (operation : ℕ) → Bool
-stands_alone operation = operation == 42 || operation == 43 || operation == 44 || operation == 57
+stands_alone operation =
+    operation == OP_EXCHANGE_ID || operation == OP_CREATE_SESSION || operation == OP_DESTROY_SESSION || operation == OP_DESTROY_CLIENTID
 
 abbrev pub is_sequence : (operation : ℕ) → Bool
-is_sequence operation = operation == 53
+is_sequence operation = operation == OP_SEQUENCE
 
 abbrev pub is_no_operation : (operation : ℕ) → Bool
-is_no_operation operation = nat_lt operation 3 || nat_lt 58 operation
+is_no_operation operation = nat_lt operation OP_ACCESS || nat_lt OP_RECLAIM_COMPLETE operation
 
 -- tests by the number alone, of the first operation and of a later one; each answers under a number
 abbrev pub first_tests : (count operation : ℕ) → List (Bool × Next)
@@ -161,11 +163,11 @@ abbrev pub gives : World → InProgress → Answer → HasRun
 gives world request answer = Gives (Outcome.Done answer) world request
 
 abbrev pub exchanged : World → InProgress → Result ExchangeIdAnswer Status × Table → HasRun
-exchanged world request (Err reason, table) = refuses (with_table world table) request 42 reason
+exchanged world request (Err reason, table) = refuses (with_table world table) request OP_EXCHANGE_ID reason
 exchanged world request (Ok answer, table) = gives (with_table world table) request (Answer.ExchangeId answer)
 
 abbrev pub created_by : World → InProgress → sessions.CreateSessionOutcome → Result CreateSessionAnswer Status → HasRun
-created_by world request outcome (Err reason) = refuses world request 43 reason
+created_by world request outcome (Err reason) = refuses world request OP_CREATE_SESSION reason
 created_by world request outcome (Ok answer) =
     gives (record world { table = outcome.table; opens = without_clients outcome.ended_clients world.opens }) request (Answer.CreateSession answer)
 
@@ -185,13 +187,13 @@ of_session request arguments session = record request {
 }
 
 abbrev pub started_in : World → InProgress → SequenceArguments → Option Session → HasRun
-started_in world request arguments None = refuses world request 53 status.BadSession
+started_in world request arguments None = refuses world request OP_SEQUENCE status.BadSession
 started_in world request arguments (Some session) =
     gives (with_table world (sessions.started request.context.cred.uid arguments world.table)) (of_session request arguments session)
     (Answer.Sequence (sessions.sequence_answer arguments session))
 
 abbrev pub begun : World → InProgress → SequenceArguments → sessions.Begun → HasRun
-begun world request arguments (sessions.Refuses reason) = refuses world request 53 reason
+begun world request arguments (sessions.Refuses reason) = refuses world request OP_SEQUENCE reason
 begun world request arguments (sessions.Replays reply) = Replays reply arguments.session arguments.slot
 begun world request arguments sessions.Runs =
     started_in world request arguments (find (sessions.is_session arguments.session) world.table.sessions)
@@ -199,7 +201,7 @@ begun world request arguments sessions.Runs =
 -- RECLAIM_COMPLETE for one file system asks for a current filehandle, and is answered OK each time (section 18.51)
 abbrev pub reclaimed : World → InProgress → Option Status → HasRun
 reclaimed world request None = gives world request Answer.ReclaimComplete
-reclaimed world request (Some reason) = refuses world request 58 reason
+reclaimed world request (Some reason) = refuses world request OP_RECLAIM_COMPLETE reason
 
 abbrev pub state_of : World → InProgress → State
 state_of world request = record { tree = world.tree; changes = world.changes; opens = world.opens; context = request.context }
@@ -216,14 +218,14 @@ run world request now (Argument.ExchangeId arguments) =
 run world request now (Argument.CreateSession arguments) =
     created world request (sessions.create_session world.limits.sessions request.context.cred.uid arguments world.table)
 run world request now (Argument.DestroySession id) =
-    tabled world request 44 Answer.DestroySession (sessions.destroy_session id world.table)
+    tabled world request OP_DESTROY_SESSION Answer.DestroySession (sessions.destroy_session id world.table)
 run world request now (Argument.DestroyClientId client) =
-    tabled world request 57 Answer.DestroyClientId (sessions.destroy_client_id (has_opens world.opens) client world.table)
+    tabled world request OP_DESTROY_CLIENTID Answer.DestroyClientId (sessions.destroy_client_id (has_opens world.opens) client world.table)
 run world request now (Argument.Sequence arguments) =
     begun world request arguments (sessions.begin request.context.cred.uid request.count arguments world.table)
 run world request now (Argument.ReclaimComplete true) = reclaimed world request (first_refusal (current_refusals (state_of world request)))
 run world request now (Argument.ReclaimComplete false) =
-    tabled world request 58 Answer.ReclaimComplete (sessions.reclaim_complete request.context.client world.table)
+    tabled world request OP_RECLAIM_COMPLETE Answer.ReclaimComplete (sessions.reclaim_complete request.context.client world.table)
 run world request now operation =
     stepped world request (does world.limits.volume (state_of world request) now operation)
 

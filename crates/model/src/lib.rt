@@ -7,6 +7,7 @@ pub mod acl;
 pub mod acl_laws;
 pub mod attributes;
 pub mod limits;
+pub mod maps;
 pub mod node;
 pub mod rpc;
 pub mod runs;

@@ -4,6 +4,7 @@ ghost use Rattle.model.specs.FileExamples.{FileExamples};
 ghost use Rattle.model.specs.OpensLaws.{EveryStepKeepsOpens};
 ghost use Rattle.model.specs.PageLaws.{EveryPage};
 ghost use Rattle.model.specs.RightsExamples.{RightsExamples};
+ghost use Rattle.model.specs.StateIdLaws.{NewestIsFound, LowerIsOld, JoinedIsOld, NotOwnIsBad, OtherRunIsBad, EndedIsBad, OpenAnswersNewest, EveryOpenGoesOn};
 ghost use Rattle.model.specs.StepExamples.{StepExamples};
 ghost use Rattle.model.specs.StepLaws.{EveryStepIsLawful, RunsBeginSound};
 
@@ -40,4 +41,22 @@ pub fn every_page()
 /// Each run begins with a well-formed tree whose stamps are from before its own.
 pub fn every_run_begins()
     ensures { RunsBeginSound }
+{}
+
+/// What a stateid that OPEN answered means from then on. The newest names its open; once a later OPEN joins the open it is
+/// OLD_STATEID; for another client, on another file, in another run and once the open has ended it is BAD_STATEID.
+pub fn every_stateid()
+    ensures newest { NewestIsFound }
+    ensures old { LowerIsOld }
+    ensures joined { JoinedIsOld }
+    ensures not_own { NotOwnIsBad }
+    ensures other_run { OtherRunIsBad }
+    ensures ended { EndedIsBad }
+{}
+
+/// OPEN answers the newest stateid; an operation leaves an open as it is, joins it by an OPEN, or ends it by a CLOSE, a REMOVE
+/// or a RENAME, and none that has ended comes back.
+pub fn every_open_goes_on()
+    ensures answers { OpenAnswersNewest }
+    ensures goes_on { EveryOpenGoesOn }
 {}

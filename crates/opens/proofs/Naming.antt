@@ -1,0 +1,24 @@
+-- The open that a stateid names.
+use Rattle.std.proofs.Common.{ℕ, true, false, ◌||◌, ◌-◌, ◌^◌, nat_le, List, length, take, Option, Some, None, ◌≡◌, ◌==◌, ◌&&◌, ◌∙◌, ap, sym, Bor, bytes_eq}
+use Rattle.std.specs.Prelude.{IfSome, is_none, if◌then◌else◌}
+use Rattle.std.specs.Int.{w32, to_be_bytes}
+use Rattle.model.specs.Keyed.{at}
+use Rattle.model.specs.Opens.{Open, Opens}
+use Rattle.model.specs.StateIds.{is_table_full, open_like, open_named}
+use Rattle.opens.specs.declared.open.Entry.{Entry}
+use Rattle.opens.specs.Views.{serial_in, IsAt, IsNamed}
+
+-- an open that joins another finds room
+pub is_not_full : (most : ℕ) (opens : Opens) (asked : Open) (like : ℕ × Open) → open_like opens asked ≡ Some like → false ≡ is_table_full most opens asked
+is_not_full most opens asked like is =
+    ap (λ found. is_none found && (nat_le most (length opens.known) || nat_le (2 ^ 64 - 1) opens.given)) (sym is)
+
+pub named_at : (run serial : ℕ) (other : List ℕ) (opens : Opens) → (bytes_eq (take 4 other) (to_be_bytes w32 run) && (length other == 12)) ≡ true → serial_in other ≡ serial
+    → open_named opens run other ≡ at serial opens.known
+named_at run serial other opens ours is =
+    ap (λ b. if b then at (serial_in other) opens.known else None) ours ∙ ap (λ n. at n opens.known) is
+
+pub named_some : (run serial : ℕ) (other : List ℕ) (opens : Opens) (found : Option (Bor Entry)) → IfSome found (λ entry. IsAt serial opens entry.now)
+    → open_named opens run other ≡ at serial opens.known → serial_in other ≡ serial → IfSome found (λ entry. IsNamed run other opens entry.now)
+named_some run at_serial other opens None is same serial = tt
+named_some run at_serial other opens (Some entry) is same serial = record { known = same ∙ is.known; serial_is = serial ∙ sym is.serial_is }

@@ -1,0 +1,81 @@
+//! One open.
+
+ghost use Rattle.std.specs.Prelude.{◌≡◌, ◌==◌, ◌&&◌, IfOk};
+ghost use Rattle.model.specs.StateIds.{is_like, joined, new_open};
+ghost use Rattle.opens.specs.Views.{entry_of, open_of};
+
+use crate::access::Access;
+use crate::found::Standing;
+use bitflags::Flags;
+use std::alloc::{AllocError, Global};
+
+/// Who opened which file, and how.
+#[derive(Drop)]
+pub struct Open {
+    pub client: u64,
+    /// The client's name of its owner.
+    pub owner: Vec<u8>,
+    /// The file's node.
+    pub number: u64,
+    pub access: Access,
+    /// How often it was opened: after `u32::MAX` comes 1.
+    pub seqid: u32,
+}
+
+/// An open that stands, under its serial.
+#[derive(Drop)]
+pub struct Entry {
+    pub serial: u64,
+    pub state: Open,
+}
+
+impl Open {
+    /// What a client asks for. The owner is copied.
+    pub fn new(
+        alloc: Global,
+        client: u64,
+        owner: &[u8],
+        number: u64,
+        access: Access,
+    ) -> Result<Open, AllocError>
+        ensures { IfOk result (λ asked. open_of asked ≡ new_open client owner.now number access.0) }
+    {
+        Ok(Open {
+            client,
+            owner: Vec::from_slice(alloc, owner)?,
+            number,
+            access,
+            seqid: 1,
+        })
+    }
+
+    /// Adds the access that is asked for once more.
+    pub(crate) fn join(&mut self, access: Access)
+        ensures { open_of self.new ≡ joined access.0 (open_of self.old) }
+    {
+        self.access = self.access.union(access);
+        self.seqid = if self.seqid == u32::MAX {
+            1
+        } else {
+            self.seqid + 1
+        };
+    }
+}
+
+impl Entry {
+    /// Whether it is an open of the same client and owner on the same file.
+    pub(crate) fn is_like(&self, asked: &Open) -> bool
+        ensures { result ≡ is_like (open_of asked.now) (entry_of self.now) }
+    {
+        self.state.client == asked.client
+            && self.state.owner.as_slice() == asked.owner.as_slice()
+            && self.state.number == asked.number
+    }
+
+    /// Whether it is an open of the client on the file where a stateid is used.
+    pub(crate) fn is_of(&self, standing: &Standing) -> bool
+        ensures { result ≡ (self.now.state.client == standing.now.client && self.now.state.number == standing.now.number) }
+    {
+        self.state.client == standing.client && self.state.number == standing.number
+    }
+}

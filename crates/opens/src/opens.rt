@@ -1,0 +1,171 @@
+//! All opens of a run.
+
+ghost use Rattle.std.specs.Prelude.{◌<◌, ◌≤◌, All};
+ghost use Rattle.std.specs.List.{AllPairs};
+
+use crate::found::{Found, Standing, by_seqid, is_anonymous, state_id};
+use crate::open::{Entry, Open};
+use byteorder::{BigEndian, ByteOrder};
+use model::status::Status;
+use std::alloc::{AllocError, Global};
+use wire::StateId;
+
+/// The opens that stand, by rising serials, and how many serials were given in this run.
+#[derive(Drop)]
+pub struct Opens {
+    given: u64,
+    list: Vec<Entry>,
+    ghost rising: { AllPairs (λ earlier later. earlier.serial < later.serial) list.items },
+    ghost made: { All (λ entry. entry.serial ≤ given) list.items },
+}
+
+#[tactic(auto, unfolding(crate::specs::Views::opens_of, crate::specs::Views::HasRoom, model::specs::StateIds::found, model::specs::StateIds::opened))]
+impl Opens {
+    ghost use Rattle.std.specs.Prelude.{◌≡◌, None, OnOk, IfSome, IfNone};
+    ghost use Rattle.model.specs.Context.{Context};
+    ghost use Rattle.model.specs.Keyed.{at};
+    ghost use Rattle.model.specs.Opens.{no_opens};
+    ghost use Rattle.model.specs.StateIds.{found, has_opens, is_table_full, open_like, open_named, opened, without_clients, without_number, without_open};
+    ghost use Rattle.wire.specs.SmallViews.{state_view};
+    ghost use Rattle.opens.specs.Views.{found_of, named_by, open_of, opens_of, CanOpen, HasRoom, IsAt, IsLike, IsNamed, StandsAt};
+
+    /// A run begins with none.
+    pub fn new(alloc: Global) -> Opens
+        ensures { opens_of result ≡ no_opens }
+    {
+        Opens {
+            given: 0,
+            list: Vec::new(alloc),
+        }
+    }
+
+    /// Takes the memory for one open more.
+    pub fn reserve(&mut self) -> Result<(), AllocError>
+        ensures room { OnOk result (HasRoom self.new) }
+        ensures same { opens_of self.new ≡ opens_of self.old }
+    {
+        self.list.reserve(1)
+    }
+
+    /// Whether the open can't be made: `most` stand, or no serial is left. One that joins another needs neither.
+    pub fn is_full(&self, most: usize, asked: &Open) -> bool
+        ensures { result ≡ is_table_full most (opens_of self.now) (open_of asked.now) }
+    {
+        match self.position_like(asked) {
+            Some(_) => false,
+            None => most <= self.list.len() || u64::MAX <= self.given,
+        }
+    }
+
+    // The first open of the same client and owner on the same file.
+    fn position_like(&self, asked: &Open) -> Option<usize>
+        ensures some { IfSome result (IsLike (open_of asked.now) self.now.list.items) }
+        ensures none { IfNone result (open_like (opens_of self.now) (open_of asked.now) ≡ None) }
+    {
+        for (place, entry) in self.list.iter().enumerate() {
+            if entry.is_like(asked) {
+                return Some(place);
+            }
+        }
+        None
+    }
+
+    /// OPEN (RFC 8881, section 18.16): joins the open of the same client and owner on the same file, or makes a new one. Returns
+    /// its stateid.
+    pub fn open(&mut self, run: u32, asked: Open) -> StateId
+        requires room { HasRoom self.old }
+        requires serial { CanOpen (opens_of self.old) (open_of asked) }
+        ensures opens { opens_of self.new ≡ (opened (opens_of self.old) (open_of asked)).opens }
+        ensures state { state_view result ≡ named_by run (opened (opens_of self.old) (open_of asked)) }
+    {
+        if let Some(place) = self.position_like(&asked) {
+            let entry = &mut self.list[place];
+            entry.state.join(asked.access);
+            return state_id(run, entry.serial, entry.state.seqid);
+        }
+        self.given += 1;
+        let serial = self.given;
+        let seqid = asked.seqid;
+        if self
+            .list
+            .push(Entry {
+                serial,
+                state: asked,
+            })
+            .is_err()
+        {
+            unreachable!();
+        }
+        state_id(run, serial, seqid)
+    }
+
+    // The open that stands under a serial.
+    fn at(&self, serial: u64) -> Option<&Entry>
+        ensures some { IfSome result (λ entry. IsAt serial (opens_of self.now) entry.now) }
+        ensures none { IfNone result (at serial (opens_of self.now).known ≡ None) }
+    {
+        for entry in &self.list {
+            if entry.serial == serial {
+                return Some(entry);
+            }
+        }
+        None
+    }
+
+    // The open that a stateid's twelve bytes name: one of another run has no serial here.
+    fn named(&self, run: u32, other: &[u8; 12]) -> Option<&Entry>
+        ensures some { IfSome result (λ entry. IsNamed run other.now (opens_of self.now) entry.now) }
+        ensures none { IfNone result (open_named (opens_of self.now) run other.now ≡ None) }
+    {
+        if &other[..4] != run.to_be_bytes().as_slice() {
+            return None;
+        }
+        self.at(BigEndian::read_u64(&other.as_slice()[4..]))
+    }
+
+    /// What a stateid means where it is used (RFC 8881, section 8.2.4).
+    pub fn find(&self, standing: &Standing, state: &StateId) -> Found<'_>
+        ensures { (context : Context) → StandsAt standing.now context
+            → found_of result ≡ found (opens_of self.now) context (state_view state.now) }
+    {
+        let Some(state) = standing.meant(state) else {
+            return Found::Refused(Status::BadStateId);
+        };
+        if is_anonymous(&state) {
+            return Found::Anonymous;
+        }
+        match self.named(standing.run, &state.other) {
+            Some(entry) if entry.is_of(standing) => by_seqid(&state, entry),
+            _ => Found::Refused(Status::BadStateId),
+        }
+    }
+
+    /// CLOSE (RFC 8881, section 18.2): ends the open of a serial.
+    pub fn close(&mut self, serial: u64)
+        ensures { opens_of self.new ≡ without_open serial (opens_of self.old) }
+    {
+        self.list.retain(|entry| serial != entry.serial);
+    }
+
+    /// Ends the opens of a file, which is removed.
+    pub fn remove_file(&mut self, number: u64)
+        ensures { opens_of self.new ≡ without_number number (opens_of self.old) }
+    {
+        self.list.retain(|entry| entry.state.number != number);
+    }
+
+    /// Ends the opens of clients, which end.
+    pub fn remove_clients(&mut self, clients: &[u64])
+        ensures { opens_of self.new ≡ without_clients clients.now (opens_of self.old) }
+    {
+        self.list
+            .retain(|entry| !clients.contains(&entry.state.client));
+    }
+
+    /// Whether the client has an open.
+    pub fn has_client(&self, client: u64) -> bool
+        ensures { result ≡ has_opens (opens_of self.now) client }
+    {
+        self.list.iter().any(|entry| entry.state.client == client)
+    }
+}
