@@ -13,6 +13,7 @@ use Rattle.rpc.specs.declared.call.Start.{Start}
 use Rattle.rpc.specs.declared.call.Auth.{Auth}
 use Rattle.rpc.specs.declared.call.Header.{Header}
 use Rattle.rpc.specs.declared.reply.AuthStat.{AuthStat}
+use Rattle.rpc.specs.declared.reply.CompoundResult.{CompoundResult}
 use Rattle.rpc.specs.declared.reply.AuthStat.TheVariants as stats
 use Rattle.rpc.specs.declared.reply.Reply.{Reply}
 use Rattle.rpc.specs.declared.reply.Reply.TheVariants as replies
@@ -54,6 +55,10 @@ abbrev pub auth_stat_of : AuthStat → ℕ
 auth_stat_of stats.BadCredential = 1
 auth_stat_of stats.TooWeak = 5
 
+-- a COMPOUND's result
+abbrev pub result_text : CompoundResult → List ℕ
+result_text compound = spec.compound_text compound.status compound.tag.bytes.now compound.count compound.results.now
+
 abbrev pub reply_view : Reply → spec.Reply
 reply_view replies.VersionRefused = spec.VersionRefused
 reply_view (replies.AuthRefused stat) = spec.AuthRefused (auth_stat_of stat)
@@ -62,7 +67,7 @@ reply_view replies.ProgramMismatch = spec.ProgramMismatch
 reply_view replies.ProcedureUnavailable = spec.ProcedureUnavailable
 reply_view replies.GarbageArguments = spec.GarbageArguments
 reply_view (replies.Success result) = spec.Success result.now
-reply_view (replies.Compound compound) = spec.Success (spec.compound_text compound.status compound.tag.bytes.now compound.count compound.results.now)
+reply_view (replies.Compound compound) = spec.Success (result_text compound)
 
 -- a successful reply up to its result
 abbrev pub success_head : (xid : ℕ) → List ℕ

@@ -49,8 +49,11 @@ impl Assembler {
     /// while a whole record waits. `RecordTooBig` and `TooManyFragments` refuse a fragment's header as soon as it is
     /// there, in this order, and `NotACall` a whole record; each is answered for good. It takes no memory.
     pub fn feed(&mut self, piece: &[u8]) -> Result<usize, RecordFault>
-        ensures arrived { IfOk result (λ n. connection_of self.new ≡ arrives_at record_limits piece.now (connection_of self.old)) }
-        ensures taken { IfOk result (λ n. taken_at record_limits piece.now (connection_of self.old) ≡ Some n) }
+        ensures arrived { IfOk result
+            (λ n. connection_of self.new
+            ≡ arrives_at record_limits piece.now (connection_of self.old)) }
+        ensures taken { IfOk result
+            (λ n. taken_at record_limits piece.now (connection_of self.old) ≡ Some n) }
         ensures refused { IfErr result (λ fault. IsRefused piece.now self.old self.new fault) }
     {
         match self.state {
@@ -79,7 +82,8 @@ impl Assembler {
 
     /// The whole record that waits, which holds a call.
     pub fn record(&self) -> Option<&[u8]>
-        ensures waits { MatchOption result ((request : List ℕ) → self.now ≡ Holds request → ⊥) (λ bytes. self.now ≡ Holds bytes.now) }
+        ensures waits { MatchOption result ((request : List ℕ) → self.now ≡ Holds request → ⊥)
+            (λ bytes. self.now ≡ Holds bytes.now) }
         ensures call { MatchOption result ⊤ (λ bytes. is_call_read (read_call bytes.now) ≡ true) }
     {
         match self.state {

@@ -70,7 +70,8 @@ pub struct Header<'a> {
 /// message, or has a credential or a verifier that is above 400 bytes or padded with other bytes than zero.
 #[tactic(auto, unfolding(model::specs::Rpc::read_call))]
 pub fn read_call(bytes: &[u8]) -> Result<CallRead<'_>, RecordFault>
-    ensures { MatchResult result (λ read. read_call bytes.now ≡ call_read_view read) (λ fault. (read_call bytes.now ≡ NoCall) × (fault ≡ NotACall)) }
+    ensures { MatchResult result (λ read. read_call bytes.now ≡ call_read_view read)
+        (λ fault. (read_call bytes.now ≡ NoCall) × (fault ≡ NotACall)) }
 {
     let mut at = Reader::new(bytes);
     let start = match read_start(&mut at) {

@@ -70,7 +70,9 @@ pub enum Fragment {
 pub fn fragment_at(old: &[u8], piece: &[u8], place: Place) -> Fragment
     requires within { place.at ≤ length old.now + length piece.now }
     requires small { place.size ≤ 16384 }
-    ensures { (gathered : Gathered) → length gathered.bytes ≡ place.size → gathered.fragments ≡ place.fragments → Finds gathered (drop place.at (old.now ++ piece.now)) result }
+    ensures { (gathered : Gathered) → length gathered.bytes ≡ place.size
+        → gathered.fragments ≡ place.fragments
+        → Finds gathered (drop place.at (old.now ++ piece.now)) result }
 {
     let left = old.len() + piece.len() - place.at;
     if left < HEADER_BYTES {

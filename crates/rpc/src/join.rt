@@ -13,7 +13,8 @@ pub fn drop_headers(bytes: &mut BytesMut) -> usize
     requires { IsWhole bytes.old.items }
     ensures request { front record_limits bytes.old.items ≡ Whole (drop result bytes.new.items) [] }
     ensures within { result ≤ length bytes.new.items }
-    ensures room { length bytes.new.items + bytes.new.spare ≡ length bytes.old.items + bytes.old.spare }
+    ensures room { length bytes.new.items + bytes.new.spare
+        ≡ length bytes.old.items + bytes.old.spare }
 {
     match fragment_at(bytes, &[], Place::START) {
         Fragment::Brings { is_last: true, .. } => HEADER_BYTES,

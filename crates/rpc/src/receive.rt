@@ -27,7 +27,8 @@ pub fn receive_piece(bytes: &mut BytesMut, piece: &[u8]) -> Progress
     requires partial { front record_limits bytes.old.items ≡ Partial }
     requires room { most_received ≤ length bytes.old.items + bytes.old.spare }
     ensures received { Receives bytes.old.items piece.now result bytes.new.items }
-    ensures kept { length bytes.new.items + bytes.new.spare ≡ length bytes.old.items + bytes.old.spare }
+    ensures kept { length bytes.new.items + bytes.new.spare
+        ≡ length bytes.old.items + bytes.old.spare }
 {
     match scan_record(bytes, piece) {
         Scan::Partial => {

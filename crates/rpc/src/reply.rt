@@ -6,8 +6,8 @@ ghost use Rattle.std.specs.Prelude.{◌≡◌, ℕ, ◌+◌, ◌<◌, ◌^◌, �
 ghost use Rattle.xdr.specs.Clauses.{Wrote};
 ghost use Rattle.xdr.specs.declared.refusal.Refusal.TheVariants.{Memory};
 ghost use Rattle.model.specs.Record.{framed};
-ghost use Rattle.model.specs.Rpc.{words, reply_text, compound_text};
-ghost use Rattle.rpc.specs.Views.{reply_view, success_head, compound_front, frame_header, front_of, tail_of};
+ghost use Rattle.model.specs.Rpc.{words, reply_text};
+ghost use Rattle.rpc.specs.Views.{reply_view, result_text, success_head, compound_front, frame_header, front_of, tail_of};
 
 use crate::tag::Tag;
 use model::status::Status;
@@ -73,7 +73,7 @@ impl CompoundResult<'_> {
     /// How many bytes it has.
     #[tactic(auto, unfolding(model::specs::Rpc::compound_text, xdr::specs::Grammar::number))]
     pub fn size(&self) -> usize
-        ensures value { result ≡ length (compound_text self.now.status self.now.tag.bytes.now self.now.count self.now.results.now) }
+        ensures value { result ≡ length (result_text self.now) }
         ensures bound { result < 2 ^ 63 + 2 ^ 33 }
     {
         8 + opaque_size(self.tag.bytes) + self.results.len()
@@ -81,8 +81,9 @@ impl CompoundResult<'_> {
 
     /// Its bytes, behind those of `out`: refused only where `out` has no memory for them.
     pub fn write(&self, out: Writer) -> Result<Vec<u8>, Refusal>
-        ensures ok { IfOk result (λ bytes. bytes.items ≡ out.bytes ++ compound_text self.now.status self.now.tag.bytes.now self.now.count self.now.results.now) }
-        ensures full { OnErr result (out.capacity < length out.bytes + length (compound_text self.now.status self.now.tag.bytes.now self.now.count self.now.results.now)) }
+        ensures ok { IfOk result (λ bytes. bytes.items ≡ out.bytes ++ result_text self.now) }
+        ensures full { OnErr result
+            (out.capacity < length out.bytes + length (result_text self.now)) }
         ensures err { IfErr result (λ refusal. refusal ≡ Memory) }
     {
         let mut out = out;
@@ -125,8 +126,10 @@ impl<'a> Reply<'a> {
 /// only where `out` has no memory for it.
 pub fn write_reply(out: Writer, xid: u32, reply: &Reply<'_>) -> Result<Vec<u8>, Refusal>
     requires { length (tail_of reply.now) < 2 ^ 30 }
-    ensures ok { IfOk result (λ bytes. bytes.items ≡ out.bytes ++ framed (reply_text xid (reply_view reply.now))) }
-    ensures full { OnErr result (out.capacity < length out.bytes + length (framed (reply_text xid (reply_view reply.now)))) }
+    ensures ok { IfOk result (λ bytes.
+        bytes.items ≡ out.bytes ++ framed (reply_text xid (reply_view reply.now))) }
+    ensures full { OnErr result (out.capacity
+        < length out.bytes + length (framed (reply_text xid (reply_view reply.now)))) }
     ensures err { IfErr result (λ refusal. refusal ≡ Memory) }
 {
     let mut out = out;
@@ -206,7 +209,9 @@ fn write_compound_front(
     xid: u32,
     compound: &CompoundResult<'_>,
 ) -> Result<(), Refusal>
-    ensures { Wrote w.old w.new result (success_head xid ++ compound_front compound.now.status compound.now.tag.bytes.now compound.now.count) }
+    ensures { Wrote w.old w.new result
+        (success_head xid ++ compound_front compound.now.status compound.now.tag.bytes.now
+        compound.now.count) }
 {
     write_success(w, xid)?;
     write_compound_head(w, compound.status, compound.tag, compound.count)

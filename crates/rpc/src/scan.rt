@@ -22,7 +22,8 @@ pub enum Scan {
 /// Looks for the end of the record in the bytes of `old` and `piece`, one behind the other. It goes from header to
 /// header, of which there are at most 65.
 pub fn scan_record(old: &[u8], piece: &[u8]) -> Scan
-    ensures end { result ≡ scan_of (old.now ++ piece.now) (front record_limits (old.now ++ piece.now)) }
+    ensures end { result ≡ scan_of (old.now ++ piece.now)
+        (front record_limits (old.now ++ piece.now)) }
     ensures old_bytes { IsBytes old.now }
     ensures piece_bytes { IsBytes piece.now }
 {

@@ -65,8 +65,12 @@ argument_refusals next arguments =
     ∷ (is_too_small served arguments.fore, status.TooSmall)
     ∷ []
 
+-- a session that gives way to one of `client` runs a request
+abbrev pub ends_running : model.Client → model.Table → Bool
+ends_running client table = list_any (λ session. is_of_clients (replaced_by client table) session && is_running session) table.sessions
+
 abbrev pub room_refusals : model.Client → model.Table → Refusals
 room_refusals client table =
-    (list_any (λ session. is_of_clients (replaced_by client table) session && is_running session) table.sessions, status.Delay)
+    (ends_running client table, status.Delay)
     ∷ (is_full_of_sessions served client table, status.Delay)
     ∷ []

@@ -42,9 +42,17 @@ sessions_of sessions = map session_of sessions.list.items
 abbrev pub roll_of : Clients → ℕ × ℕ × List model.Client
 roll_of clients = (clients.run, clients.serial, clients_of clients)
 
+-- in the same run, behind the same serial, these records
+abbrev pub roll_with : Clients → List model.Client → ℕ × ℕ × List model.Client
+roll_with clients records = (clients.run, clients.serial, records)
+
 -- the serial that was given last, and the sessions
 abbrev pub book_of : Sessions → ℕ × List model.Session
 book_of sessions = (sessions.serial, sessions_of sessions)
+
+-- behind the same serial, these sessions
+abbrev pub book_with : Sessions → List model.Session → ℕ × List model.Session
+book_with sessions list = (sessions.serial, list)
 
 abbrev pub table_by : ℕ × ℕ × List model.Client → ℕ × List model.Session → model.Table
 table_by roll book = record { run = roll.0; client_serial = roll.1; session_serial = book.0; clients = roll.2; sessions = book.1 }

@@ -53,7 +53,8 @@ impl Client {
 
     /// The kept result, where a CREATE_SESSION of this number asks for it again.
     pub fn repeated(&self, sequence: u32) -> Option<CreateSessionAnswer>
-        ensures { result ≡ (if next_number sequence == self.now.sequence then self.now.kept else None) }
+        ensures { result
+            ≡ (if next_number sequence == self.now.sequence then self.now.kept else None) }
     {
         if sequence.wrapping_add(1) == self.sequence {
             self.kept
@@ -64,7 +65,8 @@ impl Client {
 
     /// Confirms it, counts on, and keeps the result.
     pub fn confirm(&mut self, answer: CreateSessionAnswer)
-        ensures { client_of self.new ≡ confirmed_with (create_session_view answer) (client_of self.old) }
+        ensures { client_of self.new
+            ≡ confirmed_with (create_session_view answer) (client_of self.old) }
     {
         self.is_confirmed = true;
         self.sequence = self.sequence.wrapping_add(1);

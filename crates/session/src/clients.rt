@@ -27,7 +27,7 @@ impl Clients {
     ghost use Rattle.model.specs.Session.{Client as Known, is_client, is_confirmed_of, is_unconfirmed_of, is_replaced_by, without, changed_where, confirmed_with};
     ghost use Rattle.wire.specs.ArgumentViews.{exchange_id_view};
     ghost use Rattle.wire.specs.AnswerViews.{create_session_view};
-    ghost use Rattle.session.specs.Views.{client_of, clients_of, roll_of, among};
+    ghost use Rattle.session.specs.Views.{client_of, clients_of, roll_of, roll_with, among};
     ghost use Rattle.session.specs.Rooms.{records_staying, Adds, ended_by, reclaimed};
 
     /// No record.
@@ -43,7 +43,8 @@ impl Clients {
 
     /// The record of this client id.
     pub fn find(&self, number: u64) -> Option<&Client>
-        ensures { option_map client_of (option_copied result) ≡ find (is_client number) (clients_of self.now) }
+        ensures { option_map client_of (option_copied result)
+            ≡ find (is_client number) (clients_of self.now) }
     {
         for client in &self.list {
             if client.number == number {
@@ -55,7 +56,8 @@ impl Clients {
 
     /// The confirmed record of this owner id.
     pub fn confirmed(&self, owner: &[u8]) -> Option<&Client>
-        ensures { option_map client_of (option_copied result) ≡ find (is_confirmed_of owner.now) (clients_of self.now) }
+        ensures { option_map client_of (option_copied result)
+            ≡ find (is_confirmed_of owner.now) (clients_of self.now) }
     {
         for client in &self.list {
             if client.is_confirmed_of(owner) {
@@ -67,14 +69,16 @@ impl Clients {
 
     /// Drops the unconfirmed record of this owner id.
     pub fn remove_unconfirmed(&mut self, owner: &[u8])
-        ensures { roll_of self.new ≡ (self.old.run, self.old.serial, without (is_unconfirmed_of owner.now) (clients_of self.old)) }
+        ensures { roll_of self.new
+            ≡ roll_with self.old (without (is_unconfirmed_of owner.now) (clients_of self.old)) }
     {
         self.list.retain(|client| !client.is_unconfirmed_of(owner));
     }
 
     /// Drops the record of this client id.
     pub fn remove(&mut self, number: u64)
-        ensures { roll_of self.new ≡ (self.old.run, self.old.serial, without (is_client number) (clients_of self.old)) }
+        ensures { roll_of self.new
+            ≡ roll_with self.old (without (is_client number) (clients_of self.old)) }
     {
         self.list.retain(|client| client.number != number);
     }
@@ -125,7 +129,8 @@ impl Clients {
 
     /// RECLAIM_COMPLETE was answered OK for this client.
     pub fn reclaim(&mut self, number: u64)
-        ensures { roll_of self.new ≡ (self.old.run, self.old.serial, changed_where (is_client number) reclaimed (clients_of self.old)) }
+        ensures { roll_of self.new ≡ roll_with self.old
+            (changed_where (is_client number) reclaimed (clients_of self.old)) }
     {
         if let Some(at) = self.position(number) {
             self.list[at].has_reclaimed = true;
@@ -133,21 +138,24 @@ impl Clients {
     }
 
     fn position(&self, number: u64) -> Option<usize>
-        ensures { result ≡ position (λ client. is_client number (client_of client)) self.now.list.items }
+        ensures { result ≡ position
+            (λ client. is_client number (client_of client)) self.now.list.items }
     {
         self.list.iter().position(|client| client.number == number)
     }
 
     /// Whether a session of `client` ends the client of this id.
     pub fn is_ending(&self, client: &Client, number: u64) -> bool
-        ensures { result ≡ list_any (λ ended. number == ended) (ended_by (client_of client.now) (clients_of self.now)) }
+        ensures { result ≡ list_any (λ ended. number == ended)
+            (ended_by (client_of client.now) (clients_of self.now)) }
     {
         self.list.iter().any(|other| other.is_replaced_by(client) && number == other.number)
     }
 
     /// The clients that a session of `client` ends.
     pub fn ending(&self, alloc: Global, client: &Client) -> Result<Vec<u64>, AllocError>
-        ensures { IfOk result (λ ended. ended.items ≡ ended_by (client_of client.now) (clients_of self.now)) }
+        ensures { IfOk result (λ ended.
+            ended.items ≡ ended_by (client_of client.now) (clients_of self.now)) }
     {
         let mut ended = Vec::new(alloc);
         for other in &self.list {
@@ -160,8 +168,11 @@ impl Clients {
 
     /// Drops the ended clients, and confirms the one whose session was made.
     pub fn confirm(&mut self, number: u64, ended: &[u64], answer: CreateSessionAnswer)
-        ensures { (client : Known) → client.number ≡ number → ended.now ≡ ended_by client (clients_of self.old)
-            → roll_of self.new ≡ (self.old.run, self.old.serial, changed_where (is_client number) (confirmed_with (create_session_view answer)) (without (is_replaced_by client) (clients_of self.old))) }
+        ensures { (client : Known) → client.number ≡ number
+            → ended.now ≡ ended_by client (clients_of self.old)
+            → roll_of self.new ≡ roll_with self.old
+            (changed_where (is_client number) (confirmed_with (create_session_view answer))
+            (without (is_replaced_by client) (clients_of self.old))) }
     {
         self.list.retain(|client| !ended.contains(&client.number));
         if let Some(at) = self.position(number) {

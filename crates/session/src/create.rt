@@ -1,16 +1,15 @@
 //! CREATE_SESSION (RFC 8881, section 18.36).
 
-ghost use Rattle.std.specs.Prelude.{◌≡◌, ◌&&◌, ◌+◌, ◌<◌, ◌^◌, None, IfErr};
-ghost use Rattle.std.specs.List.{list_any};
+ghost use Rattle.std.specs.Prelude.{◌≡◌, ◌+◌, ◌<◌, ◌^◌, None, IfErr};
 ghost use Rattle.std.specs.Result.{result_err};
 ghost use Rattle.model.specs.Refusal.{first_refusal};
-ghost use Rattle.model.specs.Session.{Client as Known, create_session, create_unless, replaced_by, is_of_clients, is_running, is_full_of_sessions, fore_channel, is_too_small};
+ghost use Rattle.model.specs.Session.{Client as Known, create_session, create_unless, is_full_of_sessions, fore_channel, is_too_small};
 ghost use Rattle.wire.specs.ArgumentViews.{create_session_view};
 ghost use Rattle.wire.specs.SmallViews.{channel_view};
 ghost use Rattle.wire.specs.Short.{IsRefusal};
 ghost use Rattle.session.specs.Calls.{Created, Refuses};
 ghost use Rattle.session.specs.Limits.{served};
-ghost use Rattle.session.specs.Rooms.{argument_refusals, room_refusals, ended_by};
+ghost use Rattle.session.specs.Rooms.{argument_refusals, room_refusals, ends_running, ended_by};
 ghost use Rattle.session.specs.Views.{table_of, client_of};
 
 use crate::client::Client;
@@ -44,7 +43,9 @@ impl Table {
         uid: u32,
         arguments: &CreateSessionArguments<'_>,
     ) -> Result<CreatedSession, Refusal>
-        ensures answered { Created (create_session served uid (create_session_view arguments.now) (table_of self.old)) (table_of self.old) (table_of self.new) result }
+        ensures answered { Created
+            (create_session served uid (create_session_view arguments.now) (table_of self.old))
+            (table_of self.old) (table_of self.new) result }
         ensures refused { IfErr result Refuses }
     {
         let Some(client) = self.clients.find(arguments.client) else {
@@ -65,7 +66,8 @@ impl Table {
 
     // DELAY where a session that would end runs a request, and where there is no place or no serial for one more.
     fn check_room(&self, client: &Client) -> Result<(), Status>
-        ensures first { result_err result ≡ first_refusal (room_refusals (client_of client.now) (table_of self.now)) }
+        ensures first { result_err result
+            ≡ first_refusal (room_refusals (client_of client.now) (table_of self.now)) }
         ensures refused { IfErr result IsRefusal }
     {
         if self.ends_a_running_session(client) || self.is_full_beside(client) {
@@ -75,7 +77,7 @@ impl Table {
     }
 
     fn ends_a_running_session(&self, client: &Client) -> bool
-        ensures { result ≡ list_any (λ session. is_of_clients (replaced_by (client_of client.now) (table_of self.now)) session && is_running session) (table_of self.now).sessions }
+        ensures { result ≡ ends_running (client_of client.now) (table_of self.now) }
     {
         let clients = &self.clients;
         self.sessions.list.iter().any(|session| clients.is_ending(client, session.client)
@@ -102,8 +104,10 @@ impl Table {
         ended: Vec<u64>,
     ) -> Result<CreatedSession, Refusal>
         requires { self.old.sessions.serial + 1 < 2 ^ 64 }
-        ensures answered { (client : Known) → client.number ≡ arguments.now.client → ended.items ≡ ended_by client (table_of self.old).clients
-            → Created (create_unless served (create_session_view arguments.now) client (table_of self.old) None) (table_of self.old) (table_of self.new) result }
+        ensures answered { (client : Known) → client.number ≡ arguments.now.client
+            → ended.items ≡ ended_by client (table_of self.old).clients
+            → Created (create_unless served (create_session_view arguments.now) client
+            (table_of self.old) None) (table_of self.old) (table_of self.new) result }
         ensures refused { IfErr result Refuses }
     {
         let number = arguments.client;
@@ -128,7 +132,8 @@ impl Table {
 
 // The tests of the arguments alone, where this is the record's next number.
 fn check_arguments(next: u32, arguments: &CreateSessionArguments<'_>) -> Result<(), Status>
-    ensures first { result_err result ≡ first_refusal (argument_refusals next (create_session_view arguments.now)) }
+    ensures first { result_err result
+        ≡ first_refusal (argument_refusals next (create_session_view arguments.now)) }
     ensures refused { IfErr result IsRefusal }
 {
     if arguments.sequence != next {

@@ -16,7 +16,8 @@ impl Table {
     /// # Errors
     /// BADSESSION for an unknown session; DELAY where a slot of it runs.
     pub fn destroy_session(&mut self, id: &[u8; 16]) -> Result<(), Status>
-        ensures answered { destroy_session id.now (table_of self.old) ≡ (result_err result, table_of self.new) }
+        ensures answered { destroy_session id.now (table_of self.old)
+            ≡ (result_err result, table_of self.new) }
         ensures refused { IfErr result IsRefusal }
     {
         let Some(session) = self.sessions.find(id) else {
@@ -34,7 +35,8 @@ impl Table {
     /// # Errors
     /// STALE_CLIENTID for an unknown client; CLIENTID_BUSY where it has a session or an open.
     pub fn destroy_clientid(&mut self, number: u64, with_opens: &[u64]) -> Result<(), Status>
-        ensures answered { destroy_client_id (among with_opens.now) number (table_of self.old) ≡ (result_err result, table_of self.new) }
+        ensures answered { destroy_client_id (among with_opens.now) number (table_of self.old)
+            ≡ (result_err result, table_of self.new) }
         ensures refused { IfErr result IsRefusal }
     {
         if self.clients.find(number).is_none() {
@@ -69,7 +71,8 @@ impl Table {
     /// # Errors
     /// As `check_reclaim` has them.
     pub fn reclaim_complete(&mut self, number: u64) -> Result<(), Status>
-        ensures answered { reclaim_complete number (table_of self.old) ≡ (result_err result, table_of self.new) }
+        ensures answered { reclaim_complete number (table_of self.old)
+            ≡ (result_err result, table_of self.new) }
         ensures refused { IfErr result IsRefusal }
     {
         self.check_reclaim(number)?;

@@ -37,8 +37,11 @@ impl Table {
         arguments: &ExchangeIdArguments<'_>,
         with_opens: &[u64],
     ) -> Result<ExchangeIdAnswer<'static>, Refusal>
-        ensures answered { Exchanged (exchange_id served (among with_opens.now) uid (exchange_id_view arguments.now) (table_of self.old)) (table_of self.old) (table_of self.new) result }
-        ensures short { IfOk result (λ known. IsShortAnswer (Answer.ExchangeId (answer_view known))) }
+        ensures answered { Exchanged
+            (exchange_id served (among with_opens.now) uid (exchange_id_view arguments.now)
+            (table_of self.old)) (table_of self.old) (table_of self.new) result }
+        ensures short { IfOk result
+            (λ known. IsShortAnswer (Answer.ExchangeId (answer_view known))) }
         ensures refused { IfErr result Refuses }
     {
         if arguments.flags | EXCHANGE_FLAGS != EXCHANGE_FLAGS {
@@ -68,8 +71,12 @@ impl Table {
         arguments: &ExchangeIdArguments<'_>,
         dropped: Option<u64>,
     ) -> Result<ExchangeIdAnswer<'static>, Refusal>
-        ensures answered { Exchanged (new_record served uid (exchange_id_view arguments.now) (table_of self.old) (cleared_of dropped (table_of self.old))) (table_of self.old) (table_of self.new) result }
-        ensures short { IfOk result (λ known. IsShortAnswer (Answer.ExchangeId (answer_view known))) }
+        ensures answered { Exchanged
+            (new_record served uid (exchange_id_view arguments.now) (table_of self.old)
+            (cleared_of dropped (table_of self.old))) (table_of self.old)
+            (table_of self.new) result }
+        ensures short { IfOk result
+            (λ known. IsShortAnswer (Answer.ExchangeId (answer_view known))) }
         ensures refused { IfErr result Refuses }
     {
         let number = self.clients.add(self.alloc, uid, arguments, dropped)?;

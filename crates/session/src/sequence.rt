@@ -35,7 +35,8 @@ impl Table {
         count: u32,
         arguments: &SequenceArguments,
     ) -> Result<Begun, Status>
-        ensures answered { Begins uid count (sequence_view arguments.now) (table_of self.old) (table_of self.new) result }
+        ensures answered { Begins uid count (sequence_view arguments.now) (table_of self.old)
+            (table_of self.new) result }
         ensures refused { IfErr result IsRefusal }
     {
         let Some(session) = self.sessions.find(&arguments.session) else {
@@ -63,7 +64,8 @@ impl Table {
     #[tactic(auto, unfolding(crate::specs::Views::table_of, crate::specs::Views::reply_kept))]
     pub fn kept(&self, id: &[u8; 16], slot: u32) -> Option<&[u8]>
         ensures short { IfSome result (λ bytes. length bytes.now ≤ 16384) }
-        ensures kept { option_map (λ bytes. bytes.now) result ≡ reply_kept id.now slot (table_of self.now) }
+        ensures kept { option_map (λ bytes. bytes.now) result
+            ≡ reply_kept id.now slot (table_of self.now) }
     {
         self.sessions.find(id)?.kept(slot)
     }

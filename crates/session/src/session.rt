@@ -86,7 +86,8 @@ impl Session {
 
     /// What SEQUENCE does on it (RFC 8881, section 18.46).
     pub fn next(&self, uid: u32, count: u32, arguments: &SequenceArguments) -> Result<Next, Status>
-        ensures next { result ≡ next_of (begin_by uid count (sequence_view arguments.now) (Some (session_of self.now))) }
+        ensures next { result ≡ next_of
+            (begin_by uid count (sequence_view arguments.now) (Some (session_of self.now))) }
         ensures refused { IfErr result IsRefusal }
     {
         let Some(slot) = self.slots.get(arguments.slot as usize) else {
@@ -114,7 +115,9 @@ impl Session {
         count: u32,
         arguments: &SequenceArguments,
     ) -> Result<Next, Status>
-        ensures next { result ≡ next_of (begin_new count (sequence_view arguments.now) (session_of self.now) (slot_of slot.now)) }
+        ensures next { result ≡ next_of
+            (begin_new count (sequence_view arguments.now) (session_of self.now)
+            (slot_of slot.now)) }
         ensures refused { IfErr result IsRefusal }
     {
         if arguments.sequence != slot.last.wrapping_add(1) {
@@ -128,7 +131,9 @@ impl Session {
 
     /// The slot runs the request.
     pub fn start(&mut self, uid: u32, arguments: &SequenceArguments)
-        ensures { session_of self.new ≡ with_slot arguments.now.slot (running_slot arguments.now.sequence uid) (session_of self.old) }
+        ensures { session_of self.new
+            ≡ with_slot arguments.now.slot (running_slot arguments.now.sequence uid)
+            (session_of self.old) }
     {
         let place = arguments.slot as usize;
         if place < self.slots.len() {
@@ -150,7 +155,8 @@ impl Session {
     /// The reply that the slot keeps.
     pub fn kept(&self, slot: u32) -> Option<&[u8]>
         ensures short { IfSome result (λ bytes. length bytes.now ≤ 16384) }
-        ensures kept { option_map (λ bytes. bytes.now) result ≡ reply_at slot (session_of self.now) }
+        ensures kept { option_map (λ bytes. bytes.now) result
+            ≡ reply_at slot (session_of self.now) }
     {
         self.slots.get(slot as usize)?.kept()
     }

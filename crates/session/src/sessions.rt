@@ -23,7 +23,7 @@ impl Sessions {
     ghost use Rattle.std.specs.Option.{option_map, option_copied};
     ghost use Rattle.model.specs.Session.{is_session, is_of_client, is_of_clients, without, changed_where, with_slot, finished_slot};
     ghost use Rattle.session.specs.Slots.{running_slot};
-    ghost use Rattle.session.specs.Views.{session_of, sessions_of, book_of};
+    ghost use Rattle.session.specs.Views.{session_of, sessions_of, book_of, book_with};
 
     /// No session.
     pub fn new(alloc: Global) -> Sessions
@@ -37,7 +37,8 @@ impl Sessions {
 
     /// The session of this id.
     pub fn find(&self, id: &[u8; 16]) -> Option<&Session>
-        ensures { option_map session_of (option_copied result) ≡ find (is_session id.now) (sessions_of self.now) }
+        ensures { option_map session_of (option_copied result)
+            ≡ find (is_session id.now) (sessions_of self.now) }
     {
         for session in &self.list {
             if session.has_id(id) {
@@ -48,7 +49,8 @@ impl Sessions {
     }
 
     fn position(&self, id: &[u8; 16]) -> Option<usize>
-        ensures { result ≡ position (λ session. is_session id.now (session_of session)) self.now.list.items }
+        ensures { result ≡ position
+            (λ session. is_session id.now (session_of session)) self.now.list.items }
     {
         self.list.iter().position(|session| session.has_id(id))
     }
@@ -62,7 +64,10 @@ impl Sessions {
 
     /// The slot of the session runs the request.
     pub fn start(&mut self, uid: u32, arguments: &SequenceArguments)
-        ensures { book_of self.new ≡ (self.old.serial, changed_where (is_session arguments.now.session) (with_slot arguments.now.slot (running_slot arguments.now.sequence uid)) (sessions_of self.old)) }
+        ensures { book_of self.new
+            ≡ book_with self.old (changed_where (is_session arguments.now.session)
+            (with_slot arguments.now.slot (running_slot arguments.now.sequence uid))
+            (sessions_of self.old)) }
     {
         if let Some(at) = self.position(&arguments.session) {
             self.list[at].start(uid, arguments);
@@ -72,7 +77,9 @@ impl Sessions {
     /// The slot of the session keeps the reply to what it ran.
     pub fn keep(&mut self, id: &[u8; 16], slot: u32, reply: Vec<u8>)
         requires small { length reply.items ≤ 16384 }
-        ensures { book_of self.new ≡ (self.old.serial, changed_where (is_session id.now) (finished_slot slot reply.items) (sessions_of self.old)) }
+        ensures { book_of self.new ≡ book_with self.old
+            (changed_where (is_session id.now) (finished_slot slot reply.items)
+            (sessions_of self.old)) }
     {
         if let Some(at) = self.position(id) {
             self.list[at].keep(slot, reply);
@@ -81,7 +88,8 @@ impl Sessions {
 
     /// Ends the session of this id.
     pub fn remove(&mut self, id: &[u8; 16])
-        ensures { book_of self.new ≡ (self.old.serial, without (is_session id.now) (sessions_of self.old)) }
+        ensures { book_of self.new
+            ≡ book_with self.old (without (is_session id.now) (sessions_of self.old)) }
     {
         self.list.retain(|session| !session.has_id(id));
     }
@@ -89,7 +97,8 @@ impl Sessions {
     /// A new session, of a later serial than those before, in place of those of the ended clients. Without memory nothing changes.
     pub fn add(&mut self, ended: &[u64], session: Session) -> Result<(), AllocError>
         requires { self.old.serial < session.serial }
-        ensures ok { OnOk result (book_of self.new ≡ (session.serial, without (is_of_clients ended.now) (sessions_of self.old) ++ session_of session ∷ [])) }
+        ensures ok { let staying = without (is_of_clients ended.now) (sessions_of self.old) in
+            OnOk result (book_of self.new ≡ (session.serial, staying ++ session_of session ∷ [])) }
         ensures err { OnErr result (book_of self.new ≡ book_of self.old) }
     {
         self.list.reserve(1)?;

@@ -59,7 +59,8 @@ impl Slot {
     /// The reply that it keeps.
     pub fn kept(&self) -> Option<&[u8]>
         ensures short { IfSome result (λ bytes. length bytes.now ≤ 16384) }
-        ensures kept { option_map (λ bytes. bytes.now) result ≡ kept_reply (slot_of self.now).state }
+        ensures kept { option_map (λ bytes. bytes.now) result
+            ≡ kept_reply (slot_of self.now).state }
     {
         match &self.state {
             SlotState::Kept(reply) => Some(reply.bytes.as_slice()),

@@ -1,6 +1,6 @@
-pub mod ExactTypes
-pub mod ExactArguments
-pub mod ExactAnswers
+pub mod Bitmaps
 pub mod Entries
+pub mod ExactAnswers
+pub mod ExactArguments
+pub mod ExactTypes
 pub mod Sizes
-pub mod Trimmed

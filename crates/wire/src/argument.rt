@@ -1,10 +1,11 @@
 //! The operations by their numbers (RFC 8881, section 18).
 
-ghost use Rattle.std.specs.Prelude.{◌≡◌, ◌≢◌, ℕ, List, Err, IfSome, IfNone};
+ghost use Rattle.std.specs.Prelude.{◌≡◌, ◌≢◌, ◌==◌, ℕ, List, Err, IfSome, IfNone, find};
 ghost use Rattle.xdr.specs.Clauses.{Accepts, Reads};
 ghost use Rattle.xdr.specs.Laws.{IsBytes};
 ghost use Rattle.xdr.specs.declared.refusal.Refusal.TheVariants.{Value};
-ghost use Rattle.model.specs.WireArguments.{argument, arguments_at};
+ghost use Rattle.model.specs.Operation.{operation_of};
+ghost use Rattle.model.specs.WireArguments.{argument, argument_told, arguments_at};
 ghost use Rattle.wire.specs.Numbers.{number_of};
 ghost use Rattle.wire.specs.ArgumentView.{argument_view};
 
@@ -51,6 +52,34 @@ pub enum Operation {
     ReclaimComplete = 58,
 }
 
+const ALL: [Operation; 25] = [
+    Operation::Access,
+    Operation::Close,
+    Operation::Commit,
+    Operation::Create,
+    Operation::GetAttr,
+    Operation::GetFh,
+    Operation::Lookup,
+    Operation::LookupParent,
+    Operation::Open,
+    Operation::PutFh,
+    Operation::PutRootFh,
+    Operation::Read,
+    Operation::ReadDir,
+    Operation::Remove,
+    Operation::Rename,
+    Operation::RestoreFh,
+    Operation::SaveFh,
+    Operation::SetAttr,
+    Operation::Write,
+    Operation::ExchangeId,
+    Operation::CreateSession,
+    Operation::DestroySession,
+    Operation::Sequence,
+    Operation::DestroyClientId,
+    Operation::ReclaimComplete,
+];
+
 impl Operation {
     /// The number on the wire.
     pub fn number(self) -> u32
@@ -60,40 +89,24 @@ impl Operation {
     }
 
     /// The operation of this number, if it is one of these.
+    #[tactic(auto, unfolding(model::specs::WireArguments::arguments_at))]
     pub fn from_number(number: u32) -> Option<Operation>
         ensures some { IfSome result (λ operation. number_of operation ≡ number) }
         ensures none { IfNone result ((bytes : List ℕ) → arguments_at number bytes ≡ Err Value) }
         ensures other { IfNone result ((operation : Operation) → number_of operation ≢ number) }
     {
-        Some(match number {
-            3 => Operation::Access,
-            4 => Operation::Close,
-            5 => Operation::Commit,
-            6 => Operation::Create,
-            9 => Operation::GetAttr,
-            10 => Operation::GetFh,
-            15 => Operation::Lookup,
-            16 => Operation::LookupParent,
-            18 => Operation::Open,
-            22 => Operation::PutFh,
-            24 => Operation::PutRootFh,
-            25 => Operation::Read,
-            26 => Operation::ReadDir,
-            28 => Operation::Remove,
-            29 => Operation::Rename,
-            31 => Operation::RestoreFh,
-            32 => Operation::SaveFh,
-            34 => Operation::SetAttr,
-            38 => Operation::Write,
-            42 => Operation::ExchangeId,
-            43 => Operation::CreateSession,
-            44 => Operation::DestroySession,
-            53 => Operation::Sequence,
-            57 => Operation::DestroyClientId,
-            58 => Operation::ReclaimComplete,
-            _ => return None,
-        })
+        numbered_so(&ALL, number)
     }
+}
+
+// The first of these that has this number.
+fn numbered_so(operations: &[Operation], number: u32) -> Option<Operation>
+    ensures { result ≡ find (λ operation. number == number_of operation) operations.now }
+{
+    operations
+        .iter()
+        .copied()
+        .find(|operation| number == operation.number())
 }
 
 /// An operation with its arguments (`nfs_argop4`).
@@ -127,6 +140,40 @@ pub enum Argument<'a> {
 }
 
 impl<'a> Argument<'a> {
+    /// Which operation it is.
+    pub fn operation(&self) -> Operation
+        ensures number { number_of result ≡ operation_of (argument_view self.now) }
+        ensures told { number_of result ≡ (argument_told (argument_view self.now)).number }
+    {
+        match self {
+            Argument::Access(_) => Operation::Access,
+            Argument::Close(_) => Operation::Close,
+            Argument::Commit(_) => Operation::Commit,
+            Argument::Create(_) => Operation::Create,
+            Argument::GetAttr(_) => Operation::GetAttr,
+            Argument::GetFh => Operation::GetFh,
+            Argument::Lookup(_) => Operation::Lookup,
+            Argument::LookupParent => Operation::LookupParent,
+            Argument::Open(_) => Operation::Open,
+            Argument::PutFh(_) => Operation::PutFh,
+            Argument::PutRootFh => Operation::PutRootFh,
+            Argument::Read(_) => Operation::Read,
+            Argument::ReadDir(_) => Operation::ReadDir,
+            Argument::Remove(_) => Operation::Remove,
+            Argument::Rename(_) => Operation::Rename,
+            Argument::RestoreFh => Operation::RestoreFh,
+            Argument::SaveFh => Operation::SaveFh,
+            Argument::SetAttr(_) => Operation::SetAttr,
+            Argument::Write(_) => Operation::Write,
+            Argument::ExchangeId(_) => Operation::ExchangeId,
+            Argument::CreateSession(_) => Operation::CreateSession,
+            Argument::DestroySession(_) => Operation::DestroySession,
+            Argument::Sequence(_) => Operation::Sequence,
+            Argument::DestroyClientId(_) => Operation::DestroyClientId,
+            Argument::ReclaimComplete(_) => Operation::ReclaimComplete,
+        }
+    }
+
     /// Reads the arguments behind an operation's number.
     #[tactic(auto, unfolding(model::specs::WireArguments::arguments_at))]
     pub fn read(

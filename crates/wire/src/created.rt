@@ -7,35 +7,20 @@ ghost use Rattle.wire.specs.AnswerViews.{create_view};
 ghost use Rattle.wire.specs.SmallViews.{change_view};
 
 use crate::answers::CreateAnswer;
-use crate::small::{Bitmap, ChangeInfo};
+use crate::small::{Bitmap, ChangeInfo, trimmed};
 use xdr::Words;
 
 impl CreateAnswer {
     /// The directory's change, where each of the given attributes was set.
-    #[tactic(auto, using(crate::proofs::Trimmed::trimmed_is))]
+    #[tactic(auto, using(crate::proofs::Bitmaps::trimmed_is))]
     pub fn new(change: ChangeInfo, given: &Bitmap) -> CreateAnswer
         ensures answered { create_view result ≡ record { change = change_view change; was_set = trimmed given.now } }
         ensures short { IsTrue (is_trimmed (create_view result).was_set) }
     {
         CreateAnswer {
             change,
-            was_set: trimmed(given.as_slice()),
+            was_set: copied(trimmed(given.as_slice())),
         }
-    }
-}
-
-// The words without zero words at the end.
-fn trimmed(words: &[u32]) -> Bitmap
-    requires { length words.now ≤ 8 }
-    ensures { result ≡ trimmed words.now }
-{
-    let Some((last, front)) = words.split_last() else {
-        return Words::new();
-    };
-    if *last == 0 {
-        trimmed(front)
-    } else {
-        copied(words)
     }
 }
 

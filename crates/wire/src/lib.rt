@@ -29,5 +29,5 @@ pub use outcome::{Answer, Outcome};
 pub use session::{CreateSessionArguments, ExchangeIdArguments, SequenceArguments};
 pub use small::{
     Attributes, Bitmap, CallbackSecurity, ChangeInfo, Channel, Implementation, StateId,
-    SystemCredential, read_trimmed,
+    SystemCredential, read_trimmed, trimmed,
 };

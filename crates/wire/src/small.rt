@@ -1,10 +1,11 @@
 //! The small types (RFC 8881, section 3.3).
 
-ghost use Rattle.std.specs.Prelude.{◌≡◌, ◌<◌, ◌^◌, length};
+ghost use Rattle.std.specs.Prelude.{◌≡◌, ◌≤◌, ◌<◌, ◌^◌, length};
 ghost use Rattle.std.specs.Option.{option_map};
 ghost use Rattle.xdr.specs.Clauses.{Scans, Wrote};
 ghost use Rattle.xdr.specs.Grammar.{unsigned_int};
 ghost use Rattle.xdr.specs.Forms.{is_trimmed, optional, trimmed_bitmap};
+ghost use Rattle.model.specs.Attribute.{trimmed};
 ghost use Rattle.model.specs.WireTypes.{state_id, attributes, change_info, channel, implementation, system_credential, callback_security};
 ghost use Rattle.wire.specs.SmallViews.{channel_rest, state_view, attributes_view, change_view, channel_view, implementation_view, credential_view, security_view};
 
@@ -12,6 +13,17 @@ use xdr::{Reader, Refusal, Words, Writer};
 
 /// Attribute n is bit n % 32 of word n / 32.
 pub type Bitmap = Words<8>;
+
+/// A bitmap as results have it: without zero words at the end.
+pub fn trimmed(bitmap: &[u32]) -> &[u32]
+    ensures value { result.now ≡ trimmed bitmap.now }
+    ensures short { length result.now ≤ length bitmap.now }
+{
+    let Some((last, front)) = bitmap.split_last() else {
+        return bitmap;
+    };
+    if *last == 0 { trimmed(front) } else { bitmap }
+}
 
 /// Reads a bitmap as results have it: without zero words at the end.
 pub fn read_trimmed(r: &mut Reader<'_>) -> Result<Bitmap, Refusal>
@@ -26,7 +38,7 @@ pub fn read_trimmed(r: &mut Reader<'_>) -> Result<Bitmap, Refusal>
     Ok(words)
 }
 
-#[tactic(auto, using(crate::proofs::Trimmed::trimmed_by_last))]
+#[tactic(auto, using(crate::proofs::Bitmaps::trimmed_by_last))]
 fn ends_in_a_bit(words: &[u32]) -> bool
     ensures { result ≡ is_trimmed words.now }
 {

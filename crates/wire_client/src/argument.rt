@@ -3,7 +3,6 @@
 ghost use Rattle.std.specs.Prelude.{◌≡◌, OnErr};
 ghost use Rattle.xdr.specs.Clauses.{Wrote};
 ghost use Rattle.model.specs.WireArguments.{argument, argument_told};
-ghost use Rattle.wire.specs.Numbers.{number_of};
 ghost use Rattle.wire.specs.ArgumentView.{argument_view};
 ghost use Rattle.wire_client.specs.ArgumentFits.{ArgumentFits};
 
@@ -11,7 +10,7 @@ use crate::directory::{write_create, write_read_dir, write_rename};
 use crate::file::{write_close, write_commit, write_read, write_set_attr, write_write};
 use crate::open::write_open;
 use crate::session::{write_create_session, write_exchange_id, write_sequence};
-use wire::{Argument, Operation};
+use wire::Argument;
 use xdr::{Refusal, Writer};
 
 /// Writes an operation's number and its arguments (`nfs_argop4`).
@@ -31,40 +30,8 @@ fn write_numbered(w: &mut Writer, call: &Argument<'_>) -> Result<(), Refusal>
     requires { ArgumentFits call.now }
     ensures { Wrote w.old w.new result (argument.spelling (argument_view call.now)) }
 {
-    w.write_u32(operation_of(call).number())?;
+    w.write_u32(call.operation().number())?;
     write_behind_number(w, call)
-}
-
-fn operation_of(call: &Argument<'_>) -> Operation
-    ensures { number_of result ≡ (argument_told (argument_view call.now)).number }
-{
-    match call {
-        Argument::Access(_) => Operation::Access,
-        Argument::Close(_) => Operation::Close,
-        Argument::Commit(_) => Operation::Commit,
-        Argument::Create(_) => Operation::Create,
-        Argument::GetAttr(_) => Operation::GetAttr,
-        Argument::GetFh => Operation::GetFh,
-        Argument::Lookup(_) => Operation::Lookup,
-        Argument::LookupParent => Operation::LookupParent,
-        Argument::Open(_) => Operation::Open,
-        Argument::PutFh(_) => Operation::PutFh,
-        Argument::PutRootFh => Operation::PutRootFh,
-        Argument::Read(_) => Operation::Read,
-        Argument::ReadDir(_) => Operation::ReadDir,
-        Argument::Remove(_) => Operation::Remove,
-        Argument::Rename(_) => Operation::Rename,
-        Argument::RestoreFh => Operation::RestoreFh,
-        Argument::SaveFh => Operation::SaveFh,
-        Argument::SetAttr(_) => Operation::SetAttr,
-        Argument::Write(_) => Operation::Write,
-        Argument::ExchangeId(_) => Operation::ExchangeId,
-        Argument::CreateSession(_) => Operation::CreateSession,
-        Argument::DestroySession(_) => Operation::DestroySession,
-        Argument::Sequence(_) => Operation::Sequence,
-        Argument::DestroyClientId(_) => Operation::DestroyClientId,
-        Argument::ReclaimComplete(_) => Operation::ReclaimComplete,
-    }
 }
 
 #[tactic(auto, using(xdr::proofs::Writing::wrote_nothing))]
