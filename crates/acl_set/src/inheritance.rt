@@ -96,7 +96,8 @@ pub fn are_flags_for(kind: NodeKind, flags: AceFlags) -> bool
 
 const EVERY_RIGHT: u32 = 0x1F01E7;
 
-fn is_entry_for(kind: NodeKind, ace: &Ace) -> bool
+// Whether a node of this kind may have the entry.
+pub(crate) fn is_entry_for(kind: NodeKind, ace: &Ace) -> bool
     ensures { result ≡ is_entry_for kind ace.now }
 {
     are_flags_for(kind, ace.flags)

@@ -1,11 +1,11 @@
--- Attributes, their values, and bitmaps.
+-- Attributes and their values.
 use Rattle.std.proofs.Common.{ℕ, Bool, true, false, List, [], ◌∷◌, ◌++◌, ◌≡◌, ◌≢◌, ◌≤◌, Option, Some, None, nat_lt, subst, ne_eqb, refl, ap, ◌∙◌, arith}
 use Rattle.std.proofs.lemmas.Bool.{ltb-false}
 use Rattle.std.specs.List.{flat_map}
 use Rattle.model.specs.declared.node.NodeKind.{NodeKind}
 use Rattle.model.specs.declared.limits.Limits.{Limits}
 use Rattle.model.specs.declared.status.Status.TheVariants as status
-use Rattle.model.specs.Attribute.{first_said, mode_said, value_refusals, trimmed, word_before}
+use Rattle.model.specs.Attribute.{first_said, mode_said, value_refusals}
 use Rattle.model.specs.AttributeValue.{Value, Mode}
 use Rattle.model.specs.Refusal.{first_refusal}
 use Rattle.model.proofs.AttributeLaws.{first_passed, front_passed}
@@ -20,15 +20,3 @@ nine_bits limits kind (Mode first ∷ rest) mode tested same =
     subst (λ n. n ≤ 511) here (ltb-false 511 first passed.0)
 nine_bits limits kind (value ∷ rest) mode tested same =
     nine_bits limits kind rest mode (first_passed (value_refusals limits kind) value rest tested).1 same
-
-pub trimmed-zero : (words : List ℕ) → trimmed (words ++ 0 ∷ []) ≡ trimmed words
-trimmed-zero [] = refl
-trimmed-zero (first ∷ words) = ap (word_before first) (trimmed-zero words)
-
-pub trimmed-word : (words : List ℕ) (word : ℕ) → word ≢ 0 → trimmed (words ++ word ∷ []) ≡ words ++ word ∷ []
-trimmed-word [] word there = rw (ne_eqb word 0 there) refl
-trimmed-word (first ∷ words) word there = ap (word_before first) (trimmed-word words word there) ∙ before words
-  where
-    before : (words : List ℕ) → word_before first (words ++ word ∷ []) ≡ first ∷ (words ++ word ∷ [])
-    before [] = refl
-    before (next ∷ words) = refl

@@ -5,7 +5,7 @@ ghost use Rattle.std.specs.List.{flat_map};
 ghost use Rattle.std.specs.Option.{ForSome};
 ghost use Rattle.model.specs.Acl.{every_right, inheritance, without};
 ghost use Rattle.model.specs.AclText.{identifier_group};
-ghost use Rattle.model.specs.Attribute.{attribute_refusals, entry_refusals, first_said, has_one_outside, is_among, is_empty, mode_given, mode_said, supported_beside, trimmed, value_refusals};
+ghost use Rattle.model.specs.Attribute.{attribute_refusals, entry_refusals, first_said, has_one_outside, is_among, is_empty, mode_given, mode_said, supported_beside, value_refusals};
 ghost use Rattle.model.specs.AttributeValue.{Acl};
 ghost use Rattle.model.specs.Refusal.{first_refusal};
 ghost use Rattle.wire_attributes.specs.Views.{entry_view, value_view};
@@ -51,16 +51,6 @@ const MODE: u32 = 33;
 const KNOWN_FLAGS: u32 = 0x4F;
 
 const EVERY_RIGHT: u32 = 0x1F01E7;
-
-/// A bitmap as a result has it: without zero words at the end.
-pub fn trimmed(bitmap: &[u32]) -> &[u32]
-    ensures { result.now ≡ trimmed bitmap.now }
-{
-    let Some((last, front)) = bitmap.split_last() else {
-        return bitmap;
-    };
-    if *last == 0 { trimmed(front) } else { bitmap }
-}
 
 fn is_among(numbers: &[u32], attribute: u32) -> bool
     ensures { result ≡ is_among numbers.now attribute }

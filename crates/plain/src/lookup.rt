@@ -3,11 +3,12 @@
 ghost use Rattle.plain.specs.Step.{LooksUp};
 ghost use Rattle.plain.specs.View.{tree_of};
 
-use crate::names::{check_name, entry_named};
+use crate::entries::entry_named;
 use crate::tree::{Content, Node, Tree};
 use acl_eval::{Cred, Mask, granted};
 use model::limits::Limits;
 use model::status::Status;
+use names::check_name;
 
 impl Tree {
     /// LOOKUP (RFC 8881, section 18.13) in the directory of this number: the number of the node that the name leads to.

@@ -9,7 +9,7 @@ ghost use Rattle.plain.specs.Step.{new_directory_refusals, MakesDir};
 ghost use Rattle.plain.specs.View.{node_of, tree_of};
 
 use crate::attributes::{Attributes, SETTABLE_AT_CREATION, Settings, check_attributes};
-use crate::names::{check_name, entry_named};
+use crate::entries::entry_named;
 use crate::put::{Moment, new_directory};
 use crate::refusal::Refusal;
 use crate::stamp::next_stamp;
@@ -17,6 +17,7 @@ use crate::tree::{Node, Tree};
 use acl_eval::{Cred, Mask, NodeKind};
 use model::limits::Limits;
 use model::status::Status;
+use names::check_name;
 use std::alloc::Global;
 
 /// The directory that a caller asks for.

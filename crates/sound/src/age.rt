@@ -5,7 +5,7 @@ ghost use Rattle.model.specs.WellFormed.{IsBefore};
 ghost use Rattle.plain.specs.View.{names_of, node_of, tree_of};
 ghost use Rattle.sound.specs.Decided.{stamped_before, node_before, number_before, all_before};
 
-use crate::names::entries_of;
+use crate::entries::entries_of;
 use plain::tree::{DirEntry, Node, Tree};
 
 fn are_entries_before(entries: &[DirEntry], stamp: u64) -> bool

@@ -5,8 +5,8 @@
 #![tactic(auto)]
 
 mod age;
+mod entries;
 mod links;
-mod names;
 mod node;
 mod order;
 mod reach;

@@ -6,7 +6,7 @@ ghost use Rattle.model.specs.WellFormed.{links_in, links_to, links_owed};
 ghost use Rattle.plain.specs.View.{names_of, nodes_of};
 ghost use Rattle.sound.specs.Decided.{linked_once, lead_to_nodes, all_lead_to_nodes};
 
-use crate::names::entries_of;
+use crate::entries::entries_of;
 use plain::tree::{DirEntry, Node};
 
 /// The root's number. No name leads to it.

@@ -9,8 +9,8 @@ ghost use Rattle.plain.specs.View.{nodes_of};
 ghost use Rattle.sound.specs.Decided.{AreInOrder};
 ghost use Rattle.sound.specs.Marks.{is_led_to, root_marked, AreClosed, AreMarks, IsNext};
 
+use crate::entries::entries_of;
 use crate::links::{ROOT, links_in};
-use crate::names::entries_of;
 use plain::tree::Node;
 use std::alloc::{AllocError, Global};
 

@@ -6,7 +6,7 @@ ghost use Rattle.model.specs.WellFormed.{stamped_in};
 ghost use Rattle.plain.specs.View.{names_of, nodes_of};
 ghost use Rattle.sound.specs.Decided.{stamped_once, all_stamped_once};
 
-use crate::names::entries_of;
+use crate::entries::entries_of;
 use plain::tree::{DirEntry, Node};
 
 fn has_stamp(entries: &[DirEntry], stamp: u64) -> bool

@@ -1,5 +1,0 @@
-use Rattle.std.proofs.Common.{length}
-use Rattle.plain.proofs.attributes.+trimmed.Given as goal
-
-abbrev pub decreases-trimmed : goal.decreases-trimmed
-decreases-trimmed l = length l.bitmap.now
