@@ -1,0 +1,5 @@
+pub mod BecomeLaws
+pub mod FillingLaws
+pub mod IndexLaws
+pub mod OverlayLaws
+pub mod TableLaws

@@ -1,0 +1,4 @@
+pub mod Index
+pub mod Overlays
+pub mod Seen
+pub mod Tables

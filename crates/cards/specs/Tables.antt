@@ -1,0 +1,88 @@
+-- A table of cards, and what is kept beside it.
+use Rattle.std.specs.Prelude.{◌≡◌, ◌≢◌, ◌≤◌, ◌<◌, ◌+◌, ℕ, zero, suc, List, [], ◌∷◌, Option, Some, None, length, slice_index_or}
+use Rattle.model.specs.Charge.{charge_of_blocks}
+use Rattle.model.specs.Keyed.{Keyed, at, IsAbove}
+use Rattle.layout.specs.Cards.{Card}
+use Rattle.layout.specs.Marks.{times}
+use Rattle.layout.specs.SumLaws.{sum_over}
+
+-- the number of a node, and of the one at a place
+
+abbrev pub number_of : Option Card → Option ℕ
+number_of None = None
+number_of (Some card) = Some card.fields.number
+
+abbrev pub number_at : List (Option Card) → (place : ℕ) → Option ℕ
+number_at cards place = number_of (slice_index_or cards place None)
+
+-- each number has one place
+abbrev pub HaveOwnPlaces : List (Option Card) → Type 0
+HaveOwnPlaces cards = (place other number : ℕ) → number_at cards place ≡ Some number
+    → number_at cards other ≡ Some number → place ≡ other
+
+-- no node has the number, and each one has a lower one
+abbrev pub HasNot : List (Option Card) → (number : ℕ) → Type 0
+HasNot cards number = (place : ℕ) → number_at cards place ≢ Some number
+
+abbrev pub AreBelow : List (Option Card) → (number : ℕ) → Type 0
+AreBelow cards number = (place other : ℕ) → number_at cards place ≡ Some other → other < number
+
+-- each number is above 0
+abbrev pub AreNumbered : List (Option Card) → Type 0
+AreNumbered cards = (place number : ℕ) → number_at cards place ≡ Some number → 0 < number
+
+-- a place that is there and free
+pub record IsFree (cards : List (Option Card)) (place : ℕ) : Type 0 where
+  pub within : place < length cards
+  pub free : slice_index_or cards place None ≡ None
+
+-- what a node takes of the data region, and what all of them take; how many they are
+
+abbrev pub charge_of : Card → ℕ
+charge_of card = charge_of_blocks (length card.blocks)
+
+abbrev pub charge_there : Option Card → ℕ
+charge_there None = 0
+charge_there (Some card) = charge_of card
+
+abbrev pub charge_of_all : List (Option Card) → ℕ
+charge_of_all cards = sum_over charge_of cards
+
+abbrev pub count_of_all : List (Option Card) → ℕ
+count_of_all cards = sum_over (λ card. 1) cards
+
+-- no node has more than 4,096 blocks
+abbrev pub AreFew : List (Option Card) → Type 0
+AreFew cards = (place : ℕ) (card : Card) → slice_index_or cards place None ≡ Some card
+    → length card.blocks ≤ 4096
+
+-- how often a place is free
+
+abbrev pub vacancy : Option Card → ℕ
+vacancy None = 1
+vacancy (Some card) = 0
+
+abbrev pub vacant : (place : ℕ) → List (Option Card) → ℕ
+vacant place [] = 0
+vacant zero (card ∷ cards) = vacancy card
+vacant (suc place) (card ∷ cards) = vacant place cards
+
+-- The places by number, the free places, and the sum of the charges, beside the cards
+pub record IsKept (cards : List (Option Card)) (index : Keyed ℕ) (free : List ℕ) (charge : ℕ)
+    : Type 0 where
+  pub few : length cards ≤ 16384
+  pub each : AreFew cards
+  pub rising : IsAbove 0 index
+  pub found : (number place : ℕ) → at number index ≡ Some place
+      → number_at cards place ≡ Some number
+  pub indexed : (number place : ℕ) → number_at cards place ≡ Some number
+      → at number index ≡ Some place
+  pub places : (place : ℕ) → times place free ≡ vacant place cards
+  pub whole : length index + length free ≡ length cards
+  pub count_is : length index ≡ count_of_all cards
+  pub charge_is : charge ≡ charge_of_all cards
+
+-- and room for as many of each as there are places
+pub record HasRoom (cards : List (Option Card)) (index_room free_room : ℕ) : Type 0 where
+  pub index : length cards ≤ index_room
+  pub free : length cards ≤ free_room

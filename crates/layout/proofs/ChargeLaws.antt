@@ -1,0 +1,180 @@
+-- A volume with no free place is charged for all of them.
+use Rattle.std.proofs.Common.{◌≡◌, ◌≢◌, ◌≤◌, ◌<◌, ◌+◌, ℕ, zero, suc, List, [], ◌∷◌, Option, Some, None, length, get_or, refl, sym, ap, ◌∙◌, arith, inl, inr, subst, eqb, eq-eqb, ne_eqb}
+use Rattle.std.proofs.lemmas.Bool.{cases_eq, cases_lt, cases_order}
+use Rattle.std.proofs.lemmas.List.FromFn.{length-map-range_with_len}
+use Rattle.disk.specs.Moments.{Image}
+use Rattle.model.specs.declared.node.NodeKind.{NodeKind}
+use Rattle.model.specs.declared.node.NodeKind.TheVariants as kind
+use Rattle.model.specs.Charge.{charge, blocks, blocks_of, charge_of_blocks, divided_up}
+use Rattle.model.specs.Keyed.{Keyed, at, with, total, worth_at, IsAbove}
+use Rattle.model.proofs.KeyedLaws.{total-with, IsAbove-with}
+use Rattle.directory.proofs.ByStamp.{at-by_stamp}
+use Rattle.std.proofs.lemmas.List.{get_or_past}
+use Rattle.extents.specs.declared.run.Run.{Run}
+use Rattle.extents.specs.Runs.{AreRising}
+use Rattle.directory.specs.Records.{Record, AreStamped}
+use Rattle.directory.specs.Listing.{by_stamp}
+use Rattle.layout.specs.Cards.{Card, tree_of, node_of, content_of, bytes_in, byte_at}
+use Rattle.layout.specs.Laid.{HoldsCard, HoldsPlace, HoldsContent, AreLaid, AreNumbered}
+use Rattle.layout.specs.MarkLaws.{FullIsCharged}
+use Rattle.layout.specs.Marks.{once_if, times, times_set, named_by, named}
+use Rattle.layout.proofs.Changing.{tree-lacks, tree-above}
+
+-- f 0 + f 1 + .. + f (n - 1)
+abbrev pub sum_to : (ℕ → ℕ) → ℕ → ℕ
+sum_to f zero = 0
+sum_to f (suc n) = sum_to f n + f n
+
+pub sum_to-zero : (f : ℕ → ℕ) (n : ℕ) → ((i : ℕ) → f i ≡ 0) → sum_to f n ≡ 0
+sum_to-zero f zero none = refl
+sum_to-zero f (suc n) none = omega (arith, sum_to-zero f n none, none n)
+
+pub sum_to-plus : (f g : ℕ → ℕ) (n : ℕ) → sum_to (λ i. f i + g i) n ≡ sum_to f n + sum_to g n
+sum_to-plus f g zero = refl
+sum_to-plus f g (suc n) = omega (arith, sum_to-plus f g n)
+
+sum_to-same : (f g : ℕ → ℕ) (n : ℕ) → ((i : ℕ) → i < n → f i ≡ g i) → sum_to f n ≡ sum_to g n
+sum_to-same f g zero same = refl
+sum_to-same f g (suc n) same = omega (arith, sum_to-same f g n (λ i h. same i (omega arith)), same n (omega arith))
+
+sum_to-ones : (n : ℕ) → sum_to (λ i. 1) n ≡ n
+sum_to-ones zero = refl
+sum_to-ones (suc n) = omega (arith, sum_to-ones n)
+
+once-not : (n s : ℕ) → n ≢ s → once_if (eqb n s) ≡ 0
+once-not n s off = rw (ne_eqb n s off) refl
+
+once-le : (n s : ℕ) → once_if (eqb n s) ≤ 1
+once-le n s = elim (cases_eq n s) [
+  | inl e ↦ rw (eq-eqb n s e) (omega arith)
+  | inr off ↦ rw (ne_eqb n s off) (omega arith)
+]
+
+-- a sector is one of these at most once
+pub sum_once : (a s n : ℕ) → (sum_to (λ i. once_if (eqb (a + i) s)) n ≤ 1) × (a + n ≤ s → sum_to (λ i. once_if (eqb (a + i) s)) n ≡ 0)
+sum_once a s zero = (omega arith, λ h. refl)
+sum_once a s (suc n) =
+    let before = sum_once a s n in
+    elim (cases_order (a + n) s) [
+      | inl e ↦ (let none = before.1 (omega arith) in omega (arith, once-le (a + n) s), λ h. absurd (omega arith))
+      | inr off ↦ elim off [
+        | inl low ↦ (omega (arith, before.0, once-not (a + n) s (omega arith)), λ h. omega (arith, before.1 (omega arith), once-not (a + n) s (omega arith)))
+        | inr high ↦ (omega (arith, before.0, once-not (a + n) s (omega arith)), λ h. absurd (omega arith))
+      ]
+    ]
+
+pub sum_times : (a n : ℕ) (sectors : List ℕ) → sum_to (λ i. times (a + i) sectors) n ≤ length sectors
+sum_times a n [] = omega (arith, sum_to-zero (λ i. 0) n (λ i. refl))
+sum_times a n (s ∷ sectors) = omega (arith, sum_to-plus (λ i. once_if (eqb (a + i) s)) (λ i. times (a + i) sectors) n, (sum_once a s n).0, sum_times a n sectors)
+
+sum_times_set : (a n : ℕ) (blocks : List (Option ℕ)) → sum_to (λ i. times_set (a + i) blocks) n ≤ length blocks
+sum_times_set a n [] = omega (arith, sum_to-zero (λ i. 0) n (λ i. refl))
+sum_times_set a n (None ∷ blocks) = omega (arith, sum_times_set a n blocks)
+sum_times_set a n (Some s ∷ blocks) = omega (arith, sum_to-plus (λ i. once_if (eqb (a + i) s)) (λ i. times_set (a + i) blocks) n, (sum_once a s n).0, sum_times_set a n blocks)
+
+sum_card : (a n : ℕ) (card : Card) → sum_to (λ i. named_by (a + i) (Some card)) n ≤ length card.fields.run_sectors + length card.blocks
+unfolding named_by
+sum_card a n card =
+    omega (arith, sum_to-plus (λ i. times (a + i) card.fields.run_sectors) (λ i. times_set (a + i) card.blocks) n, sum_times a n card.fields.run_sectors, sum_times_set a n card.blocks)
+
+-- runs are at most as many as blocks
+pub few_runs : (from count : ℕ) (runs : List Run) → AreRising from count runs → from ≤ count → length runs + from ≤ count
+few_runs from count [] rising h = omega arith
+few_runs from count (run ∷ runs) rising h =
+    let low = rising.0 in
+    let some = rising.1 in
+    let fits = rising.2 in
+    omega (arith, few_runs (run.block + run.length) count runs rising.4 fits)
+
+pub total-ones : {A : Type 0} (entries : Keyed A) → total (λ value. 1) entries ≡ length entries
+total-ones [] = refl
+total-ones (entry ∷ rest) = omega (arith, total-ones rest)
+
+pub none_worth : {A : Type 0} (worth : A → ℕ) (found : Option A) → found ≡ None → worth_at worth found ≡ 0
+none_worth worth found e = ap (worth_at worth) e
+
+length-with : {A : Type 0} (entries : Keyed A) (key least : ℕ) (value : A) → IsAbove least entries → at key entries ≡ None → length (with entries key value) ≡ length entries + 1
+length-with {A = A} entries key least value above none =
+    let one : A → ℕ = λ v. 1 in
+    omega (arith, total-with one entries key least value above, none_worth one (at key entries) none, total-ones (with entries key value), total-ones entries)
+
+at-absent : (names : List Record) (key : ℕ) → ((i : ℕ) (d : Record) → i < length names → (get_or names i d).0 ≢ key) → at key names ≡ None
+at-absent [] key off = refl
+at-absent (entry ∷ names) key off =
+    let apart : key ≢ entry.0 = λ e. off 0 entry (omega arith) (sym e) in
+    rw (ne_eqb key entry.0 apart) (at-absent names key (λ i d h. off (suc i) d (omega arith)))
+
+pub stamped-rest : (entry : Record) (names : List Record) → AreStamped (entry ∷ names) → AreStamped names
+stamped-rest entry names stamped = record { above = stamped.above.1; apart = λ i j d low h. stamped.apart (suc i) (suc j) d (omega arith) (omega arith) }
+
+pub above_by_stamp : (names : List Record) → AreStamped names → IsAbove 0 (by_stamp names)
+above_by_stamp [] stamped = tt
+above_by_stamp (entry ∷ names) stamped = IsAbove-with (by_stamp names) entry.0 0 entry.1 (above_by_stamp names (stamped-rest entry names stamped)) stamped.above.0
+
+pub fresh_stamp : (entry : Record) (names : List Record) → AreStamped (entry ∷ names) → at entry.0 (by_stamp names) ≡ None
+fresh_stamp entry names stamped = at-by_stamp entry.0 names ∙ at-absent names entry.0 (λ i d h e. stamped.apart 0 (suc i) d (omega arith) (omega arith) (sym e))
+
+length-by_stamp : (names : List Record) → AreStamped names → length (by_stamp names) ≡ length names
+length-by_stamp [] stamped = refl
+length-by_stamp (entry ∷ names) stamped =
+    let rest = stamped-rest entry names stamped in
+    let fresh : at entry.0 (by_stamp names) ≡ None = at-by_stamp entry.0 names ∙ at-absent names entry.0 (λ i d h e. stamped.apart 0 (suc i) d (omega arith) (omega arith) (sym e)) in
+    omega (arith, length-with (by_stamp names) entry.0 0 entry.1 (above_by_stamp names rest) fresh, length-by_stamp names rest)
+
+content_blocks : (image : Image) (kind : NodeKind) (card : Card) → HoldsContent image kind card → blocks (content_of image kind card) ≡ blocks_of kind card.fields.size
+unfolding bytes_in
+content_blocks image kind.File card holds = ap (λ (n : ℕ). divided_up n 4096) (length-map-range_with_len (byte_at image card.blocks) 0 card.fields.size)
+content_blocks image kind.Directory card holds = ap (λ (n : ℕ). divided_up n 15) (length-by_stamp card.names holds.stamped ∙ holds.count)
+
+pub charge_is : (image : Image) (place : ℕ) (card : Card) → HoldsCard image place card → charge (node_of image card) ≡ charge_of_blocks (length card.blocks)
+unfolding node_of
+charge_is image place card holds = ap charge_of_blocks (content_blocks image card.fields.kind card holds.content ∙ sym holds.node.blocks)
+
+card_charged : (image : Image) (place : ℕ) (card : Card) (a n : ℕ) → HoldsCard image place card → sum_to (λ i. named_by (a + i) (Some card)) n ≤ charge (node_of image card)
+card_charged image place card a n holds =
+    let is = charge_is image place card holds in
+    let runs = few_runs 0 (length card.blocks) card.runs holds.node.runs.rising (omega arith) in
+    omega (arith, sum_card a n card, holds.node.fits.run_sectors, holds.node.run_count)
+
+named-none : (n : ℕ) → named_by n None ≡ 0
+unfolding named_by
+named-none n = refl
+
+none_some : (x : Card) → (let none : Option Card = None in none ≡ Some x) → ⊥
+none_some x e = cc
+
+-- each card is held somewhere
+pub record IsHeld (image : Image) (card : Card) : Type 0 where
+  pub place : ℕ
+  pub holds : HoldsCard image place card
+
+cards_charged : (image : Image) (a n : ℕ) (cards : List (Option Card)) → ((i : ℕ) (card : Card) → get_or cards i None ≡ Some card → IsHeld image card) → AreNumbered cards
+    → sum_to (λ i. named (a + i) cards) n ≤ total charge (tree_of image cards)
+cards_charged image a n [] held apart = omega (arith, sum_to-zero (λ i. 0) n (λ i. refl))
+cards_charged image a n (None ∷ cards) held apart =
+    let rest = cards_charged image a n cards (λ i card e. held (suc i) card e) (λ i j x y off. apart (suc i) (suc j) x y (omega arith)) in
+    let here = sum_to-zero (λ i. named_by (a + i) None) n (λ i. named-none (a + i)) in
+    omega (arith, sum_to-plus (λ i. named_by (a + i) None) (λ i. named (a + i) cards) n)
+cards_charged image a n (Some one ∷ cards) held apart =
+    let rest = cards_charged image a n cards (λ i card e. held (suc i) card e) (λ i j x y off. apart (suc i) (suc j) x y (omega arith)) in
+    let it = held 0 one refl in
+    let here = card_charged image it.place one a n it.holds in
+    let above = tree-above image cards (λ i card e. let other = held (suc i) card e in other.holds.node.number) in
+    let fresh : at one.fields.number (tree_of image cards) ≡ None = tree-lacks image cards one.fields.number (λ i card e. apart (suc i) 0 card one (omega arith) e refl) in
+    omega (
+      arith,
+      sum_to-plus (λ i. named_by (a + i) (Some one)) (λ i. named (a + i) cards) n,
+      total-with charge (tree_of image cards) one.fields.number 0 (node_of image one) above,
+      none_worth charge (at one.fields.number (tree_of image cards)) fresh,
+    )
+
+pub held_card : (nodes : ℕ) (image : Image) (mark : ℕ → ℕ) (cards : List (Option Card)) → AreLaid nodes image mark cards → (i : ℕ) (card : Card) → get_or cards i None ≡ Some card → IsHeld image card
+held_card nodes image mark cards laid i card there = elim (cases_lt i nodes) [
+  | inl low ↦ record { place = i; holds = subst (HoldsPlace image i) there (laid.held i low) }
+  | inr high ↦ absurd (none_some card (sym (get_or_past cards i None (omega (arith, laid.count))) ∙ there))
+]
+
+pub full_is_charged : FullIsCharged
+full_is_charged nodes image mark cards count laid full =
+    let sum = sum_to-same (λ i. named (148 + nodes + i) cards) (λ i. 1) count (λ i h. laid.marks (148 + nodes + i) ∙ full i h) in
+    omega (arith, sum, sum_to-ones count, cards_charged image (148 + nodes) count cards (held_card nodes image mark cards laid) laid.apart)

@@ -1,0 +1,162 @@
+-- A volume that was just formatted.
+use Rattle.std.proofs.Common.{◌≡◌, ◌<◌, ◌+◌, ◌-◌, ◌/◌, ◌%◌, ◌^◌, ℕ, zero, suc, List, [], ◌∷◌, Option, Some, None, get_or, replicate, refl, sym, ap, ap₂, ◌∙◌, arith, inl, inr, ltb, if◌then◌else◌, Bool, true, false}
+use Rattle.std.proofs.Math.Nat.{zero-div}
+use Rattle.std.proofs.lemmas.Bool.{cases_lt}
+use Rattle.std.proofs.lemmas.List.{length-replicate, get_or-replicate, get_or_past}
+use Rattle.disk.specs.Moments.{Image}
+use Rattle.disk.specs.Calls.{zero_sector}
+use Rattle.model.specs.Keyed.{with}
+use Rattle.freemap.specs.Places.{bit_of, bit_in}
+use Rattle.inode.specs.Fields.{IsInode}
+use Rattle.model.specs.Fresh.{fresh_tree}
+use Rattle.model.specs.Limits.{limits_of}
+use Rattle.model.specs.Stamp.{stamp}
+use Rattle.model.specs.Tree.{Tree, Node}
+use Rattle.model.proofs.FreshTree.{fresh}
+use Rattle.layout.specs.Cards.{Card, tree_of, node_of}
+use Rattle.layout.specs.FreshLaws.{root_fields, IsFresh, FreshStands}
+use Rattle.layout.specs.Laid.{HoldsCard, HoldsPlace, AreNumbered}
+use Rattle.layout.specs.Marks.{named, named_by, mark_in}
+use Rattle.layout.specs.Stands.{Version, HaveForms, IsLaid}
+use Rattle.layout.proofs.CardLaws.{cards-back, only_cards}
+use Rattle.layout.proofs.FileLaws.{zero_sector-at}
+use Rattle.layout.proofs.FirstLaws.{sized_parts}
+use Rattle.layout.proofs.StepLaws.{node_of-directory}
+
+nones-at : (n i : ℕ) → get_or (replicate {A = Option Card} n None) i None ≡ None
+nones-at n i = elim (cases_lt i n) [
+  | inl low ↦ get_or-replicate n i None None low
+  | inr high ↦ get_or_past (replicate n None) i None (omega (arith, length-replicate {A = Option Card} n None))
+]
+
+named-nones : (n k : ℕ) → named k (replicate n None) ≡ 0
+unfolding named_by
+named-nones zero k = refl
+named-nones (suc n) k = omega (arith, named-nones n k)
+
+tree-nones : (image : Image) (n : ℕ) → tree_of image (replicate n None) ≡ []
+tree-nones image zero = refl
+tree-nones image (suc n) = tree-nones image n
+
+bit_of-zeros : (bytes : List ℕ) → bytes ≡ zero_sector → (i : ℕ) → bit_of bytes i ≡ 0
+bit_of-zeros bytes is i =
+    ap (λ (b : List ℕ). get_or b (i / 8) 0 / 2 ^ (7 - i % 8) % 2) is ∙ ap (λ (x : ℕ). x / 2 ^ (7 - i % 8) % 2) (zero_sector-at (i / 8)) ∙ ap (λ (b : ℕ). b % 2) (zero-div (2 ^ (7 - i % 8)))
+
+either_zero : (b : Bool) → (let either : ℕ = if b then 0 else 0 in either ≡ 0)
+either_zero true = refl
+either_zero false = refl
+
+none_some : (x : Card) → (let none : Option Card = None in none ≡ Some x) → ⊥
+none_some x e = cc
+
+bit_in-zeros : (low high : List ℕ) → low ≡ zero_sector → high ≡ zero_sector → (i : ℕ) → bit_in low high i ≡ 0
+bit_in-zeros low high a b i = ap₂ (λ (x y : ℕ). if ltb i 32768 then x else y) (bit_of-zeros low a i) (bit_of-zeros high b (i - 32768)) ∙ either_zero (ltb i 32768)
+
+module _ (version : Version) (size nodes : ℕ) (image : Image) (formatted : IsFresh version size nodes image) where
+  abbrev root_card : Card
+  root_card = record { form = version.form 0; fields = root_fields; runs = []; blocks = []; names = [] }
+
+  abbrev root_cards : List (Option Card)
+  root_cards = Some root_card ∷ replicate (nodes - 1) None
+
+  some : 0 < nodes
+  some = let parts = sized_parts size nodes formatted.sized in omega (arith, parts.some)
+
+  fits : IsInode root_fields
+  fits = record {
+    number = omega arith;
+    owner = omega arith;
+    group = omega arith;
+    change = omega arith;
+    time_modify = omega arith;
+    size = omega arith;
+    runs = omega arith;
+    run_sectors = refl;
+    each_run_sector = tt;
+    acl = omega arith;
+    each_ace = (record { flags = omega arith; mask = omega arith; id = omega arith }, tt);
+  }
+
+  holds_root : HoldsCard image 0 root_card
+  holds_root = record {
+    node = record {
+      fits = fits;
+      number = omega arith;
+      sector = formatted.node;
+      each_run = tt;
+      run_count = refl;
+      run_sectors = λ i h. absurd (omega arith);
+      runs = record { rising = tt; same = λ block. refl };
+      blocks = refl;
+    };
+    content = record {
+      count = refl;
+      names = record { few = omega arith; each = tt; apart = λ i j d low h. absurd (omega arith) };
+      stamped = record { above = tt; apart = λ i j d low h. absurd (omega arith) };
+      spelled = λ i h. absurd (omega arith);
+    };
+  }
+
+  held : (place : ℕ) → place < nodes → HoldsPlace image place (get_or root_cards place None)
+  held zero h = holds_root
+  held (suc place) h = rw (nones-at (nodes - 1) place) (formatted.others (suc place) (omega arith) h)
+
+  root_alone : (i : ℕ) (card : Card) → get_or root_cards i None ≡ Some card → i ≡ 0
+  root_alone zero card at_i = refl
+  root_alone (suc i) card at_i = absurd (none_some card (sym (nones-at (nodes - 1) i) ∙ at_i))
+
+  apart : AreNumbered root_cards
+  apart i j a b off at_i at_j = absurd (off (root_alone i a at_i ∙ sym (root_alone j b at_j)))
+
+  some_is : (x y : Card) → (let one : Option Card = Some x in one ≡ Some y) → x ≡ y
+  some_is x y e = cc
+
+  forms : HaveForms version root_cards
+  forms zero card at_i = ap (λ (c : Card). c.form) (some_is card root_card (sym at_i))
+  forms (suc i) card at_i = absurd (none_some card (sym (nones-at (nodes - 1) i) ∙ at_i))
+
+  unmarked : (n : ℕ) → mark_in nodes image n ≡ 0
+  unfolding mark_in
+  unmarked n =
+      let low : image 98 ≡ zero_sector = formatted.bitmap 98 (omega arith) (omega arith) in
+      let high : image 99 ≡ zero_sector = formatted.bitmap 99 (omega arith) (omega arith) in
+      ap (λ (b : ℕ). if ltb n (148 + nodes) then 0 else b) (bit_in-zeros (image 98) (image 99) low high (n - (148 + nodes))) ∙ either_zero (ltb n (148 + nodes))
+
+  unnamed : (n : ℕ) → named n root_cards ≡ 0
+  unfolding named_by
+  unnamed n = omega (arith, named-nones (nodes - 1) n)
+
+  laid : IsLaid version size nodes image root_cards
+  laid = record {
+    laid = record {
+      count = omega (arith, some, length-replicate {A = Option Card} (nodes - 1) None);
+      held = held;
+      apart = apart;
+      marks = λ n. unnamed n ∙ sym (unmarked n);
+      behind = λ n some. absurd (let none = unmarked n in omega arith);
+      once = λ n. omega (arith, unmarked n);
+    };
+    forms = forms;
+    within = λ n h. unmarked n;
+    spare = formatted.spare;
+  }
+
+  tree_is : fresh_tree ≡ tree_of image root_cards
+  tree_is =
+      ap (λ (node : Node). with [] root_fields.number node) (sym (node_of-directory image root_card refl))
+      ∙ ap (λ (tree : Tree). with tree root_fields.number (node_of image root_card)) (sym (tree-nones image (nodes - 1)))
+
+pub fresh_stands : FreshStands
+fresh_stands version size nodes image formatted =
+    let cards = root_cards version size nodes image formatted in
+    let all = laid version size nodes image formatted in
+    let is = fresh (limits_of size nodes) in
+    record {
+      sized = formatted.sized;
+      counted = omega arith;
+      first = formatted.first;
+      laid = only_cards version size nodes image cards all;
+      tree_is = tree_is version size nodes image formatted ∙ ap (tree_of image) (sym (cards-back image nodes cards all.laid.count all.laid.held));
+      well_formed = ∣ is.well_formed (some version size nodes image formatted) (omega arith) ∣₁;
+      before = is.before (stamp 1 0) (omega arith);
+    }

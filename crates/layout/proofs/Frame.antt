@@ -1,0 +1,91 @@
+-- A card whose sectors are kept is held still, and is the same node.
+use Rattle.std.proofs.Common.{◌≡◌, ◌<◌, ◌/◌, ◌%◌, ℕ, zero, suc, List, [], ◌∷◌, Option, Some, None, length, get_or, map, refl, ap, ◌∙◌, arith, eqb, eq-eqb}
+use Rattle.std.specs.List.{range_with_len}
+use Rattle.disk.specs.Moments.{Image}
+use Rattle.model.specs.declared.node.NodeKind.{NodeKind}
+use Rattle.model.specs.declared.node.NodeKind.TheVariants as kind
+use Rattle.model.specs.Tree.{File}
+use Rattle.extents.specs.declared.run.Run.{Run}
+use Rattle.layout.specs.CardLaws.{AreKept, Frame}
+use Rattle.layout.specs.Cards.{Card, node_sector, content_at, byte_at, bytes_in, content_of, node_with, node_of}
+use Rattle.layout.specs.Laid.{AreRunSectors, HoldsContent, HoldsCard}
+use Rattle.layout.specs.Marks.{once_if, times, times_set, named_by}
+
+none_some : (n : ℕ) → (let none : Option ℕ = None in none ≡ Some n) → ⊥
+none_some n e = cc
+
+some_is : (x y : ℕ) → (let one : Option ℕ = Some x in one ≡ Some y) → x ≡ y
+some_is x y e = cc
+
+pub once_same : (n : ℕ) → once_if (eqb n n) ≡ 1
+once_same n = rw (eq-eqb n n refl) refl
+
+times-here : (n : ℕ) (sectors : List ℕ) → 0 < times n (n ∷ sectors)
+times-here n sectors = omega (arith, once_same n)
+
+pub times_set-at : (blocks : List (Option ℕ)) (i n : ℕ) → get_or blocks i None ≡ Some n → 0 < times_set n blocks
+times_set-at [] i n is = absurd (none_some n is)
+times_set-at (None ∷ blocks) zero n is = absurd (none_some n is)
+times_set-at (None ∷ blocks) (suc i) n is = times_set-at blocks i n is
+times_set-at (Some s ∷ blocks) zero n is = let e : s ≡ n = some_is s n is in rw e (omega (arith, once_same n))
+times_set-at (Some s ∷ blocks) (suc i) n is = omega (arith, times_set-at blocks i n is)
+
+pub times-at : (sectors : List ℕ) (i d : ℕ) → i < length sectors → 0 < times (get_or sectors i d) sectors
+times-at [] i d h = absurd (omega arith)
+times-at (sector ∷ sectors) zero d h = times-here sector sectors
+times-at (sector ∷ sectors) (suc i) d h = omega (arith, times-at sectors i d (omega arith))
+
+pub run_sectors-kept : (old new : Image) (sectors : List ℕ) (runs : List Run) → ((n : ℕ) → 0 < times n sectors → new n ≡ old n) → AreRunSectors old sectors runs → AreRunSectors new sectors runs
+run_sectors-kept old new sectors runs same are i h = same (get_or sectors i 0) (times-at sectors i 0 h) ∙ are i h
+
+pub content-kept : (old new : Image) (blocks : List (Option ℕ)) → ((n : ℕ) → 0 < times_set n blocks → new n ≡ old n) → (block : Option ℕ) (i : ℕ) → get_or blocks i None ≡ block → content_at new block ≡ content_at old block
+content-kept old new blocks same None i is = refl
+content-kept old new blocks same (Some n) i is = same n (times_set-at blocks i n is)
+
+module _ (old new : Image) (blocks : List (Option ℕ)) (same : (n : ℕ) → 0 < times_set n blocks → new n ≡ old n) where
+  pub byte_at-kept : (k : ℕ) → byte_at new blocks k ≡ byte_at old blocks k
+  unfolding byte_at
+  byte_at-kept k = ap (λ (bytes : List ℕ). get_or bytes (k % 4096) 0) (content-kept old new blocks same (get_or blocks (k / 4096) None) (k / 4096) refl)
+
+  pub bytes-kept : (size : ℕ) → bytes_in new blocks size ≡ bytes_in old blocks size
+  unfolding bytes_in
+  bytes-kept size = ap (λ (f : ℕ → ℕ). map f (range_with_len 0 size)) (λ i k. byte_at-kept k i)
+
+module _ (old new : Image) (card : Card) (same : AreKept old new (Some card)) where
+  of_runs : (n : ℕ) → 0 < times n card.fields.run_sectors → new n ≡ old n
+  unfolding named_by
+  of_runs n h = same n (omega arith)
+
+  of_blocks : (n : ℕ) → 0 < times_set n card.blocks → new n ≡ old n
+  unfolding named_by
+  of_blocks n h = same n (omega arith)
+
+  content-held : (kind : NodeKind) → HoldsContent old kind card → HoldsContent new kind card
+  content-held kind.File holds = record { unnamed = holds.unnamed; tail = λ k h. byte_at-kept old new card.blocks of_blocks k ∙ holds.tail k h }
+  content-held kind.Directory holds = record { count = holds.count; names = holds.names; stamped = holds.stamped; spelled = λ i h. content-kept old new card.blocks of_blocks (get_or card.blocks i None) i refl ∙ holds.spelled i h }
+
+  content_of-kept : (kind : NodeKind) → content_of new kind card ≡ content_of old kind card
+  content_of-kept kind.File = ap File (bytes-kept old new card.blocks of_blocks card.fields.size)
+  content_of-kept kind.Directory = refl
+
+  pub node-kept : node_of new card ≡ node_of old card
+  unfolding node_of
+  node-kept = ap (node_with card.fields) (content_of-kept card.fields.kind)
+
+  pub held-still : (place : ℕ) → new (node_sector place) ≡ old (node_sector place) → HoldsCard old place card → HoldsCard new place card
+  held-still place sector holds = record {
+    node = record {
+      fits = holds.node.fits;
+      number = holds.node.number;
+      sector = sector ∙ holds.node.sector;
+      each_run = holds.node.each_run;
+      run_count = holds.node.run_count;
+      run_sectors = run_sectors-kept old new card.fields.run_sectors card.runs of_runs holds.node.run_sectors;
+      runs = holds.node.runs;
+      blocks = holds.node.blocks;
+    };
+    content = content-held card.fields.kind holds.content;
+  }
+
+pub frame : Frame
+frame old new place card node same = record { held = held-still old new card same place node; node = node-kept old new card same }

@@ -1,0 +1,61 @@
+-- What is known of cards without their sectors.
+use Rattle.std.proofs.Common.{◌≡◌, ◌≢◌, ◌≤◌, ◌<◌, ◌+◌, ℕ, List, Option, Some, None, length, get_or, set, refl, sym, ap, ◌∙◌, arith, inl, inr, subst}
+use Rattle.std.proofs.lemmas.Bool.{cases_eq}
+use Rattle.std.proofs.lemmas.List.{length-set, get_or-set_same, get_or-set_other}
+use Rattle.disk.specs.Moments.{Image}
+use Rattle.model.specs.declared.node.NodeKind.{NodeKind}
+use Rattle.model.specs.declared.node.NodeKind.TheVariants as kind
+use Rattle.layout.specs.Cards.{Card}
+use Rattle.layout.specs.ChangeLaws.{IsOwnNumber}
+use Rattle.layout.specs.Known.{HasContent, IsPlace, AreCards, MovesMarks, LaidAreCards, OneCardChange}
+use Rattle.layout.specs.Laid.{AreLaid, HoldsContent, HoldsPlace}
+use Rattle.layout.specs.Marks.{named}
+use Rattle.layout.proofs.Changing.{named-set, apart_now}
+
+content_known : (image : Image) (kind : NodeKind) (card : Card) → HoldsContent image kind card → HasContent kind card
+content_known image kind.File card holds = holds.unnamed
+content_known image kind.Directory card holds = record { count = holds.count; names = holds.names; stamped = holds.stamped }
+
+place_known : (image : Image) (place : ℕ) (card : Option Card) → HoldsPlace image place card → IsPlace card
+place_known image place None holds = tt
+place_known image place (Some card) holds = record {
+  fits = holds.node.fits;
+  number = holds.node.number;
+  each_run = holds.node.each_run;
+  run_count = holds.node.run_count;
+  runs = holds.node.runs;
+  blocks = holds.node.blocks;
+  content = content_known image card.fields.kind card holds.content;
+}
+
+pub laid_are_cards : LaidAreCards
+laid_are_cards nodes image mark cards laid = record {
+  count = laid.count;
+  each = λ place h. place_known image place (get_or cards place None) (laid.held place h);
+  apart = laid.apart;
+  marks = laid.marks;
+  behind = laid.behind;
+  once = laid.once;
+}
+
+module _ (nodes : ℕ) (marked mark : ℕ → ℕ) (cards : List (Option Card)) (place : ℕ) (is : Option Card) (h : place < nodes) (old : AreCards nodes marked cards) (new : IsPlace is) (moves : MovesMarks nodes marked mark (get_or cards place None) is) where
+  each_now : (p : ℕ) → p < nodes → IsPlace (get_or (set cards place is) p None)
+  each_now p in_ = elim (cases_eq p place) [
+    | inl one ↦
+        let there : get_or (set cards place is) p None ≡ is = ap (λ (k : ℕ). get_or (set cards place is) k None) one ∙ get_or-set_same cards place is None (omega (arith, old.count)) in
+        rw there new
+    | inr apart ↦ rw (get_or-set_other cards place p is None apart) (old.each p in_)
+  ]
+
+  marks_now : (n : ℕ) → named n (set cards place is) ≡ mark n
+  marks_now n = omega (arith, named-set n cards place is (omega (arith, old.count)), old.marks n, moves.marks n)
+
+pub one_card_change : OneCardChange
+one_card_change nodes marked mark cards place is h old own new moves = record {
+  count = length-set cards place is ∙ old.count;
+  each = each_now nodes marked mark cards place is h old new moves;
+  apart = apart_now cards place is (omega (arith, old.count)) own old.apart;
+  marks = marks_now nodes marked mark cards place is h old new moves;
+  behind = moves.behind;
+  once = moves.once;
+}

@@ -1,0 +1,16 @@
+pub mod Answering
+pub mod CardLaws
+pub mod Changing
+pub mod ChargeLaws
+pub mod DirectoryLaws
+pub mod EditMeets
+pub mod FileLaws
+pub mod FirstLaws
+pub mod Formatted
+pub mod Frame
+pub mod Knowing
+pub mod Linking
+pub mod MarkProofs
+pub mod NodeEditLaws
+pub mod StepLaws
+pub mod Summing

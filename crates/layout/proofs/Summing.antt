@@ -1,0 +1,85 @@
+-- Sums over the tree are sums over the cards.
+use Rattle.std.proofs.Common.{◌≡◌, ◌+◌, ℕ, suc, List, [], ◌∷◌, ◌++◌, Option, Some, None, length, get_or, refl, sym, ap, ◌∙◌, arith, inl, inr, eqb, eq-eqb, ne_eqb}
+use Rattle.std.proofs.lemmas.Bool.{cases_eq}
+use Rattle.disk.specs.Moments.{Image}
+use Rattle.model.specs.declared.node.NodeKind.{NodeKind}
+use Rattle.model.specs.declared.node.NodeKind.TheVariants as kind
+use Rattle.model.specs.Charge.{charge, charge_of_blocks}
+use Rattle.model.specs.Keyed.{at, total}
+use Rattle.model.specs.Tree.{Node, DirEntry, names_of}
+use Rattle.model.specs.WellFormed.{links_from, links_in, links_to, one_if}
+use Rattle.model.proofs.KeyedLaws.{total-with}
+use Rattle.directory.specs.Listing.{by_stamp}
+use Rattle.directory.specs.Records.{Record}
+use Rattle.layout.specs.Cards.{Card, tree_of, node_of, content_of}
+use Rattle.layout.specs.Laid.{AreLaid, HoldsContent, AreNumbered}
+use Rattle.layout.specs.Marks.{once_if, times}
+use Rattle.layout.specs.SumLaws.{sum_over, numbers_of, entry_numbers, NamesTotal, EachSum}
+use Rattle.layout.proofs.Changing.{tree-lacks, tree-above}
+use Rattle.layout.proofs.ChargeLaws.{IsHeld, held_card, charge_is, none_worth, total-ones, stamped-rest, above_by_stamp, fresh_stamp}
+
+pub names_total : NamesTotal
+names_total worth [] stamped = refl
+names_total worth (entry ∷ names) stamped =
+    let rest = stamped-rest entry names stamped in
+    omega (arith, total-with worth (by_stamp names) entry.0 0 entry.1 (above_by_stamp names rest), none_worth worth (at entry.0 (by_stamp names)) (fresh_stamp entry names stamped), names_total worth names rest)
+
+abbrev AreHeld : Image → List (Option Card) → Type 0
+AreHeld image cards = (i : ℕ) (card : Card) → get_or cards i None ≡ Some card → IsHeld image card
+
+total-tree : (worth : Node → ℕ) (image : Image) (cards : List (Option Card)) → AreHeld image cards → AreNumbered cards → total worth (tree_of image cards) ≡ sum_over (λ card. worth (node_of image card)) cards
+total-tree worth image [] held apart = refl
+total-tree worth image (None ∷ cards) held apart = total-tree worth image cards (λ i card e. held (suc i) card e) (λ i j x y off. apart (suc i) (suc j) x y (omega arith))
+total-tree worth image (Some one ∷ cards) held apart =
+    let rest = total-tree worth image cards (λ i card e. held (suc i) card e) (λ i j x y off. apart (suc i) (suc j) x y (omega arith)) in
+    let above = tree-above image cards (λ i card e. let other = held (suc i) card e in other.holds.node.number) in
+    let fresh : at one.fields.number (tree_of image cards) ≡ None = tree-lacks image cards one.fields.number (λ i card e. apart (suc i) 0 card one (omega arith) e refl) in
+    omega (arith, total-with worth (tree_of image cards) one.fields.number 0 (node_of image one) above, none_worth worth (at one.fields.number (tree_of image cards)) fresh)
+
+sum_over-same : (f g : Card → ℕ) (image : Image) (cards : List (Option Card)) → AreHeld image cards → ((card : Card) → IsHeld image card → f card ≡ g card) → sum_over f cards ≡ sum_over g cards
+sum_over-same f g image [] held same = refl
+sum_over-same f g image (None ∷ cards) held same = sum_over-same f g image cards (λ i card e. held (suc i) card e) same
+sum_over-same f g image (Some one ∷ cards) held same = omega (arith, same one (held 0 one refl), sum_over-same f g image cards (λ i card e. held (suc i) card e) same)
+
+times-append : (n : ℕ) (a b : List ℕ) → times n (a ++ b) ≡ times n a + times n b
+times-append n [] b = omega arith
+times-append n (x ∷ a) b = omega (arith, times-append n a b)
+
+one_once : (x n : ℕ) → one_if (eqb x n) ≡ once_if (eqb n x)
+one_once x n = elim (cases_eq x n) [
+  | inl e ↦ ap one_if (eq-eqb x n e) ∙ sym (ap once_if (eq-eqb n x (sym e)))
+  | inr off ↦ ap one_if (ne_eqb x n off) ∙ sym (ap once_if (ne_eqb n x (λ e. off (sym e))))
+]
+
+links-names : (n : ℕ) (names : List Record) → total (λ (entry : DirEntry). one_if (eqb entry.number n)) names ≡ times n (numbers_of names)
+links-names n [] = refl
+links-names n (entry ∷ names) = omega (arith, one_once entry.1.number n, links-names n names)
+
+links-content : (n : ℕ) (image : Image) (kind : NodeKind) (card : Card) → HoldsContent image kind card → links_in n (names_of (content_of image kind card)) ≡ times n (numbers_of card.names)
+links-content n image kind.File card holds = ap (λ (names : List Record). times n (numbers_of names)) (sym holds.unnamed)
+links-content n image kind.Directory card holds = names_total (λ entry. one_if (eqb entry.number n)) card.names holds.stamped ∙ links-names n card.names
+
+links-card : (n : ℕ) (image : Image) (card : Card) → IsHeld image card → links_from n (node_of image card) ≡ times n (numbers_of card.names)
+unfolding node_of
+links-card n image card it = links-content n image card.fields.kind card it.holds.content
+
+entries-sum : (n : ℕ) (cards : List (Option Card)) → sum_over (λ card. times n (numbers_of card.names)) cards ≡ times n (entry_numbers cards)
+entries-sum n [] = refl
+entries-sum n (None ∷ cards) = entries-sum n cards
+entries-sum n (Some one ∷ cards) = omega (arith, times-append n (numbers_of one.names) (entry_numbers cards), entries-sum n cards)
+
+pub each_sum : EachSum
+each_sum nodes image mark cards laid =
+    let held = held_card nodes image mark cards laid in
+    let any : (worth : Node → ℕ) → total worth (tree_of image cards) ≡ sum_over (λ card. worth (node_of image card)) cards = λ worth. total-tree worth image cards held laid.apart in
+    record {
+      any = any;
+      charges = any charge ∙ sum_over-same (λ card. charge (node_of image card)) (λ card. charge_of_blocks (length card.blocks)) image cards held (λ card it. charge_is image it.place card it.holds);
+      nodes = sym (total-ones (tree_of image cards)) ∙ any (λ node. 1);
+    }
+
+pub links-sum : (nodes : ℕ) (image : Image) (mark : ℕ → ℕ) (cards : List (Option Card)) → AreLaid nodes image mark cards → (n : ℕ) → links_to (tree_of image cards) n ≡ times n (entry_numbers cards)
+links-sum nodes image mark cards laid n =
+    let held = held_card nodes image mark cards laid in
+    total-tree (links_from n) image cards held laid.apart
+    ∙ sum_over-same (λ card. links_from n (node_of image card)) (λ card. times n (numbers_of card.names)) image cards held (links-card n image) ∙ entries-sum n cards

@@ -1,0 +1,12 @@
+-- What files of some sizes take of the data region: so many blocks, and a sector for each 500 of them.
+use Rattle.std.specs.Prelude.{◌≡◌, ℕ}
+use Rattle.model.specs.declared.node.NodeKind.TheVariants as kind
+use Rattle.model.specs.Charge.{blocks_of, charge_of_blocks}
+
+abbrev pub FileTakes : (size blocks sectors : ℕ) → Type 0
+FileTakes size blocks sectors =
+    (blocks_of kind.File size ≡ blocks) × (charge_of_blocks (blocks_of kind.File size) ≡ sectors)
+
+abbrev pub DirectoryTakes : (names blocks sectors : ℕ) → Type 0
+DirectoryTakes names blocks sectors =
+    (blocks_of kind.Directory names ≡ blocks) × (charge_of_blocks (blocks_of kind.Directory names) ≡ sectors)

@@ -1,0 +1,64 @@
+-- What is known of cards that are laid whatever the sectors hold: all of it is told by the cards themselves and by the marks. On a
+-- device that does not keep its word nothing else is known.
+use Rattle.std.specs.Prelude.{◌≡◌, ◌≤◌, ◌<◌, ◌+◌, ℕ, List, [], Option, Some, None, length, set, slice_index_or}
+use Rattle.std.specs.List.{AllByRecursion}
+use Rattle.disk.specs.Moments.{Image}
+use Rattle.model.specs.declared.node.NodeKind.{NodeKind}
+use Rattle.model.specs.declared.node.NodeKind.TheVariants as kind
+use Rattle.inode.specs.Fields.{IsInode}
+use Rattle.extents.specs.Runs.{AreRunsOf}
+use Rattle.extents.specs.Sector.{IsRun}
+use Rattle.directory.specs.Records.{IsDirectory, AreStamped}
+use Rattle.layout.specs.Cards.{Card, block_count}
+use Rattle.layout.specs.ChangeLaws.{IsOwnNumber, IsSameNumber}
+use Rattle.layout.specs.Laid.{AreLaid, AreNumbered}
+use Rattle.layout.specs.Marks.{named, named_by}
+
+-- a directory's names are as many as its size says
+pub record HasNames (card : Card) : Type 0 where
+  pub count : length card.names ≡ card.fields.size
+  pub names : IsDirectory card.names
+  pub stamped : AreStamped card.names
+
+abbrev pub HasContent : NodeKind → Card → Type 0
+HasContent kind.File card = card.names ≡ []
+HasContent kind.Directory card = HasNames card
+
+pub record IsCard (card : Card) : Type 0 where
+  pub fits : IsInode card.fields
+  pub number : 0 < card.fields.number
+  pub each_run : AllByRecursion IsRun card.runs
+  pub run_count : length card.runs ≡ card.fields.runs
+  pub runs : AreRunsOf card.runs card.blocks
+  pub blocks : length card.blocks ≡ block_count card.fields
+  pub content : HasContent card.fields.kind card
+
+abbrev pub IsPlace : Option Card → Type 0
+IsPlace None = Unit {0}
+IsPlace (Some card) = IsCard card
+
+-- the cards of a table, and marks that are what they name
+pub record AreCards (nodes : ℕ) (mark : ℕ → ℕ) (cards : List (Option Card)) : Type 0 where
+  pub count : length cards ≡ nodes
+  pub each : (place : ℕ) → place < nodes → IsPlace (slice_index_or cards place None)
+  pub apart : AreNumbered cards
+  pub marks : (n : ℕ) → named n cards ≡ mark n
+  pub behind : (n : ℕ) → 0 < mark n → 148 + nodes ≤ n
+  pub once : (n : ℕ) → mark n ≤ 1
+
+-- cards that are laid are so
+abbrev pub LaidAreCards : Type 0
+LaidAreCards = (nodes : ℕ) (image : Image) (mark : ℕ → ℕ) (cards : List (Option Card)) → AreLaid nodes image mark cards
+    → AreCards nodes mark cards
+
+-- the marks follow the card that stands at a place now, in place of the one that was there
+pub record MovesMarks (nodes : ℕ) (marked mark : ℕ → ℕ) (was is : Option Card) : Type 0 where
+  pub marks : (n : ℕ) → mark n + named_by n was ≡ marked n + named_by n is
+  pub once : (n : ℕ) → mark n ≤ 1
+  pub behind : (n : ℕ) → 0 < mark n → 148 + nodes ≤ n
+
+-- and where one of them changes with the marks, they stay so
+abbrev pub OneCardChange : Type 0
+OneCardChange = (nodes : ℕ) (marked mark : ℕ → ℕ) (cards : List (Option Card)) (place : ℕ) (is : Option Card)
+    → place < nodes → AreCards nodes marked cards → IsOwnNumber cards place is → IsPlace is
+    → MovesMarks nodes marked mark (slice_index_or cards place None) is → AreCards nodes mark (set cards place is)

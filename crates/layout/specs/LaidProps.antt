@@ -1,0 +1,53 @@
+-- That cards are laid has one proof at most.
+use Rattle.std.specs.Prelude.{◌+◌, ℕ, List, [], ◌∷◌, Option, Some, None}
+use Rattle.std.proofs.Props.{props}
+use Rattle.std.specs.Coded.{Unit-prop}
+use Rattle.disk.specs.Moments.{Image}
+use Rattle.model.specs.declared.node.NodeKind.{NodeKind}
+use Rattle.model.specs.declared.node.NodeKind.TheVariants as kind
+use Rattle.model.specs.Tree.{Tree}
+use Rattle.inode.specs.Fields.{Fields, IsInode}
+use Rattle.extents.specs.declared.run.Run.{Run}
+use Rattle.extents.specs.Runs.{AreRising, AreRunsOf}
+use Rattle.layout.specs.Cards.{Card}
+use Rattle.layout.specs.Laid.{HoldsNode, HoldsContent, HoldsPlace, AreLaid}
+use Rattle.layout.specs.Stands.{Version, HaveForms, IsLaid, Stands}
+
+AreRising-prop : (from count : ℕ) (runs : List Run) → IsProp (AreRising from count runs)
+AreRising-prop from count [] = Unit-prop
+AreRising-prop from count (run ∷ runs) = Prim.hlevel (props, AreRising-prop (run.block + run.length) count runs)
+
+pub AreRunsOf-prop : (runs : List Run) (blocks : List (Option ℕ)) → IsProp (AreRunsOf runs blocks)
+AreRunsOf-prop runs blocks = Prim.hlevel (props, AreRising-prop)
+
+pub IsInode-prop : (fields : Fields) → IsProp (IsInode fields)
+IsInode-prop fields = Prim.hlevel props
+
+HoldsNode-prop : (image : Image) (place : ℕ) (card : Card) → IsProp (HoldsNode image place card)
+HoldsNode-prop image place card = Prim.hlevel (props, IsInode-prop, AreRunsOf-prop)
+
+HoldsContent-prop : (image : Image) (kind : NodeKind) (card : Card) → IsProp (HoldsContent image kind card)
+HoldsContent-prop image kind.File card = Prim.hlevel props
+HoldsContent-prop image kind.Directory card = Prim.hlevel props
+
+HoldsPlace-prop : (image : Image) (place : ℕ) (card : Option Card) → IsProp (HoldsPlace image place card)
+HoldsPlace-prop image place None = Prim.hlevel props
+HoldsPlace-prop image place (Some card) = Prim.hlevel (props, HoldsNode-prop, HoldsContent-prop)
+
+pub AreLaid-prop : (nodes : ℕ) (image : Image) (mark : ℕ → ℕ) (cards : List (Option Card))
+    → IsProp (AreLaid nodes image mark cards)
+AreLaid-prop nodes image mark cards = Prim.hlevel (props, HoldsPlace-prop)
+
+pub HaveForms-prop : (version : Version) (cards : List (Option Card)) → IsProp (HaveForms version cards)
+HaveForms-prop version cards = Prim.hlevel props
+
+pub IsLaid-prop : (version : Version) (size nodes : ℕ) (image : Image) (cards : List (Option Card))
+    → IsProp (IsLaid version size nodes image cards)
+IsLaid-prop version size nodes image cards = Prim.hlevel (props, AreLaid-prop, HaveForms-prop)
+
+Tree-set : IsSet Tree
+Tree-set = Prim.hlevel props
+
+pub Stands-prop : (version : Version) (size nodes : ℕ) (image : Image) (run : ℕ) (tree : Tree)
+    → IsProp (Stands version size nodes image run tree)
+Stands-prop version size nodes image run tree = Prim.hlevel (props, IsLaid-prop, Tree-set)

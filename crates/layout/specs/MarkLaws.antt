@@ -1,0 +1,67 @@
+-- Marks: what they are after a change of the set, what sectors show them, and that they never pass what the tree is charged.
+use Rattle.std.specs.Prelude.{◌≡◌, ◌≤◌, ◌<◌, ◌+◌, ◌==◌, ℕ, Bool, true, false, List, Option, Some, length, slice_get, slice_set, slice_index_or}
+use Rattle.disk.specs.Moments.{Image}
+use Rattle.freemap.specs.Places.{Show}
+use Rattle.model.specs.Charge.{charge}
+use Rattle.model.specs.Keyed.{total}
+use Rattle.model.specs.Tree.{Tree}
+use Rattle.layout.specs.Cards.{Card, cards_in, tree_of}
+use Rattle.layout.specs.Laid.{AreLaid}
+use Rattle.layout.specs.Marks.{once_if, mark_in, mark_by}
+use Rattle.layout.specs.Stands.{Version, HaveForms, IsLaid, Stands}
+
+-- one sector more is marked, or one less
+pub record MarksChange (first : ℕ) (places : List Bool) (place : ℕ) : Type 0 where
+  pub taken : slice_get places place ≡ Some false
+      → (n : ℕ) → mark_by first (slice_set places place true) n ≡ mark_by first places n + once_if (n == first + place)
+  pub given : slice_index_or places place false ≡ true
+      → (n : ℕ) → mark_by first (slice_set places place false) n + once_if (n == first + place) ≡ mark_by first places n
+  pub once : (n : ℕ) → mark_by first places n ≤ 1
+  pub behind : (n : ℕ) → 0 < mark_by first places n → first ≤ n
+  pub within : (n : ℕ) → first + length places ≤ n → mark_by first places n ≡ 0
+
+abbrev pub EachMark : Type 0
+EachMark = (first : ℕ) (places : List Bool) (place : ℕ) → MarksChange first places place
+
+-- the bitmap sectors show the set
+abbrev pub MarksLaid : Type 0
+MarksLaid = (nodes count : ℕ) (image : Image) (places : List Bool) → count ≤ 65536 → Show (image 98) (image 99) count places
+    → (n : ℕ) → mark_in nodes image n ≡ mark_by (148 + nodes) places n
+
+-- where the bitmap sectors alone are written, what was laid by a set in memory is laid
+pub record WritesMarks (version : Version) (size nodes count : ℕ) (old new : Image) (places : List Bool)
+    (cards : List (Option Card)) : Type 0 where
+  pub few : count ≤ 65536
+  pub size_is : size ≡ 148 + nodes + count
+  pub laid : AreLaid nodes old (mark_by (148 + nodes) places) cards
+  pub forms : HaveForms version cards
+  pub spare : (n : ℕ) → 100 ≤ n → n < 148 → old n ≡ version.spare n
+  pub same : (n : ℕ) → 100 ≤ n → new n ≡ old n
+  pub shown : Show (new 98) (new 99) count places
+
+abbrev pub LaysMarks : Type 0
+LaysMarks = (version : Version) (size nodes count : ℕ) (old new : Image) (places : List Bool) (cards : List (Option Card))
+    → WritesMarks version size nodes count old new places cards → IsLaid version size nodes new cards
+
+-- Kept sectors alone are seen: the superblock, and what stands behind the gate and the payload
+pub record SeesSame (version : Version) (size nodes : ℕ) (old new : Image) (cards : List (Option Card)) : Type 0 where
+  pub laid : IsLaid version size nodes new cards
+  pub same_cards : cards_in nodes new ≡ cards_in nodes old
+  pub same_tree : tree_of new cards ≡ tree_of old cards
+
+abbrev pub KeptAlone : Type 0
+KeptAlone = (version : Version) (size nodes : ℕ) (old new : Image) (cards : List (Option Card)) → 148 + nodes ≤ size
+    → IsLaid version size nodes old cards → ((n : ℕ) → 98 ≤ n → n < size → new n ≡ old n)
+    → SeesSame version size nodes old new cards
+
+-- so of images that are told up to these sectors it does not matter which one is meant
+abbrev pub StandsAlone : Type 0
+StandsAlone = (version : Version) (size nodes : ℕ) (old new : Image) (run : ℕ) (tree : Tree)
+    → Stands version size nodes old run tree → new 0 ≡ old 0 → ((n : ℕ) → 98 ≤ n → n < size → new n ≡ old n)
+    → Stands version size nodes new run tree
+
+-- Where all places are marked, the tree is charged for all of them: so where it is charged for less, a place is free
+abbrev pub FullIsCharged : Type 0
+FullIsCharged = (nodes : ℕ) (image : Image) (mark : ℕ → ℕ) (cards : List (Option Card)) (count : ℕ)
+    → AreLaid nodes image mark cards → ((i : ℕ) → i < count → mark (148 + nodes + i) ≡ 1)
+    → count ≤ total charge (tree_of image cards)

@@ -1,0 +1,24 @@
+//! Changes of one card.
+
+ghost use Rattle.layout.specs.ChangeLaws.{OneChange};
+ghost use Rattle.layout.specs.Steps.{FileStep, NamesStep, SameStep, FileThere, OthersHold, EachOwn, EachChange};
+
+/// Where one card changes, the cards are laid with it changed, and the tree is the one with its node changed.
+pub fn one_change()
+    ensures { OneChange }
+{}
+
+/// Where a node gets other content, the tree is the one with this node.
+pub fn steps()
+    ensures file { FileStep }
+    ensures names { NamesStep }
+    ensures same { SameStep }
+    ensures there { FileThere }
+{}
+
+/// What changes of blocks make of who has which sector.
+pub fn blocks()
+    ensures own { EachOwn }
+    ensures others { OthersHold }
+    ensures times { EachChange }
+{}

@@ -1,0 +1,13 @@
+//! What the sectors of a volume stand for, and the laws of it: each is the contract of a function that does nothing.
+#![tactic(auto)]
+
+pub mod cards;
+pub mod changes;
+pub mod directories;
+pub mod examples;
+pub mod files;
+pub mod marks;
+pub mod node_edits;
+pub mod sectors;
+pub mod sums;
+pub mod volumes;

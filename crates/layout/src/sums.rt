@@ -1,0 +1,15 @@
+//! Sums over the tree.
+
+ghost use Rattle.layout.specs.SumLaws.{NamesTotal, EachSum, EachLink, BytesFit};
+
+/// Sums over the tree are sums over the cards.
+pub fn sums()
+    ensures names { NamesTotal }
+    ensures each { EachSum }
+    ensures links { EachLink }
+{}
+
+/// A file has bytes.
+pub fn bytes()
+    ensures { BytesFit }
+{}

@@ -1,0 +1,11 @@
+pub mod CardLaws
+pub mod FewLaws
+pub mod MarkingLaws
+pub mod NameLaws
+pub mod NumberLaws
+pub mod RunLaws
+pub mod SectorLaws
+pub mod StampLaws
+pub mod TableLaws
+pub mod TailLaws
+pub mod VolumeLaws

@@ -1,0 +1,130 @@
+-- A whole volume.
+use Rattle.std.proofs.Common.{◌≡◌, ◌≤◌, ◌<◌, ◌+◌, ◌-◌, ◌*◌, ℕ, zero, suc, Bool, List, Option, Some, None, length, get_or, refl, sym, ap, subst, ◌∙◌, arith, inl, inr, lt-ltb, le-ltb}
+use Rattle.std.proofs.lemmas.Bool.{cases_lt}
+use Rattle.std.proofs.lemmas.List.{ext_get_or, get_or_past}
+use Rattle.disk.specs.Moments.{Image}
+use Rattle.freemap.specs.Places.{Shows, mark_of, bit_of, bit_in}
+use Rattle.layout.specs.Cards.{Card}
+use Rattle.layout.specs.Known.{AreCards}
+use Rattle.layout.specs.Laid.{AreLaid, AreNumbered}
+use Rattle.layout.specs.Marks.{named, mark_in, mark_by}
+use Rattle.layout.specs.Stands.{version_1, IsLaid}
+use Rattle.layout.proofs.CardLaws.{cards-back}
+use Rattle.layout.proofs.MarkProofs.{mark-back, each_mark, marks_laid}
+use Rattle.scan.specs.Cards.{FindsPlace, IsFound, CanHold}
+use Rattle.scan.specs.Sectors.{AreBits, AreSpare}
+use Rattle.scan.specs.Volumes.{AreFew, IsRead}
+use Rattle.scan.proofs.MarkingLaws.{most-in}
+use Rattle.scan.proofs.TableLaws.{form_is, place_held, place_known, place_found, one_place}
+
+-- Cards that are laid can be held
+
+pub laid_can : (word : Type 0) (image : Image) (size nodes count : ℕ) (cards : List (Option Card)) → size ≡ 148 + nodes + count → IsLaid version_1 size nodes image cards → AreFew cards → CanHold word image nodes count cards
+laid_can word image size nodes count cards sized laid few = record {
+  many = laid.laid.count;
+  each = λ place h. place_found word image place (get_or cards place None) (λ card is. few place card is) (laid.laid.held place h);
+  once = λ n. elim (cases_lt 0 (mark_in nodes image n)) [
+    | inl some ↦
+        let low = laid.laid.behind n some in
+        elim (cases_lt n size) [
+          | inl high ↦ omega (arith, laid.laid.marks n, laid.laid.once n, most-in (148 + nodes) count n low (omega arith))
+          | inr past ↦ absurd (let none = laid.within n past in omega arith)
+        ]
+    | inr none ↦ omega (arith, laid.laid.marks n)
+  ];
+}
+
+-- and are those that were found
+pub one_table : (word : Type 0) (image : Image) (nodes count : ℕ) (cards others : List (Option Card)) (places : List Bool) → word → IsFound word image nodes count cards places → CanHold word image nodes count others → cards ≡ others
+one_table word image nodes count cards others places w found can =
+    ext_get_or None cards others (found.many ∙ sym can.many) (λ p h. one_place word image p (get_or cards p None) (get_or others p None) w (found.each p (omega (arith, found.many))) (can.each p (omega (arith, found.many))))
+
+-- The marks of the bitmap
+
+module _ (nodes : ℕ) (image : Image) (places : List Bool) (marks : (n : ℕ) → mark_in nodes image n ≡ mark_by (148 + nodes) places n) where
+  bits : (k : ℕ) → bit_in (image 98) (image 99) k ≡ mark_of places k
+  unfolding mark_in
+  bits k =
+      let first = 148 + nodes in
+      let far : first ≤ first + k = omega arith in
+      let at : first + k - first ≡ k = omega arith in
+      let one : mark_in nodes image (first + k) ≡ bit_in (image 98) (image 99) (first + k - first) = rw (le-ltb (first + k) first far) refl in
+      ap (bit_in (image 98) (image 99)) (sym at) ∙ sym one ∙ marks (first + k) ∙ mark-back first places (first + k) far ∙ ap (mark_of places) at
+
+  low_bits : AreBits (image 98) places 0
+  low_bits i h = (rw (lt-ltb i 32768 h) at (bits i)) ∙ ap (mark_of places) (let e : i ≡ 0 + i = omega arith in e)
+
+  high_bits : AreBits (image 99) places 32768
+  high_bits i h =
+      let far : 32768 ≤ 32768 + i = omega arith in
+      let e : 32768 + i - 32768 ≡ i = omega arith in
+      ap (bit_of (image 99)) (sym e) ∙ (rw (le-ltb (32768 + i) 32768 far) at (bits (32768 + i)))
+
+  pub part_bits : (part : ℕ) → part < 2 → AreBits (image (98 + part)) places (32768 * part)
+  part_bits zero h = low_bits
+  part_bits (suc zero) h = high_bits
+  part_bits (suc (suc part)) h = absurd (omega arith)
+
+-- of cards that are laid the marks that were made are those of the bitmap
+pub same_marks : (word : Type 0) (image : Image) (size nodes count : ℕ) (cards others : List (Option Card)) (places : List Bool) → word → IsFound word image nodes count cards places → CanHold word image nodes count others → IsLaid version_1 size nodes image others
+    → (n : ℕ) → mark_in nodes image n ≡ mark_by (148 + nodes) places n
+same_marks word image size nodes count cards others places w found can laid n =
+    sym (laid.laid.marks n) ∙ ap (named n) (sym (one_table word image nodes count cards others places w found can)) ∙ sym (found.marks n)
+
+-- What is found of all is read
+
+module _ (word : Type 0) (image : Image) (size nodes count : ℕ) (cards : List (Option Card)) (places : List Bool) (sized : size ≡ 148 + nodes + count) (small : count ≤ 65536) (found : IsFound word image nodes count cards places)
+    (apart : AreNumbered cards) (low : word → Shows (image 98) places 0) (high : word → Shows (image 99) places 32768) (spare : word → AreSpare image) where
+  known : AreCards nodes (mark_by (148 + nodes) places) cards
+  known =
+      let each = each_mark (148 + nodes) places 0 in
+      record {
+        count = found.many;
+        each = λ place h. place_known word image place (get_or cards place None) (found.each place h);
+        apart = apart;
+        marks = λ n. sym (found.marks n);
+        behind = each.behind;
+        once = each.once;
+      }
+
+  same : word → (n : ℕ) → mark_in nodes image n ≡ mark_by (148 + nodes) places n
+  same w = marks_laid nodes count image places small (record { count_is = found.len; low_shows = low w; high_shows = high w })
+
+  laid : word → AreLaid nodes image (mark_in nodes image) cards
+  laid w =
+      let each = each_mark (148 + nodes) places 0 in
+      record {
+        count = found.many;
+        held = λ place h. place_held word image place (get_or cards place None) w (found.each place h);
+        apart = apart;
+        marks = λ n. sym (found.marks n) ∙ sym (same w n);
+        behind = λ n some. each.behind n (omega (arith, same w n));
+        once = λ n. omega (arith, same w n, each.once n);
+      }
+
+  few : AreFew cards
+  few place card is = elim (cases_lt place nodes) [
+    | inl h ↦ few_at place card (subst (FindsPlace word image place) is (found.each place h))
+    | inr past ↦ absurd (none_some card (sym (get_or_past cards place None (omega (arith, found.many))) ∙ is))
+  ]
+    where
+      none_some : (card : Card) → (let none : Option Card = None in none ≡ Some card) → ⊥
+      none_some card e = cc
+
+      few_at : (place : ℕ) (card : Card) → FindsPlace word image place (Some card) → length card.blocks ≤ 4096
+      few_at place card at = let rest = at.rest in let blocks = rest.in_blocks in blocks.few
+
+  pub is_read : IsRead word size nodes image cards places
+  is_read = record {
+    known = known;
+    forms = λ place card is. form_is card.form;
+    few = few;
+    size_is = sized ∙ ap (λ (n : ℕ). 148 + nodes + n) (sym found.len);
+    laid = λ w. record {
+      laid = laid w;
+      forms = λ place card is. form_is card.form;
+      within = λ n h. same w n ∙ (let each = each_mark (148 + nodes) places 0 in each.within n (omega (arith, found.len)));
+      spare = spare w;
+    };
+    read = λ w. let all = laid w in sym (cards-back image nodes cards found.many all.held);
+  }

@@ -1,0 +1,9 @@
+pub mod Cards
+pub mod Faults
+pub mod Marking
+pub mod Names
+pub mod Numbers
+pub mod Places
+pub mod Runs
+pub mod Sectors
+pub mod Volumes

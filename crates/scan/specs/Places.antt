@@ -1,0 +1,18 @@
+-- What is found at a place of the node table. Of what is read something is known whatever the
+-- sectors hold; that they hold it only where the device keeps its word, which is `word` here.
+use Rattle.std.specs.Prelude.{◌≡◌, ◌<◌, ℕ, List, Option, Some, None}
+use Rattle.disk.specs.Calls.{zero_sector}
+use Rattle.inode.specs.declared.node.Form.TheVariants.{One}
+use Rattle.inode.specs.Fields.{Fields, IsInode}
+use Rattle.inode.specs.Spelling.{inode_sector}
+
+-- a node's sector
+pub record FindsNode (word : Type 0) (content : List ℕ) (fields : Fields) : Type 0 where
+  pub fits : IsInode fields
+  pub number : 0 < fields.number
+  pub spelled : word → content ≡ inode_sector One fields
+
+-- the sector of a place
+abbrev pub FindsFields : (word : Type 0) (content : List ℕ) → Option Fields → Type 0
+FindsFields word content None = word → content ≡ zero_sector
+FindsFields word content (Some fields) = FindsNode word content fields

@@ -1,0 +1,17 @@
+//! What a mount reads of a volume: the cards of its nodes, or that its sectors hold none.
+#![tactic(auto)]
+
+mod fault;
+mod laws;
+mod marks;
+mod names;
+mod nodes;
+mod numbers;
+mod runs;
+mod sectors;
+mod table;
+mod volume;
+
+pub use fault::ScanFault;
+pub use laws::standing_is_few;
+pub use volume::{Contents, read_volume};

@@ -1,0 +1,55 @@
+//! The sector of a place of the node table.
+
+ghost use Rattle.std.specs.Prelude.{◌≡◌, ◌<◌, ◌+◌, ◌^◌, ℕ, Option, option_map, IfOk, IsErrOf};
+ghost use Rattle.inode.specs.Fields.{Fields, fields_of};
+ghost use Rattle.scan.specs.Places.{FindsFields};
+ghost use Rattle.layout.specs.Cards.{node_sector};
+ghost use Rattle.layout.specs.Health.{Reads};
+
+use crate::fault::ScanFault;
+use crate::sectors::{fetch, is_zero_from};
+use disk::SECTOR;
+use inode::{Form, Inode};
+use layout::sectors::Sectors;
+use std::alloc::Global;
+
+/// The first sector of the node table.
+const NODES: u32 = 148;
+
+/// The node whose sector this is; none where it is a free place's.
+fn node_in(alloc: Global, content: &[u8; SECTOR]) -> Result<Option<Inode>, ScanFault>
+    ensures found { IfOk result
+        (λ node. FindsFields (Unit {0}) content.now (option_map fields_of node)) }
+    ensures damaged { IsErrOf result ScanFault.Damaged
+        → (fields : Option Fields) → ¬ FindsFields (Unit {0}) content.now fields }
+    ensures device { ¬ IsErrOf result ScanFault.Device }
+{
+    if is_zero_from(content, 0) {
+        return Ok(None);
+    }
+    let inode = inode::from_sector(alloc, Form::One, content)?;
+    if inode.number == 0 {
+        return Err(ScanFault::Damaged);
+    }
+    Ok(Some(inode))
+}
+
+/// The node at a place; none where the place is free.
+pub(crate) fn read_node<S: Sectors>(
+    alloc: Global,
+    sectors: &mut S,
+    place: u32,
+) -> Result<Option<Inode>, ScanFault>
+    requires within { 148 + place < S.size (S.kept sectors.old) }
+    requires small { 148 + place < 2 ^ 32 }
+    ensures found { IfOk result (λ node. FindsFields S.keeps_word
+        (S.image (S.kept sectors.old) (node_sector place)) (option_map fields_of node)) }
+    ensures damaged { S.keeps_word → IsErrOf result ScanFault.Damaged → (fields : Option Fields)
+        → ¬ FindsFields S.keeps_word (S.image (S.kept sectors.old) (node_sector place)) fields }
+    ensures kept { S.kept sectors.new ≡ S.kept sectors.old }
+    ensures health { Reads (S.health sectors.old) (S.health sectors.new)
+        (IsErrOf result ScanFault.Device) }
+{
+    let content = fetch(sectors, NODES + place)?;
+    node_in(alloc, &content)
+}

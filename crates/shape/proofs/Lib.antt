@@ -1,0 +1,11 @@
+pub mod AgeLaws
+pub mod AllowedLaws
+pub mod Counting
+pub mod FitLaws
+pub mod Meeting
+pub mod NodeLaws
+pub mod StampLaws
+pub mod Sums
+pub mod TreeLaws
+pub mod Visiting
+pub mod WholeLaws

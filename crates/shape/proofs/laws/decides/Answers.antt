@@ -1,0 +1,24 @@
+use Rattle.shape.proofs.AgeLaws.{each_age}
+use Rattle.shape.proofs.AllowedLaws.{each_node}
+use Rattle.shape.proofs.FitLaws.{each_fit}
+use Rattle.shape.proofs.TreeLaws.{each_stamp, each_walk}
+use Rattle.shape.proofs.WholeLaws.{each_tree}
+use Rattle.shape.proofs.laws.decides.Goals as goal
+
+pub returns-clause-walk : goal.returns-clause-walk
+returns-clause-walk c = each_walk
+
+pub returns-clause-stamps : goal.returns-clause-stamps
+returns-clause-stamps c = each_stamp
+
+pub returns-clause-ages : goal.returns-clause-ages
+returns-clause-ages c = each_age
+
+pub returns-clause-fits : goal.returns-clause-fits
+returns-clause-fits c = each_fit
+
+pub returns-clause-nodes : goal.returns-clause-nodes
+returns-clause-nodes c = each_node
+
+pub returns-clause-tree : goal.returns-clause-tree
+returns-clause-tree c = each_tree

@@ -1,0 +1,24 @@
+-- The stamps of the names at the places of a table.
+use Rattle.std.specs.Prelude.{◌≢◌, ◌≤◌, ◌<◌, ◌+◌, ◌++◌, ℕ, List, [], ◌∷◌, Option, Some, None, length, map, slice_index_or}
+use Rattle.directory.specs.Records.{Record}
+use Rattle.layout.specs.Cards.{Card}
+use Rattle.layout.specs.Marks.{times}
+
+abbrev pub stamps_of : List Record → List ℕ
+stamps_of names = map (λ entry. entry.0) names
+
+abbrev pub stamped_by : Option Card → List ℕ
+stamped_by None = []
+stamped_by (Some card) = stamps_of card.names
+
+abbrev pub entry_stamps : List (Option Card) → List ℕ
+entry_stamps [] = []
+entry_stamps (card ∷ cards) = stamped_by card ++ entry_stamps cards
+
+-- none stands twice
+abbrev pub AreStampsApart : List (Option Card) → Type 0
+AreStampsApart cards = (stamp : ℕ) → times stamp (entry_stamps cards) ≤ 1
+
+-- each differs from the next one
+abbrev pub AreDifferent : List ℕ → Type 0
+AreDifferent stamps = (i : ℕ) → i + 1 < length stamps → slice_index_or stamps i 0 ≢ slice_index_or stamps (i + 1) 0
