@@ -1,0 +1,17 @@
+pub mod BackLaws
+pub mod BlockLaws
+pub mod CountLaws
+pub mod CutLaws
+pub mod FaultLaws
+pub mod FreeLaws
+pub mod GrowLaws
+pub mod KnownLaws
+pub mod LayLaws
+pub mod NameLaws
+pub mod NodeLaws
+pub mod NumberLaws
+pub mod RerunLaws
+pub mod RunLaws
+pub mod UpdateLaws
+pub mod WholeLaws
+pub mod WriteLaws

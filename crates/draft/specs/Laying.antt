@@ -1,0 +1,84 @@
+-- A node's sectors as they are laid.
+use Rattle.std.specs.Prelude.{◌≡◌, ◌≢◌, ◌≤◌, ◌<◌, ◌+◌, ◌^◌, ℕ, List, [], Bool, length, slice_index_or}
+use Rattle.std.specs.List.{AllByRecursion}
+use Rattle.disk.specs.Moments.{Image, applied}
+use Rattle.disk.specs.declared.update.Update.{Update}
+use Rattle.inode.specs.Fields.{Fields, IsInode}
+use Rattle.inode.specs.Spelling.{inode_sector}
+use Rattle.extents.specs.declared.run.Run.{Run}
+use Rattle.extents.specs.Sector.{run_sector, IsRun}
+use Rattle.extents.specs.Runs.{AreRunsOf, AreApart}
+use Rattle.model.specs.Charge.{divided_up}
+use Rattle.layout.specs.Cards.{Card}
+use Rattle.layout.specs.Marks.{times}
+use Rattle.layout.specs.Laid.{runs_of_sector, AreRunSectors}
+use Rattle.layout.specs.Marks.{mark_by}
+
+-- no sector is there twice
+abbrev pub AreOnce : List ℕ → Type 0
+AreOnce numbers = (i j : ℕ) → i < j → j < length numbers → slice_index_or numbers i 0 ≢ slice_index_or numbers j 0
+
+-- the first run sectors hold their runs, and no other sector has changed
+pub record LaysFront (old new : Image) (numbers : List ℕ) (runs : List Run) (count : ℕ) : Type 0 where
+  pub spelled : (i : ℕ) → i < count → new (slice_index_or numbers i 0) ≡ run_sector (runs_of_sector i runs)
+  pub others : (n : ℕ) → times n numbers ≡ 0 → new n ≡ old n
+
+-- a node's sector and its run sectors hold it, and no other sector has changed
+pub record LaysNode (old new : Image) (sector : ℕ) (card : Card) : Type 0 where
+  pub node : new sector ≡ inode_sector card.form card.fields
+  pub run_sectors : AreRunSectors new card.fields.run_sectors card.runs
+  pub others : (n : ℕ) → n ≢ sector → times n card.fields.run_sectors ≡ 0 → new n ≡ old n
+
+-- the marks follow what is named
+abbrev pub Follow : (first : ℕ) → (was is : List Bool) → (named_was named_is : List ℕ) → Type 0
+Follow first was is named_was named_is = (n : ℕ) → mark_by first is n + times n named_was ≡ mark_by first was n + times n named_is
+
+-- what is named is marked
+abbrev pub AreMarked : (first : ℕ) → List Bool → List ℕ → Type 0
+AreMarked first places numbers = (n : ℕ) → times n numbers ≤ mark_by first places n
+
+-- the fields but for the runs
+abbrev pub fields_with : Fields → (runs : ℕ) → (run_sectors : List ℕ) → Fields
+fields_with fields runs run_sectors = record fields { runs = runs; run_sectors = run_sectors }
+
+-- the runs are those of the blocks, and nothing else of the card has changed
+pub record IsRerun (was is : Card) : Type 0 where
+  pub form : is.form ≡ was.form
+  pub blocks : is.blocks ≡ was.blocks
+  pub names : is.names ≡ was.names
+  pub fields : is.fields ≡ fields_with was.fields is.fields.runs is.fields.run_sectors
+  pub runs : AreRunsOf is.runs is.blocks
+  pub each_run : AllByRecursion IsRun is.runs
+  pub run_count : length is.runs ≡ is.fields.runs
+  pub fits : IsInode is.fields
+
+-- a card can be laid at a place: but for its runs its fields have a spelling, and its run sectors
+-- are marked
+pub record CanBeLaid (nodes place : ℕ) (places : List Bool) (card : Card) : Type 0 where
+  pub room : 148 + nodes + length places < 2 ^ 32
+  pub within : place < nodes
+  pub fits : IsInode (fields_with card.fields 0 [])
+  pub marked : AreMarked (148 + nodes) places card.fields.run_sectors
+
+-- runs of its blocks that have a spelling
+pub record AreRunsFor (list : List Run) (card : Card) : Type 0 where
+  pub runs : AreRunsOf list card.blocks
+  pub each : AllByRecursion IsRun list
+  pub few : length list ≤ 4096
+
+-- run sectors for so many runs, 500 each
+abbrev pub sectors_for : (runs : ℕ) → ℕ
+sectors_for runs = divided_up runs 500
+
+-- the shortest list of its runs wants no more run sectors than it has
+abbrev pub HasEnough : Card → Type 0
+HasEnough card = (runs : List Run) → AreRunsOf runs card.blocks → AreApart runs
+    → sectors_for (length runs) ≤ length card.fields.run_sectors
+
+-- a card gets runs and is laid at a place, whatever is under the updates
+pub record LaysCard (nodes place : ℕ) (places is_places : List Bool) (old new : List Update)
+    (was is : Card) : Type 0 where
+  pub rerun : IsRerun was is
+  pub follow : Follow (148 + nodes) places is_places was.fields.run_sectors is.fields.run_sectors
+  pub len : length is_places ≡ length places
+  pub lays : (image : Image) → LaysNode (applied old image) (applied new image) (148 + place) is

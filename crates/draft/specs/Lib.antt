@@ -1,0 +1,9 @@
+pub mod Blocks
+pub mod Drafts
+pub mod Faults
+pub mod Grown
+pub mod Laying
+pub mod Naming
+pub mod Nodes
+pub mod Updates
+pub mod Whole

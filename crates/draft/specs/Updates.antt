@@ -1,0 +1,44 @@
+-- Updates of different sectors.
+use Rattle.std.specs.Prelude.{◌≡◌, ◌≢◌, ◌≤◌, ◌<◌, ◌==◌, ℕ, zero, suc, List, [], ◌∷◌, length, if◌then◌else◌}
+use Rattle.disk.specs.declared.update.Update.{Update}
+use Rattle.disk.specs.Moments.{Image, applied}
+
+-- the target of update i
+abbrev pub target_of : List Update → ℕ → ℕ
+target_of [] i = 0
+target_of (update ∷ updates) zero = update.target
+target_of (update ∷ updates) (suc i) = target_of updates i
+
+abbrev pub HasNot : (target : ℕ) → List Update → Type 0
+HasNot target updates = (i : ℕ) → i < length updates → target_of updates i ≢ target
+
+-- the update at this place is the first one of the sector
+pub record IsFirst (updates : List Update) (target place : ℕ) : Type 0 where
+  pub within : place < length updates
+  pub there : target_of updates place ≡ target
+  pub before : (i : ℕ) → i < place → target_of updates i ≢ target
+
+abbrev pub AreApart : List Update → Type 0
+AreApart [] = Unit {0}
+AreApart (update ∷ updates) = HasNot update.target updates × AreApart updates
+
+-- with this update in place of the one of its sector, or behind the others
+abbrev pub updated : List Update → Update → List Update
+updated [] update = update ∷ []
+updated (first ∷ updates) update = if first.target == update.target then update ∷ updates else first ∷ updated updates update
+
+-- each is of a sector from `first` on, and below `end`
+abbrev pub AreBetween : (first end : ℕ) → List Update → Type 0
+AreBetween first end updates = (i : ℕ) → i < length updates
+    → (first ≤ target_of updates i) × (target_of updates i < end)
+
+-- the updates of a whole transaction: of sectors behind the journal's, below the volume's size, and
+-- all different
+pub record AreTargets (size : ℕ) (updates : List Update) : Type 0 where
+  pub between : AreBetween 98 size updates
+  pub apart : AreApart updates
+
+-- whatever is under the updates, one sector alone has changed
+abbrev pub ChangeOne : (old new : List Update) → (sector : ℕ) → Type 0
+ChangeOne old new sector = (image : Image) (n : ℕ)
+    → n ≢ sector → applied new image n ≡ applied old image n

@@ -1,0 +1,283 @@
+//! Bytes and names over a node's blocks.
+
+ghost use Rattle.std.specs.Prelude.{◌≡◌, ◌≢◌, ◌≤◌, ◌<◌, ◌+◌, ◌*◌, ◌/◌, ◌%◌, ◌^◌, ℕ, Some, None, length, replicate, max, ◌-◌, set, IfOk, OnOk, IsErrOf};
+ghost use Rattle.disk.specs.Calls.{zero_sector};
+ghost use Rattle.sector.specs.Placed.{placed};
+ghost use Rattle.disk.specs.Moments.{Image, applied};
+ghost use Rattle.freemap.specs.Kept.{free_places};
+ghost use Rattle.draft.specs.Blocks.{IsPut, Takes, HaveRegion, GetSectors, GetsSector, FindsNone, WritesOne, AreWithin, ClearsTail, WritesBytes, ChangeBlocks, set_blocks};
+ghost use Rattle.draft.specs.Updates.{ChangeOne};
+ghost use Rattle.directory.specs.Spelling.{directory_sector};
+ghost use Rattle.layout.specs.Health.{Reads};
+ghost use Rattle.layout.specs.Laid.{names_of_block};
+ghost use Rattle.layout.specs.Marks.{times_set};
+
+use crate::fault::{DraftFault, SpaceFault};
+use crate::updates::Updates;
+use directory::{Names, RECORDS};
+use disk::SECTOR;
+use extents::BlockList;
+use freemap::Bitmap;
+use layout::sectors::Sectors;
+use sector::{put_bytes, put_zeros};
+use std::alloc::AllocError;
+
+/// Bytes from a place of a block on.
+#[derive(Clone, Copy)]
+struct Part<'a> {
+    block: u32,
+    from: usize,
+    bytes: &'a [u8],
+}
+
+/// Writes bytes over those that a sector has.
+fn write_over<S: Sectors>(
+    updates: &mut Updates,
+    base: &mut S,
+    sector: u32,
+    from: usize,
+    bytes: &[u8],
+) -> Result<(), DraftFault>
+    requires within { sector < S.size (S.kept base.old) }
+    requires room { from + length bytes.now ≤ 4096 }
+    ensures image { S.keeps_word → OnOk result (IsPut
+        (applied updates.old (S.image (S.kept base.old)))
+        (applied updates.new (S.image (S.kept base.old))) sector
+        (placed (applied updates.old (S.image (S.kept base.old)) sector) from bytes.now)) }
+    ensures whole { S.keeps_word
+        → OnOk result (length (applied updates.old (S.image (S.kept base.old)) sector) ≡ 4096) }
+    ensures others { OnOk result (ChangeOne updates.old updates.new sector) }
+    ensures count { length updates.new ≤ length updates.old + 1 }
+    ensures full { IsErrOf result DraftFault.Full → ⊥ }
+    ensures kept { S.kept base.new ≡ S.kept base.old }
+    ensures health { Reads (S.health base.old) (S.health base.new)
+        (IsErrOf result DraftFault.Device) }
+{
+    let mut content = updates.read(base, sector)?;
+    put_bytes(&mut content, from, bytes);
+    updates.put(sector, &content)?;
+    Ok(())
+}
+
+/// Writes bytes into a sector of zeros.
+fn write_new(
+    updates: &mut Updates,
+    sector: u32,
+    from: usize,
+    bytes: &[u8],
+) -> Result<(), AllocError>
+    requires room { from + length bytes.now ≤ 4096 }
+    ensures image { OnOk result ((image : Image)
+        → IsPut (applied updates.old image) (applied updates.new image) sector
+        (placed zero_sector from bytes.now)) }
+    ensures count { length updates.new ≤ length updates.old + 1 }
+{
+    let mut content = [0; SECTOR];
+    put_bytes(&mut content, from, bytes);
+    updates.put(sector, &content)?;
+    Ok(())
+}
+
+/// Takes a sector for a hole.
+fn take_sector(
+    places: &mut Bitmap,
+    first: u32,
+    blocks: &mut BlockList,
+    block: u32,
+) -> Result<u32, SpaceFault>
+    requires room { first + length places.old < 2 ^ 32 }
+    requires within { block < length blocks.old }
+    requires few { length blocks.old ≤ 4096 }
+    ensures taken { IfOk result (λ sector. Takes first places.old places.new sector) }
+    ensures blocks { IfOk result (λ sector. blocks.new ≡ set blocks.old block (Some sector)) }
+    ensures full { IsErrOf result SpaceFault.Full → free_places places.old ≡ 0 }
+{
+    let place = places.take()?;
+    blocks.set(block, first + place)?;
+    Ok(first + place)
+}
+
+/// Writes a part within one block, which gets a sector where it is a hole.
+fn write_block<S: Sectors>(
+    updates: &mut Updates,
+    places: &mut Bitmap,
+    base: &mut S,
+    first: u32,
+    blocks: &mut BlockList,
+    part: Part<'_>,
+) -> Result<(), DraftFault>
+    requires region { HaveRegion first places.old blocks.old
+        × (first + length places.old ≤ S.size (S.kept base.old)) }
+    requires part { (part.block < length blocks.old) × (part.from + length part.bytes.now ≤ 4096) }
+    ensures bytes { S.keeps_word → OnOk result (WritesBytes
+        (applied updates.old (S.image (S.kept base.old)))
+        (applied updates.new (S.image (S.kept base.old)))
+        blocks.old blocks.new (4096 * part.entry.block + part.entry.from) part.entry.bytes.now) }
+    ensures gets { OnOk result (GetSectors first places.old places.new blocks.old blocks.new
+        × (length blocks.new ≡ length blocks.old)) }
+    ensures others { OnOk result (ChangeBlocks updates.old updates.new blocks.new) }
+    ensures count { length updates.new ≤ length updates.old + 1 }
+    ensures full { IsErrOf result DraftFault.Full
+        → FindsNone places.old blocks.old part.entry.block }
+    ensures kept { S.kept base.new ≡ S.kept base.old }
+    ensures health { Reads (S.health base.old) (S.health base.new)
+        (IsErrOf result DraftFault.Device) }
+{
+    match blocks.at(part.block) {
+        Some(sector) => write_over(updates, base, sector, part.from, part.bytes),
+        None => {
+            let sector = take_sector(places, first, blocks, part.block)?;
+            write_new(updates, sector, part.from, part.bytes)?;
+            Ok(())
+        }
+    }
+}
+
+/// Writes bytes over blocks, part by part; holes on the way get sectors.
+pub(crate) fn write_blocks<S: Sectors>(
+    updates: &mut Updates,
+    places: &mut Bitmap,
+    base: &mut S,
+    first: u32,
+    blocks: &mut BlockList,
+    offset: usize,
+    bytes: &[u8],
+) -> Result<(), DraftFault>
+    requires region { HaveRegion first places.old blocks.old
+        × (first + length places.old ≤ S.size (S.kept base.old)) }
+    requires within { offset + length bytes.now ≤ 4096 * length blocks.old }
+    ensures bytes { S.keeps_word → OnOk result (WritesBytes
+        (applied updates.old (S.image (S.kept base.old)))
+        (applied updates.new (S.image (S.kept base.old)))
+        blocks.old blocks.new offset bytes.now) }
+    ensures gets { OnOk result (GetSectors first places.old places.new blocks.old blocks.new
+        × (length blocks.new ≡ length blocks.old)) }
+    ensures others { OnOk result (ChangeBlocks updates.old updates.new blocks.new) }
+    ensures count { OnOk result (length updates.new
+        ≤ length updates.old + (offset % 4096 + length bytes.now + 4095) / 4096) }
+    ensures full { IsErrOf result DraftFault.Full
+        → free_places places.old + set_blocks blocks.old < length blocks.old }
+    ensures kept { S.kept base.new ≡ S.kept base.old }
+    ensures health { Reads (S.health base.old) (S.health base.new)
+        (IsErrOf result DraftFault.Device) }
+{
+    let mut done = 0;
+    while done < bytes.len() {
+        let at = offset + done;
+        let from = at % SECTOR;
+        let count = (SECTOR - from).min(bytes.len() - done);
+        let part = Part {
+            block: (at / SECTOR) as u32,
+            from,
+            bytes: &bytes[done..done + count],
+        };
+        write_block(updates, places, base, first, blocks, part)?;
+        done += count;
+    }
+    Ok(())
+}
+
+/// The sector of a block, which takes one where it is a hole.
+fn sector_for(
+    places: &mut Bitmap,
+    first: u32,
+    blocks: &mut BlockList,
+    block: u32,
+) -> Result<u32, SpaceFault>
+    requires region { HaveRegion first places.old blocks.old }
+    requires within { block < length blocks.old }
+    ensures gets { IfOk result (λ sector.
+        GetsSector first places.old places.new blocks.old blocks.new block sector) }
+    ensures full { IsErrOf result SpaceFault.Full → FindsNone places.old blocks.old block }
+{
+    match blocks.at(block) {
+        Some(sector) => Ok(sector),
+        None => take_sector(places, first, blocks, block),
+    }
+}
+
+/// Writes the names of a block, which may be a new one behind the last.
+pub(crate) fn write_names(
+    updates: &mut Updates,
+    places: &mut Bitmap,
+    first: u32,
+    blocks: &mut BlockList,
+    names: &Names,
+    block: u32,
+) -> Result<(), SpaceFault>
+    requires region { HaveRegion first places.old blocks.old }
+    requires within { (block ≤ length blocks.old) × (block < 4096) }
+    ensures names { OnOk result ((image : Image)
+        → WritesOne (applied updates.old image) (applied updates.new image) blocks.old blocks.new
+        block (directory_sector (names_of_block block names.now))) }
+    ensures gets { OnOk result (GetSectors first places.old places.new blocks.old blocks.new) }
+    ensures count { length updates.new ≤ length updates.old + 1 }
+    ensures full { IsErrOf result SpaceFault.Full
+        → free_places places.old + set_blocks blocks.old < max (length blocks.old) (block + 1) }
+{
+    blocks.grow(block + 1)?;
+    let sector = sector_for(places, first, blocks, block)?;
+    let mut spelled = [0; SECTOR];
+    names.to_sector(RECORDS * block as usize, &mut spelled);
+    updates.put(sector, &spelled)?;
+    Ok(())
+}
+
+/// Puts zeros behind byte `size` of these blocks, as far as its block reaches.
+pub(crate) fn clear_tail<S: Sectors>(
+    updates: &mut Updates,
+    base: &mut S,
+    blocks: &BlockList,
+    size: u64,
+) -> Result<(), DraftFault>
+    requires sectors { AreWithin (S.size (S.kept base.old)) blocks.now
+        × ((n : ℕ) → times_set n blocks.now ≤ 1) }
+    requires small { size ≤ 16777216 }
+    ensures tail { S.keeps_word → OnOk result (ClearsTail
+        (applied updates.old (S.image (S.kept base.old)))
+        (applied updates.new (S.image (S.kept base.old))) blocks.now size) }
+    ensures others { OnOk result (ChangeBlocks updates.old updates.new blocks.now) }
+    ensures count { length updates.new ≤ length updates.old + 1 }
+    ensures full { IsErrOf result DraftFault.Full → ⊥ }
+    ensures kept { S.kept base.new ≡ S.kept base.old }
+    ensures health { Reads (S.health base.old) (S.health base.new)
+        (IsErrOf result DraftFault.Device) }
+{
+    let from = (size % 4096) as usize;
+    if from == 0 {
+        return Ok(());
+    }
+    match blocks.at((size / 4096) as u32) {
+        Some(sector) => clear_from(updates, base, sector, from),
+        None => Ok(()),
+    }
+}
+
+/// Puts zeros into a sector from a place on.
+fn clear_from<S: Sectors>(
+    updates: &mut Updates,
+    base: &mut S,
+    sector: u32,
+    from: usize,
+) -> Result<(), DraftFault>
+    requires within { sector < S.size (S.kept base.old) }
+    requires room { from ≤ 4096 }
+    ensures image { S.keeps_word → OnOk result (IsPut
+        (applied updates.old (S.image (S.kept base.old)))
+        (applied updates.new (S.image (S.kept base.old))) sector
+        (placed (applied updates.old (S.image (S.kept base.old)) sector) from
+        (replicate (4096 - from) 0))) }
+    ensures whole { S.keeps_word
+        → OnOk result (length (applied updates.old (S.image (S.kept base.old)) sector) ≡ 4096) }
+    ensures others { OnOk result (ChangeOne updates.old updates.new sector) }
+    ensures count { length updates.new ≤ length updates.old + 1 }
+    ensures full { IsErrOf result DraftFault.Full → ⊥ }
+    ensures kept { S.kept base.new ≡ S.kept base.old }
+    ensures health { Reads (S.health base.old) (S.health base.new)
+        (IsErrOf result DraftFault.Device) }
+{
+    let mut content = updates.read(base, sector)?;
+    put_zeros(&mut content, from, SECTOR - from);
+    updates.put(sector, &content)?;
+    Ok(())
+}

@@ -1,0 +1,28 @@
+//! The marks of used sectors, written.
+
+ghost use Rattle.std.specs.Prelude.{◌≡◌, ◌≤◌, ◌<◌, ◌+◌, ℕ, length, OnOk};
+ghost use Rattle.disk.specs.Moments.{Image, applied};
+ghost use Rattle.draft.specs.Updates.{AreApart};
+ghost use Rattle.draft.specs.Whole.{ShowsPart};
+
+use crate::updates::Updates;
+use disk::SECTOR;
+use freemap::Bitmap;
+use std::alloc::AllocError;
+
+/// The first sector of the bitmap.
+const BITMAP: u32 = 98;
+
+/// Writes bitmap sector 0 or 1.
+pub(crate) fn put_marks(updates: &mut Updates, places: &Bitmap, part: u32) -> Result<(), AllocError>
+    requires { part < 2 }
+    ensures image { OnOk result ((image : Image)
+        → ShowsPart (applied updates.old image) (applied updates.new image) places.now part) }
+    ensures count { length updates.new ≤ length updates.old + 1 }
+    ensures apart { AreApart updates.new }
+{
+    let mut content = [0; SECTOR];
+    places.to_sector(part, &mut content);
+    updates.put(BITMAP + part, &content)?;
+    Ok(())
+}

@@ -1,0 +1,111 @@
+//! The updates so far.
+
+ghost use Rattle.std.specs.Prelude.{◌≡◌, ◌≤◌, ◌<◌, ◌+◌, ℕ, List, [], Option, Some, None, length, slice_index_or, slice_get, slice_set, IfOk, IfSome, IfNone, OnOk, OnErr, IsTrue, is_err};
+ghost use Rattle.disk.specs.Moments.{Image, put, applied};
+ghost use Rattle.disk.specs.declared.update.Update.{Update};
+ghost use Rattle.layout.specs.Health.{Reads};
+ghost use Rattle.draft.specs.Updates.{AreApart, updated, IsFirst, HasNot, target_of};
+
+use disk::{SECTOR, Update};
+use layout::sectors::{ReadFault, Sectors};
+use std::alloc::{AllocError, Global};
+use std::marker::Model;
+
+/// Updates of different sectors. Contracts see their list.
+#[derive(Drop)]
+pub struct Updates {
+    list: Vec<Update>,
+}
+
+impl Model for Updates {
+    ghost use Rattle.std.specs.Prelude.{List};
+    ghost use Rattle.disk.specs.declared.update.Update.{Update};
+    ghost use Rattle.draft.specs.Updates.{AreApart};
+
+    ghost Value = { List Update };
+
+    ghost view = { λ updates. updates.list.items };
+
+    ghost invariant = { λ updates. AreApart updates.list.items };
+}
+
+impl Updates {
+    /// No updates.
+    pub fn new(alloc: Global) -> Updates
+        ensures { result ≡ [] }
+    {
+        Updates {
+            list: Vec::new(alloc),
+        }
+    }
+
+    /// The updates, for whoever writes them.
+    pub fn into_list(self) -> Vec<Update>
+        ensures list { result.items ≡ self }
+        ensures apart { AreApart self }
+    {
+        self.list
+    }
+
+    /// Sector `n` after the updates.
+    pub fn read<S: Sectors>(&self, base: &mut S, n: u32) -> Result<[u8; SECTOR], ReadFault>
+        requires { n < S.size (S.kept base.old) }
+        ensures content { S.keeps_word
+            → IfOk result (λ content. content ≡ applied self.now (S.image (S.kept base.old)) n) }
+        ensures kept { S.kept base.new ≡ S.kept base.old }
+        ensures health { Reads (S.health base.old) (S.health base.new) (IsTrue (is_err result)) }
+    {
+        match place_of(&self.list, n) {
+            Some(place) => Ok(self.list[place].content),
+            None => base.read(n),
+        }
+    }
+
+    /// One update more, in place of the one of its sector. An `Err` changes nothing.
+    pub fn put(&mut self, target: u32, content: &[u8; SECTOR]) -> Result<(), AllocError>
+        ensures list { OnOk result (self.new
+            ≡ updated self.old (record { target = target; content = content.now })) }
+        ensures image { OnOk result ((image : Image) → applied self.new image
+            ≡ put (applied self.old image) (record { target = target; content = content.now })) }
+        ensures apart { AreApart self.new }
+        ensures count { length self.new ≤ length self.old + 1 }
+        ensures err { OnErr result (self.new ≡ self.old) }
+    {
+        match place_of(&self.list, target) {
+            Some(place) => {
+                self.list[place] = Update {
+                    target,
+                    content: *content,
+                };
+            }
+            None => {
+                self.list.push(Update {
+                    target,
+                    content: *content,
+                })?;
+            }
+        }
+        Ok(())
+    }
+
+    /// The updates themselves.
+    pub fn into_vec(self) -> Vec<Update>
+        ensures { result.items ≡ self }
+    {
+        let Updates { list } = self;
+        list
+    }
+}
+
+/// Where the update of a sector stands.
+fn place_of(updates: &[Update], target: u32) -> Option<usize>
+    ensures some { IfSome result (λ place. IsFirst updates.now target place) }
+    ensures none { IfNone result (HasNot target updates.now) }
+{
+    for (i, update) in updates.iter().enumerate() {
+        if update.target == target {
+            return Some(i);
+        }
+    }
+    None
+}
