@@ -1,0 +1,85 @@
+-- The first sector of a volume is read back.
+use Rattle.std.proofs.Common.{ℕ, Bool, true, false, List, ◌≡◌, ◌+◌, ◌<◌, ◌^◌, ◌&&◌, not, cond, refl, ap, arith, eqb}
+use Rattle.std.specs.Prelude.{IsTrue, bytes_eq}
+use Rattle.std.proofs.lemmas.Nat.{from_be_bytes-to_be_bytes_4}
+use Rattle.volume.specs.declared.superblock.Verdict.TheVariants.{NotVolume, Worn, Damaged, Sound}
+use Rattle.std.proofs.lemmas.Bool.{eq-eqb, and_parts, and_left, and_right, lt-leb, eqb-false, cond-true}
+use Rattle.std.specs.Cmp.Lexicographic.{bytes_decides}
+use Rattle.layout.specs.Stands.{version_1}
+use Rattle.layout.specs.Superblock as layout
+use Rattle.layout.specs.Superblock.{is_size, magic}
+use Rattle.volume.specs.Superblock.{is_volume, verdict, last_run, superblock, word}
+use Rattle.std.specs.List.{starts_with}
+
+pub word_nodes : (sectors nodes run : ℕ) → nodes < 2 ^ 32 → word 16 (superblock sectors nodes run) ≡ nodes
+unfolding word layout.superblock
+word_nodes sectors nodes run fits = from_be_bytes-to_be_bytes_4 nodes fits
+
+pub word_run : (sectors nodes run : ℕ) → run < 2 ^ 32 → word 20 (superblock sectors nodes run) ≡ run
+unfolding word layout.superblock
+word_run sectors nodes run fits = from_be_bytes-to_be_bytes_4 run fits
+
+word_sectors : (sectors nodes run : ℕ) → sectors < 2 ^ 32 → word 12 (superblock sectors nodes run) ≡ sectors
+unfolding word layout.superblock
+word_sectors sectors nodes run fits = from_be_bytes-to_be_bytes_4 sectors fits
+
+word_version : (sectors nodes run : ℕ) → word 8 (superblock sectors nodes run) ≡ version_1.number
+unfolding word layout.superblock
+word_version sectors nodes run = refl
+
+starts_with_magic : (sectors nodes run : ℕ) → starts_with eqb (superblock sectors nodes run) magic ≡ true
+unfolding layout.superblock
+starts_with_magic sectors nodes run = refl
+
+-- the first sector of a volume tells that it is one
+pub volume_first : (sectors nodes run : ℕ) → sectors < 2 ^ 32 → nodes < 2 ^ 32 → IsTrue (is_size sectors nodes)
+    → is_volume sectors (superblock sectors nodes run) ≡ true
+unfolding is_volume
+volume_first sectors nodes run small few size =
+    rw (
+      starts_with_magic sectors nodes run,
+      word_version sectors nodes run,
+      eq-eqb (word 12 (superblock sectors nodes run)) sectors (word_sectors sectors nodes run small),
+      word_nodes sectors nodes run few,
+    ) size
+
+-- What a sound first sector is
+
+parts : (volume worn same : Bool) → cond (not volume) NotVolume (cond worn Worn (cond same Sound Damaged)) ≡ Sound → (volume ≡ true) × ((worn ≡ false) × (same ≡ true))
+parts true false true h = (refl, (refl, refl))
+parts true false false h = absurd (cc)
+parts true true same h = absurd (cc)
+parts false worn same h = absurd (cc)
+
+sound_parts : (sectors : ℕ) (sector : List ℕ) → verdict sectors sector ≡ Sound
+    → (is_volume sectors sector ≡ true) × ((eqb (word 20 sector) last_run ≡ false) × (bytes_eq sector (superblock sectors (word 16 sector) (word 20 sector)) ≡ true))
+unfolding verdict
+sound_parts sectors sector sound = parts (is_volume sectors sector) _ _ sound
+
+size_of : (sectors : ℕ) (sector : List ℕ) → is_volume sectors sector ≡ true → IsTrue (is_size sectors (word 16 sector))
+unfolding is_volume
+size_of sectors sector volume =
+    (and_parts ((starts_with eqb sector magic && eqb (word 8 sector) version_1.number) && eqb (word 12 sector) sectors) (is_size sectors (word 16 sector)) volume).1
+
+pub sound_size : (sectors : ℕ) (sector : List ℕ) → verdict sectors sector ≡ Sound → IsTrue (is_size sectors (word 16 sector))
+sound_size sectors sector sound = size_of sectors sector (sound_parts sectors sector sound).0
+
+pub sound_run : (sectors : ℕ) (sector : List ℕ) → verdict sectors sector ≡ Sound → word 20 sector < 2 ^ 32 → word 20 sector + 1 < 2 ^ 32
+sound_run sectors sector sound fits = let apart = eqb-false (word 20 sector) last_run (sound_parts sectors sector sound).1.0 in omega (arith, apart, fits)
+
+pub sound_first : (sectors : ℕ) (sector : List ℕ) → verdict sectors sector ≡ Sound → sector ≡ superblock sectors (word 16 sector) (word 20 sector)
+sound_first sectors sector sound = (bytes_decides sector (superblock sectors (word 16 sector) (word 20 sector))).0 (sound_parts sectors sector sound).1.1
+
+-- no volume is on a device that is too small for one
+few_sectors : (sectors nodes : ℕ) → sectors < 256 → is_size sectors nodes ≡ false
+few_sectors sectors nodes few = and_left _ _ (and_left _ _ (and_left _ _ (and_left _ _ (lt-leb 256 sectors few))))
+
+none_on_few : (sectors : ℕ) (sector : List ℕ) → sectors < 256 → is_volume sectors sector ≡ false
+unfolding is_volume
+none_on_few sectors sector few =
+    and_right ((starts_with eqb sector magic && eqb (word 8 sector) version_1.number) && eqb (word 12 sector) sectors) (is_size sectors (word 16 sector))
+    (few_sectors sectors (word 16 sector) few)
+
+pub not_volume_on_few : (sectors : ℕ) (sector : List ℕ) → sectors < 256 → verdict sectors sector ≡ NotVolume
+unfolding verdict
+not_volume_on_few sectors sector few = cond-true (not (is_volume sectors sector)) _ _ (ap not (none_on_few sectors sector few))

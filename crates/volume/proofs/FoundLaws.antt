@@ -1,0 +1,152 @@
+-- What a mount finds is the tree that stood there.
+use Rattle.std.proofs.Common.{ℕ, Bool, true, false, ◌≡◌, ◌+◌, ◌<◌, ◌≤◌, ◌⊎◌, ◌^◌, inl, refl, sym, ap, ◌∙◌, subst, arith, not, cond, true≢false, eqb}
+use Rattle.std.proofs.Math.Logic.{∥∥₁_map}
+use Rattle.std.proofs.lemmas.Bool.{eqb-true}
+use Rattle.std.specs.Prelude.{Result, Ok, Err, IfOk, IfErr, bytes_eq}
+use Rattle.std.specs.Cmp.Lexicographic.{bytes_decides}
+use Rattle.disk.specs.Moments.{Image, History, AddsOnly}
+use Rattle.journal.specs.Settled.{Settles, SettlesAs}
+use Rattle.journal.specs.declared.fault.JournalFault.{JournalFault}
+use Rattle.journal.specs.declared.fault.JournalFault.TheVariants as journals
+use Rattle.journal.proofs.Moments.{AddsOnly-weaken, AddsOnly-join}
+use Rattle.journal.proofs.Recovers.{settles_once}
+use Rattle.model.specs.Tree.{Tree}
+use Rattle.volume.specs.declared.fault.MountFault.TheVariants as mounts
+use Rattle.volume.specs.declared.superblock.Verdict.TheVariants.{NotVolume, Worn, Damaged, Sound}
+use Rattle.volume.specs.Refusals.{gate_fault}
+use Rattle.volume.specs.Stands.{Stands, IsBase, StandsFor}
+use Rattle.volume.specs.Superblock.{is_volume, superblock, verdict, word, last_run}
+use Rattle.journal.proofs.First.{first_kept}
+use Rattle.volume.proofs.FirstLaws.{word_nodes, word_run, volume_first}
+use Rattle.volume.proofs.StandLaws.{sized, large, stands_same}
+
+-- Results
+
+pub if_ok_so : {T E : Type 0} (r : Result T E) (P Q : T → Type 0) → ((x : T) → P x → Q x) → IfOk r P → IfOk r Q
+if_ok_so (Ok x) P Q so is = so x is
+if_ok_so (Err e) P Q so is = tt
+
+pub if_ok_and : {T E : Type 0} (r : Result T E) (P Q R S : T → Type 0) → ((x : T) → P x → Q x → R x → S x) → IfOk r P → IfOk r Q → IfOk r R → IfOk r S
+if_ok_and (Ok x) P Q R S so p q r = so x p q r
+if_ok_and (Err e) P Q R S so p q r = tt
+
+pub if_err_so : {T E : Type 0} (r : Result T E) (P Q : E → Type 0) → ((x : E) → P x → Q x) → IfErr r P → IfErr r Q
+if_err_so (Ok x) P Q so is = tt
+if_err_so (Err e) P Q so is = so e is
+
+-- The first sector
+
+module _ (size nodes run : ℕ) (tree : Tree) (seen : Image) (base : IsBase size nodes run tree seen) where
+  few_nodes : nodes < 2 ^ 32
+  few_nodes = let parts = sized size nodes base.stands.sized in omega (arith, parts.few)
+
+  pub small : size < 2 ^ 32
+  small = let parts = sized size nodes base.stands.sized in omega (arith, parts.most)
+
+  pub enough : 256 ≤ size
+  enough = large size nodes base.stands.sized
+
+  first_is : seen 0 ≡ superblock size nodes run
+  first_is = sym (first_kept size seen base.base (omega (arith, enough)) base.settles) ∙ base.stands.first
+
+  pub nodes_is : word 16 (seen 0) ≡ nodes
+  nodes_is = ap (word 16) first_is ∙ word_nodes size nodes run few_nodes
+
+  pub run_is : word 20 (seen 0) ≡ run
+  run_is = ap (word 20) first_is ∙ word_run size nodes run base.stands.counted
+
+  spelled : seen 0 ≡ superblock size (word 16 (seen 0)) (word 20 (seen 0))
+  spelled = first_is ∙ (ap (λ (n : ℕ). superblock size n run) (sym nodes_is) ∙ ap (λ (r : ℕ). superblock size (word 16 (seen 0)) r) (sym run_is))
+
+  never_damaged : (volume worn same : Bool) → same ≡ true → cond (not volume) NotVolume (cond worn Worn (cond same Sound Damaged)) ≡ Damaged → ⊥
+  never_damaged true false true is h = cc
+  never_damaged true false false is h = true≢false (sym is)
+  never_damaged true true same is h = cc
+  never_damaged false worn same is h = cc
+
+  -- where a tree stands, the first sector is not damaged
+  pub not_damaged : verdict size (seen 0) ≡ Damaged → ⊥
+  unfolding verdict
+  not_damaged is = never_damaged (is_volume size (seen 0)) (eqb (word 20 (seen 0)) last_run) (bytes_eq (seen 0) (superblock size (word 16 (seen 0)) (word 20 (seen 0))))
+      ((bytes_decides (seen 0) (superblock size (word 16 (seen 0)) (word 20 (seen 0)))).1 spelled) is
+
+  never_none : (volume worn same : Bool) → volume ≡ true → cond (not volume) NotVolume (cond worn Worn (cond same Sound Damaged)) ≡ NotVolume → ⊥
+  never_none true true same is h = cc
+  never_none true false true is h = cc
+  never_none true false false is h = cc
+  never_none false worn same is h = true≢false (sym is)
+
+  -- and tells of a volume
+  pub is_volume_there : verdict size (seen 0) ≡ NotVolume → ⊥
+  unfolding verdict
+  is_volume_there is = never_none (is_volume size (seen 0)) (eqb (word 20 (seen 0)) last_run) (bytes_eq (seen 0) (superblock size (word 16 (seen 0)) (word 20 (seen 0))))
+      (ap (is_volume size) first_is ∙ volume_first size nodes run small few_nodes base.stands.sized) is
+
+  worn_alone : (volume worn same : Bool) → cond (not volume) NotVolume (cond worn Worn (cond same Sound Damaged)) ≡ Worn → worn ≡ true
+  worn_alone true true same h = refl
+  worn_alone true false true h = absurd (cc)
+  worn_alone true false false h = absurd (cc)
+  worn_alone false worn same h = absurd (cc)
+
+  -- it is worn where the count is full alone
+  pub count_full : verdict size (seen 0) ≡ Worn → run + 1 ≡ 2 ^ 32
+  unfolding verdict
+  count_full is =
+      let worn = worn_alone (is_volume size (seen 0)) (eqb (word 20 (seen 0)) last_run)
+      (bytes_eq (seen 0) (superblock size (word 16 (seen 0)) (word 20 (seen 0)))) is in
+      let full : run ≡ last_run = sym run_is ∙ eqb-true (word 20 (seen 0)) last_run worn in
+      omega (arith, full)
+
+  -- a stop within the journal's mount leaves the tree
+  pub settled_moments : (old new : History) → AddsOnly (SettlesAs size seen) old new
+      → AddsOnly (λ image. StandsFor size nodes run tree image ⊎ StandsFor size nodes (run + 1) tree image) old new
+  settled_moments old new moments = AddsOnly-weaken (SettlesAs size seen) (λ image. StandsFor size nodes run tree image ⊎ StandsFor size nodes (run + 1) tree image) old new
+      (λ image same. inl ∣ record { base = base.base; settles = same base.base base.settles; stands = base.stands } ∣₁) moments
+
+  module _ (at : Image) (settles : Settles size seen at) (sectors found_nodes found_run : ℕ) (sectors_is : sectors ≡ size)
+      (fits : found_nodes < 2 ^ 32) (counts : found_run < 2 ^ 32) (first : seen 0 ≡ superblock sectors found_nodes found_run) where
+    found_first : superblock size found_nodes found_run ≡ seen 0
+    found_first = ap (λ (n : ℕ). superblock n found_nodes found_run) (sym sectors_is) ∙ sym first
+
+    same_nodes : found_nodes ≡ nodes
+    same_nodes = sym (word_nodes size found_nodes found_run fits) ∙ (ap (word 16) found_first ∙ nodes_is)
+
+    same_run : found_run ≡ run
+    same_run = sym (word_run size found_nodes found_run counts) ∙ (ap (word 20) found_first ∙ run_is)
+
+    -- the tree stands on the base that the journal found
+    pub found_stands : Stands sectors found_nodes at found_run tree
+    found_stands = subst (λ (s : ℕ). Stands s found_nodes at found_run tree) (sym sectors_is)
+        (subst (λ (n : ℕ). Stands size n at found_run tree) (sym same_nodes)
+        (subst (λ (r : ℕ). Stands size nodes at r tree) (sym same_run)
+        (stands_same size nodes base.base at run tree (settles_once size seen base.base at small base.settles settles) base.stands)))
+
+    pub found_moments : (old mid new : History) → AddsOnly (SettlesAs size seen) old mid
+        → (Stands sectors found_nodes at found_run tree
+        → AddsOnly (λ image. StandsFor sectors found_nodes found_run tree image ⊎ StandsFor sectors found_nodes (found_run + 1) tree image) mid new)
+        → AddsOnly (λ image. StandsFor size nodes run tree image ⊎ StandsFor size nodes (run + 1) tree image) old new
+    found_moments old mid new before after = AddsOnly-join (λ image. StandsFor size nodes run tree image ⊎ StandsFor size nodes (run + 1) tree image) old mid new
+        (settled_moments old mid before)
+        (subst (λ (s : ℕ). AddsOnly (λ image. StandsFor s nodes run tree image ⊎ StandsFor s nodes (run + 1) tree image) mid new) sectors_is
+        (subst (λ (n : ℕ). AddsOnly (λ image. StandsFor sectors n run tree image ⊎ StandsFor sectors n (run + 1) tree image) mid new) same_nodes
+        (subst (λ (r : ℕ). AddsOnly (λ image. StandsFor sectors found_nodes r tree image ⊎ StandsFor sectors found_nodes (r + 1) tree image) mid new) same_run
+        (after found_stands))))
+
+-- what stands on the base that was found stood in what was seen
+pub seen_stands : (size nodes run sectors found_nodes found_run fs_run : ℕ) (tree : Tree) (seen at : Image) → Settles size seen at → sectors ≡ size → fs_run ≡ found_run + 1
+    → nodes ≡ found_nodes → fs_run ≡ run + 1 → ∥ Stands sectors found_nodes at found_run tree ∥₁ → StandsFor size nodes run tree seen
+seen_stands size nodes run sectors found_nodes found_run fs_run tree seen at settles sectors_is run_is nodes_is counted stands =
+    let same_run : found_run ≡ run = omega (arith, run_is, counted) in
+    ∥∥₁_map stands (λ is. record {
+      base = at;
+      settles = settles;
+      stands = subst (λ (s : ℕ). Stands s nodes at run tree) sectors_is (subst (λ (n : ℕ). Stands sectors n at run tree) (sym nodes_is)
+          (subst (λ (r : ℕ). Stands sectors found_nodes at r tree) same_run is));
+    })
+
+pub only_damaged : (fault : JournalFault) → gate_fault fault ≡ mounts.Damaged → fault ≡ journals.Damaged
+only_damaged journals.Damaged is = refl
+only_damaged journals.Fault is = absurd (cc)
+only_damaged journals.TooMany is = absurd (cc)
+only_damaged journals.Memory is = absurd (cc)
+only_damaged journals.Down is = absurd (cc)

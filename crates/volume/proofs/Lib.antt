@@ -1,0 +1,14 @@
+pub mod BeginLaws
+pub mod FirstLaws
+pub mod FormatLaws
+pub mod FoundLaws
+pub mod FrontLaws
+pub mod LoadLaws
+pub mod MountLaws
+pub mod MountedLaws
+pub mod NodeLaws
+pub mod OneTree
+pub mod RemountLaws
+pub mod ServeLaws
+pub mod StandLaws
+pub mod SuperblockLaws

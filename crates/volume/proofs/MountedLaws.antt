@@ -1,0 +1,119 @@
+-- How a mount answers, by what its parts find.
+use Rattle.std.proofs.Common.{◌≡◌, ◌<◌, ◌⊎◌, ◌^◌, ℕ, inl, inr, ⊎_elim, refl, sym, subst, arith}
+use Rattle.disk.specs.Moments.{Image, History, AddsOnly, seen, synced}
+use Rattle.journal.specs.declared.fault.JournalFault.{JournalFault}
+use Rattle.journal.specs.declared.fault.JournalFault.TheVariants as journals
+use Rattle.journal.specs.Recover.{LeavesOnlySynced}
+use Rattle.journal.specs.Settled.{Settles, SettlesAs}
+use Rattle.volume.specs.declared.fault.MountFault.{MountFault}
+use Rattle.volume.specs.declared.fault.MountFault.TheVariants as mounts
+use Rattle.volume.specs.declared.mount.Superblock.{Superblock}
+use Rattle.volume.specs.declared.superblock.Verdict.TheVariants as verdicts
+use Rattle.volume.specs.Held.{Held}
+use Rattle.volume.specs.MountAnswers.{first_verdict, HasMounted, OnlyReplays, HasReason, IsRefused}
+use Rattle.volume.specs.Mounts.{HasBegun, IsNotBegun}
+use Rattle.volume.specs.Refusals.{gate_fault}
+use Rattle.volume.specs.Remounts.{AddsMount}
+use Rattle.volume.specs.Superblock.{superblock}
+use Rattle.volume.proofs.FoundLaws.{not_damaged, is_volume_there, count_full, settled_moments, found_stands, found_moments, seen_stands}
+
+adds_none : (P : Image → Type 0) (h : History) → AddsOnly P h h
+adds_none P h = record { later = omega arith; added = λ t image l left. inl left }
+
+untouched_replays : (sectors : ℕ) (old new : History) → new ≡ old → OnlyReplays sectors old new
+untouched_replays sectors old new same = record {
+  moments = subst (λ (h : History). AddsOnly (SettlesAs sectors (seen old.now)) old h) (sym same) (adds_none (SettlesAs sectors (seen old.now)) old);
+  formless = λ none. inl same;
+}
+
+untouched_mount : (sectors : ℕ) (old new : History) → new ≡ old → AddsMount sectors old new
+untouched_mount sectors old new same nodes run tree base = subst (AddsOnly _ old) (sym same) (adds_none _ old)
+
+-- nothing was asked of the device
+pub refused_untouched : (sectors : ℕ) (old new : History) (fault : MountFault) → new ≡ old → HasReason sectors old new fault → IsRefused sectors old new fault
+refused_untouched sectors old new fault same reason = record {
+  moments = untouched_mount sectors old new same;
+  replays = λ other. untouched_replays sectors old new same;
+  reason = reason;
+}
+
+-- refused by the first sector
+module _ (sectors : ℕ) (old new : History) (same : new ≡ old) where
+  pub first_reason : (fault : MountFault) → (fault ≡ mounts.NotVolume → first_verdict sectors old ≡ verdicts.NotVolume) → (fault ≡ mounts.Worn → first_verdict sectors old ≡ verdicts.Worn)
+      → (fault ≡ mounts.Damaged → first_verdict sectors old ≡ verdicts.Damaged) → HasReason sectors old new fault
+  first_reason mounts.NotVolume none worn damaged = record {
+    first = none refl;
+    no_tree = λ nodes run tree base. is_volume_there sectors nodes run tree (seen old.now) base (none refl);
+    untouched = same;
+  }
+  first_reason mounts.Worn none worn damaged = record {
+    first = worn refl;
+    full = λ nodes run tree base. count_full sectors nodes run tree (seen old.now) base (worn refl);
+    untouched = same;
+  }
+  first_reason mounts.Damaged none worn damaged = record {
+    first = inl (damaged refl, same);
+    no_tree = λ nodes run tree base. not_damaged sectors nodes run tree (seen old.now) base (damaged refl);
+  }
+  first_reason mounts.Memory none worn damaged = tt
+  first_reason mounts.Device none worn damaged = tt
+
+-- refused by the gate
+module _ (sectors : ℕ) (old new : History) (sound : first_verdict sectors old ≡ verdicts.Sound) (replays : AddsOnly (SettlesAs sectors (seen old.now)) old new) where
+  settled_mount : AddsMount sectors old new
+  settled_mount nodes run tree base = settled_moments sectors nodes run tree (seen old.now) base old new replays
+
+  failed : IsRefused sectors old new mounts.Device
+  failed = record { moments = settled_mount; replays = λ other. absurd (other refl); reason = tt }
+
+  pub gate_refused : (fault : JournalFault) → (fault ≡ journals.Damaged → LeavesOnlySynced sectors old new) → (fault ≡ journals.Memory → new ≡ old)
+      → IsRefused sectors old new (gate_fault fault)
+  gate_refused journals.Memory damaged memory = refused_untouched sectors old new mounts.Memory (memory refl) tt
+  gate_refused journals.Damaged damaged memory = record {
+    moments = settled_mount;
+    replays = λ other. record { moments = replays; formless = λ none. inr (damaged refl).only_synced };
+    reason = record { first = inr sound; no_tree = λ nodes run tree base. (damaged refl).formless base.base base.settles };
+  }
+  gate_refused journals.Fault damaged memory = failed
+  gate_refused journals.TooMany damaged memory = failed
+  gate_refused journals.Down damaged memory = failed
+
+-- on the base that the journal found
+module _ (sectors : ℕ) (old mid : History) (found : Superblock) (base : Image) (sectors_is : found.sectors ≡ sectors) (few : found.nodes < 2 ^ 32) (counted : found.run < 2 ^ 32)
+    (sound : first_verdict sectors old ≡ verdicts.Sound) (first : seen old.now 0 ≡ superblock found.sectors found.nodes found.run)
+    (settles : Settles sectors (seen old.now) base) (replays : AddsOnly (SettlesAs sectors (seen old.now)) old mid) where
+  pub begun_found : (held : Held) → AddsOnly (SettlesAs sectors (seen old.now)) (synced old) mid → HasBegun found base mid held → HasMounted sectors old held
+  begun_found held since begun = record {
+    first = sound;
+    found = record {
+      run = found.run;
+      raised = begun.run;
+      stood = seen_stands sectors held.limits.nodes found.run found.sectors found.nodes found.run held.run held.tree (seen old.now) base settles sectors_is begun.run begun.nodes begun.run begun.stood;
+    };
+    moments = λ nodes run tree stands. found_moments sectors nodes run tree (seen old.now) stands base settles found.sectors found.nodes found.run sectors_is few counted first
+        old mid held.history replays (begun.moments tree);
+    since_sync = λ nodes run tree stands. found_moments sectors nodes run tree (seen old.now) stands base settles found.sectors found.nodes found.run sectors_is few counted first
+        (synced old) mid held.history since (begun.moments tree);
+    holds = begun.holds;
+  }
+
+  pub begin_refused : (new : History) (fault : MountFault) → IsNotBegun found base mid new fault → IsRefused sectors old new fault
+  begin_refused new fault refused = record {
+    moments = λ nodes run tree stands. found_moments sectors nodes run tree (seen old.now) stands base settles found.sectors found.nodes found.run sectors_is few counted first
+        old mid new replays (refused.moments tree);
+    replays = λ other. record {
+      moments = subst (λ (h : History). AddsOnly (SettlesAs sectors (seen old.now)) old h) (sym (refused.untouched other)) replays;
+      formless = λ none. absurd (none base settles);
+    };
+    reason = ⊎_elim
+        (λ (device : fault ≡ mounts.Device). subst (HasReason sectors old new) (sym device) tt)
+        (λ (rest : (fault ≡ mounts.Damaged) ⊎ (fault ≡ mounts.Memory)). ⊎_elim
+        (λ (damaged : fault ≡ mounts.Damaged). subst (HasReason sectors old new) (sym damaged) (record {
+          first = inr sound;
+          no_tree = λ nodes run tree stands. refused.no_tree damaged tree
+              (found_stands sectors nodes run tree (seen old.now) stands base settles found.sectors found.nodes found.run sectors_is few counted first);
+        }))
+        (λ (memory : fault ≡ mounts.Memory). subst (HasReason sectors old new) (sym memory) tt)
+        rest)
+        refused.only;
+  }

@@ -1,0 +1,198 @@
+-- A volume that serves, over a flush of its journal.
+use Rattle.std.proofs.Common.{◌≡◌, ◌≤◌, ◌<◌, ◌+◌, ◌⊎◌, ℕ, Bool, true, false, List, [], ◌∷◌, Option, Some, None, zero, suc, take, length, inl, inr, ⊎_elim, refl, sym, ap, ◌∙◌, subst, arith}
+use Rattle.std.proofs.Math.Logic.{∥∥₁_map, ∥∥₁_elim, ∥∥₁_prop}
+use Rattle.std.proofs.Props.{props}
+use Rattle.std.specs.List.{IsAmong}
+use Rattle.std.specs.Result.{IsErrAnd}
+use Rattle.std.specs.Prelude.{IsTrue, IfSome, IfErr, OnOk, IsErrOf, Result, Ok, Err, get_or}
+use Rattle.disk.specs.Cause.{IsCounted}
+use Rattle.disk.specs.Moments.{Image, History, AddsOnly, Left}
+use Rattle.journal.specs.Calls.{IsSafe, HasFlushed}
+use Rattle.journal.specs.Log.{Log, IsSettled, StandsForFront, contents, applied_all, AddsFronts, Answers}
+use Rattle.journal.specs.Settled.{AreSame, Settles}
+use Rattle.journal.proofs.Moments.{AddsOnly-weaken}
+use Rattle.layout.specs.Cards.{Card, tree_of, cards_in}
+use Rattle.layout.specs.MarkLaws.{SeesSame}
+use Rattle.layout.specs.Stands.{version_1}
+use Rattle.layout.specs.Superblock.{is_size}
+use Rattle.layout.proofs.MarkProofs.{kept_alone}
+use Rattle.model.specs.declared.limits.Limits.{Limits}
+use Rattle.model.specs.Tree.{Tree}
+use Rattle.journal.specs.declared.fault.JournalFault.{JournalFault}
+use Rattle.journal.specs.declared.fault.JournalFault.TheVariants as faults
+use Rattle.volume.specs.Changes.{Done, Nothing, Broken, IsTree, Changes, ending_of}
+use Rattle.volume.specs.Refusals.{fault_of}
+use Rattle.volume.specs.Held.{Held, IsSameVolume, IsRecent, Holds, MayAdd, StandsForOne, AddsTrees, fronts_from}
+use Rattle.volume.specs.Known.{IsServing}
+use Rattle.volume.specs.Stands.{Stands}
+use Rattle.volume.specs.Volumes.{held_by}
+use Rattle.volume.proofs.FrontLaws.{front_among}
+use Rattle.volume.proofs.OneTree.{Tree-set}
+use Rattle.volume.proofs.StandLaws.{sized, stands_same}
+
+module _ (nodes run : ℕ) (cards : List (Option Card)) (old new : Log) (same : AreSame old.size (contents old) (contents new)) where
+  sees : Stands old.size nodes (contents old) run (tree_of (contents old) cards)
+      → SeesSame version_1 old.size nodes (contents old) (contents new) (cards_in nodes (contents old))
+  sees stands =
+      let parts = sized old.size nodes stands.sized in
+      kept_alone version_1 old.size nodes (contents old) (contents new) (cards_in nodes (contents old)) (omega (arith, parts.room)) stands.laid
+      (λ n above below. sym (same n (inr above, below)))
+
+  -- the same tree is seen
+  pub tree_same : IsServing old nodes run cards → tree_of (contents new) cards ≡ tree_of (contents old) cards
+  tree_same serving = ∥∥₁_elim serving.stands (Tree-set (tree_of (contents new) cards) (tree_of (contents old) cards)) (λ stands.
+      ap (tree_of (contents new)) serving.read ∙ ((sees stands).same_tree ∙ ap (tree_of (contents old)) (sym serving.read)))
+
+  pub still_serving : new.size ≡ old.size → IsSettled new → IsServing old nodes run cards → ∥ IsServing new nodes run cards ∥₁
+  still_serving size settled serving = ∥∥₁_map serving.stands (λ stands. record {
+    read = serving.read ∙ sym (sees stands).same_cards;
+    stands = ∣ subst (λ (s : ℕ). Stands s nodes (contents new) run (tree_of (contents new) cards)) (sym size)
+        (subst (Stands old.size nodes (contents new) run) (sym (tree_same serving)) (stands_same old.size nodes (contents old) (contents new) run (tree_of (contents old) cards) same stands)) ∣₁;
+    settled = settled;
+  })
+
+-- what a flush adds to what a stop may leave are trees that it may leave already
+pub flush_adds : (limits : Limits) (run : ℕ) (cards : List (Option Card)) (old new : Log) (after : Tree) → AddsFronts old new
+    → AddsTrees (held_by limits run cards old) after new.history
+flush_adds limits run cards old new after adds recent is = AddsOnly-weaken
+    (StandsForFront old.size old.base old.list) (StandsForOne (held_by limits run cards old) (MayAdd recent after)) old.history new.history
+    (λ image front.
+    let covered = is.covers (applied_all (take front.count old.list) old.base) (front_among old.base old.list front.count front.within) in (
+      covered.0,
+      inl covered.1,
+      ∥∥₁_map covered.2 (λ stands. record { base = applied_all (take front.count old.list) old.base; settles = front.settles; stands = stands }),
+    ))
+    adds
+
+among_one : {A : Type 0} (only other : A) → IsAmong (only ∷ []) other → other ≡ only
+among_one only other among = by_place among.0 among.1.0 among.1.1
+  where
+    by_place : (place : ℕ) → place < length (only ∷ []) → other ≡ get_or (only ∷ []) place other → other ≡ only
+    by_place zero less e = e
+    by_place (suc place) less e = absurd (omega arith)
+
+-- where nothing is left to flush, each map left stands for what the base does, and so does its only front
+pub holds_base : (limits : Limits) (run : ℕ) (cards : List (Option Card)) (log : Log) → log.list ≡ []
+    → ∥ Stands log.size limits.nodes (contents log) run (tree_of (contents log) cards) ∥₁ → IsSettled log → Holds (held_by limits run cards log)
+holds_base limits run cards log listed stands settled =
+    let base : contents log ≡ log.base = ap (λ l. applied_all l log.base) listed in
+    let tree = tree_of (contents log) cards in
+    let here : ∥ Stands log.size limits.nodes log.base run tree ∥₁ = subst (λ (image : Image). ∥ Stands log.size limits.nodes image run tree ∥₁) base stands in
+    let only : fronts_from log.base log.list ≡ log.base ∷ [] = ap (fronts_from log.base) listed in
+    record {
+      leaves = λ image left. (
+        tree,
+        (0, (omega arith, refl)),
+        ∥∥₁_map here (λ is. record { base = log.base; settles = settled image left; stands = is }),
+      );
+      covers = λ front among. (
+        tree,
+        (0, (omega arith, refl)),
+        subst (λ (i : Image). ∥ Stands log.size limits.nodes i run tree ∥₁) (sym (among_one log.base front (subst (λ (l : List Image). IsAmong l front) only among))) here,
+      );
+      newest = (0, (omega arith, refl));
+    }
+
+pub if_some_so : {T : Type 0} (o : Option T) (P Q : T → Type 0) → ((x : T) → P x → Q x) → IfSome o P → IfSome o Q
+if_some_so (Some x) P Q so is = so x is
+if_some_so None P Q so is = tt
+
+-- A flush of the journal, as the volume tells it
+module _ (keeps_word : Type 0) (limits : Limits) (run : ℕ) (cards : List (Option Card)) (old new : Log) (before after : ℕ) where
+  abbrev was : Held
+  was = held_by limits run cards old
+
+  abbrev is : Held
+  is = held_by limits run cards new
+
+  same_volume : new.size ≡ old.size → IsSameVolume was is
+  same_volume size = record { sectors = size; limits = refl; run = refl }
+
+  abbrev IsUp : Type 0
+  IsUp = keeps_word → ∥ IsServing old limits.nodes run cards ∥₁
+
+  module _ (safe : IsSafe keeps_word old new) (later : before ≤ after) where
+    pub flush_done : new.is_down ≡ false → HasFlushed keeps_word old new → IsUp → Changes keeps_word (IsTree was.tree) was is before after Done
+    flush_done up flushed serves = record {
+      same = same_volume safe.size;
+      later = later;
+      moments = λ k tree lasts given. flush_adds limits run cards old new tree (safe.moments k);
+      ends = record {
+        still_up = up;
+        leaves = λ k tree lasts given recent ready. (
+          is.tree ∷ [],
+          record {
+            ready = holds k;
+            no_others = λ one among. inr (among_one is.tree one among ∙ kept k ∙ sym given);
+            durable = λ durable one among. among_one is.tree one among ∙ kept k ∙ sym given;
+          },
+        );
+      };
+    }
+      where
+        kept : keeps_word → is.tree ≡ was.tree
+        kept k = ∥∥₁_elim (serves k) (Tree-set is.tree was.tree) (tree_same limits.nodes run cards old new (flushed.contents k))
+
+        holds : keeps_word → Holds is
+        holds k = holds_base limits run cards new flushed.emptied
+            (∥∥₁_elim (serves k) ∥∥₁_prop (λ serving. ∥∥₁_elim (still_serving limits.nodes run cards old new (flushed.contents k) safe.size (safe.settled k up) serving) ∥∥₁_prop (λ now. now.stands)))
+            (safe.settled k up)
+
+    pub flush_broken : new.is_down ≡ true → IsCounted before after → Changes keeps_word (IsTree was.tree) was is before after Broken
+    flush_broken down counted = record {
+      same = same_volume safe.size;
+      later = later;
+      moments = λ k tree lasts given. flush_adds limits run cards old new tree (safe.moments k);
+      ends = record { down = down; cause = counted };
+    }
+
+    pub flush_nothing : new ≡ old → Changes keeps_word (IsTree was.tree) was is before after Nothing
+    flush_nothing same = record {
+      same = same_volume safe.size;
+      later = later;
+      moments = λ k tree lasts given. flush_adds limits run cards old new tree (safe.moments k);
+      ends = ap (held_by limits run cards) same;
+    }
+
+    -- and it serves on
+    pub flush_serves : keeps_word → new.is_down ≡ false → AreSame old.size (contents old) (contents new) → IsUp → ∥ IsServing new limits.nodes run cards ∥₁
+    flush_serves k up same serves = ∥∥₁_elim (serves k) ∥∥₁_prop (still_serving limits.nodes run cards old new same safe.size (safe.settled k up))
+
+up : (b : Bool) → (b ≡ true → ⊥) → b ≡ false
+up true never = absurd (never refl)
+up false never = refl
+
+down_up : (b : Bool) → b ≡ true → b ≡ false → ⊥
+down_up b down is_up = cc
+
+-- a call that answered found the journal up and left it up
+pub found_up : (old new : Log) (before after : ℕ) (done : Unit {0}) → Answers old new before after (Ok done) → (old.is_down ≡ false) × (new.is_down ≡ false)
+found_up old new before after done answers =
+    let found : old.is_down ≡ false = up old.is_down (λ down. let told = answers.down.1 down in cc) in
+    (found, answers.stays_up found (λ fault. cc))
+
+-- a flush that leaves it up has flushed
+pub up_flushed : (keeps_word : Type 0) (old new : Log) (before after : ℕ) (result : Result (Unit {0}) JournalFault) → OnOk result (HasFlushed keeps_word old new)
+    → Answers old new before after result → IfErr result (λ fault. (fault ≡ faults.Fault) ⊎ (fault ≡ faults.Down)) → new.is_down ≡ false
+    → HasFlushed keeps_word old new × (old.is_down ≡ false)
+up_flushed keeps_word old new before after (Ok done) flushed answers refuses is_up = (flushed, (found_up old new before after done answers).0)
+up_flushed keeps_word old new before after (Err fault) flushed answers refuses is_up = ⊎_elim
+    (λ (broken : fault ≡ faults.Fault). absurd (down_up new.is_down (answers.goes_down (ap Err broken)) is_up))
+    (λ (down : fault ≡ faults.Down). absurd (down_up new.is_down (ap (λ (log : Log). log.is_down) (answers.untouched (ap Err down)).0 ∙ answers.down.0 (ap Err down)) is_up))
+    refuses
+
+pub flush_refused : (keeps_word : Type 0) (limits : Limits) (run : ℕ) (cards : List (Option Card)) (old new : Log) (before after : ℕ) (fault : JournalFault)
+    → IsSafe keeps_word old new → Answers {T = Unit {0}} old new before after (Err fault) → (fault ≡ faults.Fault) ⊎ (fault ≡ faults.Down)
+    → Changes keeps_word (IsTree (tree_of (contents old) cards)) (held_by limits run cards old) (held_by limits run cards new) before after (ending_of {T = Unit {0}} (Err (fault_of fault)))
+flush_refused keeps_word limits run cards old new before after faults.Fault safe answers refuses =
+    flush_broken keeps_word limits run cards old new before after safe answers.later (answers.goes_down refl) (answers.counted refl)
+flush_refused keeps_word limits run cards old new before after faults.Down safe answers refuses =
+    flush_nothing keeps_word limits run cards old new before after safe answers.later (answers.untouched refl).0
+flush_refused keeps_word limits run cards old new before after faults.Memory safe answers refuses = absurd (⊎_elim (λ (is : faults.Memory ≡ faults.Fault). cc) (λ (is : faults.Memory ≡ faults.Down). cc) refuses)
+flush_refused keeps_word limits run cards old new before after faults.Damaged safe answers refuses = absurd (⊎_elim (λ (is : faults.Damaged ≡ faults.Fault). cc) (λ (is : faults.Damaged ≡ faults.Down). cc) refuses)
+flush_refused keeps_word limits run cards old new before after faults.TooMany safe answers refuses = absurd (⊎_elim (λ (is : faults.TooMany ≡ faults.Fault). cc) (λ (is : faults.TooMany ≡ faults.Down). cc) refuses)
+
+-- what a `?` hands on
+pub told_err : {T E : Type 0} (result : Result T E) (reason : E) → IsErrAnd result (λ told. told ≡ reason) → result ≡ Err reason
+told_err (Ok done) reason is = absurd is
+told_err (Err told) reason is = ap Err is

@@ -1,0 +1,25 @@
+-- What a stop leaves of a volume, by its base alone: no sector of the journal's own is looked at.
+use Rattle.std.proofs.Common.{ℕ, ◌≡◌, ◌≤◌, ◌<◌, ◌+◌, ◌^◌, inl, inr, refl, rules, arith, sym}
+use Rattle.std.specs.Prelude.{IsTrue}
+use Rattle.disk.specs.Moments.{Image}
+use Rattle.journal.specs.Settled.{AreSame}
+use Rattle.layout.specs.Stands.{version_1}
+use Rattle.layout.specs.Superblock.{is_size}
+use Rattle.layout.proofs.FirstLaws.{Sized, sized_parts}
+use Rattle.layout.proofs.MarkProofs.{stands_alone}
+use Rattle.model.specs.Tree.{Tree}
+use Rattle.volume.specs.Stands.{Stands}
+
+pub sized : (sectors nodes : ℕ) → IsTrue (is_size sectors nodes) → Sized sectors nodes
+sized = sized_parts
+
+pub large : (sectors nodes : ℕ) → IsTrue (is_size sectors nodes) → 256 ≤ sectors
+large sectors nodes size = search rules
+
+-- the volume is the same where the kept sectors are
+pub stands_same : (sectors nodes : ℕ) (a b : Image) (run : ℕ) (tree : Tree) → AreSame sectors a b
+    → Stands sectors nodes a run tree → Stands sectors nodes b run tree
+stands_same sectors nodes a b run tree same stands =
+    let enough : 256 ≤ sectors = large sectors nodes stands.sized in
+    stands_alone version_1 sectors nodes a b run tree stands (sym (same 0 (inl refl, omega (arith, enough))))
+    (λ n above below. sym (same n (inr above, below)))

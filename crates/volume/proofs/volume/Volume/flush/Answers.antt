@@ -1,0 +1,51 @@
+use Rattle.std.proofs.Common.{◌≡◌, ◌∙◌, ℕ, Result, Ok, Err, Bool, true, false, refl, sym, ap, subst, arith}
+use Rattle.std.specs.Prelude.{IsTrue}
+use Rattle.journal.specs.Journal.{log_of}
+use Rattle.journal.specs.Log.{Log}
+use Rattle.layout.specs.Superblock.{is_size}
+use Rattle.model.specs.Limits.{limits_of}
+use Rattle.volume.specs.Known.{IsKnown}
+use Rattle.volume.specs.Refusals.{fault_of}
+use Rattle.volume.specs.Volumes.{held_of, volume_failures}
+use Rattle.volume.proofs.ServeLaws.{flush_done, flush_serves, flush_refused, found_up, up_flushed, told_err}
+use Rattle.volume.proofs.volume.Volume.flush.Goals as goal
+
+pub invariant_of-self : goal.invariant_of-self
+invariant_of-self g c =
+    let volume = c.args.self.now in
+    let old : Log = log_of volume.store.journal in
+    let new : Log = log_of c.flush.new.self in
+    let nodes = volume.limits.nodes in
+    let size = sym c.flush.ensures.safe.size in
+    record {
+      bounded = volume.bounded;
+      sized = subst (λ (n : ℕ). IsTrue (is_size n nodes)) size volume.sized;
+      limited = volume.limited ∙ ap (λ (n : ℕ). limits_of n nodes) size;
+      known = subst (λ (n : ℕ). IsKnown n nodes volume.table volume.places) size volume.known;
+      serves = λ k up.
+          let flushed = up_flushed g.D.Device.keeps_word old new _ _ c.flush.result c.flush.ensures.ok c.flush.ensures.answers c.flush.ensures.refuses up in
+          flush_serves g.D.Device.keeps_word volume.limits volume.run volume.table old new 0 0 c.flush.ensures.safe (omega arith) k up (flushed.0.contents k)
+          (λ word. volume.serves word flushed.1);
+    }
+
+pub returns-in_err-flush-clause-volume : goal.returns-in_err-flush-clause-volume
+unfolding held_of volume_failures
+returns-in_err-flush-clause-volume g c =
+    let volume = c.args.self.now in
+    let old : Log = log_of volume.store.journal in
+    let new : Log = log_of c.flush.new.self in
+    let fault = c.in_err-flush.field-0.0 in
+    let told = told_err c.from_residual.result (fault_of fault) c.from_residual.ensures.1 in
+    rw told (flush_refused g.D.Device.keeps_word volume.limits volume.run volume.table old new _ _ fault c.in_err-flush.ensures.safe
+    c.in_err-flush.ensures.answers c.in_err-flush.ensures.refuses)
+
+pub returns-clause-volume : goal.returns-clause-volume
+unfolding held_of volume_failures
+returns-clause-volume g c =
+    let volume = c.args.self.now in
+    let old : Log = log_of volume.store.journal in
+    let new : Log = log_of c.flush.new.self in
+    let answers = c.in_ok-flush.ensures.answers in
+    let up = found_up old new _ _ c.in_ok-flush.field-0 answers in
+    flush_done g.D.Device.keeps_word volume.limits volume.run volume.table old new _ _ c.in_ok-flush.ensures.safe answers.later up.1 c.in_ok-flush.ensures.ok
+    (λ word. volume.serves word up.0)

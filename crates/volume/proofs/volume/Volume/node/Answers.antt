@@ -1,0 +1,22 @@
+use Rattle.std.proofs.Common.{◌≡◌, ℕ, Some, None}
+use Rattle.std.specs.Prelude.{IfSome, IfNone}
+use Rattle.journal.specs.Journal.{log_of}
+use Rattle.journal.specs.Log.{contents}
+use Rattle.volume.specs.Volumes.{held_of}
+use Rattle.volume.proofs.NodeLaws.{node_there, none_there}
+use Rattle.volume.proofs.ServeLaws.{if_some_so}
+use Rattle.volume.proofs.volume.Volume.node.Goals as goal
+
+pub returns-in_err-place-clause-none : goal.returns-in_err-place-clause-none
+unfolding held_of
+returns-in_err-place-clause-none g c =
+    let volume = c.args.self.now in
+    rw c.from_residual.ensures (none_there (contents (log_of volume.store.journal)) volume.table c.args.number c.in_err-place.ensures.none)
+
+pub returns-clause-some : goal.returns-clause-some
+unfolding held_of
+returns-clause-some g c =
+    let volume = c.args.self.now in
+    if_some_so c.card.result _ _
+    (λ card there. node_there (contents (log_of volume.store.journal)) volume.table c.in_ok-place.place c.args.number card.now volume.known.are_cards.apart there c.in_ok-place.ensures.some)
+    c.card.ensures.some

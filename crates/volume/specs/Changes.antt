@@ -1,0 +1,71 @@
+-- What a call does to a volume: said once, for each call of this crate and of those above it that
+-- may change the tree.
+use Rattle.std.specs.Prelude.{ℕ, Bool, true, false, List, Result, Ok, Err, ◌≡◌, ◌≤◌}
+use Rattle.std.specs.List.{IsAmong}
+use Rattle.disk.specs.Cause.{IsCounted}
+use Rattle.model.specs.Tree.{Tree}
+use Rattle.volume.specs.declared.fault.VolumeFault.{VolumeFault}
+use Rattle.volume.specs.declared.fault.VolumeFault.TheVariants as fault
+use Rattle.volume.specs.Held.{Held, IsSameVolume, IsRecent, MayAdd, AddsTrees}
+
+-- how a call ends: it answered, it left all as it was, or the device failed in it
+pub data Ending : Type 0 where
+  Done : Ending
+  Nothing : Ending
+  Broken : Ending
+
+abbrev pub ending_of : {T : Type 0} → Result T VolumeFault → Ending
+ending_of (Ok done) = Done
+ending_of (Err fault.NoSpace) = Nothing
+ending_of (Err fault.Memory) = Nothing
+ending_of (Err fault.Device) = Broken
+ending_of (Err fault.Down) = Nothing
+
+-- What the definition says of a call: that the tree behind it is this one, and whether what it did
+-- has to last. A change that may be lost until a later one, as an unstable write, is one that does
+-- not.
+abbrev pub Given : Type 1
+Given = (after : Tree) → (lasts : Bool) → Type 0
+
+-- that it is this tree
+abbrev pub IsTree : Tree → Given
+IsTree tree after lasts = after ≡ tree
+
+-- a stop behind the call leaves these trees: of those before and the one behind it, and of what has
+-- to last that one alone
+pub record Leaves (new : Held) (after : Tree) (lasts : Bool) (recent left : List Tree)
+    : Type 0 where
+  pub ready : IsRecent new left
+  pub no_others : (tree : Tree) → IsAmong left tree → MayAdd recent after tree
+  pub durable : lasts ≡ true → (tree : Tree) → IsAmong left tree → tree ≡ after
+
+-- whichever trees a stop may leave before it
+abbrev pub LeavesTrees : (old new : Held) → (after : Tree) → (lasts : Bool) → Type 0
+LeavesTrees old new after lasts = (recent : List Tree) → IsRecent old recent
+    → (left : List Tree) × Leaves new after lasts recent left
+
+pub record HasAnswered (keeps_word : Type 0) (given : Given) (old new : Held) : Type 0 where
+  pub still_up : new.is_down ≡ false
+  pub leaves : keeps_word → (after : Tree) (lasts : Bool) → given after lasts
+      → LeavesTrees old new after lasts
+
+-- it is down, and what it shows from now on is left open; and the device counted a failure
+pub record HasBroken (old new : Held) (failed_before failed_after : ℕ) : Type 0 where
+  pub down : new.is_down ≡ true
+  pub cause : IsCounted failed_before failed_after
+
+abbrev pub EndsAs : (keeps_word : Type 0) → Given → (old new : Held) → (before after : ℕ)
+    → Ending → Type 0
+EndsAs keeps_word given old new before after Done = HasAnswered keeps_word given old new
+EndsAs keeps_word given old new before after Nothing = new ≡ old
+EndsAs keeps_word given old new before after Broken = HasBroken old new before after
+
+-- how often the device has failed stands before and after
+pub record Changes (keeps_word : Type 0) (given : Given) (old new : Held)
+    (failed_before failed_after : ℕ) (ending : Ending) : Type 0 where
+  pub same : IsSameVolume old new
+  pub later : failed_before ≤ failed_after
+  -- at each moment of it a stop leaves a tree from before, or the one behind it
+  pub moments : keeps_word → (after : Tree) (lasts : Bool) → given after lasts
+      → AddsTrees old after new.history
+  pub ends : EndsAs keeps_word given old new failed_before failed_after ending

@@ -1,0 +1,29 @@
+-- What making a new volume leaves.
+use Rattle.std.specs.Prelude.{ℕ, List, [], ◌∷◌, ◌≡◌, ◌⊎◌}
+use Rattle.disk.specs.Calls.{zero_sector}
+use Rattle.disk.specs.declared.update.Update.{Update}
+use Rattle.disk.specs.Moments.{Image, History, AddsOnly, Left}
+use Rattle.inode.specs.declared.node.Form.TheVariants.{One}
+use Rattle.inode.specs.Spelling.{inode_sector}
+use Rattle.layout.specs.FreshLaws.{root_fields}
+use Rattle.layout.specs.Cards.{node_sector}
+use Rattle.model.specs.Fresh.{fresh_tree}
+use Rattle.volume.specs.Stands.{StandsFor}
+
+-- the root at place 0, which alone of a new volume is not zero
+abbrev pub root_update : Update
+root_update = record { target = node_sector 0; content = inode_sector One root_fields }
+
+-- the new volume: an empty root, which was never mounted
+abbrev pub IsFresh : (sectors nodes : ℕ) → Image → Type 0
+IsFresh sectors nodes image = StandsFor sectors nodes 0 fresh_tree image
+
+-- what a format adds to what a stop may leave: no volume, or the new one
+abbrev pub AddsFresh : (sectors nodes : ℕ) → (old new : History) → Type 0
+AddsFresh sectors nodes old new =
+    AddsOnly (λ image. (image 0 ≡ zero_sector) ⊎ IsFresh sectors nodes image) old new
+
+-- a stop leaves the new volume, and nothing else
+abbrev pub LeavesFresh : (sectors nodes : ℕ) → History → Type 0
+LeavesFresh sectors nodes history =
+    (image : Image) → Left history.now image → IsFresh sectors nodes image

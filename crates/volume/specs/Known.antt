@@ -1,0 +1,26 @@
+-- What a volume keeps in memory, and what it has of its sectors.
+use Rattle.std.specs.Prelude.{◌≡◌, ◌≤◌, ◌<◌, ◌+◌, ℕ, Bool, false, List, Option, length}
+use Rattle.journal.specs.Log.{Log, IsSettled, contents}
+use Rattle.layout.specs.Cards.{Card, tree_of, cards_in}
+use Rattle.layout.specs.Known.{AreCards}
+use Rattle.layout.specs.Marks.{mark_by}
+use Rattle.layout.specs.Stands.{version_1, HaveForms}
+use Rattle.model.specs.declared.limits.Limits.{Limits}
+use Rattle.scan.specs.Volumes.{AreFew}
+use Rattle.volume.specs.Stands.{Stands}
+
+-- on any device: cards, and the set of places that they name, which are those of the whole data
+-- region
+pub record IsKnown (sectors nodes : ℕ) (cards : List (Option Card)) (places : List Bool)
+    : Type 0 where
+  pub are_cards : AreCards nodes (mark_by (148 + nodes) places) cards
+  pub forms : HaveForms version_1 cards
+  pub few : AreFew cards
+  pub whole : sectors ≡ 148 + nodes + length places
+
+-- on a device that keeps its word, as long as it did not fail: the cards are those of the sectors,
+-- flushed or not, and what a stop leaves settles to the journal's base
+pub record IsServing (log : Log) (nodes run : ℕ) (cards : List (Option Card)) : Type 0 where
+  pub read : cards ≡ cards_in nodes (contents log)
+  pub stands : ∥ Stands log.size nodes (contents log) run (tree_of (contents log) cards) ∥₁
+  pub settled : IsSettled log

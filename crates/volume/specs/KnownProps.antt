@@ -1,0 +1,11 @@
+-- What a volume knows of its nodes has one proof at most.
+use Rattle.std.specs.Prelude.{ℕ, Bool, List, Option}
+use Rattle.std.proofs.Props.{props}
+use Rattle.layout.specs.Cards.{Card}
+use Rattle.layout.specs.KnownProps.{AreCards-prop}
+use Rattle.layout.specs.LaidProps.{HaveForms-prop}
+use Rattle.volume.specs.Known.{IsKnown}
+
+pub IsKnown-prop : (sectors nodes : ℕ) (cards : List (Option Card)) (places : List Bool)
+    → IsProp (IsKnown sectors nodes cards places)
+IsKnown-prop sectors nodes cards places = Prim.hlevel (props, AreCards-prop, HaveForms-prop)

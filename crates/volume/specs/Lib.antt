@@ -1,0 +1,15 @@
+pub mod Changes
+pub mod Formats
+pub mod Fronts
+pub mod Held
+pub mod Known
+pub mod KnownProps
+pub mod Loads
+pub mod MountAnswers
+pub mod Mounts
+pub mod Nodes
+pub mod Refusals
+pub mod Remounts
+pub mod Stands
+pub mod Superblock
+pub mod Volumes

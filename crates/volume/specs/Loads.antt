@@ -1,0 +1,36 @@
+-- What reading the nodes of a volume finds.
+use Rattle.std.specs.Prelude.{◌≡◌, ◌≤◌, ◌<◌, ◌+◌, ℕ, Bool, List, Option}
+use Rattle.disk.specs.Moments.{IsSector}
+use Rattle.journal.specs.Log.{Log}
+use Rattle.layout.specs.Cards.{Card, tree_of, cards_in}
+use Rattle.layout.specs.Health.{Health, Reads}
+use Rattle.model.specs.Limits.{limits_of}
+use Rattle.model.specs.Stamp.{stamp}
+use Rattle.shape.specs.WellFormed.{AreWellFormed}
+use Rattle.volume.specs.Known.{IsKnown}
+use Rattle.volume.specs.Mounts.{StandsOn}
+use Rattle.volume.specs.Superblock.{superblock}
+use Rattle.volume.specs.declared.mount.Superblock.{Superblock}
+
+-- the base begins with the first sector that was found, and its sectors are bytes
+pub record HoldsBase (found : Superblock) (log : Log) : Type 0 where
+  pub first : log.base 0 ≡ superblock found.sectors found.nodes found.run
+  pub sectors : (n : ℕ) → n < log.size → IsSector (log.base n)
+
+-- The cards are those of the base, and a tree stands there
+pub record IsLoaded (keeps_word : Type 0) (found : Superblock) (log : Log)
+    (cards : List (Option Card)) (places : List Bool)
+    : Type 0 where
+  pub known : IsKnown found.sectors found.nodes cards places
+  pub well_formed : ∥ AreWellFormed (limits_of found.sectors found.nodes)
+      (stamp (found.run + 1) 0) cards ∥₁
+  pub read : keeps_word → cards ≡ cards_in found.nodes log.base
+  pub stood : keeps_word → ∥ StandsOn found log.base (tree_of log.base cards) ∥₁
+
+-- the journal is as it was, but where the device failed it is down and counted that
+abbrev health : Log → (failures : ℕ) → Health
+health log failures = record { failed = failures; is_down = log.is_down }
+
+pub record Loads (old new : Log) (before after : ℕ) (faulted : Type 0) : Type 0 where
+  pub only : new ≡ record old { is_down = new.is_down }
+  pub reads : Reads (health old before) (health new after) faulted

@@ -1,0 +1,80 @@
+-- What a mount says by its answer.
+use Rattle.std.specs.Prelude.{ℕ, ⊤, ◌≡◌, ◌≤◌, ◌+◌, ◌^◌, ◌⊎◌}
+use Rattle.disk.specs.Cause.{IsCounted}
+use Rattle.disk.specs.Moments.{Image, History, AddsOnly, seen, synced}
+use Rattle.journal.specs.Settled.{Settles, SettlesAs}
+use Rattle.model.specs.Tree.{Tree}
+use Rattle.volume.specs.Held.{Held, Holds}
+use Rattle.volume.specs.Remounts.{AddsMount, IsFound}
+use Rattle.volume.specs.Stands.{IsBase}
+use Rattle.volume.specs.Superblock.{verdict}
+use Rattle.volume.specs.declared.fault.MountFault.{MountFault}
+use Rattle.volume.specs.declared.fault.MountFault.TheVariants as mounts
+use Rattle.volume.specs.declared.volume.Unmounted.{Unmounted}
+use Rattle.volume.specs.declared.superblock.Verdict.{Verdict}
+use Rattle.volume.specs.declared.superblock.Verdict.TheVariants as verdicts
+
+-- what the first sector of a device says
+abbrev pub first_verdict : (sectors : ℕ) → History → Verdict
+first_verdict sectors old = verdict sectors (seen old.now 0)
+
+abbrev pub NoTree : (sectors : ℕ) → History → Type 0
+NoTree sectors old =
+    (nodes run : ℕ) (tree : Tree) → IsBase sectors nodes run tree (seen old.now) → ⊥
+
+-- A mount that serves: the first sector is sound, the tree that stood is served, and a stop leaves
+-- it under the new count
+pub record HasMounted (sectors : ℕ) (old : History) (held : Held) : Type 0 where
+  pub first : first_verdict sectors old ≡ verdicts.Sound
+  pub found : IsFound sectors old held
+  pub moments : AddsMount sectors old held.history
+  -- and from its first sync on nothing of what was left before
+  pub since_sync : AddsMount sectors (synced old) held.history
+  pub holds : Holds held
+
+-- Nothing but what an open gate asks for: what it shows is copied home, so that each map left
+-- settles as the device did. Where the gate has no form nothing is written.
+pub record OnlyReplays (sectors : ℕ) (old new : History) : Type 0 where
+  pub moments : AddsOnly (SettlesAs sectors (seen old.now)) old new
+  pub formless : ((settled : Image) → Settles sectors (seen old.now) settled → ⊥)
+      → (new ≡ old) ⊎ (new ≡ synced old)
+
+-- NotVolume and Worn come by the first sector alone, before Damaged; and where a tree stands, Worn
+-- at a full count alone
+pub record IsNoVolume (sectors : ℕ) (old new : History) : Type 0 where
+  pub first : first_verdict sectors old ≡ verdicts.NotVolume
+  pub no_tree : NoTree sectors old
+  pub untouched : new ≡ old
+
+pub record IsWorn (sectors : ℕ) (old new : History) : Type 0 where
+  pub first : first_verdict sectors old ≡ verdicts.Worn
+  pub full : (nodes run : ℕ) (tree : Tree) → IsBase sectors nodes run tree (seen old.now)
+      → run + 1 ≡ 2 ^ 32
+  pub untouched : new ≡ old
+
+pub record IsDamaged (sectors : ℕ) (old new : History) : Type 0 where
+  pub first : ((first_verdict sectors old ≡ verdicts.Damaged) × (new ≡ old))
+      ⊎ (first_verdict sectors old ≡ verdicts.Sound)
+  pub no_tree : NoTree sectors old
+
+abbrev pub HasReason : (sectors : ℕ) → (old new : History) → MountFault → Type 0
+HasReason sectors old new mounts.NotVolume = IsNoVolume sectors old new
+HasReason sectors old new mounts.Worn = IsWorn sectors old new
+HasReason sectors old new mounts.Damaged = IsDamaged sectors old new
+HasReason sectors old new mounts.Memory = ⊤
+HasReason sectors old new mounts.Device = ⊤
+
+-- A mount that is refused: the tree stands as it stood, and its count is raised only where the
+-- device failed
+pub record IsRefused (sectors : ℕ) (old new : History) (fault : MountFault) : Type 0 where
+  pub moments : AddsMount sectors old new
+  pub replays : (fault ≡ mounts.Device → ⊥) → OnlyReplays sectors old new
+  pub reason : HasReason sectors old new fault
+
+-- the device that comes back, of so many sectors and failures before: Device is answered only where
+-- it counted one more
+pub record ComesBack {D : Type 0} (size failed : D → ℕ) (sectors failures : ℕ)
+    (refused : Unmounted D) : Type 0 where
+  pub same_size : size refused.device ≡ sectors
+  pub later : failures ≤ failed refused.device
+  pub cause : refused.fault ≡ mounts.Device → IsCounted failures (failed refused.device)

@@ -1,0 +1,76 @@
+-- What a mount finds on the base of a journal.
+use Rattle.std.specs.Prelude.{ℕ, ⊤, Bool, false, [], Result, Ok, Err, ◌≡◌, ◌<◌, ◌≤◌, ◌+◌, ◌^◌, ◌⊎◌, List, IsTrue}
+use Rattle.disk.specs.Cause.{IsCounted}
+use Rattle.disk.specs.Moments.{Image, History, AddsOnly, put}
+use Rattle.journal.specs.Log.{Log, IsSettled}
+use Rattle.journal.specs.Settled.{AreSame}
+use Rattle.layout.specs.Superblock.{is_size}
+use Rattle.model.specs.Tree.{Tree}
+use Rattle.volume.specs.Held.{Held, Holds}
+use Rattle.volume.specs.Stands.{Stands, StandsFor}
+use Rattle.volume.specs.Superblock.{superblock, verdict}
+use Rattle.volume.specs.declared.fault.MountFault.{MountFault}
+use Rattle.volume.specs.declared.fault.MountFault.TheVariants as mounts
+use Rattle.volume.specs.declared.mount.Superblock.{Superblock}
+use Rattle.volume.specs.declared.superblock.Verdict.TheVariants as verdicts
+
+-- a volume by its first sector: one more mount of it can be counted
+pub record IsVolumeOf (sectors : ℕ) (found : Superblock) : Type 0 where
+  pub size : found.sectors ≡ sectors
+  pub sized : IsTrue (is_size found.sectors found.nodes)
+  pub counted : found.run + 1 < 2 ^ 32
+
+-- a journal in which nothing waits
+pub record IsAtRest (log : Log) : Type 0 where
+  pub up : log.is_down ≡ false
+  pub listed : log.list ≡ []
+
+-- what the first sector says, by what a look at it answers
+abbrev pub IsTold : (sectors : ℕ) → (sector : List ℕ) → Result Superblock MountFault → Type 0
+IsTold sectors sector (Ok found) =
+    (verdict sectors sector ≡ verdicts.Sound)
+    × (sector ≡ superblock found.sectors found.nodes found.run)
+IsTold sectors sector (Err mounts.NotVolume) = verdict sectors sector ≡ verdicts.NotVolume
+IsTold sectors sector (Err mounts.Worn) = verdict sectors sector ≡ verdicts.Worn
+IsTold sectors sector (Err mounts.Damaged) = verdict sectors sector ≡ verdicts.Damaged
+IsTold sectors sector (Err mounts.Memory) = ⊥
+IsTold sectors sector (Err mounts.Device) = ⊤
+
+-- the tree stands on this base, under the count that was found
+abbrev pub StandsOn : Superblock → (base : Image) → Tree → Type 0
+StandsOn found base tree = Stands found.sectors found.nodes base found.run tree
+
+-- a map stands for the tree, under the count that was found or the next one
+abbrev pub StandsForEither : Superblock → Tree → Image → Type 0
+StandsForEither found tree image =
+    StandsFor found.sectors found.nodes found.run tree image
+    ⊎ StandsFor found.sectors found.nodes (found.run + 1) tree image
+
+-- what a run that begins adds to what a stop may leave: the tree that stands, under either count
+abbrev pub AddsRaised : Superblock → (base : Image) → (old new : History) → Type 0
+AddsRaised found base old new =
+    (tree : Tree) → StandsOn found base tree → AddsOnly (StandsForEither found tree) old new
+
+-- The count is raised: the tree that stood stands under the next one, and nothing else has changed
+pub record IsRaised (keeps_word : Type 0) (found : Superblock) (old new : Log) : Type 0 where
+  pub still_up : new.is_down ≡ false
+  pub stands : keeps_word → (tree : Tree) → StandsOn found old.base tree
+      → Stands found.sectors found.nodes new.base (found.run + 1) tree
+  pub same : keeps_word → (n : ℕ) → 98 ≤ n → n < old.size → new.base n ≡ old.base n
+  pub settled : keeps_word → IsSettled new
+
+-- a run that begins on a base
+pub record HasBegun (found : Superblock) (base : Image) (old : History) (held : Held) : Type 0 where
+  pub run : held.run ≡ found.run + 1
+  pub nodes : held.limits.nodes ≡ found.nodes
+  pub stood : ∥ StandsOn found base held.tree ∥₁
+  pub moments : AddsRaised found base old held.history
+  pub holds : Holds held
+
+-- one that does not
+pub record IsNotBegun (found : Superblock) (base : Image) (old new : History) (fault : MountFault)
+    : Type 0 where
+  pub moments : AddsRaised found base old new
+  pub no_tree : fault ≡ mounts.Damaged → (tree : Tree) → StandsOn found base tree → ⊥
+  pub untouched : (fault ≡ mounts.Device → ⊥) → new ≡ old
+  pub only : (fault ≡ mounts.Device) ⊎ ((fault ≡ mounts.Damaged) ⊎ (fault ≡ mounts.Memory))

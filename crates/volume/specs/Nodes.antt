@@ -1,0 +1,29 @@
+-- What the card of a node shows of it: all but a file's bytes, of which it has the count.
+use Rattle.std.specs.Prelude.{◌≡◌, ℕ, List, Some, length}
+use Rattle.directory.specs.Listing.{by_stamp}
+use Rattle.layout.specs.Cards.{Card}
+use Rattle.model.specs.declared.node.NodeKind.{NodeKind}
+use Rattle.model.specs.declared.node.NodeKind.TheVariants as kind
+use Rattle.model.specs.Keyed.{at}
+use Rattle.model.specs.Tree.{Tree, Node, Content, File, Directory}
+
+-- so many bytes
+pub record IsFile (size : ℕ) (content : Content) : Type 0 where
+  pub bytes : List ℕ
+  pub file : content ≡ File bytes
+  pub size_is : length bytes ≡ size
+
+abbrev pub ShowsContent : NodeKind → Card → Content → Type 0
+ShowsContent kind.File card content = IsFile card.fields.size content
+ShowsContent kind.Directory card content = content ≡ Directory (by_stamp card.names)
+
+pub record IsNodeOf (tree : Tree) (number : ℕ) (card : Card) : Type 0 where
+  pub number_is : card.fields.number ≡ number
+  pub node : Node
+  pub there : at number tree ≡ Some node
+  pub owner : node.owner ≡ card.fields.owner
+  pub group : node.group ≡ card.fields.group
+  pub acl : node.acl ≡ card.fields.acl
+  pub change : node.change ≡ card.fields.change
+  pub time_modify : node.time_modify ≡ card.fields.time_modify
+  pub content : ShowsContent card.fields.kind card node.content

@@ -1,0 +1,35 @@
+-- What the first sector of a device says of the volume on it.
+use Rattle.std.specs.Prelude.{◌==◌, ◌&&◌, ◌-◌, ◌^◌, ℕ, Bool, not, List, drop, nat_eq, bytes_eq, if◌then◌else◌}
+use Rattle.std.specs.List.{starts_with}
+use Rattle.std.specs.Int.{w32, from_be_bytes}
+use Rattle.layout.specs.Stands.{version_1}
+use Rattle.layout.specs.Superblock as layout
+use Rattle.layout.specs.Superblock.{magic, is_size}
+use Rattle.volume.specs.declared.superblock.Verdict.{Verdict}
+use Rattle.volume.specs.declared.superblock.Verdict.TheVariants.{NotVolume, Worn, Damaged, Sound}
+
+-- the first sector of a volume of version 1
+abbrev pub superblock : (sectors nodes run : ℕ) → List ℕ
+superblock sectors nodes run = layout.superblock version_1.number sectors nodes run
+
+-- the number in the four bytes from place i
+unfoldable pub word : (i : ℕ) → List ℕ → ℕ
+word i sector = from_be_bytes w32 (drop i sector)
+
+-- the restart count from which no mount can go on
+abbrev pub last_run : ℕ
+last_run = 2 ^ 32 - 1
+
+-- the first sector of a volume of this version on a device of this many sectors
+unfoldable pub is_volume : (sectors : ℕ) → List ℕ → Bool
+is_volume sectors sector =
+    starts_with nat_eq sector magic && (word 8 sector == version_1.number)
+    && (word 12 sector == sectors) && is_size sectors (word 16 sector)
+
+-- what a mount makes of sector 0
+unfoldable pub verdict : (sectors : ℕ) → List ℕ → Verdict
+verdict sectors sector =
+    if not (is_volume sectors sector) then NotVolume
+    else if word 20 sector == last_run then Worn
+    else if bytes_eq sector (superblock sectors (word 16 sector) (word 20 sector)) then Sound
+    else Damaged

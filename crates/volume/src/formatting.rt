@@ -1,0 +1,97 @@
+//! Making a new volume.
+
+ghost use Rattle.std.specs.Prelude.{◌≡◌, ◌≤◌, ◌⊎◌, ◌↔◌, [], ◌∷◌, false, IfOk, OnOk, IsErrOf};
+ghost use Rattle.disk.specs.Cause.{IsCounted};
+ghost use Rattle.inode.specs.Fields.{fields_of};
+ghost use Rattle.layout.specs.FreshLaws.{root_fields};
+ghost use Rattle.layout.specs.Superblock.{is_size};
+ghost use Rattle.volume.specs.Formats.{AddsFresh, LeavesFresh, root_update};
+
+use crate::fault::FormatFault;
+use crate::superblock::{is_volume_size, superblock_of};
+use bitflags::Flags;
+use disk::{Device, SECTOR, Update};
+use inode::{Form, Inode, to_sector};
+use journal::Journal;
+use model::acl::{Ace, AceFlags, AceKind, Acl, Mask, Who};
+use model::node::NodeKind;
+use std::alloc::{AllocError, Global};
+use std::slice;
+
+/// The first sector of the node table.
+const NODES: u32 = 148;
+
+/// Every right that this server knows.
+const EVERY_RIGHT: u32 = 0x1F_01E7;
+
+/// The root of a new volume: an empty directory, on which everyone may do everything.
+fn fresh_root(alloc: Global) -> Result<Inode, AllocError>
+    ensures { IfOk result (λ root. fields_of root ≡ root_fields) }
+{
+    let everyone = Ace {
+        kind: AceKind::Allow,
+        flags: AceFlags::empty(),
+        mask: Mask::from_bits_retain(EVERY_RIGHT),
+        who: Who::Everyone,
+    };
+    Ok(Inode {
+        kind: NodeKind::Directory,
+        number: 1,
+        owner: 0,
+        group: 0,
+        change: 1,
+        time_modify: 0,
+        size: 0,
+        runs: 0,
+        run_sectors: Vec::new(alloc),
+        acl: Acl::from_slice(alloc, &[everyone])?,
+    })
+}
+
+/// The sector of the root of a new volume.
+fn fresh_update(alloc: Global) -> Result<Update, AllocError>
+    ensures { IfOk result (λ update. update ≡ root_update) }
+{
+    let root = fresh_root(alloc)?;
+    let mut content = [0; SECTOR];
+    to_sector(&root, Form::One, &mut content);
+    Ok(Update {
+        target: NODES,
+        content,
+    })
+}
+
+/// Makes the device a new volume of this many nodes, with an empty root. First its sector 0 is
+/// zeros, then all other sectors are as in the new volume, then sector 0 is: a stop leaves what was
+/// there, no volume, or the new one.
+///
+/// # Errors
+///
+/// Size where no volume has this many sectors and nodes, and Memory: nothing was written. Device
+/// where the device failed.
+pub fn format<D: Device>(alloc: Global, device: &mut D, nodes: u32) -> Result<(), FormatFault>
+    ensures moments { D.keeps_word → AddsFresh (D.size device.old) nodes
+        (D.history device.old) (D.history device.new) }
+    ensures ok { D.keeps_word → OnOk result
+        (LeavesFresh (D.size device.old) nodes (D.history device.new)) }
+    // Refused
+    ensures size { IsErrOf result FormatFault.Size
+        ↔ (is_size (D.size device.old) nodes ≡ false) }
+    ensures untouched { (IsErrOf result FormatFault.Size ⊎ IsErrOf result FormatFault.Memory)
+        → D.history device.new ≡ D.history device.old }
+    ensures cause { IsErrOf result FormatFault.Device
+        → IsCounted (D.failed device.old) (D.failed device.new) }
+    ensures later { D.failed device.old ≤ D.failed device.new }
+    ensures same_size { D.size device.new ≡ D.size device.old }
+{
+    let sectors = device.sectors();
+    if !is_volume_size(sectors, nodes) {
+        return Err(FormatFault::Size);
+    }
+    let update = fresh_update(alloc)?;
+    let first = superblock_of(sectors, nodes, 0);
+    if Journal::format(device, &first, slice::from_ref(&update)).is_err() {
+        return Err(FormatFault::Device);
+    }
+    Ok(())
+}

@@ -1,0 +1,36 @@
+//! The laws of a volume: each is the contract of a function that does nothing.
+
+ghost use Rattle.std.specs.Prelude.{◌≡◌, ◌<◌, ◌^◌, ℕ};
+ghost use Rattle.volume.specs.Fronts.{KeepsFronts, AppliedRecent};
+ghost use Rattle.volume.specs.Remounts.{EveryRemount, StillStands};
+ghost use Rattle.volume.specs.Stands.{OneTreeStands};
+ghost use Rattle.volume.specs.Superblock.{superblock, word};
+
+/// The first sector of a volume tells its nodes and its restart count.
+#[tactic(auto, using(crate::proofs::FirstLaws::word_nodes, crate::proofs::FirstLaws::word_run))]
+pub fn superblock_tells()
+    ensures nodes { (sectors nodes run : ℕ) → nodes < 2 ^ 32
+        → word 16 (superblock sectors nodes run) ≡ nodes }
+    ensures run { (sectors nodes run : ℕ) → run < 2 ^ 32
+        → word 20 (superblock sectors nodes run) ≡ run }
+{}
+
+/// A map that a stop left stands for one tree, of a volume with one number of nodes and one restart
+/// count.
+#[tactic(auto, using(crate::proofs::OneTree::one_tree_stands))]
+pub fn one_tree_stands()
+    ensures { OneTreeStands }
+{}
+
+/// However often a volume is mounted behind a stop, and wherever those mounts are stopped: the next
+/// one that serves has the tree that stood, under a greater restart count.
+pub fn every_remount()
+    ensures next { EveryRemount }
+    ensures stands { StillStands }
+{}
+
+/// A journal that holds unflushed changes.
+pub fn unflushed()
+    ensures keeps { KeepsFronts }
+    ensures applied { AppliedRecent }
+{}

@@ -1,0 +1,17 @@
+//! A volume on a device: nodes, files and directories in sectors, which a stop at any moment leaves
+//! whole.
+#![tactic(auto)]
+
+mod fault;
+mod formatting;
+mod laws;
+mod load;
+mod mount;
+mod store;
+pub mod superblock;
+mod volume;
+
+pub use fault::{FormatFault, MountFault, VolumeFault};
+pub use formatting::format;
+pub use laws::{one_tree_stands, superblock_tells};
+pub use volume::{Unmounted, Volume};

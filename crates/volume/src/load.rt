@@ -1,0 +1,60 @@
+//! Reading the nodes of a volume into memory.
+
+ghost use Rattle.std.specs.Prelude.{◌≡◌, ◌⊎◌, IfOk, IfErr, IsErrOf, OnOk, false, is_err};
+ghost use Rattle.journal.specs.Journal.{log_of, failures_of};
+ghost use Rattle.model.specs.Tree.{Tree as NumberedTree};
+ghost use Rattle.volume.specs.Loads.{HoldsBase, IsLoaded, Loads};
+ghost use Rattle.volume.specs.Mounts.{IsVolumeOf, IsAtRest, StandsOn};
+ghost use Rattle.volume.specs.Superblock.{superblock};
+
+use crate::fault::MountFault;
+use crate::mount::Superblock;
+use crate::store::Store;
+use cards::Table;
+use disk::Device;
+use freemap::Bitmap;
+use model::limits::Limits;
+use scan::read_volume;
+use shape::are_well_formed;
+use std::alloc::Global;
+
+/// The nodes of a volume, and the places of its data region that they name.
+#[derive(Drop)]
+pub(crate) struct Loaded {
+    pub(crate) table: Table,
+    pub(crate) places: Bitmap,
+}
+
+/// Reads the nodes of a volume that was found: Damaged exactly where no tree stands.
+pub(crate) fn load<D: Device>(
+    alloc: Global,
+    store: &mut Store<D>,
+    found: Superblock,
+) -> Result<Loaded, MountFault>
+    requires volume { IsVolumeOf (log_of store.old.journal).size found }
+    requires rests { IsAtRest (log_of store.old.journal) }
+    requires base { D.keeps_word → HoldsBase found (log_of store.old.journal) }
+    ensures loaded { IfOk result (λ loaded. IsLoaded D.keeps_word found
+        (log_of store.old.journal) loaded.table loaded.places) }
+    // It only reads
+    ensures loads { Loads (log_of store.old.journal) (log_of store.new.journal)
+        (failures_of store.old.journal) (failures_of store.new.journal)
+        (IsErrOf result MountFault.Device) }
+    // Refused
+    ensures damaged { D.keeps_word → IsErrOf result MountFault.Damaged → (tree : NumberedTree)
+        → StandsOn found (log_of store.old.journal).base tree → ⊥ }
+    ensures only { IfErr result (λ fault. (fault ≡ MountFault.Device)
+        ⊎ ((fault ≡ MountFault.Damaged) ⊎ (fault ≡ MountFault.Memory))) }
+{
+    let limits = Limits::of_volume(found.sectors as usize, found.nodes as usize);
+    let contents = read_volume(alloc, store, found.sectors, found.nodes)?;
+    let table = Table::from_cards(alloc, contents.cards)?;
+    let stamp = u64::from(found.run + 1) * 0x1_0000_0000;
+    if !are_well_formed(alloc, &table, &limits, stamp)? {
+        return Err(MountFault::Damaged);
+    }
+    Ok(Loaded {
+        table,
+        places: contents.places,
+    })
+}

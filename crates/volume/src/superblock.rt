@@ -1,0 +1,100 @@
+//! The first sector of a volume, which says that it is one and counts its mounts.
+
+ghost use Rattle.std.specs.Prelude.{◌≡◌, length, take};
+ghost use Rattle.layout.specs.Superblock.{is_size, fields};
+ghost use Rattle.layout.specs.Stands.{version_1};
+ghost use Rattle.volume.specs.Superblock.{is_volume, verdict, superblock, word};
+
+use disk::SECTOR;
+use sector::{put_bytes, put_u32, put_zeros, u32_at};
+
+/// What the first sector begins with.
+const MAGIC: [u8; 8] = *b"NFS41VOL";
+
+/// The layout of `layout`.
+const VERSION: u32 = 1;
+
+/// What a mount makes of sector 0, the first that holds.
+#[derive(Clone, Copy, Debug, PartialEq, Eq)]
+pub enum Verdict {
+    /// No volume of this version and of the device's size.
+    NotVolume,
+    /// The restart count is full.
+    Worn,
+    /// Behind the fields stands another byte than zero.
+    Damaged,
+    /// A volume that can be mounted.
+    Sound,
+}
+
+/// Whether a volume may have this many sectors and nodes.
+pub fn is_volume_size(sectors: u32, nodes: u32) -> bool
+    ensures { result ≡ is_size sectors nodes }
+{
+    256 <= sectors && sectors <= 65536 && 2 <= nodes && nodes <= 16384 && 164 + nodes <= sectors
+}
+
+/// Writes the fields of the first sector.
+fn put_fields(sector: &mut [u8; SECTOR], sectors: u32, nodes: u32, run: u32)
+    ensures front { take 24 sector.new ≡ fields version_1.number sectors nodes run }
+    ensures len { length sector.new ≡ 4096 }
+{
+    put_bytes(sector, 0, &MAGIC);
+    put_u32(sector, 8, VERSION);
+    put_u32(sector, 12, sectors);
+    put_u32(sector, 16, nodes);
+    put_u32(sector, 20, run);
+}
+
+/// The first sector of a volume.
+#[tactic(auto, unfolding(layout::specs::Superblock::superblock))]
+pub fn superblock_of(sectors: u32, nodes: u32, run: u32) -> [u8; SECTOR]
+    ensures { result ≡ superblock sectors nodes run }
+{
+    let mut sector = [0; SECTOR];
+    put_fields(&mut sector, sectors, nodes, run);
+    put_zeros(&mut sector, 24, SECTOR - 24);
+    sector
+}
+
+/// What a mount makes of sector 0 of a device of this many sectors.
+#[tactic(auto, unfolding(crate::specs::Superblock::verdict))]
+pub fn judge(sectors: u32, sector: &[u8; SECTOR]) -> Verdict
+    ensures { result ≡ verdict sectors sector.now }
+{
+    if !has_header(sectors, sector) {
+        Verdict::NotVolume
+    } else if run_of(sector) == u32::MAX {
+        Verdict::Worn
+    } else if *sector == superblock_of(sectors, nodes_of(sector), run_of(sector)) {
+        Verdict::Sound
+    } else {
+        Verdict::Damaged
+    }
+}
+
+#[tactic(auto, unfolding(crate::specs::Superblock::is_volume, crate::specs::Superblock::word))]
+fn has_header(sectors: u32, sector: &[u8; SECTOR]) -> bool
+    ensures { result ≡ is_volume sectors sector.now }
+{
+    sector.starts_with(&MAGIC)
+        && u32_at(sector, 8) == VERSION
+        && u32_at(sector, 12) == sectors
+        && is_volume_size(sectors, nodes_of(sector))
+}
+
+/// The number of nodes in the first sector of a volume.
+#[tactic(auto, unfolding(crate::specs::Superblock::word))]
+pub fn nodes_of(sector: &[u8; SECTOR]) -> u32
+    ensures { result ≡ word 16 sector.now }
+{
+    u32_at(sector, 16)
+}
+
+/// The restart count in the first sector of a volume.
+#[tactic(auto, unfolding(crate::specs::Superblock::word))]
+pub fn run_of(sector: &[u8; SECTOR]) -> u32
+    ensures { result ≡ word 20 sector.now }
+{
+    u32_at(sector, 20)
+}

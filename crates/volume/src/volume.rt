@@ -1,0 +1,183 @@
+//! A mounted volume: its nodes in memory, and its journal.
+
+ghost use Rattle.std.specs.Prelude.{◌≡◌, ◌<◌, ◌^◌, false, IsTrue};
+ghost use Rattle.journal.specs.Journal.{log_of};
+ghost use Rattle.layout.specs.Superblock.{is_size};
+ghost use Rattle.model.specs.Limits.{limits_of};
+ghost use Rattle.volume.specs.Known.{IsKnown, IsServing};
+ghost use Rattle.volume.specs.KnownProps.{IsKnown-prop};
+
+use crate::fault::{MountFault, VolumeFault};
+use crate::load::load;
+use crate::mount::{Superblock, find, raise};
+use crate::store::Store;
+use cards::{Card, Table};
+use disk::Device;
+use freemap::Bitmap;
+use journal::Journal;
+use model::limits::Limits;
+use std::alloc::Global;
+
+/// A mounted volume.
+///
+/// Everything but the bytes of files is in memory: what is asked of nodes and names touches no
+/// device.
+#[derive(Drop)]
+pub struct Volume<D: Device> {
+    alloc: Global,
+    store: Store<D>,
+    limits: Limits,
+    run: u32,
+    table: Table,
+    places: Bitmap,
+    ghost bounded: { run < 2 ^ 32 },
+    ghost sized: { IsTrue (is_size (log_of store.journal).size limits.nodes) },
+    ghost limited: { limits ≡ limits_of (log_of store.journal).size limits.nodes },
+    ghost known: { IsKnown (log_of store.journal).size limits.nodes table places } by { IsKnown-prop (log_of store.journal).size limits.nodes table places },
+    ghost serves: { D.keeps_word → (log_of store.journal).is_down ≡ false
+        → ∥ IsServing (log_of store.journal) limits.nodes run table ∥₁ },
+}
+
+/// A device that was not mounted, and why.
+#[derive(Drop)]
+pub struct Unmounted<D: Device> {
+    pub fault: MountFault,
+    /// The device, given back.
+    pub device: D,
+}
+
+#[tactic(auto, unfolding(crate::specs::Volumes::held_of, crate::specs::Volumes::volume_failures))]
+impl<D: Device> Volume<D> {
+    ghost use Rattle.std.specs.Prelude.{◌≡◌, ◌≤◌, ◌↔◌, ◌⊎◌, true, Some, None};
+    ghost use Rattle.std.specs.Prelude.{IfSome, IfNone, IfOk, IfErr, IsErrOf};
+    ghost use Rattle.journal.specs.Journal.{log_of, failures_of};
+    ghost use Rattle.model.specs.Keyed.{at};
+    ghost use Rattle.volume.specs.Changes.{IsTree, ending_of};
+    ghost use Rattle.volume.specs.Held.{IsNew};
+    ghost use Rattle.volume.specs.Loads.{HoldsBase};
+    ghost use Rattle.volume.specs.MountAnswers.{HasMounted, IsRefused, ComesBack};
+    ghost use Rattle.volume.specs.Mounts.{IsVolumeOf, IsAtRest, HasBegun, IsNotBegun};
+    ghost use Rattle.volume.specs.Nodes.{IsNodeOf};
+    ghost use Rattle.volume.specs.Volumes.{held_of, volume_failures, Alters};
+
+    /// Mounts the volume: finds it by its first sector, copies home what an open gate shows, reads
+    /// its nodes, and raises the restart count. Every map that a stop leaves from then on has the
+    /// new count, which is this mount's run.
+    ///
+    /// # Errors
+    ///
+    /// The device comes back with the reason. NotVolume, then Worn, by the first sector, and then
+    /// nothing was written; then Damaged exactly where no tree stands; Device where the device
+    /// failed, and Memory.
+    pub fn mount(alloc: Global, device: D) -> Result<Volume<D>, Unmounted<D>>
+        ensures new { IfOk result (λ volume. IsNew (D.size device) (held_of volume)) }
+        ensures later { IfOk result (λ volume. D.failed device ≤ volume_failures volume) }
+        ensures mounted { D.keeps_word → IfOk result (λ volume.
+            HasMounted (D.size device) (D.history device) (held_of volume)) }
+        // Refused
+        ensures back { IfErr result (ComesBack D.size D.failed (D.size device) (D.failed device)) }
+        ensures refused { D.keeps_word → IfErr result (λ refused.
+            IsRefused (D.size device) (D.history device) (D.history refused.device) refused.fault) }
+    {
+        let mut device = device;
+        let found = match find(&mut device) {
+            Ok(found) => found,
+            Err(fault) => return Err(Unmounted { fault, device }),
+        };
+        match Journal::mount(alloc, device) {
+            Ok(journal) => Volume::begin(alloc, journal, found),
+            Err(refused) => Err(Unmounted {
+                fault: refused.fault.into(),
+                device: refused.device,
+            }),
+        }
+    }
+
+    /// Begins a run on a journal in which nothing waits.
+    fn begin(
+        alloc: Global,
+        journal: Journal<D>,
+        found: Superblock,
+    ) -> Result<Volume<D>, Unmounted<D>>
+        requires volume { IsVolumeOf (log_of journal).size found }
+        requires rests { IsAtRest (log_of journal) }
+        requires base { D.keeps_word → HoldsBase found (log_of journal) }
+        ensures new { IfOk result (λ volume. IsNew (log_of journal).size (held_of volume)) }
+        ensures later { IfOk result (λ volume. failures_of journal ≤ volume_failures volume) }
+        ensures begun { D.keeps_word → IfOk result (λ volume.
+            HasBegun found (log_of journal).base (log_of journal).history (held_of volume)) }
+        // Refused
+        ensures back { IfErr result (ComesBack D.size D.failed (log_of journal).size
+            (failures_of journal)) }
+        ensures refused { D.keeps_word → IfErr result (λ refused.
+            IsNotBegun found (log_of journal).base (log_of journal).history
+            (D.history refused.device) refused.fault) }
+    {
+        let mut store = Store { journal };
+        let loaded = match load(alloc, &mut store, found) {
+            Ok(loaded) => loaded,
+            Err(fault) => {
+                return Err(Unmounted {
+                    fault,
+                    device: store.journal.into_device(),
+                });
+            }
+        };
+        if raise(&mut store.journal, found).is_err() {
+            return Err(Unmounted {
+                fault: MountFault::Device,
+                device: store.journal.into_device(),
+            });
+        }
+        Ok(Volume {
+            alloc,
+            store,
+            limits: Limits::of_volume(found.sectors as usize, found.nodes as usize),
+            run: found.run + 1,
+            table: loaded.table,
+            places: loaded.places,
+        })
+    }
+
+    /// The run of this mount: the restart count that it wrote.
+    pub fn restart_count(&self) -> u32
+        ensures { result ≡ (held_of self.now).run }
+    {
+        self.run
+    }
+
+    /// The device, as it is now. What stands on it is the next mount's.
+    pub fn into_device(self) -> D
+        ensures history { D.history result ≡ (held_of self).history }
+        ensures size { D.size result ≡ (held_of self).sectors }
+        ensures failures { D.failed result ≡ volume_failures self }
+    {
+        self.store.journal.into_device()
+    }
+
+    /// The node of this number: all of it but the bytes of a file.
+    pub fn node(&self, number: u64) -> Option<&Card>
+        ensures some { IfSome result (λ card. IsNodeOf (held_of self.now).tree number card.now) }
+        ensures none { IfNone result (at number (held_of self.now).tree ≡ None) }
+    {
+        let place = self.table.find(number)?;
+        self.table.card(place)
+    }
+
+    /// Keeps all changes so far: after `Ok` no stop loses one.
+    ///
+    /// # Errors
+    ///
+    /// [`VolumeFault::Device`] where the device failed, and [`VolumeFault::Down`] after such a
+    /// call.
+    pub fn flush(&mut self) -> Result<(), VolumeFault>
+        ensures volume { Alters self.old self.new
+            (IsTree (held_of self.old).tree) (ending_of result) }
+        ensures down { IsErrOf result VolumeFault.Down ↔ ((held_of self.old).is_down ≡ true) }
+        ensures refuses { IfErr result (λ fault.
+            (fault ≡ VolumeFault.Device) ⊎ (fault ≡ VolumeFault.Down)) }
+    {
+        self.store.journal.flush()?;
+        Ok(())
+    }
+}
