@@ -1,5 +1,5 @@
 -- CREATE of a directory on a world is that on its file system.
-use Rattle.std.proofs.Common.{◌≡◌, ◌≤◌, ◌+◌, ℕ, Bool, true, false, if◌then◌else◌, List, ◌++◌, length, nat_le, Option, Some, None, inl, refl, sym, ap, subst, ◌∙◌, arith, rules, tests, length-append}
+use Rattle.std.proofs.Common.{◌≡◌, ◌≤◌, ◌+◌, ℕ, Bool, true, false, if◌then◌else◌, List, ◌++◌, length, nat_le, Option, Some, None, refl, sym, ap, ◌∙◌, arith, rules, tests, length-append}
 use Rattle.std.specs.Int.{w32}
 use Rattle.xdr.specs.Grammar.{number}
 use Rattle.xdr.specs.Forms.{elements}
@@ -8,9 +8,10 @@ use Rattle.fs.specs.FileSystem.{FileSystem}
 use Rattle.fs.specs.Operations.{created, new_directory}
 use Rattle.fs.specs.declared.created.Created.{Created}
 use Rattle.fs.specs.declared.fault.FsFault.TheVariants as fault
-use Rattle.model.specs.Answer.{Answer, Done, Refused}
+use Rattle.model.specs.Answer.{Done, Refused}
 use Rattle.model.specs.Attribute.{trimmed}
 use Rattle.model.specs.Context.{at_node}
+use Rattle.model.specs.Opens.{Opens}
 use Rattle.model.specs.Operation.{Attributes}
 use Rattle.model.specs.Refusal.{first_refusal}
 use Rattle.model.specs.Runs.{is_done}
@@ -22,14 +23,11 @@ use Rattle.model.specs.declared.status.Status.{Status}
 use Rattle.model.specs.declared.status.Status.TheVariants as status
 use Rattle.compound.specs.Operates.{RunsTo, GivesIn, run_in_room, tree_by}
 use Rattle.compound.specs.Runs.{with_rest}
-use Rattle.compound.specs.Steps.{IsServed}
-use Rattle.compound.specs.Trees.{IsHere}
+use Rattle.compound.specs.States.{HasState, shared}
+use Rattle.compound.specs.Trees.{IsHere, made_answer}
 use Rattle.compound.proofs.Replies.{room_length}
-use Rattle.compound.proofs.Rooms.{served_same, has_room_by}
+use Rattle.compound.proofs.Rooms.{state_same, has_room_by}
 use Rattle.compound.proofs.Trees.{here, tree_runs}
-
-abbrev pub made_answer : (before after : ℕ) → (was_set : List ℕ) → Answer
-made_answer before after was_set = Answer.Create (record { change = record { is_atomic = true; before = before; after = after }; was_set = was_set })
 
 -- The answer's length does not tell the change values
 
@@ -74,34 +72,35 @@ room≢device is = cc
 
 -- Where it is made
 
-module _ (now : ℕ) (fs : FileSystem) (table : Table) (request : InProgress) (name : List ℕ) (given : Attributes) where
+module _ (now : ℕ) (fs : FileSystem) (table : Table) (opens : Opens) (request : InProgress) (name : List ℕ) (given : Attributes) where
   pub made_runs : (new : FileSystem) (made : Created)
       → ((state : State) → IsHere fs request state → does fs.limits state now (new_directory name given) ≡ created new state given made)
-      → RunsTo now fs new table table request (record request { context = at_node request.context made.number }) (new_directory name given) (Done (made_answer made.before made.number (trimmed given.bitmap)))
+      → RunsTo now (shared fs table opens) (shared new table opens) request (record request { context = at_node request.context made.number }) (new_directory name given) (Done (made_answer made.before made.number (trimmed given.bitmap)))
   unfolding run
   made_runs new made does_so = λ world rest on.
       let left = with_rest (record request { context = at_node request.context made.number }) rest in
       ap (λ (limits : Limits). stepped world (with_rest request rest) (does limits (state_of world (with_rest request rest)) now (new_directory name given))) on.volume
-      ∙ (ap (stepped world (with_rest request rest)) (does_so (state_of world (with_rest request rest)) (here world fs table request rest on))
-      ∙ ap (λ (known : Table). Gives (Done (made_answer made.before made.number (trimmed given.bitmap))) (record world { tree = new.tree; changes = new.changes; table = known }) left) on.table_is)
+      ∙ (ap (stepped world (with_rest request rest)) (does_so (state_of world (with_rest request rest)) (here world fs table opens request rest on))
+      ∙ (ap (λ (known : Table). Gives (Done (made_answer made.before made.number (trimmed given.bitmap))) (record world { tree = new.tree; changes = new.changes; table = known }) left) on.table_is
+      ∙ ap (λ (held : Opens). Gives (Done (made_answer made.before made.number (trimmed given.bitmap))) (record world { tree = new.tree; changes = new.changes; table = table; opens = held }) left) on.opens))
 
   pub create_err : (reason : Status)
       → ((state : State) → IsHere fs request state → does fs.limits state now (new_directory name given) ≡ refused state (new_directory name given) reason)
-      → RunsTo now fs fs table table request request (new_directory name given) (Refused 6 reason)
+      → RunsTo now (shared fs table opens) (shared fs table opens) request request (new_directory name given) (Refused 6 reason)
   unfolding run
-  create_err reason does_so = tree_runs now fs table request request.context (new_directory name given) (Refused 6 reason) (λ world rest. refl)
-      (λ world rest on. does_so (state_of world (with_rest request rest)) (here world fs table request rest on))
+  create_err reason does_so = tree_runs now fs table opens request request.context (new_directory name given) (Refused 6 reason) (λ world rest. refl)
+      (λ world rest on. does_so (state_of world (with_rest request rest)) (here world fs table opens request rest on))
 
   -- Whatever it comes to, by the room for its answer
 
-  room_of : (room : Bool) (before after : ℕ) (world : World) (rest : List ℕ) → IsServed world fs table
+  room_of : (room : Bool) (before after : ℕ) (world : World) (rest : List ℕ) → HasState world (shared fs table opens)
       → room ≡ nat_le (length (reply_with request (Done (made_answer 0 0 (trimmed given.bitmap))))) 16368
       → has_room world (with_rest request rest) (Done (made_answer before after (trimmed given.bitmap))) ≡ room
   room_of room before after world rest on is =
-      has_room_by world fs table (with_rest request rest) (Done (made_answer before after (trimmed given.bitmap))) room on
+      has_room_by world (shared fs table opens) (with_rest request rest) (Done (made_answer before after (trimmed given.bitmap))) room on
       (is ∙ ap (λ (n : ℕ). nat_le n 16368) (same_room request 0 0 before after (trimmed given.bitmap)))
 
-  in_room_by : (room : Bool) (before after : ℕ) (made : State) (world : World) (rest : List ℕ) → IsServed world fs table
+  in_room_by : (room : Bool) (before after : ℕ) (made : State) (world : World) (rest : List ℕ) → HasState world (shared fs table opens)
       → room ≡ nat_le (length (reply_with request (Done (made_answer 0 0 (trimmed given.bitmap))))) 16368
       → in_room world (with_rest request rest) 6 (stepped world (with_rest request rest) (record { outcome = Done (made_answer before after (trimmed given.bitmap)); state = made }))
       ≡ (if room then stepped world (with_rest request rest) (record { outcome = Done (made_answer before after (trimmed given.bitmap)); state = made })
@@ -110,7 +109,7 @@ module _ (now : ℕ) (fs : FileSystem) (table : Table) (request : InProgress) (n
       ap (λ (b : Bool). if b then stepped world (with_rest request rest) (record { outcome = Done (made_answer before after (trimmed given.bitmap)); state = made })
       else refuses world (with_rest request rest) 6 status.RepTooBig) (room_of room before after world rest on is)
 
-  full_by : (first : Option Status) (before after : ℕ) (made : State) (world : World) (rest : List ℕ) → IsServed world fs table
+  full_by : (first : Option Status) (before after : ℕ) (made : State) (world : World) (rest : List ℕ) → HasState world (shared fs table opens)
       → false ≡ nat_le (length (reply_with request (Done (made_answer 0 0 (trimmed given.bitmap))))) 16368
       → is_done (unless_refused (state_of world (with_rest request rest)) (new_directory name given) first (record { outcome = Done (made_answer before after (trimmed given.bitmap)); state = made })).outcome ≡ true
       → in_room world (with_rest request rest) 6 (stepped world (with_rest request rest)
@@ -121,17 +120,17 @@ module _ (now : ℕ) (fs : FileSystem) (table : Table) (request : InProgress) (n
 
   pub full : false ≡ nat_le (length (reply_with request (Done (made_answer 0 0 (trimmed given.bitmap))))) 16368
       → ((state : State) → IsHere fs request state → is_done (does fs.limits state now (new_directory name given)).outcome ≡ true)
-      → GivesIn now fs fs table table request request (new_directory name given) (Refused 6 status.RepTooBig)
+      → GivesIn now (shared fs table opens) (shared fs table opens) request request (new_directory name given) (Refused 6 status.RepTooBig)
   unfolding run does effect
   full is done = λ world rest on.
       let state = state_of world (with_rest request rest) in
       let kind = new_directory name given in
       ap (λ (limits : Limits). in_room world (with_rest request rest) 6 (stepped world (with_rest request rest) (does limits state now kind))) on.volume
       ∙ (full_by (first_refusal (refusals fs.limits state kind ++ change_refusals fs.limits state kind (effect fs.limits state now kind).state.tree)) _ _ _ world rest on is
-      (done state (here world fs table request rest on))
-      ∙ ap (λ (after : World). refuses after (with_rest request rest) 6 status.RepTooBig) (sym (served_same world fs table on)))
+      (done state (here world fs table opens request rest on))
+      ∙ ap (λ (after : World). refuses after (with_rest request rest) 6 status.RepTooBig) (sym (state_same world (shared fs table opens) on)))
 
-  tree_by_first : (first : Option Status) (before after : ℕ) (made : State) (world : World) (rest : List ℕ) → IsServed world fs table
+  tree_by_first : (first : Option Status) (before after : ℕ) (made : State) (world : World) (rest : List ℕ) → HasState world (shared fs table opens)
       → true ≡ nat_le (length (reply_with request (Done (made_answer 0 0 (trimmed given.bitmap))))) 16368
       → tree_by world (in_room world (with_rest request rest) 6 (stepped world (with_rest request rest)
       (unless_refused (state_of world (with_rest request rest)) (new_directory name given) first (record { outcome = Done (made_answer before after (trimmed given.bitmap)); state = made }))))
@@ -139,7 +138,7 @@ module _ (now : ℕ) (fs : FileSystem) (table : Table) (request : InProgress) (n
   tree_by_first None before after made world rest on is = ap (tree_by world) (in_room_by true before after made world rest on is)
   tree_by_first (Some reason) before after made world rest on is = refl
 
-  pub tree_made : (world : World) (rest : List ℕ) → IsServed world fs table
+  pub tree_made : (world : World) (rest : List ℕ) → HasState world (shared fs table opens)
       → true ≡ nat_le (length (reply_with request (Done (made_answer 0 0 (trimmed given.bitmap))))) 16368
       → tree_by world (run_in_room world (with_rest request rest) now (new_directory name given)) ≡ (does fs.limits (state_of world (with_rest request rest)) now (new_directory name given)).state.tree
   unfolding run does effect

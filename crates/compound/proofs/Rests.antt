@@ -1,5 +1,5 @@
 -- What is left of an operation's bytes stands at the end of all of them.
-use Rattle.std.proofs.Common.{◌≡◌, ℕ, Bool, false, not, ◌&&◌, if◌then◌else◌, Result, Ok, ◌-◌, ◌≤◌, List, ◌++◌, length, take, drop, ap, sym, subst, ◌∙◌, append_assoc, arith, length-drop, length-append}
+use Rattle.std.proofs.Common.{◌≡◌, ℕ, Bool, true, false, not, ◌&&◌, if◌then◌else◌, Result, Ok, ◌-◌, ◌≤◌, List, ◌++◌, length, take, drop, ap, sym, subst, ◌∙◌, append_assoc, arith, length-drop, length-append}
 use Rattle.std.proofs.lemmas.List.{take-append-drop, drop_at}
 use Rattle.xdr.specs.declared.refusal.Refusal.{Refusal}
 use Rattle.model.specs.declared.status.Status.TheVariants as status
@@ -27,3 +27,11 @@ pub by_read : (request : InProgress) (operation : ℕ) (given : Result (Argument
 by_read request operation given read behind rest is enough same =
     ap (by_arguments request operation) is
     ∙ (ap (λ (much : Bool). if much then Refuses operation status.BadXdr else Reads read behind) enough ∙ ap (Reads read) (sym same))
+
+-- and where one does
+pub by_much : (request : InProgress) (operation : ℕ) (given : Result (Argument × List ℕ) Refusal) (read : Argument) (behind : List ℕ)
+    → given ≡ Ok (read, behind) → (is_last request && (not (looks_no_further read) && not (is_empty behind))) ≡ true
+    → by_arguments request operation given ≡ Refuses operation status.BadXdr
+by_much request operation given read behind is much =
+    ap (by_arguments request operation) is
+    ∙ ap (λ (b : Bool). if b then Refuses operation status.BadXdr else Reads read behind) much

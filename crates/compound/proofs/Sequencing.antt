@@ -8,10 +8,10 @@ use Rattle.model.specs.Session.{Table, Session, Client, is_client, reclaim_by, i
 use Rattle.model.specs.World.{World, InProgress, Gives, run, begun, started_in, tabled, gives, with_table, of_session}
 use Rattle.model.specs.declared.status.Status.{Status}
 use Rattle.fs.specs.FileSystem.{FileSystem}
-use Rattle.compound.specs.Steps.{IsServed}
+use Rattle.compound.specs.States.{HasState, without_opens}
 
 pub ran_sequence : (world : World) (request : InProgress) (now : ℕ) (arguments : SequenceArguments) (old : Table) (wanted : sessions.Begun)
-    → {fs : FileSystem} → IsServed world fs old → sessions.begin request.context.cred.uid request.count arguments old ≡ wanted
+    → {fs : FileSystem} → HasState world (without_opens fs old) → sessions.begin request.context.cred.uid request.count arguments old ≡ wanted
     → run world request now (Argument.Sequence arguments) ≡ begun world request arguments wanted
 unfolding run
 ran_sequence world request now arguments old wanted {fs} on is =
@@ -43,7 +43,7 @@ begun_err world request arguments reason old new is same =
     ap (λ (table : Table). Gives (Outcome.Refused 53 reason) (with_table world table) request) (is ∙ sym same)
 
 pub ran_reclaim : (world : World) (request : InProgress) (now : ℕ) (old : Table) (wanted : Option Status × Table)
-    → {fs : FileSystem} → IsServed world fs old → sessions.reclaim_complete request.context.client old ≡ wanted
+    → {fs : FileSystem} → HasState world (without_opens fs old) → sessions.reclaim_complete request.context.client old ≡ wanted
     → run world request now (Argument.ReclaimComplete false) ≡ tabled world request 58 Answer.ReclaimComplete wanted
 unfolding run
 ran_reclaim world request now old wanted {fs} on is =

@@ -1,13 +1,13 @@
 -- A step of a request is the turn of the definition.
 use Rattle.std.proofs.Common.{◌≡◌, ℕ, List, refl, ap, subst, ◌∙◌}
-use Rattle.fs.specs.FileSystem.{FileSystem}
 use Rattle.model.specs.Answer as model
 use Rattle.model.specs.Session.{Table}
 use Rattle.model.specs.World.{InProgress, Turned}
 use Rattle.compound.specs.Operates.{left_by}
 use Rattle.compound.specs.Runs.{with_rest}
 use Rattle.compound.specs.Views.{Asked}
-use Rattle.compound.specs.Steps.{Steps, with_served}
+use Rattle.compound.specs.States.{SharedState, with_state}
+use Rattle.compound.specs.Steps.{Steps}
 use Rattle.compound.specs.Turns.{TurnsTo, StandsBehind}
 use Rattle.compound.specs.declared.operated.Effect.{Effect}
 use Rattle.compound.specs.declared.operated.Effect.TheVariants as effect
@@ -19,13 +19,13 @@ left_rest effect.Stays request rest = refl
 left_rest (effect.Moves number) request rest = refl
 left_rest (effect.Joins slot client) request rest = refl
 
-pub steps_to : (now : ℕ) (old new : FileSystem) (old_table middle new_table : Table) (asked before : Asked) (request left after : InProgress) (outcome : model.Outcome) (done : Stepped)
-    → TurnsTo now old new old_table middle request left outcome → before ≡ asked → after ≡ left → StandsBehind middle new_table before after outcome done
-    → Steps now old new old_table new_table asked request done
-steps_to now old new old_table middle new_table asked before request left after outcome done turn same is stands = λ world number served.
+pub steps_to : (now : ℕ) (old middle : SharedState) (new : Table) (asked before : Asked) (request left after : InProgress) (outcome : model.Outcome) (done : Stepped)
+    → TurnsTo now old middle request left outcome → before ≡ asked → after ≡ left → StandsBehind middle.table new before after outcome done
+    → Steps now old (record middle { table = new }) asked request done
+steps_to now old middle new asked before request left after outcome done turn same is stands = λ world number served.
     let gave = turn world number served in
-    let stood = subst (λ (one : Asked). StandsBehind middle new_table one left outcome done) same (subst (λ (one : InProgress). StandsBehind middle new_table before one outcome done) is stands) in
-    let made = stood (with_served world new middle) number gave.0 refl in (
+    let stood = subst (λ (one : Asked). StandsBehind middle.table new one left outcome done) same (subst (λ (one : InProgress). StandsBehind middle.table new before one outcome done) is stands) in
+    let made = stood (with_state world middle) number gave.0 refl in (
       ap (λ (one : Turned). one.turn) gave.1 ∙ made.0,
       ap (λ (one : Turned). one.world) gave.1 ∙ made.1,
     )

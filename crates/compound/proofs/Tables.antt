@@ -15,11 +15,11 @@ use Rattle.session.specs.Views.{among}
 use Rattle.fs.specs.FileSystem.{FileSystem}
 use Rattle.compound.specs.Operates.{RunsTo}
 use Rattle.compound.specs.Runs.{with_rest}
-use Rattle.compound.specs.Steps.{IsServed}
-use Rattle.compound.proofs.Rooms.{served_same}
+use Rattle.compound.specs.States.{HasState, without_opens}
+use Rattle.compound.proofs.Rooms.{state_same}
 
 pub ran_exchange : (world : World) (request : InProgress) (now : ℕ) (arguments : ExchangeIdArguments) (old : Table) (wanted : Result ExchangeIdAnswer Status × Table)
-    → {fs : FileSystem} → IsServed world fs old → sessions.exchange_id served (among []) request.context.cred.uid arguments old ≡ wanted
+    → {fs : FileSystem} → HasState world (without_opens fs old) → sessions.exchange_id served (among []) request.context.cred.uid arguments old ≡ wanted
     → run world request now (Argument.ExchangeId arguments) ≡ exchanged world request wanted
 unfolding run
 ran_exchange world request now arguments old wanted {fs} on is =
@@ -30,7 +30,7 @@ ran_exchange world request now arguments old wanted {fs} on is =
     ∙ (ap (sessions.exchange_id served (among []) uid arguments) on.table_is ∙ is)))
 
 pub ran_create : (world : World) (request : InProgress) (now : ℕ) (arguments : CreateSessionArguments) (old : Table)
-    → {fs : FileSystem} → IsServed world fs old
+    → {fs : FileSystem} → HasState world (without_opens fs old)
     → run world request now (Argument.CreateSession arguments) ≡ created world request (sessions.create_session served request.context.cred.uid arguments old)
 unfolding run
 ran_create world request now arguments old {fs} on =
@@ -96,14 +96,14 @@ created_err world request arguments reason old new is left refused =
     ∙ ap (λ (table : Table). Gives (Outcome.Refused 43 reason) (with_table world table) request) (is ∙ (sym same ∙ left))
 
 pub ran_destroy_session : (world : World) (request : InProgress) (now : ℕ) (id : List ℕ) (old : Table) (wanted : Option Status × Table)
-    → {fs : FileSystem} → IsServed world fs old → sessions.destroy_session id old ≡ wanted
+    → {fs : FileSystem} → HasState world (without_opens fs old) → sessions.destroy_session id old ≡ wanted
     → run world request now (Argument.DestroySession id) ≡ tabled world request 44 Answer.DestroySession wanted
 unfolding run
 ran_destroy_session world request now id old wanted {fs} on is =
     ap (tabled world request 44 Answer.DestroySession) (ap (sessions.destroy_session id) on.table_is ∙ is)
 
 pub ran_destroy_client : (world : World) (request : InProgress) (now : ℕ) (client : ℕ) (old : Table) (wanted : Option Status × Table)
-    → {fs : FileSystem} → IsServed world fs old → sessions.destroy_client_id (among []) client old ≡ wanted
+    → {fs : FileSystem} → HasState world (without_opens fs old) → sessions.destroy_client_id (among []) client old ≡ wanted
     → run world request now (Argument.DestroyClientId client) ≡ tabled world request 57 Answer.DestroyClientId wanted
 unfolding run
 ran_destroy_client world request now client old wanted {fs} on is =
@@ -113,9 +113,9 @@ ran_destroy_client world request now client old wanted {fs} on is =
 
 -- with a file system that is as it was
 pub table_runs : (now : ℕ) (fs : FileSystem) (old new : Table) (request left : InProgress) (kind : Argument) (outcome : Outcome)
-    → ((world : World) (rest : List ℕ) → IsServed world fs old
+    → ((world : World) (rest : List ℕ) → HasState world (without_opens fs old)
     → run world (with_rest request rest) now kind ≡ Gives outcome (with_table world new) (with_rest left rest))
-    → RunsTo now fs fs old new request left kind outcome
+    → RunsTo now (without_opens fs old) (without_opens fs new) request left kind outcome
 table_runs now fs old new request left kind outcome runs = λ world rest on.
     runs world rest on
-    ∙ ap (λ (before : World). Gives outcome (with_table before new) (with_rest left rest)) (sym (served_same world fs old on))
+    ∙ ap (λ (before : World). Gives outcome (with_table before new) (with_rest left rest)) (sym (state_same world (without_opens fs old) on))

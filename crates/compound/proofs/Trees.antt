@@ -13,7 +13,7 @@ use Rattle.model.specs.Keyed.{is_key}
 use Rattle.model.specs.declared.limits.Limits.{Limits}
 use Rattle.model.specs.Name.{name_refusals}
 use Rattle.model.specs.Need.{need_first, need_then}
-use Rattle.model.specs.Opens.{no_opens}
+use Rattle.model.specs.Opens.{Opens, no_opens}
 use Rattle.model.specs.Operation.{Argument, Attributes, NewDirectory, OtherType, operation_of}
 use Rattle.model.specs.Refusal.{Refusals, first_refusal, refused_or}
 use Rattle.model.specs.Session.{Table}
@@ -28,16 +28,16 @@ use Rattle.model.specs.declared.status.Status.TheVariants as status
 use Rattle.wire.specs.Short.{IsRefusal}
 use Rattle.compound.specs.Operates.{RunsTo}
 use Rattle.compound.specs.Runs.{with_rest}
-use Rattle.compound.specs.Steps.{IsServed}
+use Rattle.compound.specs.States.{HasState, shared}
 use Rattle.compound.specs.Trees.{IsStatus, IsHere}
 use Rattle.compound.proofs.Current.{ran_root, takes_current, wants_current}
-use Rattle.compound.proofs.Rooms.{served_same}
+use Rattle.compound.proofs.Rooms.{state_same}
 
 -- The state of a world by a request
 
-pub here : (world : World) (fs : FileSystem) (table : Table) (request : InProgress) (rest : List ℕ) → IsServed world fs table
+pub here : (world : World) (fs : FileSystem) (table : Table) (opens : Opens) (request : InProgress) (rest : List ℕ) → HasState world (shared fs table opens)
     → IsHere fs request (state_of world (with_rest request rest))
-here world fs table request rest on = record { tree_is = on.tree; changes_is = on.changes; context_is = refl }
+here world fs table opens request rest on = record { tree_is = on.tree; changes_is = on.changes; context_is = refl }
 
 pub is_on : (fs : FileSystem) (request : InProgress) (number : ℕ) (state : State) → request.context.run ≡ fs.run
     → has_current request.context ≡ true → current_number request.context ≡ number → IsHere fs request state
@@ -210,81 +210,81 @@ current_none state none = rw none refl
 
 -- What operations come to
 
-module _ (now : ℕ) (fs : FileSystem) (table : Table) (request : InProgress) where
+module _ (now : ℕ) (fs : FileSystem) (table : Table) (opens : Opens) (request : InProgress) where
   pub tree_runs : (left : Context) (kind : Argument) (outcome : Outcome)
       → ((world : World) (rest : List ℕ) → run world (with_rest request rest) now kind
       ≡ stepped world (with_rest request rest) (does world.limits.volume (state_of world (with_rest request rest)) now kind))
-      → ((world : World) (rest : List ℕ) → IsServed world fs table → does fs.limits (state_of world (with_rest request rest)) now kind
+      → ((world : World) (rest : List ℕ) → HasState world (shared fs table opens) → does fs.limits (state_of world (with_rest request rest)) now kind
       ≡ record { outcome = outcome; state = record (state_of world (with_rest request rest)) { context = left } })
-      → RunsTo now fs fs table table request (record request { context = left }) kind outcome
+      → RunsTo now (shared fs table opens) (shared fs table opens) request (record request { context = left }) kind outcome
   tree_runs left kind outcome on_tree does_so = λ world rest on.
       on_tree world rest
       ∙ (ap (λ (limits : Limits). stepped world (with_rest request rest) (does limits (state_of world (with_rest request rest)) now kind)) on.volume
       ∙ (ap (stepped world (with_rest request rest)) (does_so world rest on)
-      ∙ ap (λ (after : World). Gives outcome after (with_rest (record request { context = left }) rest)) (sym (served_same world fs table on))))
+      ∙ ap (λ (after : World). Gives outcome after (with_rest (record request { context = left }) rest)) (sym (state_same world (shared fs table opens) on))))
 
   -- where there is no current filehandle
   pub wants : (kind : Argument) → takes_current kind ≡ true → has_current request.context ≡ false
-      → RunsTo now fs fs table table request request kind (Refused (operation_of kind) status.NoFileHandle)
+      → RunsTo now (shared fs table opens) (shared fs table opens) request request kind (Refused (operation_of kind) status.NoFileHandle)
   wants kind takes none = λ world rest on.
       wants_current world (with_rest request rest) now kind none takes
-      ∙ ap (λ (after : World). Gives (Refused (operation_of kind) status.NoFileHandle) after (with_rest request rest)) (sym (served_same world fs table on))
+      ∙ ap (λ (after : World). Gives (Refused (operation_of kind) status.NoFileHandle) after (with_rest request rest)) (sym (state_same world (shared fs table opens) on))
 
-  pub root_runs : RunsTo now fs fs table table request (record request { context = at_node request.context root }) Argument.PutRootFh (Done Answer.PutRootFh)
+  pub root_runs : RunsTo now (shared fs table opens) (shared fs table opens) request (record request { context = at_node request.context root }) Argument.PutRootFh (Done Answer.PutRootFh)
   root_runs = λ world rest on.
       ran_root world (with_rest request rest) now
-      ∙ ap (λ (after : World). Gives (Done Answer.PutRootFh) after (with_rest (record request { context = at_node request.context root }) rest)) (sym (served_same world fs table on))
+      ∙ ap (λ (after : World). Gives (Done Answer.PutRootFh) after (with_rest (record request { context = at_node request.context root }) rest)) (sym (state_same world (shared fs table opens) on))
 
   module _ (name : List ℕ) where
     pub looked_ok : (number : ℕ) → ((state : State) → IsHere fs request state → LooksUp fs state now name (Ok number))
-        → RunsTo now fs fs table table request (record request { context = at_node request.context number }) (Argument.Lookup name) (Done Answer.Lookup)
+        → RunsTo now (shared fs table opens) (shared fs table opens) request (record request { context = at_node request.context number }) (Argument.Lookup name) (Done Answer.Lookup)
     unfolding run
     looked_ok number does_so = tree_runs (at_node request.context number) (Argument.Lookup name) (Done Answer.Lookup) (λ world rest. refl)
-        (λ world rest on. does_so (state_of world (with_rest request rest)) (here world fs table request rest on))
+        (λ world rest on. does_so (state_of world (with_rest request rest)) (here world fs table opens request rest on))
 
     pub looked_err : (reason : Status) → ((state : State) → IsHere fs request state → LooksUp fs state now name (Err (fault.Status reason)))
-        → RunsTo now fs fs table table request request (Argument.Lookup name) (Refused 15 reason)
+        → RunsTo now (shared fs table opens) (shared fs table opens) request request (Argument.Lookup name) (Refused 15 reason)
     unfolding run
     looked_err reason does_so = tree_runs request.context (Argument.Lookup name) (Refused 15 reason) (λ world rest. refl)
-        (λ world rest on. does_so (state_of world (with_rest request rest)) (here world fs table request rest on))
+        (λ world rest on. does_so (state_of world (with_rest request rest)) (here world fs table opens request rest on))
 
     pub put_ok : (number : ℕ) → ((state : State) → IsHere fs request state → PutsHandle fs state now name (Ok number))
-        → RunsTo now fs fs table table request (record request { context = at_node request.context number }) (Argument.PutFh name) (Done Answer.PutFh)
+        → RunsTo now (shared fs table opens) (shared fs table opens) request (record request { context = at_node request.context number }) (Argument.PutFh name) (Done Answer.PutFh)
     unfolding run
     put_ok number does_so = tree_runs (at_node request.context number) (Argument.PutFh name) (Done Answer.PutFh) (λ world rest. refl)
-        (λ world rest on. does_so (state_of world (with_rest request rest)) (here world fs table request rest on))
+        (λ world rest on. does_so (state_of world (with_rest request rest)) (here world fs table opens request rest on))
 
     pub put_err : (reason : Status) → ((state : State) → IsHere fs request state → PutsHandle fs state now name (Err (fault.Status reason)))
-        → RunsTo now fs fs table table request request (Argument.PutFh name) (Refused 22 reason)
+        → RunsTo now (shared fs table opens) (shared fs table opens) request request (Argument.PutFh name) (Refused 22 reason)
     unfolding run
     put_err reason does_so = tree_runs request.context (Argument.PutFh name) (Refused 22 reason) (λ world rest. refl)
-        (λ world rest on. does_so (state_of world (with_rest request rest)) (here world fs table request rest on))
+        (λ world rest on. does_so (state_of world (with_rest request rest)) (here world fs table opens request rest on))
 
   pub got_ok : (handle : List ℕ) → ((state : State) → IsHere fs request state → GetsHandle fs state now (Ok handle))
-      → RunsTo now fs fs table table request request Argument.GetFh (Done (Answer.GetFh handle))
+      → RunsTo now (shared fs table opens) (shared fs table opens) request request Argument.GetFh (Done (Answer.GetFh handle))
   unfolding run
   got_ok handle does_so = tree_runs request.context Argument.GetFh (Done (Answer.GetFh handle)) (λ world rest. refl)
-      (λ world rest on. does_so (state_of world (with_rest request rest)) (here world fs table request rest on))
+      (λ world rest on. does_so (state_of world (with_rest request rest)) (here world fs table opens request rest on))
 
   pub got_err : (reason : Status) → ((state : State) → IsHere fs request state → GetsHandle fs state now (Err (fault.Status reason)))
-      → RunsTo now fs fs table table request request Argument.GetFh (Refused 10 reason)
+      → RunsTo now (shared fs table opens) (shared fs table opens) request request Argument.GetFh (Refused 10 reason)
   unfolding run
   got_err reason does_so = tree_runs request.context Argument.GetFh (Refused 10 reason) (λ world rest. refl)
-      (λ world rest on. does_so (state_of world (with_rest request rest)) (here world fs table request rest on))
+      (λ world rest on. does_so (state_of world (with_rest request rest)) (here world fs table opens request rest on))
 
   pub reclaim_ok : ((state : State) → IsHere fs request state → current_refusal state ≡ None)
-      → RunsTo now fs fs table table request request (Argument.ReclaimComplete true) (Done Answer.ReclaimComplete)
+      → RunsTo now (shared fs table opens) (shared fs table opens) request request (Argument.ReclaimComplete true) (Done Answer.ReclaimComplete)
   unfolding run
   reclaim_ok tests = λ world rest on.
-      ap (reclaimed world (with_rest request rest)) (tests (state_of world (with_rest request rest)) (here world fs table request rest on))
-      ∙ ap (λ (after : World). Gives (Done Answer.ReclaimComplete) after (with_rest request rest)) (sym (served_same world fs table on))
+      ap (reclaimed world (with_rest request rest)) (tests (state_of world (with_rest request rest)) (here world fs table opens request rest on))
+      ∙ ap (λ (after : World). Gives (Done Answer.ReclaimComplete) after (with_rest request rest)) (sym (state_same world (shared fs table opens) on))
 
   pub reclaim_err : (reason : Status) → ((state : State) → IsHere fs request state → current_refusal state ≡ Some reason)
-      → RunsTo now fs fs table table request request (Argument.ReclaimComplete true) (Refused 58 reason)
+      → RunsTo now (shared fs table opens) (shared fs table opens) request request (Argument.ReclaimComplete true) (Refused 58 reason)
   unfolding run
   reclaim_err reason tests = λ world rest on.
-      ap (reclaimed world (with_rest request rest)) (tests (state_of world (with_rest request rest)) (here world fs table request rest on))
-      ∙ ap (λ (after : World). Gives (Refused 58 reason) after (with_rest request rest)) (sym (served_same world fs table on))
+      ap (reclaimed world (with_rest request rest)) (tests (state_of world (with_rest request rest)) (here world fs table opens request rest on))
+      ∙ ap (λ (after : World). Gives (Refused 58 reason) after (with_rest request rest)) (sym (state_same world (shared fs table opens) on))
 
   -- CREATE of another type
 
@@ -297,10 +297,10 @@ module _ (now : ℕ) (fs : FileSystem) (table : Table) (request : InProgress) wh
 
   other_runs : (type_number : ℕ) (reason : Status)
       → ((state : State) → IsHere fs request state → does fs.limits state now (Argument.Create (OtherType type_number)) ≡ refused state (Argument.Create (OtherType type_number)) reason)
-      → RunsTo now fs fs table table request request (Argument.Create (OtherType type_number)) (Refused 6 reason)
+      → RunsTo now (shared fs table opens) (shared fs table opens) request request (Argument.Create (OtherType type_number)) (Refused 6 reason)
   unfolding run
   other_runs type_number reason does_so = tree_runs request.context (Argument.Create (OtherType type_number)) (Refused 6 reason) (λ world rest. refl)
-      (λ world rest on. does_so (state_of world (with_rest request rest)) (here world fs table request rest on))
+      (λ world rest on. does_so (state_of world (with_rest request rest)) (here world fs table opens request rest on))
 
   behind_none : (a b : Bool) → refused_or a status.NoFileHandle (refused_or b status.Stale None) ≡ None
       → refused_or a status.NoFileHandle (refused_or b status.Stale (Some status.BadType)) ≡ Some status.BadType
@@ -315,13 +315,13 @@ module _ (now : ℕ) (fs : FileSystem) (table : Table) (request : InProgress) wh
   behind_some false false reason is = absurd (cc)
 
   pub other_ok : (type_number : ℕ) → ((state : State) → IsHere fs request state → current_refusal state ≡ None)
-      → RunsTo now fs fs table table request request (Argument.Create (OtherType type_number)) (Refused 6 status.BadType)
+      → RunsTo now (shared fs table opens) (shared fs table opens) request request (Argument.Create (OtherType type_number)) (Refused 6 status.BadType)
   other_ok type_number tests = other_runs type_number status.BadType (λ state there.
       other_does state type_number status.BadType
       (behind_none (not (has_current state.context)) (not (is_key (current state) state.tree)) (tests state there)))
 
   pub other_err : (type_number : ℕ) (reason : Status) → ((state : State) → IsHere fs request state → current_refusal state ≡ Some reason)
-      → RunsTo now fs fs table table request request (Argument.Create (OtherType type_number)) (Refused 6 reason)
+      → RunsTo now (shared fs table opens) (shared fs table opens) request request (Argument.Create (OtherType type_number)) (Refused 6 reason)
   other_err type_number reason tests = other_runs type_number reason (λ state there.
       other_does state type_number reason
       (behind_some (not (has_current state.context)) (not (is_key (current state) state.tree)) reason (tests state there)))

@@ -1,9 +1,7 @@
 -- A turn of a request, by what its next operation gave.
-use Rattle.std.proofs.Common.{◌≡◌, ℕ, Bool, true, false, if◌then◌else◌, List, Option, Some, refl, ap, sym, subst, ◌∙◌}
-use Rattle.fs.specs.FileSystem.{FileSystem}
+use Rattle.std.proofs.Common.{◌≡◌, ℕ, Bool, true, false, if◌then◌else◌, List, Option, Some, refl, ap, ◌∙◌}
 use Rattle.model.specs.Answer as model
 use Rattle.model.specs.Operation.{Argument}
-use Rattle.model.specs.Session.{Table}
 use Rattle.model.specs.Tree.{Tree}
 use Rattle.model.specs.World as turns
 use Rattle.model.specs.World.{World, InProgress, HasRun, Entry, Turned, Reads, next_operation, operates, has_run, behind, ends, goes_on, with_result, is_last, entry_of}
@@ -11,7 +9,8 @@ use Rattle.model.specs.declared.status.Status.TheVariants as status
 use Rattle.wire.specs.OutcomeView.{outcome_view}
 use Rattle.compound.specs.Operates.{Operates, GivesIn, run_in_room, tree_by, left_by}
 use Rattle.compound.specs.Runs.{with_rest}
-use Rattle.compound.specs.Steps.{with_served, stepped_on}
+use Rattle.compound.specs.States.{SharedState, with_state}
+use Rattle.compound.specs.Steps.{stepped_on}
 use Rattle.compound.specs.Turns.{Turns, TurnsTo}
 use Rattle.compound.specs.declared.operated.Operated.{Operated}
 use Rattle.compound.specs.declared.operated.Operated.TheVariants as operated
@@ -23,27 +22,26 @@ pub read_turn : (world : World) (number now : ℕ) (request : InProgress) (opera
 read_turn world number now request operation rest ran next runs =
     ap (operates world number now request) next ∙ ap (has_run world number (with_rest request rest) operation) runs
 
-turns_to : (now : ℕ) (old new : FileSystem) (old_table new_table : Table) (request left : InProgress) (operation : Argument) (rest : List ℕ) (outcome : model.Outcome)
-    → next_operation request ≡ Reads operation rest → GivesIn now old new old_table new_table request left operation outcome
-    → TurnsTo now old new old_table new_table request (with_rest left rest) outcome
-turns_to now old new old_table new_table request left operation rest outcome next ran = λ world number served. (
-  Some (entry_of world (with_rest request rest) operation outcome (with_served world new new_table)),
+turns_to : (now : ℕ) (old new : SharedState) (request left : InProgress) (operation : Argument) (rest : List ℕ) (outcome : model.Outcome)
+    → next_operation request ≡ Reads operation rest → GivesIn now old new request left operation outcome
+    → TurnsTo now old new request (with_rest left rest) outcome
+turns_to now old new request left operation rest outcome next ran = λ world number served. (
+  Some (entry_of world (with_rest request rest) operation outcome (with_state world new)),
   read_turn world number now request operation rest _ next (ran world rest served),
 )
 
-pub turns_read : (now : ℕ) (old new : FileSystem) (old_table new_table : Table) (request : InProgress) (operation : Argument) (rest : List ℕ) (done : Operated)
-    → next_operation request ≡ Reads operation rest → Operates now old new old_table new_table request operation done
-    → Turns now old new old_table new_table request rest done
-turns_read now old new old_table new_table request operation rest (operated.Gives outcome left) next ran =
-    turns_to now old new old_table new_table request (left_by left request) operation rest (outcome_view outcome) next ran
-turns_read now old new old_table new_table request operation rest (operated.GivesHandle handle) next ran =
-    turns_to now old new old_table new_table request request operation rest (model.Done (model.GetFh handle)) next ran
-turns_read now old new old_table new_table request operation rest (operated.Replays slot) next ran = (
+pub turns_read : (now : ℕ) (old new : SharedState) (request : InProgress) (operation : Argument) (rest : List ℕ) (done : Operated)
+    → next_operation request ≡ Reads operation rest → Operates now old new request operation done
+    → Turns now old new request rest done
+turns_read now old new request operation rest (operated.Gives outcome left) next ran =
+    turns_to now old new request (left_by left request) operation rest (outcome_view outcome) next ran
+turns_read now old new request operation rest (operated.GivesHandle handle) next ran =
+    turns_to now old new request request operation rest (model.Done (model.GetFh handle)) next ran
+turns_read now old new request operation rest (operated.Replays slot) next ran = (
   ran.0,
   ran.1,
   ran.2,
-  ran.3,
-  λ world number served. read_turn world number now request operation rest _ next (ran.4 world rest served),
+  λ world number served. read_turn world number now request operation rest _ next (ran.3 world rest served),
 )
 
 -- The tree behind a turn

@@ -1,11 +1,12 @@
 -- What operations and turns do to a file system, by the definition.
-use Rattle.std.proofs.Common.{◌≡◌, ◌≤◌, ℕ, Bool, true, false, ◌&&◌, ◌||◌, if◌then◌else◌, List, length, nat_le, Option, Some, None, Result, Ok, Err, refl, sym, ap, ◌∙◌, subst, arith}
-use Rattle.fs.specs.Changes.{Ending, Done, Given, Changes}
+use Rattle.std.proofs.Common.{◌≡◌, ◌≤◌, ℕ, Bool, true, false, ◌&&◌, ◌||◌, if◌then◌else◌, List, length, nat_le, Option, Some, None, Result, Ok, Err, refl, ap, ◌∙◌, arith}
+use Rattle.fs.specs.Changes.{Done, Changes}
 use Rattle.fs.specs.FileSystem.{FileSystem}
-use Rattle.fs.proofs.ChangeLaws.{changes_nothing, answers_quietly, changes_by}
+use Rattle.fs.proofs.ChangeLaws.{changes_nothing, answers_quietly}
 use Rattle.model.specs.Answer as model
 use Rattle.model.specs.Attribute.{trimmed}
 use Rattle.model.specs.Context.{has_current, current_number}
+use Rattle.model.specs.Opens.{Opens}
 use Rattle.model.specs.Operation.{Argument, Attributes, OtherType}
 use Rattle.model.specs.Session.{Table}
 use Rattle.model.specs.Runs.{is_durable, is_commit}
@@ -16,13 +17,15 @@ use Rattle.model.specs.World.{World, InProgress, HasRun, Entry, Turned, Reads, R
 use Rattle.model.specs.declared.status.Status.{Status}
 use Rattle.model.specs.declared.status.Status.TheVariants as status
 use Rattle.fs.specs.Operations.{MakesTree, new_directory}
-use Rattle.compound.specs.Operates.{GivesIn, run_in_room, tree_by}
+use Rattle.compound.specs.Operates.{GivesIn, run_in_room}
 use Rattle.compound.specs.Runs.{with_rest}
-use Rattle.compound.specs.Steps.{IsServed, stepped_on}
+use Rattle.compound.specs.States.{SharedState, HasState, shared}
+use Rattle.compound.specs.Steps.{stepped_on}
 use Rattle.compound.specs.Volumes.{ending, lasts, executed_by, OperationGives, TurnGives}
 use Rattle.compound.specs.declared.fault.Fault.{Fault}
 use Rattle.compound.specs.declared.fault.Fault.TheVariants as fault
-use Rattle.compound.proofs.Creating.{made_answer, tree_made}
+use Rattle.compound.specs.Trees.{made_answer}
+use Rattle.compound.proofs.Creating.{tree_made}
 use Rattle.compound.proofs.Trees.{here, is_on}
 use Rattle.compound.proofs.Turning.{read_turn, run_tree}
 
@@ -53,9 +56,9 @@ quiet_ran : (world : World) (request : InProgress) (operation : Argument) (ran :
 quiet_ran world request operation (turns.Gives outcome after left) quiet = quiet_entry (state_of world request) operation outcome after.tree quiet
 quiet_ran world request operation (turns.Replays reply session slot) quiet = refl
 
-pub quiet_gives : (fs : FileSystem) (request : InProgress) (now : ℕ) (operation : Argument) → is_quiet operation ≡ true → (after : Tree) (lasting : Bool)
-    → OperationGives fs request now operation after lasting → lasting ≡ false
-quiet_gives fs request now operation quiet after lasting gives =
+pub quiet_gives : (state : SharedState) (request : InProgress) (now : ℕ) (operation : Argument) → is_quiet operation ≡ true → (after : Tree) (lasting : Bool)
+    → OperationGives state request now operation after lasting → lasting ≡ false
+quiet_gives state request now operation quiet after lasting gives =
     gives.lasting_is ∙ quiet_ran gives.world (with_rest request gives.rest) operation (run_in_room gives.world (with_rest request gives.rest) now operation) quiet
 
 -- and so does a refusal
@@ -75,21 +78,21 @@ refused_ran world request operation ran number reason after left is =
     ap (λ (r : HasRun). lasts (executed_by world request operation r)) is ∙ refused_entry (state_of world request) operation number reason after.tree
 
 -- the operation comes to this refusal in each such world
-pub refused_gives : (fs : FileSystem) (request : InProgress) (now : ℕ) (operation : Argument) (number : ℕ) (reason : Status)
-    → ((world : World) (rest : List ℕ) → IsServed world fs world.table → (after : World) × (left : InProgress)
+pub refused_gives : (state : SharedState) (request : InProgress) (now : ℕ) (operation : Argument) (number : ℕ) (reason : Status)
+    → ((world : World) (rest : List ℕ) → HasState world state → (after : World) × (left : InProgress)
     × (run_in_room world (with_rest request rest) now operation ≡ turns.Gives (model.Refused number reason) after left))
-    → (after : Tree) (lasting : Bool) → OperationGives fs request now operation after lasting → lasting ≡ false
-refused_gives fs request now operation number reason refuses after lasting gives =
-    let ran = refuses gives.world gives.rest gives.served in
+    → (after : Tree) (lasting : Bool) → OperationGives state request now operation after lasting → lasting ≡ false
+refused_gives state request now operation number reason refuses after lasting gives =
+    let ran = refuses gives.world gives.rest gives.has in
     gives.lasting_is ∙ refused_ran gives.world (with_rest request gives.rest) operation _ number reason ran.0 ran.1 ran.2
 
 -- one that comes to this refusal, and leaves the file system as it is
-pub refusal_changes : (keeps_word : Type 0) (fs new : FileSystem) (before after : ℕ) (request : InProgress) (now : ℕ) (operation : Argument) (number : ℕ) (reason : Status)
-    → new ≡ fs → before ≤ after → fs.is_down ≡ false → ((table : Table) → GivesIn now fs new table table request request operation (model.Refused number reason))
-    → Changes keeps_word (OperationGives fs request now operation) fs new before after Done
-refusal_changes keeps_word fs new before after request now operation number reason same later up gives =
-    answers_quietly keeps_word (OperationGives fs request now operation) fs new before after same later up
-    (refused_gives fs request now operation number reason (λ world rest served. (_, _, gives world.table world rest served)))
+pub refusal_changes : (keeps_word : Type 0) (fs new : FileSystem) (table : Table) (opens : Opens) (before after : ℕ) (request : InProgress) (now : ℕ) (operation : Argument) (number : ℕ) (reason : Status)
+    → new ≡ fs → before ≤ after → fs.is_down ≡ false → GivesIn now (shared fs table opens) (shared new table opens) request request operation (model.Refused number reason)
+    → Changes keeps_word (OperationGives (shared fs table opens) request now operation) fs new before after Done
+refusal_changes keeps_word fs new table opens before after request now operation number reason same later up gives =
+    answers_quietly keeps_word (OperationGives (shared fs table opens) request now operation) fs new before after same later up
+    (refused_gives (shared fs table opens) request now operation number reason (λ world rest has. (_, _, gives world rest has)))
 
 -- CREATE of anything but a directory
 other_quiet : (world : World) (request : InProgress) (now kind : ℕ)
@@ -103,38 +106,38 @@ other_quiet world request now kind = by_refusal _
     by_refusal None = refl
     by_refusal (Some reason) = refl
 
-pub other_changes : (keeps_word : Type 0) (fs : FileSystem) (failed : ℕ) (request : InProgress) (now kind : ℕ) → fs.is_down ≡ false
-    → Changes keeps_word (OperationGives fs request now (Argument.Create (OtherType kind))) fs fs failed failed Done
-other_changes keeps_word fs failed request now kind up =
-    answers_quietly keeps_word (OperationGives fs request now (Argument.Create (OtherType kind))) fs fs failed failed refl (omega arith) up
+pub other_changes : (keeps_word : Type 0) (state : SharedState) (failed : ℕ) (request : InProgress) (now kind : ℕ) → state.files.is_down ≡ false
+    → Changes keeps_word (OperationGives state request now (Argument.Create (OtherType kind))) state.files state.files failed failed Done
+other_changes keeps_word state failed request now kind up =
+    answers_quietly keeps_word (OperationGives state request now (Argument.Create (OtherType kind))) state.files state.files failed failed refl (omega arith) up
     (λ after lasting gives. gives.lasting_is ∙ other_quiet gives.world (with_rest request gives.rest) now kind)
 
 -- CREATE of a directory, where the reply has room for its result, is that of the file system
-pub made_gives : (fs : FileSystem) (request : InProgress) (now parent : ℕ) (name : List ℕ) (given : Attributes) → request.context.run ≡ fs.run
+pub made_gives : (fs : FileSystem) (table : Table) (opens : Opens) (request : InProgress) (now parent : ℕ) (name : List ℕ) (given : Attributes) → request.context.run ≡ fs.run
     → has_current request.context ≡ true → current_number request.context ≡ parent
     → true ≡ nat_le (length (reply_with request (model.Done (made_answer 0 0 (trimmed given.bitmap))))) 16368
-    → (after : Tree) (lasting : Bool) → OperationGives fs request now (new_directory name given) after lasting
+    → (after : Tree) (lasting : Bool) → OperationGives (shared fs table opens) request now (new_directory name given) after lasting
     → MakesTree fs request.context.cred parent now (new_directory name given) after lasting
-made_gives fs request now parent name given in_run has is room after lasting gives = record {
+made_gives fs table opens request now parent name given in_run has is room after lasting gives = record {
   state = state_of gives.world (with_rest request gives.rest);
-  on = is_on fs request parent _ in_run has is (here gives.world fs gives.world.table request gives.rest gives.served);
-  tree = gives.tree ∙ tree_made now fs gives.world.table request name given gives.world gives.rest gives.served room;
+  on = is_on fs request parent _ in_run has is (here gives.world fs table opens request gives.rest gives.has);
+  tree = gives.tree ∙ tree_made now fs table opens request name given gives.world gives.rest gives.has room;
 }
 
 -- an operation that leaves the file system alone
-pub quiet_changes : (keeps_word : Type 0) (fs : FileSystem) (failed : ℕ) (request : InProgress) (now : ℕ) (operation : Argument) → fs.is_down ≡ false → is_quiet operation ≡ true
-    → Changes keeps_word (OperationGives fs request now operation) fs fs failed failed Done
-quiet_changes keeps_word fs failed request now operation up quiet =
-    answers_quietly keeps_word (OperationGives fs request now operation) fs fs failed failed refl (omega arith) up (quiet_gives fs request now operation quiet)
+pub quiet_changes : (keeps_word : Type 0) (state : SharedState) (failed : ℕ) (request : InProgress) (now : ℕ) (operation : Argument) → state.files.is_down ≡ false → is_quiet operation ≡ true
+    → Changes keeps_word (OperationGives state request now operation) state.files state.files failed failed Done
+quiet_changes keeps_word state failed request now operation up quiet =
+    answers_quietly keeps_word (OperationGives state request now operation) state.files state.files failed failed refl (omega arith) up (quiet_gives state request now operation quiet)
 
 -- or is refused for memory alone
-pub quiet_result : {T : Type 0} (keeps_word : Type 0) (fs : FileSystem) (failed : ℕ) (request : InProgress) (now : ℕ) (operation : Argument) (result : Result T Fault)
-    → fs.is_down ≡ false → is_quiet operation ≡ true → ((reason : Fault) → result ≡ Err reason → reason ≡ fault.Memory)
-    → Changes keeps_word (OperationGives fs request now operation) fs fs failed failed (ending result)
-quiet_result keeps_word fs failed request now operation (Ok done) up quiet memory = quiet_changes keeps_word fs failed request now operation up quiet
-quiet_result keeps_word fs failed request now operation (Err fault.Memory) up quiet memory =
-    changes_nothing keeps_word (OperationGives fs request now operation) fs fs failed failed refl (omega arith)
-quiet_result keeps_word fs failed request now operation (Err fault.Device) up quiet memory =
+pub quiet_result : {T : Type 0} (keeps_word : Type 0) (state : SharedState) (failed : ℕ) (request : InProgress) (now : ℕ) (operation : Argument) (result : Result T Fault)
+    → state.files.is_down ≡ false → is_quiet operation ≡ true → ((reason : Fault) → result ≡ Err reason → reason ≡ fault.Memory)
+    → Changes keeps_word (OperationGives state request now operation) state.files state.files failed failed (ending result)
+quiet_result keeps_word state failed request now operation (Ok done) up quiet memory = quiet_changes keeps_word state failed request now operation up quiet
+quiet_result keeps_word state failed request now operation (Err fault.Memory) up quiet memory =
+    changes_nothing keeps_word (OperationGives state request now operation) state.files state.files failed failed refl (omega arith)
+quiet_result keeps_word state failed request now operation (Err fault.Device) up quiet memory =
     let is : fault.Device ≡ fault.Memory = memory fault.Device refl in
     let never : ⊥ = cc in absurd never
 
@@ -159,9 +162,9 @@ run_executed world number request operation (turns.Gives outcome after left) =
 run_executed world number request operation (turns.Replays reply session slot) = refl
 
 -- a turn whose next operation is read does what that operation does
-pub read_gives : (fs : FileSystem) (request : InProgress) (now : ℕ) (operation : Argument) (rest : List ℕ) → next_operation request ≡ Reads operation rest → (after : Tree) (lasting : Bool)
-    → TurnGives fs (λ world number. stepped_on world number now request) after lasting → OperationGives fs request now operation after lasting
-read_gives fs request now operation rest next after lasting gives =
+pub read_gives : (state : SharedState) (request : InProgress) (now : ℕ) (operation : Argument) (rest : List ℕ) → next_operation request ≡ Reads operation rest → (after : Tree) (lasting : Bool)
+    → TurnGives state (λ world number. stepped_on world number now request) after lasting → OperationGives state request now operation after lasting
+read_gives state request now operation rest next after lasting gives =
     let world = gives.world in
     let ran = run_in_room world (with_rest request rest) now operation in
     let turn : stepped_on world gives.number now request ≡ has_run world gives.number (with_rest request rest) operation ran =
@@ -169,31 +172,31 @@ read_gives fs request now operation rest next after lasting gives =
     record {
       world = world;
       rest = rest;
-      served = gives.served;
+      has = gives.has;
       tree = gives.tree ∙ (ap (λ (t : Turned). t.world.tree) turn ∙ run_tree world gives.number (with_rest request rest) operation ran);
       lasting_is = gives.lasting_is ∙ (ap (λ (t : Turned). lasts t.executed) turn ∙ ap lasts (run_executed world gives.number (with_rest request rest) operation ran));
     }
 
 -- one whose next operation is refused before it runs does nothing
-pub refused_turn : (fs : FileSystem) (request : InProgress) (now number : ℕ) (reason : Status) → next_operation request ≡ Refuses number reason → (after : Tree) (lasting : Bool)
-    → TurnGives fs (λ world number. stepped_on world number now request) after lasting → lasting ≡ false
-refused_turn fs request now number reason next after lasting gives =
+pub refused_turn : (state : SharedState) (request : InProgress) (now number : ℕ) (reason : Status) → next_operation request ≡ Refuses number reason → (after : Tree) (lasting : Bool)
+    → TurnGives state (λ world number. stepped_on world number now request) after lasting → lasting ≡ false
+refused_turn state request now number reason next after lasting gives =
     gives.lasting_is ∙ ap (λ n. lasts (operates gives.world gives.number now request n).executed) next
 
 -- turns that are the same in each such world
-pub same_turns : (fs : FileSystem) (turn other : World → (number : ℕ) → Turned) → ((world : World) (number : ℕ) → IsServed world fs world.table → other world number ≡ turn world number)
-    → (after : Tree) (lasting : Bool) → TurnGives fs other after lasting → TurnGives fs turn after lasting
-same_turns fs turn other same after lasting gives =
-    let is = same gives.world gives.number gives.served in
+pub same_turns : (state : SharedState) (turn other : World → (number : ℕ) → Turned) → ((world : World) (number : ℕ) → HasState world state → other world number ≡ turn world number)
+    → (after : Tree) (lasting : Bool) → TurnGives state other after lasting → TurnGives state turn after lasting
+same_turns state turn other same after lasting gives =
+    let is = same gives.world gives.number gives.has in
     record {
       world = gives.world;
       number = gives.number;
-      served = gives.served;
+      has = gives.has;
       tree = gives.tree ∙ ap (λ (t : Turned). t.world.tree) is;
       lasting_is = gives.lasting_is ∙ ap (λ (t : Turned). lasts t.executed) is;
     }
 
 -- or that execute nothing
-pub idle_turns : (fs : FileSystem) (turn : World → (number : ℕ) → Turned) → ((world : World) (number : ℕ) → IsServed world fs world.table → (turn world number).executed ≡ None)
-    → (after : Tree) (lasting : Bool) → TurnGives fs turn after lasting → lasting ≡ false
-idle_turns fs turn idle after lasting gives = gives.lasting_is ∙ ap lasts (idle gives.world gives.number gives.served)
+pub idle_turns : (state : SharedState) (turn : World → (number : ℕ) → Turned) → ((world : World) (number : ℕ) → HasState world state → (turn world number).executed ≡ None)
+    → (after : Tree) (lasting : Bool) → TurnGives state turn after lasting → lasting ≡ false
+idle_turns state turn idle after lasting gives = gives.lasting_is ∙ ap lasts (idle gives.world gives.number gives.has)

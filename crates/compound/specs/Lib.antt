@@ -1,5 +1,6 @@
 pub mod Operates
 pub mod Runs
+pub mod States
 pub mod Steps
 pub mod Trees
 pub mod Turns

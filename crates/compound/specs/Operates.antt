@@ -3,6 +3,7 @@ use Rattle.std.specs.Prelude.{◌≡◌, ℕ, ◌≤◌, ◌<◌, ◌^◌, Bool,
 use Rattle.fs.specs.FileSystem.{FileSystem}
 use Rattle.model.specs.Answer as model
 use Rattle.model.specs.Context.{at_node}
+use Rattle.model.specs.Opens.{Opens}
 use Rattle.model.specs.Operation.{Argument, operation_of}
 use Rattle.model.specs.Session.{Table}
 use Rattle.model.specs.Tree.{Tree}
@@ -12,7 +13,7 @@ use Rattle.model.specs.World.{World, InProgress, HasRun, run, in_room, outcome_t
 use Rattle.session.specs.Views.{reply_kept}
 use Rattle.wire.specs.OutcomeView.{outcome_view}
 use Rattle.compound.specs.Runs.{with_rest}
-use Rattle.compound.specs.Steps.{IsServed, with_served}
+use Rattle.compound.specs.States.{SharedState, HasState, with_state, shared, without_opens}
 use Rattle.compound.specs.Views.{slot_of}
 use Rattle.compound.specs.declared.operated.Effect.{Effect}
 use Rattle.compound.specs.declared.operated.Effect.TheVariants as effect
@@ -29,27 +30,42 @@ abbrev pub run_in_room : World → InProgress → (now : ℕ) → Argument → H
 run_in_room world request now operation = in_room world request (operation_of operation) (run world request now operation)
 
 -- in each such world, whatever stands behind it, the operation comes to this, before its room is tested
-abbrev pub RunsTo : (now : ℕ) → (old new : FileSystem) → (old_table new_table : Table) → (request left : InProgress) → Argument → model.Outcome → Type 0
-RunsTo now old new old_table new_table request left operation outcome =
-    (world : World) (rest : List ℕ) → IsServed world old old_table
-    → run world (with_rest request rest) now operation ≡ turns.Gives outcome (with_served world new new_table) (with_rest left rest)
+abbrev pub RunsTo : (now : ℕ) → (old new : SharedState) → (request left : InProgress) → Argument → model.Outcome → Type 0
+RunsTo now old new request left operation outcome =
+    (world : World) (rest : List ℕ) → HasState world old
+    → run world (with_rest request rest) now operation ≡ turns.Gives outcome (with_state world new) (with_rest left rest)
 
 -- in each such world, whatever stands behind it, the operation gives this
-abbrev pub GivesIn : (now : ℕ) → (old new : FileSystem) → (old_table new_table : Table) → (request left : InProgress) → Argument → model.Outcome → Type 0
-GivesIn now old new old_table new_table request left operation outcome =
-    (world : World) (rest : List ℕ) → IsServed world old old_table
+abbrev pub GivesIn : (now : ℕ) → (old new : SharedState) → (request left : InProgress) → Argument → model.Outcome → Type 0
+GivesIn now old new request left operation outcome =
+    (world : World) (rest : List ℕ) → HasState world old
     → run_in_room world (with_rest request rest) now operation
-    ≡ turns.Gives outcome (with_served world new new_table) (with_rest left rest)
+    ≡ turns.Gives outcome (with_state world new) (with_rest left rest)
 
-abbrev pub Operates : (now : ℕ) → (old new : FileSystem) → (old_table new_table : Table) → InProgress → Argument → Operated → Type 0
-Operates now old new old_table new_table request operation (operated.Gives outcome left) =
-    GivesIn now old new old_table new_table request (left_by left request) operation (outcome_view outcome)
-Operates now old new old_table new_table request operation (operated.GivesHandle handle) =
-    GivesIn now old new old_table new_table request request operation (model.Done (model.GetFh handle))
-Operates now old new old_table new_table request operation (operated.Replays slot) =
-    (reply : List ℕ) × (new ≡ old) × (new_table ≡ old_table) × (reply_kept slot.session slot.slot old_table ≡ Some reply)
-    × ((world : World) (rest : List ℕ) → IsServed world old old_table
+abbrev pub Operates : (now : ℕ) → (old new : SharedState) → InProgress → Argument → Operated → Type 0
+Operates now old new request operation (operated.Gives outcome left) =
+    GivesIn now old new request (left_by left request) operation (outcome_view outcome)
+Operates now old new request operation (operated.GivesHandle handle) =
+    GivesIn now old new request request operation (model.Done (model.GetFh handle))
+Operates now old new request operation (operated.Replays slot) =
+    (reply : List ℕ) × (new ≡ old) × (reply_kept slot.session slot.slot old.table ≡ Some reply)
+    × ((world : World) (rest : List ℕ) → HasState world old
     → run_in_room world (with_rest request rest) now operation ≡ turns.Replays reply slot.session slot.slot)
+
+-- it leaves all as it is, but for its COMPOUND
+abbrev pub OnlyReads : FileSystem → InProgress → Argument → Operated → Type 0
+OnlyReads files request operation done = (now : ℕ) (table : Table) (opens : Opens)
+    → Operates now (shared files table opens) (shared files table opens) request operation done
+
+-- it leaves the file system, and nothing is open
+abbrev pub ChangesTable : (old new : Table) → InProgress → Argument → Operated → Type 0
+ChangesTable old new request operation done = (now : ℕ) (files : FileSystem)
+    → Operates now (without_opens files old) (without_opens files new) request operation done
+
+-- it leaves the clients, the sessions and the opens
+abbrev pub ChangesFiles : (old new : FileSystem) → (now : ℕ) → InProgress → Argument → Operated → Type 0
+ChangesFiles old new now request operation done = (table : Table) (opens : Opens)
+    → Operates now (shared old table opens) (shared new table opens) request operation done
 
 -- the tree behind it
 abbrev pub tree_by : World → HasRun → Tree

@@ -1,29 +1,11 @@
--- One operation of a COMPOUND on a file system and on the table of clients and sessions, by the definition.
+-- One operation of a COMPOUND, by the definition.
 use Rattle.std.specs.Prelude.{◌≡◌, ℕ, Bool, true}
-use Rattle.fs.specs.FileSystem.{FileSystem}
-use Rattle.model.specs.Opens.{no_opens}
-use Rattle.model.specs.Session.{Table}
 use Rattle.model.specs.World as world
 use Rattle.model.specs.World.{World, Connection, Busy, Replied, Turn, Turned, InProgress, next_operation, operates, with_connection}
-use Rattle.session.specs.Limits.{served}
+use Rattle.compound.specs.States.{SharedState, HasState, with_state}
 use Rattle.compound.specs.Views.{Asked, resumed, fits}
 use Rattle.compound.specs.declared.step.Stepped.{Stepped}
 use Rattle.compound.specs.declared.step.Stepped.TheVariants as stepped
-
--- a world that has this file system and this table, and in which nothing is open
-pub record IsServed (world : World) (fs : FileSystem) (table : Table) : Type 0 where
-  pub volume : world.limits.volume ≡ fs.limits
-  pub sessions : world.limits.sessions ≡ served
-  pub reply_bytes : world.limits.reply_bytes ≡ 16368
-  pub run : world.run ≡ fs.run
-  pub tree : world.tree ≡ fs.tree
-  pub changes : world.changes ≡ fs.changes
-  pub opens : world.opens ≡ no_opens
-  pub table_is : world.table ≡ table
-
--- the world with what they are now
-abbrev pub with_served : World → FileSystem → Table → World
-with_served world fs table = record world { tree = fs.tree; changes = fs.changes; table = table }
 
 -- a turn of the request
 abbrev pub stepped_on : World → (number now : ℕ) → InProgress → Turned
@@ -39,11 +21,11 @@ connection_by asked (stepped.Ran progress) = Busy (resumed asked progress)
 connection_by asked (stepped.Answered reply) = Replied reply.items
 
 -- on each connection of each such world, the turn is this one, and leaves this world
-abbrev pub Steps : (now : ℕ) → (old new : FileSystem) → (old_table new_table : Table) → Asked → InProgress → Stepped → Type 0
-Steps now old new old_table new_table asked request done =
-    (world : World) (number : ℕ) → IsServed world old old_table
+abbrev pub Steps : (now : ℕ) → (old new : SharedState) → Asked → InProgress → Stepped → Type 0
+Steps now old new asked request done =
+    (world : World) (number : ℕ) → HasState world old
     → ((stepped_on world number now request).turn ≡ turn_by done)
-    × ((stepped_on world number now request).world ≡ with_connection (with_served world new new_table) number (connection_by asked done))
+    × ((stepped_on world number now request).world ≡ with_connection (with_state world new) number (connection_by asked done))
 
 -- the request goes on in the same run of the server
 abbrev pub StaysInRun : (run : ℕ) → Stepped → Type 0

@@ -1,21 +1,25 @@
 -- How a turn is made of an operation that ran, and of what stands behind its result.
 use Rattle.std.specs.Prelude.{◌≡◌, ℕ, List, Option, Some, None}
-use Rattle.fs.specs.FileSystem.{FileSystem}
 use Rattle.model.specs.Answer as model
 use Rattle.model.specs.Record.{framed}
 use Rattle.model.specs.Rpc.{Success, reply_text}
 use Rattle.model.specs.Session.{Table}
 use Rattle.model.specs.World as turns
-use Rattle.model.specs.World.{World, InProgress, Entry, Turned, behind, with_connection, with_table}
+use Rattle.model.specs.World.{World, InProgress, Entry, Turned, behind, result_of, status_of, with_result, with_connection, with_table}
 use Rattle.session.specs.Views.{reply_kept}
 use Rattle.wire.specs.OutcomeView.{outcome_view}
 use Rattle.compound.specs.Operates.{left_by}
 use Rattle.compound.specs.Runs.{with_rest}
 use Rattle.compound.specs.Views.{Asked}
-use Rattle.compound.specs.Steps.{IsServed, with_served, stepped_on, turn_by, connection_by}
+use Rattle.compound.specs.States.{SharedState, HasState, with_state}
+use Rattle.compound.specs.Steps.{stepped_on, turn_by, connection_by}
 use Rattle.compound.specs.declared.operated.Operated.{Operated}
 use Rattle.compound.specs.declared.operated.Operated.TheVariants as operated
 use Rattle.compound.specs.declared.step.Stepped.{Stepped}
+
+-- the whole result of a COMPOUND, where this one of an operation is the last
+abbrev pub last_result : InProgress → model.Outcome → List ℕ
+last_result request outcome = result_of (with_result request outcome) (status_of outcome)
 
 -- a kept reply is sent again
 abbrev pub repeated : World → (number : ℕ) → InProgress → (reply session : List ℕ) → (slot : ℕ) → Turned
@@ -28,20 +32,20 @@ repeated world number request reply session slot = record {
 }
 
 -- on each connection of each such world, a turn of the request comes to this result, behind which it is left so
-abbrev pub TurnsTo : (now : ℕ) → (old new : FileSystem) → (old_table new_table : Table) → (request left : InProgress) → model.Outcome → Type 0
-TurnsTo now old new old_table new_table request left outcome =
-    (world : World) (number : ℕ) → IsServed world old old_table
-    → (executed : Option Entry) × (stepped_on world number now request ≡ behind (with_served world new new_table) number left outcome executed)
+abbrev pub TurnsTo : (now : ℕ) → (old new : SharedState) → (request left : InProgress) → model.Outcome → Type 0
+TurnsTo now old new request left outcome =
+    (world : World) (number : ℕ) → HasState world old
+    → (executed : Option Entry) × (stepped_on world number now request ≡ behind (with_state world new) number left outcome executed)
 
 -- the same, where the next operation did this and ends where these bytes stand
-abbrev pub Turns : (now : ℕ) → (old new : FileSystem) → (old_table new_table : Table) → InProgress → (rest : List ℕ) → Operated → Type 0
-Turns now old new old_table new_table request rest (operated.Gives outcome left) =
-    TurnsTo now old new old_table new_table request (with_rest (left_by left request) rest) (outcome_view outcome)
-Turns now old new old_table new_table request rest (operated.GivesHandle handle) =
-    TurnsTo now old new old_table new_table request (with_rest request rest) (model.Done (model.GetFh handle))
-Turns now old new old_table new_table request rest (operated.Replays slot) =
-    (reply : List ℕ) × (new ≡ old) × (new_table ≡ old_table) × (reply_kept slot.session slot.slot old_table ≡ Some reply)
-    × ((world : World) (number : ℕ) → IsServed world old old_table
+abbrev pub Turns : (now : ℕ) → (old new : SharedState) → InProgress → (rest : List ℕ) → Operated → Type 0
+Turns now old new request rest (operated.Gives outcome left) =
+    TurnsTo now old new request (with_rest (left_by left request) rest) (outcome_view outcome)
+Turns now old new request rest (operated.GivesHandle handle) =
+    TurnsTo now old new request (with_rest request rest) (model.Done (model.GetFh handle))
+Turns now old new request rest (operated.Replays slot) =
+    (reply : List ℕ) × (new ≡ old) × (reply_kept slot.session slot.slot old.table ≡ Some reply)
+    × ((world : World) (number : ℕ) → HasState world old
     → stepped_on world number now request ≡ repeated world number request reply slot.session slot.slot)
 
 -- on each connection of each world with this table, this is what a result makes of the request

@@ -29,6 +29,9 @@ pub record Asked : Type 0 where
   pub cred : Cred
   pub compound : Compound
 
+abbrev pub asks : (xid : ℕ) → Cred → Compound → Asked
+asks xid cred compound = record { xid = xid; cred = cred; compound = compound }
+
 abbrev pub context_of : Cred → Progress → Context
 context_of cred progress = record {
   cred = cred;
@@ -64,7 +67,7 @@ pub record IsBegin (run : ℕ) (progress : Progress) : Type 0 where
   pub fit : (asked : Asked) → 0 < asked.compound.count → length asked.compound.tag ≤ 255 → fits asked progress ≡ true
 
 abbrev pub asked_of : Running → Asked
-asked_of running = record { xid = running.xid; cred = running.cred; compound = compound_view running.compound }
+asked_of running = asks running.xid running.cred (compound_view running.compound)
 
 unfoldable pub in_progress_of : Running → InProgress
 in_progress_of running = resumed (asked_of running) running.progress

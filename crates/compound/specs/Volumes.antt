@@ -1,7 +1,6 @@
 -- What the operations of a COMPOUND do to the file system below it, by the definition.
 use Rattle.std.specs.Prelude.{ℕ, Bool, false, List, Option, Some, None, Result, Ok, Err, ◌≡◌}
 use Rattle.fs.specs.Changes.{Ending, Done, Nothing, Broken}
-use Rattle.fs.specs.FileSystem.{FileSystem}
 use Rattle.model.specs.Operation.{Argument}
 use Rattle.model.specs.Runs.{is_durable}
 use Rattle.model.specs.Tree.{Tree}
@@ -9,7 +8,7 @@ use Rattle.model.specs.World as turns
 use Rattle.model.specs.World.{World, InProgress, HasRun, Entry, Turned, entry_of}
 use Rattle.compound.specs.Operates.{run_in_room, tree_by}
 use Rattle.compound.specs.Runs.{with_rest}
-use Rattle.compound.specs.Steps.{IsServed}
+use Rattle.compound.specs.States.{SharedState, HasState}
 use Rattle.compound.specs.declared.fault.Fault.{Fault}
 use Rattle.compound.specs.declared.fault.Fault.TheVariants as fault
 use Rattle.compound.specs.declared.step.Undone.{Undone}
@@ -40,18 +39,19 @@ abbrev pub executed_by : World → InProgress → Argument → HasRun → Option
 executed_by world request operation (turns.Gives outcome after left) = Some (entry_of world request operation outcome after)
 executed_by world request operation (turns.Replays reply session slot) = None
 
--- in some world with this file system, whatever stands behind the operation, it leaves this tree, and has to last or not
-pub record OperationGives (fs : FileSystem) (request : InProgress) (now : ℕ) (operation : Argument) (after : Tree) (lasting : Bool) : Type 0 where
+-- in some world that has this, whatever stands behind the operation, it leaves this tree, and has to last or not
+pub record OperationGives (state : SharedState) (request : InProgress) (now : ℕ) (operation : Argument) (after : Tree) (lasting : Bool) : Type 0 where
   pub world : World
   pub rest : List ℕ
-  pub served : IsServed world fs world.table
+  pub has : HasState world state
   pub tree : after ≡ tree_by world (run_in_room world (with_rest request rest) now operation)
-  pub lasting_is : lasting ≡ lasts (executed_by world (with_rest request rest) operation (run_in_room world (with_rest request rest) now operation))
+  pub lasting_is : lasting ≡ lasts (executed_by world (with_rest request rest) operation
+      (run_in_room world (with_rest request rest) now operation))
 
 -- in some such world, on some connection, this turn does
-pub record TurnGives (fs : FileSystem) (turn : World → (number : ℕ) → Turned) (after : Tree) (lasting : Bool) : Type 0 where
+pub record TurnGives (state : SharedState) (turn : World → (number : ℕ) → Turned) (after : Tree) (lasting : Bool) : Type 0 where
   pub world : World
   pub number : ℕ
-  pub served : IsServed world fs world.table
+  pub has : HasState world state
   pub tree : after ≡ (turn world number).world.tree
   pub lasting_is : lasting ≡ lasts (turn world number).executed

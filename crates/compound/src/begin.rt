@@ -42,7 +42,7 @@ impl<'a> Running<'a> {
     ghost use Rattle.std.specs.Prelude.{◌≡◌, true, IfOk, IfErr};
     ghost use Rattle.model.specs.World.{World, in_progress};
     ghost use Rattle.rpc.specs.Views.{compound_view};
-    ghost use Rattle.compound.specs.Views.{in_progress_of, asked_of, resumed, fits};
+    ghost use Rattle.compound.specs.Views.{in_progress_of, asks, asked_of, resumed, fits};
     ghost use Rattle.compound.specs.declared.fault.Fault.TheVariants.{Memory};
 
     /// Begins the COMPOUND of a call with this xid, by this caller, in this run of the server. All memory for its reply is
@@ -54,8 +54,10 @@ impl<'a> Running<'a> {
         cred: Cred,
         compound: Compound<'a>,
     ) -> Result<Running<'a>, Fault>
-        ensures asked { IfOk result (λ running. asked_of running ≡ record { xid = xid; cred = cred; compound = compound_view compound.entry }) }
-        ensures ok { IfOk result (λ running. (world : World) → world.run ≡ run → in_progress_of running ≡ in_progress world xid cred (compound_view compound.entry)) }
+        ensures asked { IfOk result (λ running.
+            asked_of running ≡ asks xid cred (compound_view compound.entry)) }
+        ensures ok { IfOk result (λ running. (world : World) → world.run ≡ run
+            → in_progress_of running ≡ in_progress world xid cred (compound_view compound.entry)) }
         ensures run { IfOk result (λ running. (in_progress_of running).context.run ≡ run) }
         ensures err { IfErr result (λ fault. fault ≡ Memory) }
     {
@@ -72,10 +74,11 @@ impl<'a> Running<'a> {
         compound: Compound<'a>,
         progress: Progress,
     ) -> Running<'a>
-        requires { fits (record { xid = xid; cred = cred; compound = compound_view compound }) progress ≡ true }
-        ensures asked { asked_of result ≡ record { xid = xid; cred = cred; compound = compound_view compound.entry } }
+        requires { fits (asks xid cred (compound_view compound)) progress ≡ true }
+        ensures asked { asked_of result ≡ asks xid cred (compound_view compound.entry) }
         ensures progress { result.progress ≡ progress }
-        ensures request { in_progress_of result ≡ resumed (record { xid = xid; cred = cred; compound = compound_view compound.entry }) progress }
+        ensures request { in_progress_of result
+            ≡ resumed (asks xid cred (compound_view compound.entry)) progress }
     {
         Running {
             alloc,

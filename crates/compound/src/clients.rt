@@ -10,12 +10,11 @@ use wire::{Answer, CreateSessionArguments, ExchangeIdArguments, Operation};
 
 #[tactic(auto, unfolding(crate::specs::Views::in_progress_of))]
 impl Running<'_> {
-    ghost use Rattle.std.specs.Prelude.{◌≡◌, ℕ, IfOk, IfErr};
-    ghost use Rattle.fs.specs.FileSystem.{FileSystem};
+    ghost use Rattle.std.specs.Prelude.{◌≡◌, IfOk, IfErr};
     ghost use Rattle.model.specs.Operation as operations;
     ghost use Rattle.session.specs.Views.{table_of};
     ghost use Rattle.wire.specs.ArgumentViews.{exchange_id_view, create_session_view};
-    ghost use Rattle.compound.specs.Operates.{Operates, IsAnswered};
+    ghost use Rattle.compound.specs.Operates.{ChangesTable, IsAnswered};
     ghost use Rattle.compound.specs.Views.{in_progress_of};
     ghost use Rattle.compound.specs.declared.fault.Fault.TheVariants.{Memory};
 
@@ -26,9 +25,12 @@ impl Running<'_> {
         arguments: &ExchangeIdArguments<'_>,
     ) -> Result<Operated, Fault>
         requires first { (in_progress_of self.now).answered ≡ 0 }
-        ensures gives { IfOk result (λ done. (now : ℕ) (fs : FileSystem) → Operates now fs fs (table_of table.old) (table_of table.new) (in_progress_of self.now) (operations.Argument.ExchangeId (exchange_id_view arguments.now)) done) }
+        ensures gives { IfOk result (ChangesTable (table_of table.old) (table_of table.new)
+            (in_progress_of self.now)
+            (operations.Argument.ExchangeId (exchange_id_view arguments.now))) }
         ensures answered { IfOk result (IsAnswered (in_progress_of self.now)) }
-        ensures err { IfErr result (λ fault. (fault ≡ Memory) × (table_of table.new ≡ table_of table.old)) }
+        ensures err { IfErr result (λ fault.
+            (fault ≡ Memory) × (table_of table.new ≡ table_of table.old)) }
     {
         match table.exchange_id(self.cred.uid, arguments, &[]) {
             Ok(answer) => Ok(self.answer_first(Answer::ExchangeId(answer), Effect::Stays)),
@@ -44,9 +46,12 @@ impl Running<'_> {
         arguments: &CreateSessionArguments<'_>,
     ) -> Result<Operated, Fault>
         requires first { (in_progress_of self.now).answered ≡ 0 }
-        ensures gives { IfOk result (λ done. (now : ℕ) (fs : FileSystem) → Operates now fs fs (table_of table.old) (table_of table.new) (in_progress_of self.now) (operations.Argument.CreateSession (create_session_view arguments.now)) done) }
+        ensures gives { IfOk result (ChangesTable (table_of table.old) (table_of table.new)
+            (in_progress_of self.now)
+            (operations.Argument.CreateSession (create_session_view arguments.now))) }
         ensures answered { IfOk result (IsAnswered (in_progress_of self.now)) }
-        ensures err { IfErr result (λ fault. (fault ≡ Memory) × (table_of table.new ≡ table_of table.old)) }
+        ensures err { IfErr result (λ fault.
+            (fault ≡ Memory) × (table_of table.new ≡ table_of table.old)) }
     {
         match table.create_session(self.cred.uid, arguments) {
             Ok(created) => {
@@ -60,7 +65,8 @@ impl Running<'_> {
     /// DESTROY_SESSION.
     pub(crate) fn destroy_session(&self, table: &mut Table, id: &[u8; 16]) -> Operated
         requires first { (in_progress_of self.now).answered ≡ 0 }
-        ensures gives { (now : ℕ) (fs : FileSystem) → Operates now fs fs (table_of table.old) (table_of table.new) (in_progress_of self.now) (operations.Argument.DestroySession id.now) result }
+        ensures gives { ChangesTable (table_of table.old) (table_of table.new)
+            (in_progress_of self.now) (operations.Argument.DestroySession id.now) result }
         ensures answered { IsAnswered (in_progress_of self.now) result }
     {
         match table.destroy_session(id) {
@@ -72,7 +78,8 @@ impl Running<'_> {
     /// DESTROY_CLIENTID.
     pub(crate) fn destroy_clientid(&self, table: &mut Table, client: u64) -> Operated
         requires first { (in_progress_of self.now).answered ≡ 0 }
-        ensures gives { (now : ℕ) (fs : FileSystem) → Operates now fs fs (table_of table.old) (table_of table.new) (in_progress_of self.now) (operations.Argument.DestroyClientId client) result }
+        ensures gives { ChangesTable (table_of table.old) (table_of table.new)
+            (in_progress_of self.now) (operations.Argument.DestroyClientId client) result }
         ensures answered { IsAnswered (in_progress_of self.now) result }
     {
         match table.destroy_clientid(client, &[]) {

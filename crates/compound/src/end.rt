@@ -4,6 +4,7 @@ ghost use Rattle.std.specs.Prelude.{◌≡◌, ◌≤◌, ◌+◌, ◌++◌, [],
 ghost use Rattle.model.specs.Rpc.{compound_text};
 ghost use Rattle.model.specs.Session.{finish};
 ghost use Rattle.model.specs.World.{status_of, outcome_text};
+ghost use Rattle.rpc.specs.Views.{result_text};
 ghost use Rattle.model.specs.WireAnswers as answers;
 ghost use Rattle.session.specs.Views.{table_of};
 ghost use Rattle.wire.specs.OutcomeView.{outcome_view};
@@ -20,20 +21,24 @@ impl Running<'_> {
     ghost use Rattle.std.specs.Prelude.{◌≡◌, ◌≤◌, ℕ, List, Some, length};
     ghost use Rattle.model.specs.Record.{framed};
     ghost use Rattle.model.specs.Rpc.{Success, reply_text};
-    ghost use Rattle.model.specs.World.{reply_with, result_of, with_result, status_of, kept_by};
+    ghost use Rattle.model.specs.World.{reply_with, kept_by};
     ghost use Rattle.model.specs.WireAnswers as answers;
     ghost use Rattle.session.specs.Views.{table_of, reply_kept};
     ghost use Rattle.wire.specs.OutcomeView.{outcome_view};
+    ghost use Rattle.compound.specs.Turns.{last_result};
     ghost use Rattle.compound.specs.Views.{in_progress_of};
 
     /// The reply's whole record, where this result is the last one. The slot keeps the result of the COMPOUND. No memory is taken.
     #[tactic(auto, unfolding(crate::specs::Views::in_progress_of, model::specs::World::outcome_text), using(crate::proofs::Replies::room_length, crate::proofs::Replies::success_length, crate::proofs::Replies::framed_length))]
     pub(crate) fn end(self, table: &mut Table, outcome: &Outcome<'_>) -> Vec<u8>
         requires fits { answers.outcome.Fits (outcome_view outcome.now) }
-        requires room { length (reply_with (in_progress_of self) (outcome_view outcome.now)) ≤ 16384 }
-        ensures reply { result.items ≡ framed (reply_with (in_progress_of self.entry) (outcome_view outcome.now)) }
+        requires room { length (reply_with (in_progress_of self) (outcome_view outcome.now))
+            ≤ 16384 }
+        ensures reply { result.items
+            ≡ framed (reply_with (in_progress_of self.entry) (outcome_view outcome.now)) }
         ensures kept { table_of table.new ≡ kept_by (in_progress_of self.entry).slot
-            (result_of (with_result (in_progress_of self.entry) (outcome_view outcome.now)) (status_of (outcome_view outcome.now))) (table_of table.old) }
+            (last_result (in_progress_of self.entry) (outcome_view outcome.now))
+            (table_of table.old) }
     {
         let Running {
             xid,
@@ -63,8 +68,10 @@ impl Running<'_> {
     /// The reply's whole record, where the result is the one that this slot keeps. No memory is taken.
     #[tactic(auto, unfolding(crate::specs::Views::in_progress_of), using(crate::proofs::Replies::success_length, crate::proofs::Replies::framed_length))]
     pub(crate) fn repeat(self, table: &Table, id: &SlotId) -> Vec<u8>
-        requires { (reply : List ℕ) × (reply_kept id.now.session id.now.slot (table_of table.now) ≡ Some reply) }
-        ensures { (reply : List ℕ) → reply_kept id.now.session id.now.slot (table_of table.now) ≡ Some reply
+        requires { (reply : List ℕ)
+            × (reply_kept id.now.session id.now.slot (table_of table.now) ≡ Some reply) }
+        ensures { (reply : List ℕ)
+            → reply_kept id.now.session id.now.slot (table_of table.now) ≡ Some reply
             → result.items ≡ framed (reply_text (in_progress_of self.entry).xid (Success reply)) }
     {
         let Some(kept) = table.kept(&id.session, id.slot) else {
@@ -83,7 +90,8 @@ impl Running<'_> {
 #[tactic(auto, unfolding(model::specs::World::outcome_text))]
 fn with_outcome(results: Writer, outcome: &Outcome<'_>) -> Writer
     requires fits { answers.outcome.Fits (outcome_view outcome.now) }
-    requires room { length results.bytes + length (outcome_text (outcome_view outcome.now)) ≤ results.capacity }
+    requires room { length results.bytes + length (outcome_text (outcome_view outcome.now))
+        ≤ results.capacity }
     ensures { result.bytes ≡ results.bytes ++ outcome_text (outcome_view outcome.now) }
 {
     let mut results = results;
@@ -95,7 +103,7 @@ fn with_outcome(results: Writer, outcome: &Outcome<'_>) -> Writer
 
 /// The result of a COMPOUND.
 fn result_of<'a>(status: Status, tag: Tag<'a>, count: u32, results: &'a [u8]) -> CompoundResult<'a>
-    ensures text { compound_text result.status result.tag.bytes.now result.count result.results.now ≡ compound_text status tag.entry.bytes.now count results.now }
+    ensures text { result_text result ≡ compound_text status tag.entry.bytes.now count results.now }
     ensures results { result.results.now ≡ results.now }
 {
     CompoundResult {
@@ -110,9 +118,9 @@ fn result_of<'a>(status: Status, tag: Tag<'a>, count: u32, results: &'a [u8]) ->
 fn keep(table: &mut Table, id: &SlotId, compound: &CompoundResult<'_>, memory: Writer)
     requires fresh { memory.bytes ≡ [] }
     requires room { 16384 ≤ memory.capacity }
-    requires short { length (compound_text compound.now.status compound.now.tag.bytes.now compound.now.count compound.now.results.now) ≤ 16384 }
-    ensures { table_of table.new ≡ finish id.now.session id.now.slot
-        (compound_text compound.now.status compound.now.tag.bytes.now compound.now.count compound.now.results.now) (table_of table.old) }
+    requires short { length (result_text compound.now) ≤ 16384 }
+    ensures { table_of table.new ≡ finish id.now.session id.now.slot (result_text compound.now)
+        (table_of table.old) }
 {
     match compound.write(memory) {
         Ok(result) => table.finish(&id.session, id.slot, result),

@@ -21,16 +21,17 @@ impl Running<'_> {
     ghost use Rattle.model.specs.Answer.{Done, GetFh};
     ghost use Rattle.model.specs.Context.{has_current, current_number};
     ghost use Rattle.model.specs.Operation as operations;
-    ghost use Rattle.model.specs.Session.{Table};
     ghost use Rattle.model.specs.WireAnswers as answers;
     ghost use Rattle.model.specs.World.{reply_with, outcome_text};
     ghost use Rattle.model.specs.declared.status.Status.TheVariants as status;
-    ghost use Rattle.compound.specs.Operates.{Operates, RunsTo, IsAnswered};
+    ghost use Rattle.compound.specs.Operates.{Operates, RunsTo, OnlyReads, IsAnswered};
+    ghost use Rattle.compound.specs.States.{SharedState};
     ghost use Rattle.compound.specs.Views.{in_progress_of};
 
     /// PUTROOTFH (section 18.21): the root is the current node, whether it is there or not.
     pub(crate) fn put_root(&self) -> Operated
-        ensures gives { (now : ℕ) (fs : FileSystem) (table : Table) → Operates now fs fs table table (in_progress_of self.now) operations.Argument.PutRootFh result }
+        ensures gives { (files : FileSystem)
+            → OnlyReads files (in_progress_of self.now) operations.Argument.PutRootFh result }
         ensures answered { IsAnswered (in_progress_of self.now) result }
     {
         self.settle(Answer::PutRootFh, Effect::Moves(ROOT))
@@ -39,7 +40,8 @@ impl Running<'_> {
     /// PUTFH (section 18.19): the node that the filehandle names is the current one.
     pub(crate) fn put_handle<D: Device>(&self, fs: &Fs<D>, handle: &[u8]) -> Operated
         requires { (fs_of fs.now).is_down ≡ false }
-        ensures gives { (now : ℕ) (table : Table) → Operates now (fs_of fs.now) (fs_of fs.now) table table (in_progress_of self.now) (operations.Argument.PutFh handle.now) result }
+        ensures gives { OnlyReads (fs_of fs.now) (in_progress_of self.now)
+            (operations.Argument.PutFh handle.now) result }
         ensures answered { IsAnswered (in_progress_of self.now) result }
     {
         match fs.put_handle(handle) {
@@ -52,7 +54,8 @@ impl Running<'_> {
     pub(crate) fn get_handle<D: Device>(&self, fs: &Fs<D>) -> Operated
         requires up { (fs_of fs.now).is_down ≡ false }
         requires run { (in_progress_of self.now).context.run ≡ (fs_of fs.now).run }
-        ensures gives { (now : ℕ) (table : Table) → Operates now (fs_of fs.now) (fs_of fs.now) table table (in_progress_of self.now) operations.Argument.GetFh result }
+        ensures gives { OnlyReads (fs_of fs.now) (in_progress_of self.now)
+            operations.Argument.GetFh result }
         ensures answered { IsAnswered (in_progress_of self.now) result }
     {
         let number = match self.current_node() {
@@ -67,9 +70,10 @@ impl Running<'_> {
 
     /// What GETFH comes to, where nothing else refuses it.
     fn settle_handle(&self, handle: [u8; 8]) -> Operated
-        ensures gives { (now : ℕ) (fs : FileSystem) (table : Table)
-            → RunsTo now fs fs table table (in_progress_of self.now) (in_progress_of self.now) operations.Argument.GetFh (Done (GetFh handle))
-            → Operates now fs fs table table (in_progress_of self.now) operations.Argument.GetFh result }
+        ensures gives { (now : ℕ) (state : SharedState)
+            → RunsTo now state state (in_progress_of self.now) (in_progress_of self.now)
+            operations.Argument.GetFh (Done (GetFh handle))
+            → Operates now state state (in_progress_of self.now) operations.Argument.GetFh result }
         ensures answered { IsAnswered (in_progress_of self.now) result }
     {
         if !self.has_handle_room(&handle) {
@@ -80,7 +84,8 @@ impl Running<'_> {
 
     /// Whether the reply has room for this answer of GETFH.
     fn has_handle_room(&self, handle: &[u8; 8]) -> bool
-        ensures room { result ≡ nat_le (length (reply_with (in_progress_of self.now) (Done (GetFh handle.now)))) 16368 }
+        ensures room { result ≡ nat_le
+            (length (reply_with (in_progress_of self.now) (Done (GetFh handle.now)))) 16368 }
         ensures fits { answers.outcome.Fits (Done (GetFh handle.now)) }
         ensures small { length (outcome_text (Done (GetFh handle.now))) < 2 ^ 63 }
     {
@@ -94,8 +99,11 @@ impl Running<'_> {
     /// # Errors
     /// NOFILEHANDLE where there is none: each operation that takes the current filehandle answers that.
     pub(crate) fn current_node(&self) -> Result<u64, Status>
-        ensures ok { IfOk result (λ number. (has_current (in_progress_of self.now).context ≡ true) × (current_number (in_progress_of self.now).context ≡ number)) }
-        ensures err { IfErr result (λ reason. (reason ≡ status.NoFileHandle) × (has_current (in_progress_of self.now).context ≡ false)) }
+        ensures ok { IfOk result (λ number.
+            (has_current (in_progress_of self.now).context ≡ true)
+            × (current_number (in_progress_of self.now).context ≡ number)) }
+        ensures err { IfErr result (λ reason. (reason ≡ status.NoFileHandle)
+            × (has_current (in_progress_of self.now).context ≡ false)) }
     {
         match self.progress.current {
             Some(number) => Ok(number),

@@ -1,10 +1,12 @@
 //! The tests around an operation, in their order (RFC 8881, section 16.2.3).
 
-ghost use Rattle.std.specs.Prelude.{◌≡◌};
+ghost use Rattle.std.specs.Prelude.{◌≡◌, ◌==◌};
+ghost use Rattle.std.specs.List.{list_any};
 ghost use Rattle.model.specs.Served.{is_served, looks_no_further, opens_no_further};
 ghost use Rattle.model.specs.World as world;
 ghost use Rattle.model.specs.World.{first_or, first_tests, later_tests};
 ghost use Rattle.wire.specs.ArgumentView.{argument_view};
+ghost use Rattle.wire.specs.Numbers.{number_of};
 ghost use Rattle.wire.specs.ArgumentViews.{opening_view};
 ghost use Rattle.compound.specs.Views.{refused_or};
 ghost use Rattle.compound.specs.declared.next.Next.TheVariants as nexts;
@@ -14,11 +16,26 @@ use crate::fault::Fault;
 use crate::running::Running;
 use model::status::Status;
 use std::alloc::Global;
-use wire::{Argument, Claim, CreateArguments, Opening};
+use wire::{Argument, Claim, CreateArguments, Opening, Operation};
 use xdr::{Reader, Refusal};
 
 /// The number of a result whose operation is none (RFC 8881, section 15.2).
 const OP_ILLEGAL: u32 = 10044;
+
+/// The operations that are served; another one of the standard's is answered NOTSUPP.
+const SERVED: [Operation; 11] = [
+    Operation::Create,
+    Operation::GetFh,
+    Operation::Lookup,
+    Operation::PutFh,
+    Operation::PutRootFh,
+    Operation::ExchangeId,
+    Operation::CreateSession,
+    Operation::DestroySession,
+    Operation::Sequence,
+    Operation::DestroyClientId,
+    Operation::ReclaimComplete,
+];
 
 /// What comes next of a COMPOUND.
 #[derive(Drop)]
@@ -55,7 +72,9 @@ impl Running<'_> {
     /// SEQUENCE_POS; arguments that cannot be read, and bytes behind the last operation, BADXDR.
     #[tactic(auto, unfolding(crate::specs::Views::in_progress_of, model::specs::World::next_operation))]
     pub fn next_operation(&self, alloc: Global) -> Result<Next<'_>, Fault>
-        ensures ok { IfOk result (λ next. next_operation (in_progress_of self.now) ≡ next_view self.now.compound.operations.now next) }
+        ensures ok { IfOk result (λ next.
+            next_operation (in_progress_of self.now)
+            ≡ next_view self.now.compound.operations.now next) }
         ensures within { IfOk result (IsWithin self.now.compound.operations.now) }
         ensures err { IfErr result (λ fault. fault ≡ Memory) }
     {
@@ -81,8 +100,10 @@ impl Running<'_> {
         start: Reader<'a>,
     ) -> Result<Next<'a>, Fault>
         requires { start ≡ (in_progress_of self.now).rest }
-        ensures ok { IfOk result (λ next. (bytes : List ℕ) → number_at w32 start.entry ≡ Ok (number, bytes)
-            → by_arguments (in_progress_of self.now) number (arguments_at number bytes) ≡ next_view self.now.compound.operations.now next) }
+        ensures ok { IfOk result (λ next. (bytes : List ℕ)
+            → number_at w32 start.entry ≡ Ok (number, bytes)
+            → by_arguments (in_progress_of self.now) number (arguments_at number bytes)
+            ≡ next_view self.now.compound.operations.now next) }
         ensures within { IfOk result (IsWithin self.now.compound.operations.now) }
         ensures err { IfErr result (λ fault. fault ≡ Memory) }
     {
@@ -101,7 +122,8 @@ impl Running<'_> {
 
     /// Whether bytes stand behind the arguments of the last operation, where they are looked at.
     fn has_too_much(&self, argument: &Argument<'_>, rest: &[u8]) -> bool
-        ensures { result ≡ is_last (in_progress_of self.now) && (not (looks_no_further (argument_view argument.now)) && not (is_empty rest.now)) }
+        ensures { result ≡ is_last (in_progress_of self.now)
+            && (not (looks_no_further (argument_view argument.now)) && not (is_empty rest.now)) }
     {
         self.is_last() && !looks_no_further(argument) && !rest.is_empty()
     }
@@ -119,7 +141,9 @@ impl Running<'_> {
     pub fn advance(&mut self, position: usize)
         requires { position ≤ length self.old.compound.operations.now }
         ensures asked { asked_of self.new ≡ asked_of self.old }
-        ensures request { in_progress_of self.new ≡ record (in_progress_of self.old) { rest = drop position self.old.compound.operations.now } }
+        ensures request { in_progress_of self.new
+            ≡ record (in_progress_of self.old)
+            { rest = drop position self.old.compound.operations.now } }
     {
         self.progress.position = position;
     }
@@ -127,7 +151,8 @@ impl Running<'_> {
     /// Why an operation of this number is refused, and under which number, whatever its arguments.
     #[tactic(auto, unfolding(crate::specs::Views::in_progress_of))]
     fn refusal(&self, number: u32) -> Option<(u32, Status)>
-        ensures { (next : world.Next) → first_or (tests_of (in_progress_of self.now) number) next ≡ refused_or result next }
+        ensures { (next : world.Next)
+            → first_or (tests_of (in_progress_of self.now) number) next ≡ refused_or result next }
     {
         if self.progress.answered == 0 {
             first_refusal(self.compound.count, number)
@@ -139,7 +164,8 @@ impl Running<'_> {
 
 /// Why the first of `count` operations is refused by its number.
 fn first_refusal(count: u32, number: u32) -> Option<(u32, Status)>
-    ensures { (next : world.Next) → first_or (first_tests count number) next ≡ refused_or result next }
+    ensures { (next : world.Next)
+        → first_or (first_tests count number) next ≡ refused_or result next }
 {
     if is_no_operation(number) {
         Some((OP_ILLEGAL, Status::OpIllegal))
@@ -170,25 +196,34 @@ fn later_refusal(number: u32) -> Option<(u32, Status)>
 fn is_no_operation(number: u32) -> bool
     ensures { result ≡ world.is_no_operation number }
 {
-    number < 3 || 58 < number
+    number < Operation::Access.number() || Operation::ReclaimComplete.number() < number
 }
 
 fn is_sequence(number: u32) -> bool
     ensures { result ≡ world.is_sequence number }
 {
-    number == 53
+    number == Operation::Sequence.number()
 }
 
 fn stands_alone(number: u32) -> bool
     ensures { result ≡ world.stands_alone number }
 {
-    matches!(number, 42 | 43 | 44 | 57)
+    number == Operation::ExchangeId.number()
+        || number == Operation::CreateSession.number()
+        || number == Operation::DestroySession.number()
+        || number == Operation::DestroyClientId.number()
 }
 
 fn is_served(number: u32) -> bool
     ensures { result ≡ is_served number }
 {
-    matches!(number, 6 | 10 | 15 | 22 | 24 | 42 | 43 | 44 | 53 | 57 | 58)
+    is_one_of(&SERVED, number)
+}
+
+fn is_one_of(operations: &[Operation], number: u32) -> bool
+    ensures { result ≡ list_any (λ known. number_of known == number) operations.now }
+{
+    operations.iter().any(|known| known.number() == number)
 }
 
 /// Whether what stands behind the arguments is not looked at.

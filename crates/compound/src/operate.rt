@@ -9,14 +9,14 @@ use session::Table;
 use wire::Argument;
 
 impl Running<'_> {
-    ghost use Rattle.std.specs.Prelude.{◌≡◌, ℕ, true, false, IfOk, OnErr};
-    ghost use Rattle.fs.specs.FileSystem.{FileSystem};
+    ghost use Rattle.std.specs.Prelude.{◌≡◌, true, false, IfOk, OnErr};
     ghost use Rattle.fs.specs.FileSystems.{fs_of, Alters};
     ghost use Rattle.model.specs.Operation.{operation_of};
     ghost use Rattle.model.specs.Served.{is_served};
     ghost use Rattle.session.specs.Views.{table_of};
     ghost use Rattle.wire.specs.ArgumentView.{argument_view};
     ghost use Rattle.compound.specs.Operates.{Operates, IsAnswered, comes_first};
+    ghost use Rattle.compound.specs.States.{shared_of};
     ghost use Rattle.compound.specs.Views.{in_progress_of};
     ghost use Rattle.compound.specs.Volumes.{OperationGives, ending};
 
@@ -34,12 +34,13 @@ impl Running<'_> {
         requires up { (fs_of fs.old).is_down ≡ false }
         requires run { (in_progress_of self.now).context.run ≡ (fs_of fs.old).run }
         requires served { is_served (operation_of (argument_view argument.now)) ≡ true }
-        requires first { comes_first (argument_view argument.now) ≡ true → (in_progress_of self.now).answered ≡ 0 }
-        ensures gives { IfOk result (Operates now (fs_of fs.old) (fs_of fs.new) (table_of table.old)
-            (table_of table.new) (in_progress_of self.now) (argument_view argument.now)) }
+        requires first { comes_first (argument_view argument.now) ≡ true
+            → (in_progress_of self.now).answered ≡ 0 }
+        ensures gives { IfOk result (Operates now (shared_of fs.old table.old)
+            (shared_of fs.new table.new) (in_progress_of self.now) (argument_view argument.now)) }
         ensures answered { IfOk result (IsAnswered (in_progress_of self.now)) }
         ensures table { OnErr result (table_of table.new ≡ table_of table.old) }
-        ensures volume { Alters fs.old fs.new (OperationGives (fs_of fs.old)
+        ensures volume { Alters fs.old fs.new (OperationGives (shared_of fs.old table.old)
             (in_progress_of self.now) now (argument_view argument.now)) (ending result) }
     {
         match argument {

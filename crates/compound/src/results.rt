@@ -19,16 +19,15 @@ const AROUND_RESULTS: usize = 32;
 #[tactic(auto, unfolding(model::specs::World::outcome_text))]
 impl Running<'_> {
     ghost use Rattle.std.specs.Prelude.{◌≡◌, ◌+◌, ◌<◌, ◌≤◌, ◌^◌, ℕ, nat_le, length};
-    ghost use Rattle.fs.specs.FileSystem.{FileSystem};
     ghost use Rattle.model.specs.Answer.{Done, Refused};
     ghost use Rattle.model.specs.Operation.{Argument as Kind, operation_of};
-    ghost use Rattle.model.specs.Session.{Table as Known};
     ghost use Rattle.model.specs.World.{reply_with, outcome_text};
     ghost use Rattle.model.specs.WireAnswers as answers;
     ghost use Rattle.wire.specs.OutcomeView.{answer_view, outcome_view};
     ghost use Rattle.wire.specs.Numbers.{number_of};
     ghost use Rattle.wire.specs.Short.{IsRefusal, IsShortAnswer};
     ghost use Rattle.compound.specs.Operates.{Operates, RunsTo, GivesIn, IsAnswered, left_by};
+    ghost use Rattle.compound.specs.States.{SharedState};
     ghost use Rattle.compound.specs.Views.{in_progress_of};
 
     /// Whether the reply has room for this result, if it were the last one.
@@ -36,7 +35,8 @@ impl Running<'_> {
     pub fn has_room(&self, outcome: &Outcome<'_>) -> bool
         requires fits { answers.outcome.Fits (outcome_view outcome.now) }
         requires small { length (outcome_text (outcome_view outcome.now)) < 2 ^ 63 }
-        ensures { result ≡ nat_le (length (reply_with (in_progress_of self.now) (outcome_view outcome.now))) 16368 }
+        ensures { result ≡ nat_le
+            (length (reply_with (in_progress_of self.now) (outcome_view outcome.now))) 16368 }
     {
         let size = AROUND_RESULTS
             + opaque_size(self.compound.tag.bytes)
@@ -48,9 +48,11 @@ impl Running<'_> {
     /// What an operation comes to that nothing else refuses: it is refused where the reply has no room for its answer.
     pub(crate) fn settle(&self, answer: Answer<'static>, effect: Effect) -> Operated
         requires { IsShortAnswer (answer_view answer) }
-        ensures gives { (now : ℕ) (fs : FileSystem) (table : Known) (kind : Kind) → (answers.answer_told (answer_view answer.entry)).number ≡ operation_of kind
-            → RunsTo now fs fs table table (in_progress_of self.now) (left_by effect (in_progress_of self.now)) kind (Done (answer_view answer.entry))
-            → Operates now fs fs table table (in_progress_of self.now) kind result }
+        ensures gives { (now : ℕ) (state : SharedState) (kind : Kind)
+            → (answers.answer_told (answer_view answer.entry)).number ≡ operation_of kind
+            → RunsTo now state state (in_progress_of self.now)
+            (left_by effect (in_progress_of self.now)) kind (Done (answer_view answer.entry))
+            → Operates now state state (in_progress_of self.now) kind result }
         ensures answered { IsAnswered (in_progress_of self.now) result }
     {
         let operation = answer.operation();
@@ -65,9 +67,10 @@ impl Running<'_> {
     /// What an operation comes to that is refused.
     pub(crate) fn refuse(&self, operation: Operation, status: Status) -> Operated
         requires { IsRefusal status }
-        ensures gives { (now : ℕ) (old new : FileSystem) (old_table new_table : Known) (kind : Kind)
-            → GivesIn now old new old_table new_table (in_progress_of self.now) (in_progress_of self.now) kind (Refused (number_of operation) status)
-            → Operates now old new old_table new_table (in_progress_of self.now) kind result }
+        ensures gives { (now : ℕ) (old new : SharedState) (kind : Kind)
+            → GivesIn now old new (in_progress_of self.now) (in_progress_of self.now) kind
+            (Refused (number_of operation) status)
+            → Operates now old new (in_progress_of self.now) kind result }
         ensures answered { IsAnswered (in_progress_of self.now) result }
     {
         let outcome = Outcome::Refused {
@@ -85,9 +88,10 @@ impl Running<'_> {
     pub(crate) fn answer_first(&self, answer: Answer<'static>, effect: Effect) -> Operated
         requires first { (in_progress_of self.now).answered ≡ 0 }
         requires short { IsShortAnswer (answer_view answer) }
-        ensures gives { (now : ℕ) (old new : FileSystem) (old_table new_table : Known) (kind : Kind)
-            → RunsTo now old new old_table new_table (in_progress_of self.now) (left_by effect (in_progress_of self.now)) kind (Done (answer_view answer.entry))
-            → Operates now old new old_table new_table (in_progress_of self.now) kind result }
+        ensures gives { (now : ℕ) (old new : SharedState) (kind : Kind)
+            → RunsTo now old new (in_progress_of self.now)
+            (left_by effect (in_progress_of self.now)) kind (Done (answer_view answer.entry))
+            → Operates now old new (in_progress_of self.now) kind result }
         ensures answered { IsAnswered (in_progress_of self.now) result }
     {
         let outcome = Outcome::Done(answer);
@@ -108,8 +112,10 @@ impl Progress {
     pub(crate) fn push_result(&mut self, outcome: &Outcome<'_>)
         requires fits { answers.outcome.Fits (outcome_view outcome.now) }
         requires more { self.old.answered + 1 < 2 ^ 32 }
-        requires room { length self.old.results.bytes + length (outcome_text (outcome_view outcome.now)) ≤ 16384 }
-        ensures request { (asked : Asked) → resumed asked self.new ≡ with_result (resumed asked self.old) (outcome_view outcome.now) }
+        requires room { length self.old.results.bytes
+            + length (outcome_text (outcome_view outcome.now)) ≤ 16384 }
+        ensures request { (asked : Asked) → resumed asked self.new
+            ≡ with_result (resumed asked self.old) (outcome_view outcome.now) }
         ensures position { self.new.position ≡ self.old.position }
     {
         self.answered += 1;

@@ -18,5 +18,6 @@ pub struct Running<'a> {
     pub(crate) progress: Progress,
     ghost more: { progress.answered < compound.count },
     ghost within: { progress.position ≤ length compound.operations.now },
-    ghost brief: { 32 + length (counted compound.tag.bytes.now) + length progress.results.bytes ≤ 16368 },
+    ghost brief: { 32 + length (counted compound.tag.bytes.now) + length progress.results.bytes
+        ≤ 16368 },
 }

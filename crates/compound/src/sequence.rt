@@ -14,22 +14,24 @@ use wire::{Answer, Operation, Outcome, SequenceArguments};
 #[tactic(auto, unfolding(crate::specs::Views::in_progress_of, model::specs::World::outcome_text))]
 impl Running<'_> {
     ghost use Rattle.std.specs.Prelude.{◌≡◌, ◌<◌, ◌^◌, ℕ, true, false, nat_le, length, None};
-    ghost use Rattle.fs.specs.FileSystem.{FileSystem};
     ghost use Rattle.fs.specs.FileSystems.{fs_of};
     ghost use Rattle.model.specs.Operation as operations;
     ghost use Rattle.model.specs.Answer.{Done, ReclaimComplete as Reclaimed};
-    ghost use Rattle.model.specs.Session.{Table as Known, reclaim_complete};
+    ghost use Rattle.model.specs.Session.{reclaim_complete};
     ghost use Rattle.model.specs.WireAnswers as answers;
     ghost use Rattle.model.specs.World.{reply_with, outcome_text};
     ghost use Rattle.session.specs.Views.{table_of};
     ghost use Rattle.wire.specs.ArgumentViews.{sequence_view};
-    ghost use Rattle.compound.specs.Operates.{Operates, IsAnswered};
+    ghost use Rattle.compound.specs.Operates.{Operates, OnlyReads, ChangesTable, IsAnswered};
+    ghost use Rattle.compound.specs.States.{shared_of};
     ghost use Rattle.compound.specs.Views.{in_progress_of};
 
     /// SEQUENCE. Where a slot runs the COMPOUND, its client is the session's from then on.
     pub(crate) fn sequence(&self, table: &mut Table, arguments: &SequenceArguments) -> Operated
         requires first { (in_progress_of self.now).answered ≡ 0 }
-        ensures gives { (now : ℕ) (fs : FileSystem) → Operates now fs fs (table_of table.old) (table_of table.new) (in_progress_of self.now) (operations.Argument.Sequence (sequence_view arguments.now)) result }
+        ensures gives { ChangesTable (table_of table.old) (table_of table.new)
+            (in_progress_of self.now) (operations.Argument.Sequence (sequence_view arguments.now))
+            result }
         ensures answered { IsAnswered (in_progress_of self.now) result }
     {
         let slot = SlotId {
@@ -49,7 +51,9 @@ impl Running<'_> {
     pub(crate) fn reclaim<D: Device>(&self, fs: &Fs<D>, table: &mut Table, one_fs: bool) -> Operated
         requires up { (fs_of fs.now).is_down ≡ false }
         requires run { (in_progress_of self.now).context.run ≡ (fs_of fs.now).run }
-        ensures gives { (now : ℕ) → Operates now (fs_of fs.now) (fs_of fs.now) (table_of table.old) (table_of table.new) (in_progress_of self.now) (operations.Argument.ReclaimComplete one_fs) result }
+        ensures gives { (now : ℕ)
+            → Operates now (shared_of fs.now table.old) (shared_of fs.now table.new)
+            (in_progress_of self.now) (operations.Argument.ReclaimComplete one_fs) result }
         ensures answered { IsAnswered (in_progress_of self.now) result }
     {
         if one_fs {
@@ -61,7 +65,8 @@ impl Running<'_> {
 
     /// RECLAIM_COMPLETE for all file systems. Nothing changes where the reply has no room for its result.
     fn reclaim_all(&self, table: &mut Table) -> Operated
-        ensures gives { (now : ℕ) (fs : FileSystem) → Operates now fs fs (table_of table.old) (table_of table.new) (in_progress_of self.now) (operations.Argument.ReclaimComplete false) result }
+        ensures gives { ChangesTable (table_of table.old) (table_of table.new)
+            (in_progress_of self.now) (operations.Argument.ReclaimComplete false) result }
         ensures answered { IsAnswered (in_progress_of self.now) result }
     {
         match table.check_reclaim(self.progress.client) {
@@ -72,8 +77,10 @@ impl Running<'_> {
 
     /// The same, where nothing but room may refuse it.
     fn reclaim_in_room(&self, table: &mut Table) -> Operated
-        requires { (reclaim_complete (in_progress_of self.now).context.client (table_of table.old)).0 ≡ None }
-        ensures gives { (now : ℕ) (fs : FileSystem) → Operates now fs fs (table_of table.old) (table_of table.new) (in_progress_of self.now) (operations.Argument.ReclaimComplete false) result }
+        requires { (reclaim_complete (in_progress_of self.now).context.client
+            (table_of table.old)).0 ≡ None }
+        ensures gives { ChangesTable (table_of table.old) (table_of table.new)
+            (in_progress_of self.now) (operations.Argument.ReclaimComplete false) result }
         ensures answered { IsAnswered (in_progress_of self.now) result }
     {
         if !self.has_reclaim_room() {
@@ -90,7 +97,8 @@ impl Running<'_> {
 
     /// Whether the reply has room for the answer of RECLAIM_COMPLETE.
     fn has_reclaim_room(&self) -> bool
-        ensures room { result ≡ nat_le (length (reply_with (in_progress_of self.now) (Done Reclaimed))) 16368 }
+        ensures room { result
+            ≡ nat_le (length (reply_with (in_progress_of self.now) (Done Reclaimed))) 16368 }
         ensures fits { answers.outcome.Fits (Done Reclaimed) }
         ensures small { length (outcome_text (Done Reclaimed)) < 2 ^ 63 }
     {
@@ -103,7 +111,8 @@ impl Running<'_> {
     fn reclaim_one<D: Device>(&self, fs: &Fs<D>) -> Operated
         requires up { (fs_of fs.now).is_down ≡ false }
         requires run { (in_progress_of self.now).context.run ≡ (fs_of fs.now).run }
-        ensures gives { (now : ℕ) (table : Known) → Operates now (fs_of fs.now) (fs_of fs.now) table table (in_progress_of self.now) (operations.Argument.ReclaimComplete true) result }
+        ensures gives { OnlyReads (fs_of fs.now) (in_progress_of self.now)
+            (operations.Argument.ReclaimComplete true) result }
         ensures answered { IsAnswered (in_progress_of self.now) result }
     {
         match self.check_current(fs) {

@@ -39,6 +39,7 @@ impl Running<'_> {
     ghost use Rattle.session.specs.Views.{table_of};
     ghost use Rattle.wire.specs.OutcomeView.{outcome_view};
     ghost use Rattle.compound.specs.Operates.{IsAnswered, IsSpelled, left_by};
+    ghost use Rattle.compound.specs.States.{shared_of};
     ghost use Rattle.compound.specs.Steps.{Steps, StaysInRun, still_fits, stepped_on};
     ghost use Rattle.compound.specs.Turns.{Turns, StandsBehind};
     ghost use Rattle.compound.specs.Views.{in_progress_of, asked_of};
@@ -58,16 +59,17 @@ impl Running<'_> {
         requires up { (fs_of fs.old).is_down ≡ false }
         requires run { (in_progress_of self).context.run ≡ (fs_of fs.old).run }
         // Done
-        ensures step { IfOk result (Steps now (fs_of fs.old) (fs_of fs.new) (table_of table.old)
-            (table_of table.new) (asked_of self.entry) (in_progress_of self.entry)) }
+        ensures step { IfOk result (Steps now (shared_of fs.old table.old)
+            (shared_of fs.new table.new) (asked_of self.entry) (in_progress_of self.entry)) }
         ensures stays { IfOk result (StaysInRun (fs_of fs.old).run) }
         ensures fits { IfOk result (λ done. still_fits (asked_of self.entry) done ≡ true) }
         // Not done
         ensures back { IfErr result (λ undone. undone.progress ≡ self.entry.progress) }
         ensures table { OnErr result (table_of table.new ≡ table_of table.old) }
         // In any case
-        ensures volume { Alters fs.old fs.new (TurnGives (fs_of fs.old) (λ world number.
-            stepped_on world number now (in_progress_of self.entry))) (undone_ending result) }
+        ensures volume { Alters fs.old fs.new (TurnGives (shared_of fs.old table.old)
+            (λ world number. stepped_on world number now (in_progress_of self.entry)))
+            (undone_ending result) }
     {
         let Ran { position, done } = match self.run_next(fs, table, now) {
             Ok(ran) => ran,
@@ -95,15 +97,16 @@ impl Running<'_> {
     fn run_next<D: Device>(&self, fs: &mut Fs<D>, table: &mut Table, now: u64) -> Result<Ran, Fault>
         requires up { (fs_of fs.old).is_down ≡ false }
         requires run { (in_progress_of self.now).context.run ≡ (fs_of fs.old).run }
-        ensures turns { IfOk result (λ ran. Turns now (fs_of fs.old) (fs_of fs.new)
-            (table_of table.old) (table_of table.new) (in_progress_of self.now)
+        ensures turns { IfOk result (λ ran. Turns now (shared_of fs.old table.old)
+            (shared_of fs.new table.new) (in_progress_of self.now)
             (drop ran.position self.now.compound.operations.now) ran.done) }
         ensures within { IfOk result (λ ran.
             ran.position ≤ length self.now.compound.operations.now) }
         ensures answered { IfOk result (λ ran. IsAnswered (in_progress_of self.now) ran.done) }
         ensures table { OnErr result (table_of table.new ≡ table_of table.old) }
-        ensures volume { Alters fs.old fs.new (TurnGives (fs_of fs.old) (λ world number.
-            stepped_on world number now (in_progress_of self.now))) (ending result) }
+        ensures volume { Alters fs.old fs.new (TurnGives (shared_of fs.old table.old)
+            (λ world number. stepped_on world number now (in_progress_of self.now)))
+            (ending result) }
     {
         match self.next_operation(self.alloc)? {
             Next::Refuses { operation, status } => Ok(Ran {
@@ -136,7 +139,8 @@ impl Running<'_> {
     /// The COMPOUND behind this result: it goes on, or the reply is there, since this result is the last one or not OK.
     fn answer(self, table: &mut Table, outcome: &Outcome<'_>) -> Stepped
         requires { IsSpelled (in_progress_of self) (outcome_view outcome.now) }
-        ensures stands { StandsBehind (table_of table.old) (table_of table.new) (asked_of self.entry) (in_progress_of self.entry) (outcome_view outcome.now) result }
+        ensures stands { StandsBehind (table_of table.old) (table_of table.new)
+            (asked_of self.entry) (in_progress_of self.entry) (outcome_view outcome.now) result }
         ensures stays { StaysInRun (in_progress_of self.entry).context.run result }
         ensures fits { still_fits (asked_of self.entry) result ≡ true }
     {

@@ -18,16 +18,18 @@ impl Running<'_> {
     ghost use Rattle.std.specs.Prelude.{◌≡◌, ℕ, true, false, nat_le, length, IfOk, IfErr};
     ghost use Rattle.fs.specs.FileSystems.{fs_of, Alters};
     ghost use Rattle.fs.specs.Operations.{new_directory};
+    ghost use Rattle.model.specs.Opens.{Opens};
     ghost use Rattle.model.specs.Operation as operations;
     ghost use Rattle.model.specs.Session.{Table};
-    ghost use Rattle.model.specs.Answer.{Done, Create};
+    ghost use Rattle.model.specs.Answer.{Done};
     ghost use Rattle.model.specs.Attribute.{trimmed};
     ghost use Rattle.model.specs.World.{reply_with};
     ghost use Rattle.wire.specs.ArgumentViews.{create_view};
     ghost use Rattle.wire.specs.SmallViews.{attributes_view};
     ghost use Rattle.wire.specs.Short.{IsRefusal};
-    ghost use Rattle.compound.specs.Operates.{Operates, IsAnswered};
-    ghost use Rattle.compound.specs.Trees.{TestsCurrent};
+    ghost use Rattle.compound.specs.Operates.{OnlyReads, ChangesFiles, IsAnswered};
+    ghost use Rattle.compound.specs.States.{shared};
+    ghost use Rattle.compound.specs.Trees.{TestsCurrent, made_answer};
     ghost use Rattle.compound.specs.Views.{in_progress_of};
     ghost use Rattle.compound.specs.Volumes.{OperationGives, ending};
 
@@ -52,8 +54,8 @@ impl Running<'_> {
     pub(crate) fn look_up<D: Device>(&self, fs: &Fs<D>, name: &[u8]) -> Operated
         requires up { (fs_of fs.now).is_down ≡ false }
         requires run { (in_progress_of self.now).context.run ≡ (fs_of fs.now).run }
-        ensures gives { (now : ℕ) (table : Table) → Operates now (fs_of fs.now) (fs_of fs.now)
-            table table (in_progress_of self.now) (operations.Argument.Lookup name.now) result }
+        ensures gives { OnlyReads (fs_of fs.now) (in_progress_of self.now)
+            (operations.Argument.Lookup name.now) result }
         ensures answered { IsAnswered (in_progress_of self.now) result }
     {
         let directory = match self.current_node() {
@@ -75,13 +77,12 @@ impl Running<'_> {
     ) -> Result<Operated, Fault>
         requires up { (fs_of fs.old).is_down ≡ false }
         requires run { (in_progress_of self.now).context.run ≡ (fs_of fs.old).run }
-        ensures gives { IfOk result (λ done. (table : Table)
-            → Operates now (fs_of fs.old) (fs_of fs.new) table table (in_progress_of self.now)
-            (operations.Argument.Create (create_view arguments.now)) done) }
+        ensures gives { IfOk result (ChangesFiles (fs_of fs.old) (fs_of fs.new) now
+            (in_progress_of self.now) (operations.Argument.Create (create_view arguments.now))) }
         ensures answered { IfOk result (IsAnswered (in_progress_of self.now)) }
-        ensures volume { Alters fs.old fs.new (OperationGives (fs_of fs.old)
-            (in_progress_of self.now) now (operations.Argument.Create (create_view arguments.now)))
-            (ending result) }
+        ensures volume { (table : Table) (opens : Opens) → Alters fs.old fs.new
+            (OperationGives (shared (fs_of fs.old) table opens) (in_progress_of self.now) now
+            (operations.Argument.Create (create_view arguments.now))) (ending result) }
     {
         match arguments {
             CreateArguments::NewDirectory { name, attributes } => {
@@ -95,8 +96,7 @@ impl Running<'_> {
     pub(crate) fn create_other<D: Device>(&self, fs: &Fs<D>, kind: u32) -> Operated
         requires up { (fs_of fs.now).is_down ≡ false }
         requires run { (in_progress_of self.now).context.run ≡ (fs_of fs.now).run }
-        ensures gives { (now : ℕ) (table : Table) → Operates now (fs_of fs.now) (fs_of fs.now)
-            table table (in_progress_of self.now)
+        ensures gives { OnlyReads (fs_of fs.now) (in_progress_of self.now)
             (operations.Argument.Create (operations.OtherType kind)) result }
         ensures answered { IsAnswered (in_progress_of self.now) result }
     {
@@ -116,13 +116,12 @@ impl Running<'_> {
     ) -> Result<Operated, Fault>
         requires up { (fs_of fs.old).is_down ≡ false }
         requires run { (in_progress_of self.now).context.run ≡ (fs_of fs.old).run }
-        ensures gives { IfOk result (λ done. (table : Table)
-            → Operates now (fs_of fs.old) (fs_of fs.new) table table (in_progress_of self.now)
-            (new_directory name.now (attributes_view attributes.now)) done) }
+        ensures gives { IfOk result (ChangesFiles (fs_of fs.old) (fs_of fs.new) now
+            (in_progress_of self.now) (new_directory name.now (attributes_view attributes.now))) }
         ensures answered { IfOk result (IsAnswered (in_progress_of self.now)) }
-        ensures volume { Alters fs.old fs.new (OperationGives (fs_of fs.old)
-            (in_progress_of self.now) now (new_directory name.now (attributes_view attributes.now)))
-            (ending result) }
+        ensures volume { (table : Table) (opens : Opens) → Alters fs.old fs.new
+            (OperationGives (shared (fs_of fs.old) table opens) (in_progress_of self.now) now
+            (new_directory name.now (attributes_view attributes.now))) (ending result) }
     {
         let parent = match self.current_node() {
             Ok(number) => number,
@@ -152,7 +151,8 @@ impl Running<'_> {
 
     /// Whether the reply has room for the result of a CREATE of a directory. The change values do not matter.
     fn has_created_room(&self, bitmap: &Bitmap) -> bool
-        ensures { result ≡ nat_le (length (reply_with (in_progress_of self.now) (Done (Create (record { change = record { is_atomic = true; before = 0; after = 0 }; was_set = trimmed bitmap.now }))))) 16368 }
+        ensures { result ≡ nat_le (length (reply_with (in_progress_of self.now)
+            (Done (made_answer 0 0 (trimmed bitmap.now))))) 16368 }
     {
         let outcome = created(bitmap, 0, 0);
         self.has_room(&outcome)
@@ -161,17 +161,17 @@ impl Running<'_> {
 
 ghost use Rattle.std.specs.Prelude.{◌≤◌, ◌<◌, ◌^◌, IsTrue, true, length};
 ghost use Rattle.xdr.specs.Forms.{is_trimmed};
-ghost use Rattle.model.specs.Answer.{Answer as Answered, Done, Create};
+ghost use Rattle.model.specs.Answer.{Done};
 ghost use Rattle.model.specs.Attribute.{trimmed};
 ghost use Rattle.model.specs.World.{outcome_text};
 ghost use Rattle.model.specs.WireAnswers as answers;
 ghost use Rattle.wire.specs.OutcomeView.{outcome_view};
-ghost use Rattle.compound.specs.Trees.{IsStatus};
+ghost use Rattle.compound.specs.Trees.{IsStatus, made_answer};
 ghost use Rattle.fs.specs.declared.fault.FsFault.TheVariants as faults;
 
 /// The result of a CREATE that made a directory: its parent's change value before and after.
 fn created(bitmap: &Bitmap, before: u64, after: u64) -> Outcome<'static>
-    ensures is { outcome_view result ≡ Done (Create (record { change = record { is_atomic = true; before = before; after = after }; was_set = trimmed bitmap.now })) }
+    ensures is { outcome_view result ≡ Done (made_answer before after (trimmed bitmap.now)) }
     ensures fits { answers.outcome.Fits (outcome_view result) }
     ensures small { length (outcome_text (outcome_view result)) < 2 ^ 63 }
 {

@@ -1,11 +1,10 @@
 -- What calls do to a file system.
-use Rattle.std.proofs.Common.{◌≡◌, ◌≤◌, ℕ, Bool, true, false, List, [], ◌∷◌, length, get_or, zero, suc, ◌<◌, refl, sym, ap, ◌∙◌, subst, inl, inr, arith, Result, Ok, Err}
+use Rattle.std.proofs.Common.{◌≡◌, ◌≤◌, ℕ, Bool, true, false, [], ◌∷◌, length, get_or, zero, suc, ◌<◌, refl, sym, ap, ◌∙◌, subst, inl, inr, arith, Result, Ok, Err}
 use Rattle.std.specs.Result.{IsErrAnd}
 use Rattle.std.specs.List.{IsAmong}
-use Rattle.disk.specs.Moments.{History}
 use Rattle.model.specs.declared.limits.Limits.{Limits}
 use Rattle.model.specs.Tree.{Tree}
-use Rattle.fs.specs.Changes.{Ending, Done, Nothing, Broken, Given, Leaves, LeavesTrees, HasAnswered, HasBroken, EndsAs, Changes, fs_ending}
+use Rattle.fs.specs.Changes.{Ending, Done, Nothing, Broken, Given, LeavesTrees, EndsAs, Changes, fs_ending}
 use Rattle.fs.specs.Refusals.{fault_of}
 use Rattle.plain.specs.declared.refusal.Refusal.{Refusal}
 use Rattle.plain.specs.declared.refusal.Refusal.TheVariants as refusal

@@ -13,8 +13,8 @@ use Rattle.journal.specs.Settled.{Settles}
 use Rattle.journal.proofs.Fronts.{applied_all-push}
 use Rattle.journal.proofs.Moments.{AddsOnly-weaken}
 use Rattle.model.specs.Tree.{Tree}
-use Rattle.fs.specs.FileSystem.{FileSystem, StandsForOne, LeavesOne, IsRecent, MayAdd, AddsTrees, fronts_from}
-use Rattle.fs.specs.Stands.{Stands, StandsFor}
+use Rattle.fs.specs.FileSystem.{FileSystem, StandsForOne, IsRecent, MayAdd, AddsTrees, fronts_from}
+use Rattle.fs.specs.Stands.{Stands}
 
 among_rest : {A : Type 0} (first : A) (rest : List A) (one : A) → IsAmong rest one → IsAmong (first ∷ rest) one
 among_rest first rest one among = (suc among.0, (omega (arith, among.1.0), among.1.1))

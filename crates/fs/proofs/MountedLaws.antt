@@ -1,6 +1,6 @@
 -- How a mount answers, by what its parts find.
-use Rattle.std.proofs.Common.{◌≡◌, ◌+◌, ◌<◌, ◌⊎◌, ◌^◌, ℕ, inl, inr, ⊎_elim, refl, sym, ap, ◌∙◌, subst, arith}
-use Rattle.disk.specs.Moments.{Image, History, LeftSince, AddsOnly, seen, synced}
+use Rattle.std.proofs.Common.{◌≡◌, ◌<◌, ◌⊎◌, ◌^◌, ℕ, inl, inr, ⊎_elim, refl, sym, subst, arith}
+use Rattle.disk.specs.Moments.{Image, History, AddsOnly, seen, synced}
 use Rattle.journal.specs.declared.fault.JournalFault.{JournalFault}
 use Rattle.journal.specs.declared.fault.JournalFault.TheVariants as journals
 use Rattle.journal.specs.Recover.{LeavesOnlySynced}

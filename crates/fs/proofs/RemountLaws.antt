@@ -1,15 +1,14 @@
 -- A volume between two runs of a server.
-use Rattle.std.proofs.Common.{◌≡◌, ◌≤◌, ◌+◌, ◌⊎◌, ℕ, List, [], ◌∷◌, Bool, true, false, eqb, cond, refl, sym, ap, ◌∙◌, subst, inl, inr, ⊎_elim, arith}
+use Rattle.std.proofs.Common.{◌≡◌, ◌+◌, ◌⊎◌, ℕ, List, [], ◌∷◌, Bool, true, false, eqb, cond, refl, sym, subst, inl, inr, ⊎_elim, arith}
 use Rattle.std.proofs.lemmas.Bool.{eqb-true}
 use Rattle.std.proofs.Props.{props}
 use Rattle.std.proofs.Math.Logic.{∥∥₁_elim}
 use Rattle.std.proofs.Math.Path.{fun_ext}
 use Rattle.disk.specs.declared.update.Update.{Update}
-use Rattle.disk.specs.Moments.{Image, Moment, History, Among, MayHold, Left, LeftSince, LeftWithin, AddsOnly, at_rest, seen, newest, moment}
+use Rattle.disk.specs.Moments.{Image, Moment, History, Among, Left, LeftSince, LeftWithin, at_rest, seen, newest}
 use Rattle.model.specs.Tree.{Tree}
-use Rattle.fs.specs.FileSystem.{FileSystem}
-use Rattle.fs.specs.Stands.{IsBase, StandsFor}
-use Rattle.fs.specs.Remounts.{AddsMount, IsFound, Remounts, Powers, Mounts, Stops, EveryRemount, StillStands}
+use Rattle.fs.specs.Stands.{StandsFor}
+use Rattle.fs.specs.Remounts.{AddsMount, Remounts, Powers, Mounts, Stops, EveryRemount, StillStands}
 use Rattle.fs.proofs.OneTree.{one_tree_stands}
 
 -- what a read gives may be left

@@ -1,9 +1,9 @@
 -- What a stop leaves of a volume, by its base and its list alone: no sector of the journal's own is looked at.
-use Rattle.std.proofs.Common.{ℕ, zero, suc, Bool, true, false, List, [], ◌∷◌, ◌++◌, ◌≡◌, ◌+◌, ◌<◌, ◌≤◌, ◌⊎◌, ◌^◌, inl, inr, refl, sym, ap, ◌∙◌, subst, arith, rules, length, take, nat_le, true≢false}
+use Rattle.std.proofs.Common.{ℕ, zero, suc, Bool, true, false, List, [], ◌∷◌, ◌++◌, ◌≡◌, ◌+◌, ◌<◌, ◌≤◌, ◌⊎◌, ◌^◌, inl, inr, refl, sym, ap, ◌∙◌, subst, arith, rules, length, take, nat_le, true≢false, ⊎_elim}
 use Rattle.std.proofs.Math.Logic.{∥∥₁_map, ∥∥₁_elim, ∥∥₁_prop}
 use Rattle.std.proofs.Props.{props}
 use Rattle.std.proofs.lemmas.Bool.{and_parts, leb-true}
-use Rattle.std.specs.Prelude.{IsTrue, IsErrOf, Result, Err}
+use Rattle.std.specs.Prelude.{IsTrue, IfErr, IsErrOf, Result, Ok, Err, is_err}
 use Rattle.std.specs.List.{AllByRecursion, AllByRecursion-prop, IsAmong}
 use Rattle.std.specs.Prelude.{get_or}
 use Rattle.disk.specs.declared.update.Update.{Update}
@@ -25,7 +25,7 @@ use Rattle.model.specs.Stamp.{stamp, next_stamp}
 use Rattle.model.specs.Tree.{Tree}
 use Rattle.model.specs.WellFormed.{IsWellFormed, IsBefore}
 use Rattle.fs.specs.Superblock.{is_size}
-use Rattle.fs.specs.FileSystem.{FileSystem, IsNext, IsServing, StandsForOne, LeavesOne, IsRecent, Holds, MayAdd, AddsTrees, fronts_from}
+use Rattle.fs.specs.FileSystem.{FileSystem, IsNext, IsServing, StandsForOne, Holds, MayAdd, AddsTrees, fronts_from}
 use Rattle.fs.specs.Stands.{Stands, StandsFor}
 use Rattle.fs.proofs.ImageLaws.{imaged-written, superblock-kept}
 
@@ -190,12 +190,17 @@ adds_either fs after new adds recent is = AddsOnly-weaken
       | inr goes ↦ (after, inr refl, goes)
     ]) adds
 
+other_refused : (fault : JournalFault) → (fault ≡ faults.TooMany → ⊥) → (fault ≡ faults.Fault → ⊥) → (fault ≡ faults.Down → ⊥)
+    → (fault ≡ faults.TooMany) ⊎ ((fault ≡ faults.Fault) ⊎ (fault ≡ faults.Down)) → ⊥
+other_refused fault many failed down refuses = ⊎_elim many (λ rest. ⊎_elim failed down rest) refuses
+
 -- only a failure of the device, which it counted, is left
-pub fault_counted : (old new : Log) (before after count : ℕ) (result : Result (Unit {0}) JournalFault) (fault : JournalFault) → result ≡ Err fault
+pub fault_counted : (old new : Log) (before after count : ℕ) (result : Result (Unit {0}) JournalFault) → is_err result ≡ true
     → Answers old new before after result → old.is_down ≡ false → (IsErrOf result faults.TooMany → 48 < count) → count ≡ 32
-    → (IsErrOf result faults.Damaged → ⊥) → (fault ≡ faults.Memory → ⊥) → IsCounted before after
-fault_counted old new before after count result faults.Fault is answers up many few damaged memory = answers.counted is
-fault_counted old new before after count result faults.Damaged is answers up many few damaged memory = absurd (damaged is)
-fault_counted old new before after count result faults.TooMany is answers up many few damaged memory = absurd (omega (arith, many is, few))
-fault_counted old new before after count result faults.Memory is answers up many few damaged memory = absurd (memory refl)
-fault_counted old new before after count result faults.Down is answers up many few damaged memory = absurd (true≢false (sym (answers.down.0 is) ∙ up))
+    → IfErr result (λ fault. (fault ≡ faults.TooMany) ⊎ ((fault ≡ faults.Fault) ⊎ (fault ≡ faults.Down))) → IsCounted before after
+fault_counted old new before after count (Ok done) failed answers up many few refuses = absurd (let e : false ≡ true = failed in cc)
+fault_counted old new before after count (Err faults.Fault) failed answers up many few refuses = answers.counted refl
+fault_counted old new before after count (Err faults.TooMany) failed answers up many few refuses = absurd (omega (arith, many refl, few))
+fault_counted old new before after count (Err faults.Down) failed answers up many few refuses = absurd (true≢false (sym (answers.down.0 refl) ∙ up))
+fault_counted old new before after count (Err faults.Damaged) failed answers up many few refuses = absurd (other_refused faults.Damaged (λ e. absurd (cc)) (λ e. absurd (cc)) (λ e. absurd (cc)) refuses)
+fault_counted old new before after count (Err faults.Memory) failed answers up many few refuses = absurd (other_refused faults.Memory (λ e. absurd (cc)) (λ e. absurd (cc)) (λ e. absurd (cc)) refuses)

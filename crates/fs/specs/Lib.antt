@@ -1,6 +1,7 @@
 pub mod Changes
 pub mod FileSystem
 pub mod FileSystems
+pub mod Formats
 pub mod Fronts
 pub mod MountAnswers
 pub mod Mounts

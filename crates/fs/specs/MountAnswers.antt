@@ -64,8 +64,8 @@ pub record IsRefused (sectors : ℕ) (old new : History) (fault : MountFault) : 
   pub replays : (fault ≡ mounts.Device → ⊥) → OnlyReplays sectors old new
   pub reason : HasReason sectors old new fault
 
--- the device that comes back: Device is answered only where it counted a failure
-pub record ComesBack {D : Type 0} (size failed : D → ℕ) (device : D) (refused : Unmounted D) : Type 0 where
-  pub same_size : size refused.device ≡ size device
-  pub later : failed device ≤ failed refused.device
-  pub cause : refused.fault ≡ mounts.Device → IsCounted (failed device) (failed refused.device)
+-- the device that comes back, of so many sectors and failures before: Device is answered only where it counted one more
+pub record ComesBack {D : Type 0} (size failed : D → ℕ) (sectors failures : ℕ) (refused : Unmounted D) : Type 0 where
+  pub same_size : size refused.device ≡ sectors
+  pub later : failures ≤ failed refused.device
+  pub cause : refused.fault ≡ mounts.Device → IsCounted failures (failed refused.device)

@@ -12,11 +12,8 @@ use std::alloc::Global;
 
 impl<D: Device> Fs<D> {
     ghost use Rattle.std.specs.Prelude.{◌≡◌, ◌≤◌, ◌⊎◌, ◌↔◌, false, OnOk, IsErrOf};
-    ghost use Rattle.disk.specs.Calls.{zero_sector};
     ghost use Rattle.disk.specs.Cause.{IsCounted};
-    ghost use Rattle.disk.specs.Moments.{Image, AddsOnly, Left};
-    ghost use Rattle.model.specs.Fresh.{fresh_tree};
-    ghost use Rattle.fs.specs.Stands.{StandsFor};
+    ghost use Rattle.fs.specs.Formats.{AddsFresh, LeavesFresh};
     ghost use Rattle.fs.specs.Superblock.{is_size};
 
     /// Makes the device a new volume of this many nodes, with an empty root. First its sector 0 is zeros, then all other sectors are
@@ -26,12 +23,17 @@ impl<D: Device> Fs<D> {
     ///
     /// Size where no volume has this many sectors and nodes, and Memory: nothing was written. Device where the device failed.
     pub fn format(alloc: Global, device: &mut D, nodes: u32) -> Result<(), FormatFault>
-        ensures any_moment { D.keeps_word → AddsOnly (λ image. (image 0 ≡ zero_sector) ⊎ StandsFor (D.size device.old) nodes 0 fresh_tree image)
+        ensures any_moment { D.keeps_word → AddsFresh (D.size device.old) nodes
             (D.history device.old) (D.history device.new) }
-        ensures ok { D.keeps_word → OnOk result ((image : Image) → Left (D.history device.new).now image → StandsFor (D.size device.old) nodes 0 fresh_tree image) }
-        ensures size { IsErrOf result FormatFault.Size ↔ (is_size (D.size device.old) nodes ≡ false) }
-        ensures untouched { (IsErrOf result FormatFault.Size ⊎ IsErrOf result FormatFault.Memory) → D.history device.new ≡ D.history device.old }
-        ensures cause { IsErrOf result FormatFault.Device → IsCounted (D.failed device.old) (D.failed device.new) }
+        ensures ok { D.keeps_word → OnOk result
+            (LeavesFresh (D.size device.old) nodes (D.history device.new)) }
+        // Refused
+        ensures size { IsErrOf result FormatFault.Size
+            ↔ (is_size (D.size device.old) nodes ≡ false) }
+        ensures untouched { (IsErrOf result FormatFault.Size ⊎ IsErrOf result FormatFault.Memory)
+            → D.history device.new ≡ D.history device.old }
+        ensures cause { IsErrOf result FormatFault.Device
+            → IsCounted (D.failed device.old) (D.failed device.new) }
         ensures later { D.failed device.old ≤ D.failed device.new }
         ensures same_size { D.size device.new ≡ D.size device.old }
     {

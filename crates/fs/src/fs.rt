@@ -15,7 +15,7 @@ use acl_eval::Cred;
 use disk::Device;
 use durable::keep;
 use image::updates_of;
-use journal::{Journal, JournalFault};
+use journal::Journal;
 use model::limits::Limits;
 use model::status::Status;
 use model::step::every_step;
@@ -40,7 +40,8 @@ pub struct Fs<D: Device> {
     ghost limited: { limits ≡ limits_of (log_of journal).size limits.nodes },
     ghost up: { is_down ≡ false → (log_of journal).is_down ≡ false },
     ghost listed: { is_down ≡ false → length (log_of journal).list ≡ 0 },
-    ghost serves: { ∥ IsServing D.keeps_word (log_of journal) limits run changes (tree_of tree) is_down ∥₁ },
+    ghost serves: { ∥ IsServing D.keeps_word (log_of journal) limits run changes
+        (tree_of tree) is_down ∥₁ },
 }
 
 /// A device that was not mounted, and why.
@@ -63,8 +64,8 @@ impl<D: Device> Fs<D> {
     ghost use Rattle.fs.specs.Changes.{IsTree, fs_ending};
     ghost use Rattle.fs.specs.FileSystem.{IsNew, IsNext};
     ghost use Rattle.fs.specs.MountAnswers.{HasMounted, IsRefused, ComesBack};
-    ghost use Rattle.fs.specs.Mounts.{HasBegun, IsNotBegun};
-    ghost use Rattle.fs.specs.Superblock.{is_size, superblock};
+    ghost use Rattle.fs.specs.Mounts.{IsVolumeOf, IsAtRest, HasBegun, IsNotBegun};
+    ghost use Rattle.fs.specs.Superblock.{superblock};
     ghost use Rattle.fs.specs.FileSystems.{fs_of, fs_failures, Alters};
 
     /// Mounts the volume: finds it by its first sector, copies home what an open gate shows, reads the tree, and raises the
@@ -79,7 +80,8 @@ impl<D: Device> Fs<D> {
         ensures later { IfOk result (λ fs. D.failed device ≤ fs_failures fs) }
         ensures mounted { D.keeps_word
             → IfOk result (λ fs. HasMounted (D.size device) (D.history device) (fs_of fs)) }
-        ensures back { IfErr result (ComesBack D.size D.failed device) }
+        // Refused
+        ensures back { IfErr result (ComesBack D.size D.failed (D.size device) (D.failed device)) }
         ensures refused { D.keeps_word → IfErr result (λ refused.
             IsRefused (D.size device) (D.history device) (D.history refused.device) refused.fault) }
     {
@@ -99,29 +101,24 @@ impl<D: Device> Fs<D> {
 
     /// Begins a run on a journal whose list is empty.
     fn begin(alloc: Global, journal: Journal<D>, found: Superblock) -> Result<Fs<D>, Unmounted<D>>
-        requires size { found.sectors ≡ (log_of journal).size }
-        requires sized { IsTrue (is_size found.sectors found.nodes) }
-        requires counted { found.run + 1 < 2 ^ 32 }
-        requires up { (log_of journal).is_down ≡ false }
-        requires listed { (log_of journal).list ≡ [] }
+        requires volume { IsVolumeOf (log_of journal).size found }
+        requires rests { IsAtRest (log_of journal) }
         requires first { D.keeps_word
             → (log_of journal).base 0 ≡ superblock found.sectors found.nodes found.run }
         ensures new { IfOk result (λ fs. IsNew (log_of journal).size (fs_of fs)) }
         ensures later { IfOk result (λ fs. failures_of journal ≤ fs_failures fs) }
         ensures begun { D.keeps_word → IfOk result (λ fs.
             HasBegun found (log_of journal).base (log_of journal).history (fs_of fs)) }
-        ensures refused_size { IfErr result (λ refused.
-            D.size refused.device ≡ (log_of journal).size) }
-        ensures later_refused { IfErr result (λ refused.
-            failures_of journal ≤ D.failed refused.device) }
-        ensures cause { IfErr result (λ refused. refused.fault ≡ MountFault.Device
-            → IsCounted (failures_of journal) (D.failed refused.device)) }
-        ensures refused { D.keeps_word → IfErr result (λ refused. IsNotBegun found
-            (log_of journal).base (log_of journal).history (D.history refused.device) refused.fault) }
+        // Refused
+        ensures back { IfErr result
+            (ComesBack D.size D.failed (log_of journal).size (failures_of journal)) }
+        ensures refused { D.keeps_word → IfErr result (λ refused.
+            IsNotBegun found (log_of journal).base (log_of journal).history
+            (D.history refused.device) refused.fault) }
     {
         let mut journal = journal;
         let limits = Limits::of_volume(found.sectors as usize, found.nodes as usize);
-        match start(alloc, &mut journal, found, &limits) {
+        match start(alloc, &mut journal, found) {
             Ok(tree) => Ok(Fs {
                 alloc,
                 journal,
@@ -188,7 +185,8 @@ impl<D: Device> Fs<D> {
 
     /// GETFH (RFC 8881, section 18.8): the filehandle of the node of this number. STALE where it is gone.
     pub fn handle(&self, number: u64) -> Result<[u8; 8], FsFault>
-        ensures step { (cred : Cred) (state : State) (now : ℕ) → IsOn (fs_of self.now) cred number state
+        ensures step { (cred : Cred) (state : State) (now : ℕ)
+            → IsOn (fs_of self.now) cred number state
             → GetsHandle (fs_of self.now) state now result }
         ensures down { (fs_of self.now).is_down ≡ true → IsErrOf result FsFault.Down }
     {
@@ -226,8 +224,9 @@ impl<D: Device> Fs<D> {
         ensures step { (state : State) → IsOn (fs_of self.old) cred.now asked.entry.parent state
             → MakesDir (fs_of self.old) (fs_of self.new) state now asked.entry.name.now
             (given_of asked.entry.attributes) result }
-        ensures volume { Alters self.old self.new (MakesTree (fs_of self.old) cred.now
-            asked.entry.parent now (new_directory asked.entry.name.now (given_of asked.entry.attributes)))
+        ensures volume { Alters self.old self.new
+            (MakesTree (fs_of self.old) cred.now asked.entry.parent now
+            (new_directory asked.entry.name.now (given_of asked.entry.attributes)))
             (fs_ending result) }
         ensures room { OnOk result (has_room ≡ true) }
         ensures no_room { IsErrOf result FsFault.NoRoom → has_room ≡ false }
@@ -270,13 +269,8 @@ impl<D: Device> Fs<D> {
     {
         let updates = updates_of(self.alloc, &tree)?;
         self.is_down = true;
-        match keep(&mut self.journal, &updates) {
-            Ok(()) => {}
-            Err(JournalFault::Memory) => {
-                self.is_down = false;
-                return Err(FsFault::Memory);
-            }
-            Err(_) => return Err(FsFault::Device),
+        if keep(&mut self.journal, updates).is_err() {
+            return Err(FsFault::Device);
         }
         self.changes += 1;
         self.tree = tree;

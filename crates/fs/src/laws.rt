@@ -9,8 +9,10 @@ ghost use Rattle.fs.specs.Superblock.{superblock, word};
 /// The first sector of a volume tells its nodes and its restart count.
 #[tactic(auto, using(crate::proofs::FirstLaws::word_nodes, crate::proofs::FirstLaws::word_run))]
 pub fn superblock_tells()
-    ensures nodes { (sectors nodes run : ℕ) → nodes < 2 ^ 32 → word 16 (superblock sectors nodes run) ≡ nodes }
-    ensures run { (sectors nodes run : ℕ) → run < 2 ^ 32 → word 20 (superblock sectors nodes run) ≡ run }
+    ensures nodes { (sectors nodes run : ℕ) → nodes < 2 ^ 32
+        → word 16 (superblock sectors nodes run) ≡ nodes }
+    ensures run { (sectors nodes run : ℕ) → run < 2 ^ 32
+        → word 20 (superblock sectors nodes run) ≡ run }
 {}
 
 /// A map that a stop left stands for one tree, of a volume with one number of nodes and one restart count.

@@ -1,23 +1,19 @@
 //! Finding a volume, reading its tree, and raising its restart count.
 
-ghost use Rattle.std.specs.Prelude.{◌≡◌, ◌<◌, ◌≤◌, ◌+◌, ◌^◌, ◌⊎◌, [], false, OnOk, IfOk, IfErr, IsErrOf, IsTrue};
+ghost use Rattle.std.specs.Prelude.{◌≡◌, ◌≤◌, IfOk, IfErr, IsErrOf};
 ghost use Rattle.disk.specs.Cause.{IsCounted};
 ghost use Rattle.disk.specs.Moments.{seen};
 ghost use Rattle.journal.specs.Journal.{log_of, failures_of};
-ghost use Rattle.journal.specs.Log.{IsSettled};
-ghost use Rattle.model.specs.Limits.{limits_of};
 ghost use Rattle.model.specs.Tree.{Tree as NumberedTree};
 ghost use Rattle.plain.specs.View.{tree_of};
-ghost use Rattle.fs.specs.Mounts.{AddsRaised, IsStart};
-ghost use Rattle.fs.specs.Stands.{Stands};
-ghost use Rattle.fs.specs.Superblock.{is_size, superblock, verdict};
+ghost use Rattle.fs.specs.Mounts.{AddsRaised, IsVolumeOf, IsAtRest, IsTold, IsRaised, IsUnread, StaysEmpty, StandsOn};
+ghost use Rattle.fs.specs.Superblock.{superblock};
 
 use crate::fault::MountFault;
 use crate::reading::read_tree;
 use crate::superblock::{Verdict, judge, nodes_of, run_of, superblock_of};
 use disk::{Device, SECTOR};
 use journal::Journal;
-use model::limits::Limits;
 use plain::tree::Tree;
 use std::alloc::Global;
 
@@ -36,18 +32,16 @@ pub(crate) struct Superblock {
 /// Reads the first sector of a device.
 #[tactic(auto, using(crate::proofs::FirstLaws::sound_size, crate::proofs::FirstLaws::sound_run, crate::proofs::FirstLaws::sound_first, crate::proofs::FirstLaws::not_volume_on_few))]
 pub(crate) fn find<D: Device>(device: &mut D) -> Result<Superblock, MountFault>
-    ensures size { IfOk result (λ found. found.sectors ≡ D.size device.old) }
-    ensures sized { IfOk result (λ found. IsTrue (is_size found.sectors found.nodes)) }
-    ensures counted { IfOk result (λ found. found.run + 1 < 2 ^ 32) }
-    ensures first { D.keeps_word → IfOk result (λ found. seen (D.history device.old).now 0 ≡ superblock found.sectors found.nodes found.run) }
-    ensures not_volume { D.keeps_word → IsErrOf result MountFault.NotVolume → verdict (D.size device.old) (seen (D.history device.old).now 0) ≡ Verdict.NotVolume }
-    ensures worn { D.keeps_word → IsErrOf result MountFault.Worn → verdict (D.size device.old) (seen (D.history device.old).now 0) ≡ Verdict.Worn }
-    ensures damaged { D.keeps_word → IsErrOf result MountFault.Damaged → verdict (D.size device.old) (seen (D.history device.old).now 0) ≡ Verdict.Damaged }
-    ensures sound { D.keeps_word → OnOk result (verdict (D.size device.old) (seen (D.history device.old).now 0) ≡ Verdict.Sound) }
+    ensures volume { IfOk result (IsVolumeOf (D.size device.old)) }
+    ensures told { D.keeps_word
+        → IsTold (D.size device.old) (seen (D.history device.old).now 0) result }
+    // It only reads
     ensures history { D.history device.new ≡ D.history device.old }
     ensures same_size { D.size device.new ≡ D.size device.old }
-    ensures cause { IsErrOf result MountFault.Device → IsCounted (D.failed device.old) (D.failed device.new) }
+    // The device fails in it
     ensures later { D.failed device.old ≤ D.failed device.new }
+    ensures cause { IsErrOf result MountFault.Device
+        → IsCounted (D.failed device.old) (D.failed device.new) }
     ensures no_memory { IsErrOf result MountFault.Memory → ⊥ }
 {
     let sectors = device.sectors();
@@ -75,32 +69,25 @@ pub(crate) fn start<D: Device>(
     alloc: Global,
     journal: &mut Journal<D>,
     found: Superblock,
-    limits: &Limits,
 ) -> Result<Tree, MountFault>
-    requires size { found.sectors ≡ (log_of journal.old).size }
-    requires sized { IsTrue (is_size found.sectors found.nodes) }
-    requires limited { limits.now ≡ limits_of found.sectors found.nodes }
-    requires counted { found.run + 1 < 2 ^ 32 }
-    requires up { (log_of journal.old).is_down ≡ false }
-    requires listed { (log_of journal.old).list ≡ [] }
-    requires first { D.keeps_word → (log_of journal.old).base 0 ≡ superblock found.sectors found.nodes found.run }
+    requires volume { IsVolumeOf (log_of journal.old).size found }
+    requires rests { IsAtRest (log_of journal.old) }
+    requires first { D.keeps_word
+        → (log_of journal.old).base 0 ≡ superblock found.sectors found.nodes found.run }
     ensures moments { D.keeps_word → AddsRaised found (log_of journal.old).base
         (log_of journal.old).history (log_of journal.new).history }
-    ensures found { D.keeps_word → IfOk result (λ tree. ∥ Stands found.sectors found.nodes (log_of journal.old).base found.run (tree_of tree) ∥₁) }
-    ensures stands { D.keeps_word → IfOk result (λ tree. ∥ Stands found.sectors found.nodes (log_of journal.new).base (found.run + 1) (tree_of tree) ∥₁) }
-    ensures settled { D.keeps_word → OnOk result (IsSettled (log_of journal.new)) }
-    ensures sound { IfOk result (λ tree. ∥ IsStart limits.now found.run (tree_of tree) ∥₁) }
+    ensures raised { IfOk result (λ tree. IsRaised D.keeps_word found
+        (log_of journal.old) (log_of journal.new) (tree_of tree)) }
+    ensures stays { StaysEmpty (log_of journal.old) (log_of journal.new)
+        (failures_of journal.old) (failures_of journal.new) }
+    // Refused
+    ensures unread { IfErr result (IsUnread (failures_of journal.old) (failures_of journal.new)) }
     ensures damaged { D.keeps_word → IsErrOf result MountFault.Damaged
-        → (tree : NumberedTree) → Stands found.sectors found.nodes (log_of journal.old).base found.run tree → ⊥ }
-    ensures untouched { IfErr result (λ fault. (fault ≡ MountFault.Device → ⊥) → (log_of journal.new).history ≡ (log_of journal.old).history) }
-    ensures list { (log_of journal.new).list ≡ [] }
-    ensures same_size { (log_of journal.new).size ≡ (log_of journal.old).size }
-    ensures still_up { OnOk result ((log_of journal.new).is_down ≡ false) }
-    ensures cause { IsErrOf result MountFault.Device → IsCounted (failures_of journal.old) (failures_of journal.new) }
-    ensures later { failures_of journal.old ≤ failures_of journal.new }
-    ensures only { IfErr result (λ fault. (fault ≡ MountFault.Device) ⊎ ((fault ≡ MountFault.Damaged) ⊎ (fault ≡ MountFault.Memory))) }
+        → (tree : NumberedTree) → StandsOn found (log_of journal.old).base tree → ⊥ }
+    ensures untouched { IfErr result (λ fault. (fault ≡ MountFault.Device → ⊥)
+        → (log_of journal.new).history ≡ (log_of journal.old).history) }
 {
-    let tree = read_tree(alloc, journal, limits, found.run)?;
+    let tree = read_tree(alloc, journal, found)?;
     let sector = superblock_of(found.sectors, found.nodes, found.run + 1);
     journal.superblock(&sector)?;
     Ok(tree)

@@ -1,15 +1,15 @@
 //! Reading the tree of a volume.
 
-ghost use Rattle.std.specs.Prelude.{◌≡◌, ◌<◌, ◌≤◌, ◌+◌, ◌^◌, ◌⊎◌, [], false, length, OnOk, IfOk, IfErr, IsErrOf};
-ghost use Rattle.disk.specs.Cause.{IsCounted};
-ghost use Rattle.image.specs.RecordViews.{all_viewed, AreRead, AreUsed, HaveNone};
+ghost use Rattle.std.specs.Prelude.{◌≡◌, ◌<◌, ◌≤◌, ◌+◌, ◌^◌, ◌⊎◌, false, OnOk, IfOk, IfErr, IsErrOf};
+ghost use Rattle.image.specs.RecordViews.{all_viewed, AreRead, HaveNone};
 ghost use Rattle.journal.specs.Journal.{log_of, failures_of};
 ghost use Rattle.model.specs.Tree.{Tree as NumberedTree};
 ghost use Rattle.plain.specs.View.{tree_of};
-ghost use Rattle.fs.specs.Mounts.{image_in, AreOf, IsStart, IsTreeOf};
+ghost use Rattle.fs.specs.Mounts.{image_in, limits_by, AreFewUsed, AreOf, IsVolumeOf, IsAtRest, IsUnread, IsStart, IsTreeOf};
 
 use crate::fault::MountFault;
-use disk::Device;
+use crate::mount::Superblock;
+use disk::{Device, SECTOR};
 use image::{
     FIRST_SECTOR, NodeRecord, SECTORS, are_plain, have_same_image, push_sector, records_of,
     tell_records, tree_of,
@@ -27,13 +27,15 @@ fn tree_in(
     limits: &Limits,
     run: u32,
 ) -> Result<Tree, MountFault>
-    requires used { AreUsed (all_viewed records.now) }
-    requires few { length (all_viewed records.now) ≤ 256 }
+    requires kept { AreFewUsed (all_viewed records.now) }
     requires short { limits.now.name_bytes ≡ 255 }
     requires counted { run + 1 < 2 ^ 32 }
-    ensures found { IfOk result (λ tree. ∥ AreOf limits.now run (tree_of tree) (all_viewed records.now) ∥₁) }
-    ensures damaged { IsErrOf result MountFault.Damaged → (other : NumberedTree) → AreOf limits.now run other (all_viewed records.now) → ⊥ }
-    ensures only { IfErr result (λ fault. (fault ≡ MountFault.Damaged) ⊎ (fault ≡ MountFault.Memory)) }
+    ensures found { IfOk result (λ tree.
+        ∥ AreOf limits.now run (tree_of tree) (all_viewed records.now) ∥₁) }
+    ensures damaged { IsErrOf result MountFault.Damaged → (other : NumberedTree)
+        → AreOf limits.now run other (all_viewed records.now) → ⊥ }
+    ensures only { IfErr result (λ fault.
+        (fault ≡ MountFault.Damaged) ⊎ (fault ≡ MountFault.Memory)) }
 {
     let tree = tree_of(alloc, records)?;
     let again = records_of(alloc, &tree)?;
@@ -59,49 +61,50 @@ fn read_image<D: Device>(
     journal: &mut Journal<D>,
 ) -> Result<Vec<NodeRecord>, MountFault>
     requires large { 256 ≤ (log_of journal.old).size }
-    requires up { (log_of journal.old).is_down ≡ false }
-    requires listed { (log_of journal.old).list ≡ [] }
-    ensures read { D.keeps_word → IfOk result (λ records. AreRead (image_in (log_of journal.old).base) 32 (all_viewed records.items)) }
-    ensures damaged { D.keeps_word → IsErrOf result MountFault.Damaged → HaveNone (image_in (log_of journal.old).base) 32 }
-    ensures used { IfOk result (λ records. AreUsed (all_viewed records.items)) }
-    ensures few { IfOk result (λ records. length (all_viewed records.items) ≤ 256) }
-    ensures log { log_of journal.new ≡ record (log_of journal.old) { is_down = (log_of journal.new).is_down } }
+    requires rests { IsAtRest (log_of journal.old) }
+    ensures read { D.keeps_word → IfOk result (λ records.
+        AreRead (image_in (log_of journal.old).base) 32 (all_viewed records.items)) }
+    ensures kept { IfOk result (λ records. AreFewUsed (all_viewed records.items)) }
+    ensures log { log_of journal.new
+        ≡ record (log_of journal.old) { is_down = (log_of journal.new).is_down } }
     ensures up { OnOk result ((log_of journal.new).is_down ≡ false) }
-    ensures cause { IsErrOf result MountFault.Device → IsCounted (failures_of journal.old) (failures_of journal.new) }
     ensures later { failures_of journal.old ≤ failures_of journal.new }
-    ensures only { IfErr result (λ fault. (fault ≡ MountFault.Device) ⊎ ((fault ≡ MountFault.Damaged) ⊎ (fault ≡ MountFault.Memory))) }
+    // Refused
+    ensures unread { IfErr result (IsUnread (failures_of journal.old) (failures_of journal.new)) }
+    ensures damaged { D.keeps_word → IsErrOf result MountFault.Damaged
+        → HaveNone (image_in (log_of journal.old).base) 32 }
 {
     let mut records = Vec::new(alloc);
+    let mut sector = [0; SECTOR];
     for i in 0..SECTORS {
-        let sector = journal.read(FIRST_SECTOR + i)?;
+        journal.read(FIRST_SECTOR + i, &mut sector)?;
         push_sector(alloc, &mut records, i as usize, &sector)?;
     }
     Ok(records)
 }
 
-/// The tree on a journal's base, of a volume that was mounted `run` times.
+/// The tree on a journal's base, of a volume that was found.
 pub(crate) fn read_tree<D: Device>(
     alloc: Global,
     journal: &mut Journal<D>,
-    limits: &Limits,
-    run: u32,
+    found: Superblock,
 ) -> Result<Tree, MountFault>
-    requires large { 256 ≤ (log_of journal.old).size }
-    requires up { (log_of journal.old).is_down ≡ false }
-    requires listed { (log_of journal.old).list ≡ [] }
-    requires short { limits.now.name_bytes ≡ 255 }
-    requires counted { run + 1 < 2 ^ 32 }
-    ensures found { D.keeps_word → IfOk result (λ tree. ∥ IsTreeOf limits.now run (log_of journal.old).base (tree_of tree) ∥₁) }
-    ensures damaged { D.keeps_word → IsErrOf result MountFault.Damaged
-        → (other : NumberedTree) → IsTreeOf limits.now run (log_of journal.old).base other → ⊥ }
-    ensures sound { IfOk result (λ tree. ∥ IsStart limits.now run (tree_of tree) ∥₁) }
-    ensures log { log_of journal.new ≡ record (log_of journal.old) { is_down = (log_of journal.new).is_down } }
+    requires volume { IsVolumeOf (log_of journal.old).size found }
+    requires rests { IsAtRest (log_of journal.old) }
+    ensures found { D.keeps_word → IfOk result (λ tree.
+        ∥ IsTreeOf (limits_by found) found.run (log_of journal.old).base (tree_of tree) ∥₁) }
+    ensures start { IfOk result (λ tree. ∥ IsStart (limits_by found) found.run (tree_of tree) ∥₁) }
+    ensures log { log_of journal.new
+        ≡ record (log_of journal.old) { is_down = (log_of journal.new).is_down } }
     ensures up { OnOk result ((log_of journal.new).is_down ≡ false) }
-    ensures cause { IsErrOf result MountFault.Device → IsCounted (failures_of journal.old) (failures_of journal.new) }
     ensures later { failures_of journal.old ≤ failures_of journal.new }
-    ensures only { IfErr result (λ fault. (fault ≡ MountFault.Device) ⊎ ((fault ≡ MountFault.Damaged) ⊎ (fault ≡ MountFault.Memory))) }
+    // Refused
+    ensures unread { IfErr result (IsUnread (failures_of journal.old) (failures_of journal.new)) }
+    ensures damaged { D.keeps_word → IsErrOf result MountFault.Damaged → (other : NumberedTree)
+        → IsTreeOf (limits_by found) found.run (log_of journal.old).base other → ⊥ }
 {
+    let limits = Limits::of_volume(found.sectors as usize, found.nodes as usize);
     let records = read_image(alloc, journal)?;
-    let tree = tree_in(alloc, &records, limits, run)?;
+    let tree = tree_in(alloc, &records, &limits, found.run)?;
     Ok(tree)
 }

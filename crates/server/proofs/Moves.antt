@@ -1,8 +1,9 @@
 -- What the calls of a server do to what a stop may leave.
-use Rattle.std.proofs.Common.{◌≡◌, ◌≤◌, ◌⊎◌, ℕ, List, [], ◌∷◌, length, Bool, false, Option, None, refl, sym, ap, ◌∙◌, subst, inl, inr, ⊎_elim, arith}
+use Rattle.std.proofs.Common.{◌≡◌, ◌≤◌, ℕ, List, [], ◌∷◌, length, Bool, false, None, refl, sym, ap, ◌∙◌, subst, inl, ⊎_elim, arith}
 use Rattle.std.specs.List.{IsAmong}
 use Rattle.disk.specs.Moments as moments
 use Rattle.disk.specs.Moments.{Image, Moment, Left, LeftWithin, LeftSince, AddsOnly, moment}
+use Rattle.compound.specs.States.{without_opens}
 use Rattle.fs.specs.FileSystem.{FileSystem, IsSameVolume, StandsForOne, LeavesOne, IsRecent, Holds, MayAdd, AddsTrees}
 use Rattle.fs.specs.Stands.{StandsFor}
 use Rattle.fs.proofs.ChangeLaws.{same_volume}
@@ -75,15 +76,21 @@ does_quietly fs old new down event said none up is says recent ready = (
   },
 )
 
+-- the world of a server that was just mounted
+pub world_mounted : (fs : FileSystem) (table : Table) (connections : Keyed Connection) → table ≡ empty_table fs.run → connections ≡ [] → fs.changes ≡ 0
+    → world_by (without_opens fs table) connections ≡ mounted_world (server_limits fs.limits) fs.run fs.tree
+world_mounted fs table connections tables none changes =
+    ap (λ (t : Table). world_by (without_opens fs t) connections) tables
+    ∙ (ap (λ (k : Keyed Connection). world_by (without_opens fs (empty_table fs.run)) k) none
+    ∙ ap (λ (n : ℕ). record (world_by (without_opens fs (empty_table fs.run)) []) { changes = n }) changes)
+
 -- a server that was just mounted
 pub mounted_by : (fs : FileSystem) (table : Table) (connections : Keyed Connection) → table ≡ empty_table fs.run → connections ≡ [] → fs.changes ≡ 0 → fs.is_down ≡ false → Holds fs
-    → IsMounted fs.run fs.tree (record { serving = record { world = world_by fs table connections; recent = fs.tree ∷ []; is_down = fs.is_down }; volume = fs })
+    → IsMounted fs.run fs.tree (record { serving = record { world = world_by (without_opens fs table) connections; recent = fs.tree ∷ []; is_down = fs.is_down }; volume = fs })
 mounted_by fs table connections tables none changes up holds = record {
   serves =
-      ap (λ (t : Table). record { world = world_by fs t connections; recent = fs.tree ∷ []; is_down = fs.is_down }) tables
-      ∙ (ap (λ (k : Keyed Connection). record { world = world_by fs (empty_table fs.run) k; recent = fs.tree ∷ []; is_down = fs.is_down }) none
-      ∙ (ap (λ (n : ℕ). record { world = record (world_by fs (empty_table fs.run) []) { changes = n }; recent = fs.tree ∷ []; is_down = fs.is_down }) changes
-      ∙ ap (λ (b : Bool). record { world = mounted_world (server_limits fs.limits) fs.run fs.tree; recent = fs.tree ∷ []; is_down = b }) up));
+      ap (λ (w : World). record { world = w; recent = fs.tree ∷ []; is_down = fs.is_down }) (world_mounted fs table connections tables none changes)
+      ∙ ap (λ (b : Bool). record { world = mounted_world (server_limits fs.limits) fs.run fs.tree; recent = fs.tree ∷ []; is_down = b }) up;
   counted = refl;
   begins = refl;
   ready = holds;

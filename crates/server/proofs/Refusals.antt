@@ -1,5 +1,5 @@
 -- How a connection's refusals are told.
-use Rattle.std.proofs.Common.{◌≡◌, ◌≤◌, ℕ, true, false, Result, Ok, Err, inl, inr, ⊎_elim, refl, ap}
+use Rattle.std.proofs.Common.{◌≡◌, ◌≤◌, ℕ, true, false, Result, Ok, Err, inr, ⊎_elim, refl, ap}
 use Rattle.disk.specs.Cause.{IsCounted}
 use Rattle.model.specs.World.{is_busy}
 use Rattle.std.specs.Result.{IsErrAnd}

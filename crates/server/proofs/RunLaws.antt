@@ -1,7 +1,6 @@
-use Rattle.std.proofs.Common.{◌≡◌, ℕ, List, [], ◌∷◌, Option, Some, None, Bool, true, false, cond, refl, sym, ap, ◌∙◌, subst, arith}
+use Rattle.std.proofs.Common.{◌≡◌, ℕ, List, ◌∷◌, Option, Some, None, Bool, true, false, cond, refl, ap, subst, arith}
 use Rattle.std.specs.List.{IsAmong}
 use Rattle.fs.proofs.RemountLaws.{seen_left}
-use Rattle.model.specs.declared.acl.Cred.{Cred}
 use Rattle.model.specs.Answer.{Answer, Outcome}
 use Rattle.model.specs.declared.status.Status.TheVariants as status
 use Rattle.model.specs.Keyed.{at}
@@ -12,7 +11,6 @@ use Rattle.model.specs.Tree.{Tree}
 use Rattle.model.specs.World as world
 use Rattle.model.specs.World.{World, Turn, Idle, Ran, Answered, InProgress, Next, Refuses, Reads, HasRun, Gives, Replays, Entry, Connection, Quiet, Waiting, Busy, Replied, Closed, one, turned, called, operates, behind, has_run, is_last, next_operation, in_room, run}
 use Rattle.disk.specs.Moments.{seen}
-use Rattle.server.specs.Headline.{IsMounted}
 use Rattle.server.specs.RunLaws.{IsReady, HangUpIsCalls, NeverEmpty, IsIdle, OnlyIdle}
 use Rattle.server.specs.Seen.{Seen, Call, Did, IsServed, IsTurned, Stays, LeavesNow}
 use Rattle.server.specs.Seen as served

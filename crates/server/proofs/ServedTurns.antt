@@ -1,18 +1,16 @@
 -- A turn of a connection, as the turn of its server.
-use Rattle.std.proofs.Common.{◌≡◌, ◌⊎◌, ℕ, List, subst, true, false, Some, refl, sym, ap, ◌∙◌, inl, inr}
-use Rattle.disk.specs.Moments.{Image, History, AddsOnly}
+use Rattle.std.proofs.Common.{◌≡◌, ℕ, List, subst, true, false, Some, refl, sym, ap, ◌∙◌, inl, inr}
+use Rattle.disk.specs.Moments.{History, AddsOnly}
 use Rattle.server.proofs.Moments.{adds_weaker}
-use Rattle.compound.specs.Steps.{IsServed, with_served}
+use Rattle.compound.specs.States.{SharedState, HasState, with_state}
 use Rattle.compound.specs.Volumes.{TurnGives, lasts}
 use Rattle.compound.specs.declared.fault.Fault.{Fault}
 use Rattle.compound.specs.declared.fault.Fault.TheVariants as fault
 use Rattle.fs.specs.FileSystem.{FileSystem, AddsTrees, StandsForOne, IsRecent, MayAdd}
 use Rattle.model.specs.Tree.{Tree}
-use Rattle.fs.specs.Stands.{StandsFor}
 use Rattle.model.specs.Keyed.{Keyed, at, with}
 use Rattle.model.specs.Runs as runs
 use Rattle.model.specs.Runs.{MayLeave}
-use Rattle.model.specs.Session.{Table}
 use Rattle.model.specs.World as world
 use Rattle.model.specs.World.{one, with_connection}
 use Rattle.server.specs.declared.turn.Turn.{Turn}
@@ -21,8 +19,8 @@ use Rattle.server.specs.Servers.{world_by}
 use Rattle.server.proofs.Turning.{one_is}
 use Rattle.server.proofs.Worlds.{may_leave_from}
 
-pub served_by : (fs : FileSystem) (table : Table) (connections : Keyed world.Connection) → IsServed (world_by fs table connections) fs table
-served_by fs table connections = record {
+pub has_state : (state : SharedState) (connections : Keyed world.Connection) → HasState (world_by state connections) state
+has_state state connections = record {
   volume = refl;
   sessions = refl;
   reply_bytes = refl;
@@ -33,51 +31,51 @@ served_by fs table connections = record {
   table_is = refl;
 }
 
-module _ (fs after_fs : FileSystem) (table after_table : Table) (old new : Keyed world.Connection) (number now : ℕ) (before after : world.Connection)
+module _ (state left : SharedState) (old new : Keyed world.Connection) (number now : ℕ) (before after : world.Connection)
     (written : new ≡ with old number after) where
   -- the turn, and the world behind it
-  pub turned : (done : Turn) → Turns now fs after_fs table after_table before after done → IsRising old → at number old ≡ Some before
-      → after_fs ≡ record fs { tree = after_fs.tree; changes = after_fs.changes; is_down = after_fs.is_down; history = after_fs.history; fronts = after_fs.fronts }
-      → (turn_view done ≡ (one (world_by fs table old) number now).turn) × (world_by after_fs after_table new ≡ (one (world_by fs table old) number now).world)
+  pub turned : (done : Turn) → Turns now state left before after done → IsRising old → at number old ≡ Some before
+      → left.files ≡ record state.files { tree = left.files.tree; changes = left.files.changes; is_down = left.files.is_down; history = left.files.history; fronts = left.files.fronts }
+      → (turn_view done ≡ (one (world_by state old) number now).turn) × (world_by left new ≡ (one (world_by state old) number now).world)
   turned done turns rises is same =
-      let made = turns (world_by fs table old) number (served_by fs table old) rises is in
-      let here : world_by after_fs after_table new ≡ with_connection (with_served (world_by fs table old) after_fs after_table) number after
-      = ap (λ (f : FileSystem). world_by f after_table new) same
-      ∙ ap (λ (connections : Keyed world.Connection). record (with_served (world_by fs table old) after_fs after_table) { connections = connections }) written in
+      let made = turns (world_by state old) number (has_state state old) rises is in
+      let here : world_by left new ≡ with_connection (with_state (world_by state old) left) number after
+      = ap (λ (f : FileSystem). world_by (record left { files = f }) new) same
+      ∙ ap (λ (connections : Keyed world.Connection). record (with_state (world_by state old) left) { connections = connections }) written in
       (sym made.0, here ∙ sym made.1)
 
 -- a turn that was not done leaves the world
-pub undone : (fs after_fs : FileSystem) (table after_table : Table) (old new : Keyed world.Connection) (refusal : Fault)
-    → (refusal ≡ fault.Memory → after_fs ≡ fs) → (refusal ≡ fault.Device → after_fs ≡ record fs { is_down = true; history = after_fs.history; fronts = after_fs.fronts })
-    → after_table ≡ table → new ≡ old → world_by after_fs after_table new ≡ world_by fs table old
-undone fs after_fs table after_table old new fault.Memory memory device tables connections =
-    ap (λ (f : FileSystem). world_by f after_table new) (memory refl) ∙ (ap (λ (t : Table). world_by fs t new) tables ∙ ap (world_by fs table) connections)
-undone fs after_fs table after_table old new fault.Device memory device tables connections =
-    ap (λ (f : FileSystem). world_by f after_table new) (device refl) ∙ (ap (λ (t : Table). world_by fs t new) tables ∙ ap (world_by fs table) connections)
+pub undone : (state left : SharedState) (old new : Keyed world.Connection) (refusal : Fault)
+    → (refusal ≡ fault.Memory → left.files ≡ state.files) → (refusal ≡ fault.Device → left.files ≡ record state.files { is_down = true; history = left.files.history; fronts = left.files.fronts })
+    → left ≡ record state { files = left.files } → new ≡ old → world_by left new ≡ world_by state old
+undone state left old new fault.Memory memory device stays connections =
+    ap (λ (s : SharedState). world_by s new) (stays ∙ ap (λ (f : FileSystem). record state { files = f }) (memory refl)) ∙ ap (world_by state) connections
+undone state left old new fault.Device memory device stays connections =
+    ap (λ (s : SharedState). world_by s new) (stays ∙ ap (λ (f : FileSystem). record state { files = f }) (device refl)) ∙ ap (world_by state) connections
 
 -- what the turn of a connection gives in the server's world
-pub gives_one : (fs : FileSystem) (table : Table) (connections : Keyed world.Connection) (number now : ℕ) (before : world.Connection) → at number connections ≡ Some before
-    → TurnGives fs (λ w n. world.turned w n now (Some before)) (one (world_by fs table connections) number now).world.tree (lasts (one (world_by fs table connections) number now).executed)
-gives_one fs table connections number now before is =
-    let same = one_is (world_by fs table connections) number now before is in
+pub gives_one : (state : SharedState) (connections : Keyed world.Connection) (number now : ℕ) (before : world.Connection) → at number connections ≡ Some before
+    → TurnGives state (λ w n. world.turned w n now (Some before)) (one (world_by state connections) number now).world.tree (lasts (one (world_by state connections) number now).executed)
+gives_one state connections number now before is =
+    let same = one_is (world_by state connections) number now before is in
     record {
-      world = world_by fs table connections;
+      world = world_by state connections;
       number = number;
-      served = served_by fs table connections;
+      has = has_state state connections;
       tree = ap (λ (t : world.Turned). t.world.tree) same;
       lasting_is = ap (λ (t : world.Turned). lasts t.executed) same;
     }
 
 -- what a stop within it may leave
-pub turning_moments : (fs : FileSystem) (table : Table) (old : Keyed world.Connection) (number now : ℕ) (recent : List Tree) (new : History) → IsRecent fs recent → fs.is_down ≡ false
-    → AddsTrees fs (one (world_by fs table old) number now).world.tree new
-    → AddsOnly (StandsForOne fs (MayLeave (record { world = world_by fs table old; recent = recent; is_down = fs.is_down }) (runs.Turns number now))) fs.history new
-turning_moments fs table old number now recent new is up moments =
-    adds_weaker _ (StandsForOne fs (MayLeave (record { world = world_by fs table old; recent = recent; is_down = fs.is_down }) (runs.Turns number now))) fs.history new
+pub turning_moments : (state : SharedState) (old : Keyed world.Connection) (number now : ℕ) (recent : List Tree) (new : History) → IsRecent state.files recent → state.files.is_down ≡ false
+    → AddsTrees state.files (one (world_by state old) number now).world.tree new
+    → AddsOnly (StandsForOne state.files (MayLeave (record { world = world_by state old; recent = recent; is_down = state.files.is_down }) (runs.Turns number now))) state.files.history new
+turning_moments state old number now recent new is up moments =
+    adds_weaker _ (StandsForOne state.files (MayLeave (record { world = world_by state old; recent = recent; is_down = state.files.is_down }) (runs.Turns number now))) state.files.history new
     (λ image found. (found.0, either found.0 found.1, found.2)) (moments recent is)
   where
-    either : (tree : Tree) → MayAdd recent (one (world_by fs table old) number now).world.tree tree
-        → MayLeave (record { world = world_by fs table old; recent = recent; is_down = fs.is_down }) (runs.Turns number now) tree
+    either : (tree : Tree) → MayAdd recent (one (world_by state old) number now).world.tree tree
+        → MayLeave (record { world = world_by state old; recent = recent; is_down = state.files.is_down }) (runs.Turns number now) tree
     either tree (inl stays) = inl stays
-    either tree (inr goes) = subst (MayLeave (record { world = world_by fs table old; recent = recent; is_down = fs.is_down }) (runs.Turns number now)) (sym goes)
-        (may_leave_from (world_by fs table old) recent fs.is_down (runs.Turns number now) is.newest up)
+    either tree (inr goes) = subst (MayLeave (record { world = world_by state old; recent = recent; is_down = state.files.is_down }) (runs.Turns number now)) (sym goes)
+        (may_leave_from (world_by state old) recent state.files.is_down (runs.Turns number now) is.newest up)

@@ -1,6 +1,5 @@
 -- The calls of a server are a run of the machine, and what a stop within one leaves stands for what the machine may leave.
-use Rattle.std.proofs.Common.{◌≡◌, ◌≤◌, ◌<◌, ℕ, List, [], ◌∷◌, length, Option, Some, None, refl, sym, ap, ◌∙◌, subst, inl, inr, ⊎_elim, arith}
-use Rattle.std.specs.List.{IsAmong}
+use Rattle.std.proofs.Common.{◌≡◌, ◌<◌, ℕ, List, refl, sym, ap, ◌∙◌, subst, inl, ⊎_elim, arith}
 use Rattle.disk.specs.Moments.{Image, LeftSince, moment}
 use Rattle.fs.specs.FileSystem.{FileSystem, IsSameVolume}
 use Rattle.fs.specs.Stands.{StandsFor}
@@ -9,12 +8,11 @@ use Rattle.model.proofs.Headline.{every_run}
 use Rattle.model.proofs.StampLaws.{every_stamp}
 use Rattle.model.specs.Runs as runs
 use Rattle.model.specs.Runs.{Serving, Event, Takes, Happens, Fails, StaysDown, MayLeave, History, IsRun, IsGoodPrefix, AreStamped, no_history, history_after, history_failing, effect_of, mounted, executed, done_with}
-use Rattle.model.specs.Tree.{Tree}
 use Rattle.model.specs.World.{World}
 use Rattle.fs.proofs.RemountLaws.{every_remount}
-use Rattle.server.specs.Headline.{IsMounted, IsGoodTree, IsKept, EveryStop, EveryRun, EveryTrace, Stopped, executed_in, Follows, IsLater, Next, Then, EveryLife, EveryStamping}
+use Rattle.server.specs.Headline.{IsGoodTree, EveryStop, EveryRun, EveryTrace, Stopped, executed_in, Follows, IsLater, Next, Then, EveryLife, EveryStamping}
 use Rattle.fs.specs.FileSystem.{StandsForOne}
-use Rattle.server.specs.Seen.{Seen, LeavesNow, Moves, Does, Breaks, GivesDown, Call, Did, Failed, IsServed, Begins, Goes_on, Fails_at, Stays_down, world_after, history_of, AreTold, told, Said}
+use Rattle.server.specs.Seen.{Seen, LeavesNow, Moves, Call, IsServed, Begins, Goes_on, Fails_at, Stays_down, world_after, history_of, AreTold, told}
 use Rattle.server.specs.Servers.{server_limits}
 use Rattle.server.proofs.Moves.{left_now}
 

@@ -1,7 +1,7 @@
 -- What a turn of a connection is, by what the connection does.
 use Rattle.std.proofs.Common.{◌≡◌, ℕ, false, List, [], ◌∷◌, Some, None, Result, Ok, Err, IfOk, inl, inr, refl, ap, ap₂, sym, subst, ◌∙◌, arith, eq-eqb, ne_eqb, le-ltb}
 use Rattle.std.proofs.lemmas.Bool.{cases_order}
-use Rattle.compound.specs.Steps.{IsServed, with_served}
+use Rattle.compound.specs.States.{SharedState, HasState, with_state}
 use Rattle.compound.specs.declared.fault.Fault.{Fault}
 use Rattle.compound.specs.Volumes.{TurnGives}
 use Rattle.compound.proofs.VolumeLaws.{same_turns, idle_turns}
@@ -11,7 +11,6 @@ use Rattle.fs.proofs.ChangeLaws.{answers_quietly, changes_by}
 use Rattle.model.proofs.KeyedLaws.{at-below, at-first, at-rest, some≢none}
 use Rattle.model.specs.Keyed.{Keyed, at, with, IsAbove}
 use Rattle.model.specs.Rpc.{read_call}
-use Rattle.model.specs.Session.{Table}
 use Rattle.model.specs.World as world
 use Rattle.model.specs.World.{World, Connection, InProgress, Turned, Waiting, Busy, Replied, one, called, turned, idle, with_connection}
 use Rattle.rpc.specs.Assembly.{Assembly, Gathers, Holds, Refuses, connection_of}
@@ -44,19 +43,19 @@ with-held (entry ∷ rest) number held rising is = elim (cases_order number entr
   ]
 ]
 
-served_still : (world : World) (fs : FileSystem) (table : Table) → IsServed world fs table → with_served world fs table ≡ world
-served_still world fs table served = rw (← served.tree, ← served.changes, ← served.table_is) refl
+state_still : (world : World) (state : SharedState) → HasState world state → with_state world state ≡ world
+state_still world state has = rw (← has.tree, ← has.changes, ← has.table_is, ← has.opens) refl
 
 connection_still : (world : World) (number : ℕ) (held : Connection) → IsRising world.connections
     → at number world.connections ≡ Some held → with_connection world number held ≡ world
 connection_still world number held rising is =
     ap (λ (cs : Keyed Connection). record world { connections = cs }) (with-held world.connections number held rising is)
 
-still : (world : World) (fs : FileSystem) (table : Table) (number : ℕ) (held : Connection) → IsServed world fs table
+still : (world : World) (state : SharedState) (number : ℕ) (held : Connection) → HasState world state
     → IsRising world.connections → at number world.connections ≡ Some held
-    → with_connection (with_served world fs table) number held ≡ world
-still world fs table number held served rising is =
-    ap (λ (w : World). with_connection w number held) (served_still world fs table served) ∙ connection_still world number held rising is
+    → with_connection (with_state world state) number held ≡ world
+still world state number held has rising is =
+    ap (λ (w : World). with_connection w number held) (state_still world state has) ∙ connection_still world number held rising is
 
 -- A turn by what it comes to
 
@@ -70,36 +69,36 @@ module _ (now : ℕ) (before : Connection) (by : World → ℕ → Turned)
   one_comes : (world : World) (number : ℕ) → at number world.connections ≡ Some before → one world number now ≡ by world number
   one_comes world number is = one_is world number now before is ∙ comes world number
 
-  pub turns_by : (old new : FileSystem) (old_table new_table : Table) (after left : Connection) (done : Turn) (turn : world.Turn)
-      → turn_view done ≡ turn → after ≡ left → Leads by old new old_table new_table left turn
-      → Turns now old new old_table new_table before after done
-  turns_by old new old_table new_table after left done turn same_turn same_after leads = λ world number served rising is. (
+  pub turns_by : (old new : SharedState) (after left : Connection) (done : Turn) (turn : world.Turn)
+      → turn_view done ≡ turn → after ≡ left → Leads by old new left turn
+      → Turns now old new before after done
+  turns_by old new after left done turn same_turn same_after leads = λ world number served rising is. (
     ap (λ (t : Turned). t.turn) (one_comes world number is) ∙ ((leads world number served).0 ∙ sym same_turn),
     ap (λ (t : Turned). t.world) (one_comes world number is)
-        ∙ ((leads world number served).1 ∙ sym (ap (λ (c : Connection). with_connection (with_served world new new_table) number c) same_after)),
+        ∙ ((leads world number served).1 ∙ sym (ap (λ (c : Connection). with_connection (with_state world new) number c) same_after)),
   )
 
-  pub turns_if : (old new : FileSystem) (old_table new_table : Table) (after : Connection) (result : Result Turn Fault)
-      → IfOk result (λ done. Leads by old new old_table new_table after (turn_view done))
-      → IfOk result (Turns now old new old_table new_table before after)
-  turns_if old new old_table new_table after (Ok done) leads =
-      turns_by old new old_table new_table after after done (turn_view done) refl refl leads
-  turns_if old new old_table new_table after (Err fault) leads = tt
+  pub turns_if : (old new : SharedState) (after : Connection) (result : Result Turn Fault)
+      → IfOk result (λ done. Leads by old new after (turn_view done))
+      → IfOk result (Turns now old new before after)
+  turns_if old new after (Ok done) leads =
+      turns_by old new after after done (turn_view done) refl refl leads
+  turns_if old new after (Err fault) leads = tt
 
 -- nothing is done
-idle_turn : (now : ℕ) (before : Connection) (fs : FileSystem) (table : Table)
+idle_turn : (now : ℕ) (before : Connection) (state : SharedState)
     → ((world : World) (number : ℕ) → turned world number now (Some before) ≡ idle world)
-    → Turns now fs fs table table before before turn.Idle
-idle_turn now before fs table comes = λ world number served rising is. (
+    → Turns now state state before before turn.Idle
+idle_turn now before state comes = λ world number served rising is. (
   ap (λ (t : Turned). t.turn) (one_comes now before (λ w n. idle w) comes world number is),
-  ap (λ (t : Turned). t.world) (one_comes now before (λ w n. idle w) comes world number is) ∙ sym (still world fs table number before served rising is),
+  ap (λ (t : Turned). t.world) (one_comes now before (λ w n. idle w) comes world number is) ∙ sym (still world state number before served rising is),
 )
 
-pub idle_turn_to : (now : ℕ) (before after : Connection) (fs : FileSystem) (table : Table) → before ≡ after
+pub idle_turn_to : (now : ℕ) (before after : Connection) (state : SharedState) → before ≡ after
     → ((world : World) (number : ℕ) → turned world number now (Some before) ≡ idle world)
-    → Turns now fs fs table table before after turn.Idle
-idle_turn_to now before after fs table same comes =
-    subst (λ (left : Connection). Turns now fs fs table table before left turn.Idle) same (idle_turn now before fs table comes)
+    → Turns now state state before after turn.Idle
+idle_turn_to now before after state same comes =
+    subst (λ (left : Connection). Turns now state state before left turn.Idle) same (idle_turn now before state comes)
 
 -- What it comes to
 
@@ -119,15 +118,15 @@ waiting_comes now before request is world number = rw is refl
 
 -- What it does to the file system
 
-module _ (keeps_word : Type 0) (fs new : FileSystem) (before after : ℕ) where
+module _ (keeps_word : Type 0) (state : SharedState) (fs new : FileSystem) (before after : ℕ) where
   -- a turn that is the same as another in each such world
-  pub same_changes : (turn other : World → ℕ → Turned) → ((world : World) (number : ℕ) → IsServed world fs world.table → other world number ≡ turn world number) → (ending : Ending)
-      → Changes keeps_word (TurnGives fs turn) fs new before after ending → Changes keeps_word (TurnGives fs other) fs new before after ending
+  pub same_changes : (turn other : World → ℕ → Turned) → ((world : World) (number : ℕ) → HasState world state → other world number ≡ turn world number) → (ending : Ending)
+      → Changes keeps_word (TurnGives state turn) fs new before after ending → Changes keeps_word (TurnGives state other) fs new before after ending
   same_changes turn other same ending changes =
-      changes_by keeps_word (TurnGives fs turn) (TurnGives fs other) (same_turns fs turn other same) fs new before after ending changes
+      changes_by keeps_word (TurnGives state turn) (TurnGives state other) (same_turns state turn other same) fs new before after ending changes
 
 -- one that does nothing
-pub idle_changes : (keeps_word : Type 0) (fs : FileSystem) (failed : ℕ) (turn : World → ℕ → Turned) → fs.is_down ≡ false
-    → ((world : World) (number : ℕ) → IsServed world fs world.table → (turn world number).executed ≡ None) → Changes keeps_word (TurnGives fs turn) fs fs failed failed Done
-idle_changes keeps_word fs failed turn up idle =
-    answers_quietly keeps_word (TurnGives fs turn) fs fs failed failed refl (omega arith) up (idle_turns fs turn idle)
+pub idle_changes : (keeps_word : Type 0) (state : SharedState) (failed : ℕ) (turn : World → ℕ → Turned) → state.files.is_down ≡ false
+    → ((world : World) (number : ℕ) → HasState world state → (turn world number).executed ≡ None) → Changes keeps_word (TurnGives state turn) state.files state.files failed failed Done
+idle_changes keeps_word state failed turn up idle =
+    answers_quietly keeps_word (TurnGives state turn) state.files state.files failed failed refl (omega arith) up (idle_turns state turn idle)

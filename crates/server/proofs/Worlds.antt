@@ -7,11 +7,11 @@ use Rattle.model.specs.Keyed.{Keyed, at, with, without}
 use Rattle.model.specs.Record.{RecordLimits, Front, Partial, Refused, Whole, front}
 use Rattle.model.specs.Rpc.{is_call_read, read_call}
 use Rattle.model.specs.Runs.{Serving, Event, Happens, Fails, StaysDown, MayLeave, effect_of, executed_of, executed_by}
-use Rattle.model.specs.Session.{Table}
 use Rattle.model.specs.Tree.{Tree}
 use Rattle.model.specs.World as world
 use Rattle.model.specs.World.{World, Quiet, Closed, arrives, arrives_at, arrived, taken_at, takes, without_reply, connects, can_connect, changed, with_connection, without_connection, hangs_up, is_busy, one, idle, reply_in}
 use Rattle.model.proofs.KeyedLaws.{at-with_same, at-with_other, at-without_same, at-without_other}
+use Rattle.compound.specs.States.{SharedState}
 use Rattle.compound.specs.Volumes.{lasts}
 use Rattle.fs.specs.Changes.{Leaves}
 use Rattle.model.proofs.RuledOutLaws.{each_event_happens}
@@ -242,24 +242,24 @@ arrived_of_run run limits piece world.Closed here = here
 
 -- The world behind each call
 
-module _ (fs : FileSystem) (table : Table) (old new : Keyed world.Connection) (number : ℕ) where
+module _ (state : SharedState) (old new : Keyed world.Connection) (number : ℕ) where
   pub took : (before after : world.Connection) → at number old ≡ Some before → new ≡ with old number after → after ≡ without_reply before
-      → world_by fs table new ≡ takes (world_by fs table old) number
+      → world_by state new ≡ takes (world_by state old) number
   took before after is written gives =
-      ap (world_by fs table) (written ∙ ap (with old number) gives) ∙ sym (takes_is (world_by fs table old) number before is)
+      ap (world_by state) (written ∙ ap (with old number) gives) ∙ sym (takes_is (world_by state old) number before is)
 
   pub fed : (piece : List ℕ) (before after : world.Connection) → at number old ≡ Some before → new ≡ with old number after
-      → after ≡ arrives_at record_limits piece before → world_by fs table new ≡ arrives (world_by fs table old) number piece
+      → after ≡ arrives_at record_limits piece before → world_by state new ≡ arrives (world_by state old) number piece
   fed piece before after is written gives =
-      ap (world_by fs table) (written ∙ ap (with old number) gives) ∙ sym (arrives_is (world_by fs table old) number piece before is)
+      ap (world_by state) (written ∙ ap (with old number) gives) ∙ sym (arrives_is (world_by state old) number piece before is)
 
-  pub connected : (after : world.Connection) → can_connect (world_by fs table old) number ≡ true → new ≡ with old number after → after ≡ Quiet []
-      → world_by fs table new ≡ connects (world_by fs table old) number
+  pub connected : (after : world.Connection) → can_connect (world_by state old) number ≡ true → new ≡ with old number after → after ≡ Quiet []
+      → world_by state new ≡ connects (world_by state old) number
   connected after can written gives =
-      ap (world_by fs table) (written ∙ ap (with old number) gives) ∙ sym (connects_is (world_by fs table old) number can)
+      ap (world_by state) (written ∙ ap (with old number) gives) ∙ sym (connects_is (world_by state old) number can)
 
-  pub hung_up : is_busy (at number old) ≡ false → new ≡ without old number → world_by fs table new ≡ hangs_up (world_by fs table old) number
-  hung_up quiet written = ap (world_by fs table) written ∙ sym (hangs_up_is (world_by fs table old) number quiet)
+  pub hung_up : is_busy (at number old) ≡ false → new ≡ without old number → world_by state new ≡ hangs_up (world_by state old) number
+  hung_up quiet written = ap (world_by state) written ∙ sym (hangs_up_is (world_by state old) number quiet)
 
 -- What a feed leaves of a connection
 pub feeds_of_run : {E : Type 0} (run : ℕ) (piece : List ℕ) (before after : world.Connection) (result : Result ℕ E)

@@ -1,12 +1,11 @@
 -- What a connection stands for, and a turn of it by the definition.
 use Rattle.std.specs.Prelude.{◌≡◌, ℕ, List, [], ◌∷◌, map, Some, None}
 use Rattle.slab.specs.Slab.{Slab, entries}
-use Rattle.compound.specs.Steps.{IsServed, with_served, stepped_on}
+use Rattle.compound.specs.States.{SharedState, HasState, with_state}
+use Rattle.compound.specs.Steps.{stepped_on}
 use Rattle.compound.specs.Views.{in_progress_of, asked_of}
-use Rattle.fs.specs.FileSystem.{FileSystem}
 use Rattle.model.specs.Keyed.{Keyed, at, IsAbove}
 use Rattle.model.specs.Rpc.{read_call}
-use Rattle.model.specs.Session.{Table}
 use Rattle.model.specs.World as world
 use Rattle.model.specs.World.{World, InProgress, Turned, Answered, Busy, Replied, one, called, with_connection}
 use Rattle.server.specs.declared.connection.Connection.{Connection}
@@ -37,18 +36,18 @@ IsRising [] = Unit {0}
 IsRising (entry ∷ rest) = IsAbove entry.0 rest
 
 -- in each such world, on each connection, what is done by the definition is this turn, and leaves this world
-abbrev pub Leads : (World → ℕ → Turned) → (old new : FileSystem) → (old_table new_table : Table) → (after : world.Connection) → world.Turn → Type 0
-Leads by old new old_table new_table after done =
-    (world : World) (number : ℕ) → IsServed world old old_table
+abbrev pub Leads : (World → ℕ → Turned) → (old new : SharedState) → (after : world.Connection) → world.Turn → Type 0
+Leads by old new after done =
+    (world : World) (number : ℕ) → HasState world old
     → ((by world number).turn ≡ done)
-    × ((by world number).world ≡ with_connection (with_served world new new_table) number after)
+    × ((by world number).world ≡ with_connection (with_state world new) number after)
 
 -- in each such world that has this connection, its turn is this one, and leaves this world
-abbrev pub Turns : (now : ℕ) → (old new : FileSystem) → (old_table new_table : Table) → (before after : world.Connection) → Turn → Type 0
-Turns now old new old_table new_table before after done =
-    (world : World) (number : ℕ) → IsServed world old old_table → IsRising world.connections → at number world.connections ≡ Some before
+abbrev pub Turns : (now : ℕ) → (old new : SharedState) → (before after : world.Connection) → Turn → Type 0
+Turns now old new before after done =
+    (world : World) (number : ℕ) → HasState world old → IsRising world.connections → at number world.connections ≡ Some before
     → ((one world number now).turn ≡ turn_view done)
-    × ((one world number now).world ≡ with_connection (with_served world new new_table) number after)
+    × ((one world number now).world ≡ with_connection (with_state world new) number after)
 
 -- a request that has begun goes on in this run of the server
 abbrev pub IsOfRun : (run : ℕ) → world.Connection → Type 0

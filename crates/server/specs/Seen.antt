@@ -4,7 +4,6 @@ use Rattle.disk.specs.Moments.{AddsOnly}
 use Rattle.fs.specs.FileSystem.{FileSystem, IsSameVolume, StandsForOne, LeavesOne, IsRecent}
 use Rattle.model.specs.Keyed.{at}
 use Rattle.model.specs.Runs.{Serving, Event, Arrives, Turns, HangsUp, Connects, Takes, Happens, Fails, StaysDown, MayLeave, History, no_history, history_after, history_failing, effect_of}
-use Rattle.model.specs.Tree.{Tree}
 use Rattle.model.specs.World as world
 use Rattle.model.specs.World.{World, Turn, one, taken_at, reply_at, is_busy}
 

@@ -1,20 +1,18 @@
 -- What contracts see of a server: its world, and what stands on its device.
-use Rattle.std.specs.Prelude.{ℕ, List, [], ◌∷◌, Option, ◌≡◌}
+use Rattle.std.specs.Prelude.{ℕ, List, Option, ◌≡◌}
 use Rattle.std.specs.Global.{Vec}
 use Rattle.std.specs.Option.{option_map}
+use Rattle.compound.specs.States.{SharedState, shared_of}
 use Rattle.disk.specs.declared.device.Device.{Ghosts}
 use Rattle.fs.specs.FileSystem.{FileSystem, IsRecent, LeavesOne}
 use Rattle.fs.specs.FileSystems.{fs_of, fs_failures}
 use Rattle.model.specs.declared.limits.Limits.{Limits}
-use Rattle.model.specs.Opens.{no_opens}
 use Rattle.model.specs.Runs.{Serving, Event}
-use Rattle.model.specs.Session.{Table}
 use Rattle.model.specs.Tree.{Tree}
 use Rattle.model.specs.World as world
 use Rattle.model.specs.World.{World, ServerLimits, mounted_world}
 use Rattle.rpc.specs.Assembly.{record_limits}
 use Rattle.session.specs.Limits.{served}
-use Rattle.session.specs.Views.{table_of}
 use Rattle.server.specs.Connections.{connections_of}
 use Rattle.server.specs.declared.server.Server.{Server}
 use Rattle.server.specs.Seen.{Seen, Said, Gave, Does, Breaks, GivesDown, IsTurned}
@@ -23,19 +21,19 @@ use Rattle.server.specs.Seen.{Seen, Said, Gave, Does, Breaks, GivesDown, IsTurne
 abbrev pub server_limits : Limits → ServerLimits
 server_limits volume = record { volume = volume; sessions = served; records = record_limits; connections = 16; reply_bytes = 16368 }
 
-abbrev pub world_by : FileSystem → Table → (connections : List (ℕ × world.Connection)) → World
-world_by fs table connections = record {
-  limits = server_limits fs.limits;
-  run = fs.run;
-  tree = fs.tree;
-  changes = fs.changes;
-  opens = no_opens;
-  table = table;
+abbrev pub world_by : SharedState → (connections : List (ℕ × world.Connection)) → World
+world_by state connections = record {
+  limits = server_limits state.files.limits;
+  run = state.files.run;
+  tree = state.files.tree;
+  changes = state.files.changes;
+  opens = state.opens;
+  table = state.table;
   connections = connections;
 }
 
 unfoldable pub world_of : {D : Type 0} {g : Ghosts D} → Server D g → World
-world_of server = world_by (fs_of server.fs) (table_of server.table) (connections_of server.connections)
+world_of server = world_by (shared_of server.fs server.table) (connections_of server.connections)
 
 -- the file system that it serves: whether that is down, and what a stop may leave
 unfoldable pub volume_of : {D : Type 0} {g : Ghosts D} → Server D g → FileSystem

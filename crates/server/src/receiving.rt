@@ -56,9 +56,12 @@ impl Connection {
     /// whole request or a reply waits. A refused header, and a whole record that is no call, close the connection.
     #[tactic(auto, unfolding(crate::specs::Connections::connection_view, model::specs::World::taken_at))]
     pub fn feed(&mut self, piece: &[u8]) -> Result<usize, RecordFault>
-        ensures arrived { IfOk result (λ n. (connection_view self.new ≡ arrives_at record_limits piece.now (connection_view self.old)) × (taken_at record_limits piece.now (connection_view self.old) ≡ Some n)) }
+        ensures arrived { IfOk result (λ n. (connection_view self.new
+            ≡ arrives_at record_limits piece.now (connection_view self.old))
+            × (taken_at record_limits piece.now (connection_view self.old) ≡ Some n)) }
         ensures closed { OnErr result ((connection_view self.new ≡ Closed)
-            × (arrives_at record_limits piece.now (connection_view self.old) ≡ Closed) × (taken_at record_limits piece.now (connection_view self.old) ≡ None)) }
+            × (arrives_at record_limits piece.now (connection_view self.old) ≡ Closed)
+            × (taken_at record_limits piece.now (connection_view self.old) ≡ None)) }
     {
         match &self.stage {
             Stage::Receiving => self.assembler.feed(piece),
@@ -68,7 +71,8 @@ impl Connection {
 
     /// The reply record, once.
     pub fn take_output(&mut self) -> Option<Vec<u8>>
-        ensures given { option_map (λ reply. reply.items) result ≡ reply_in (Some (connection_view self.old)) }
+        ensures given { option_map (λ reply. reply.items) result
+            ≡ reply_in (Some (connection_view self.old)) }
         ensures left { connection_view self.new ≡ without_reply (connection_view self.old) }
     {
         match mem::replace(&mut self.stage, Stage::Receiving) {

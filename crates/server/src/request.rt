@@ -8,6 +8,7 @@ ghost use Rattle.model.specs.Rpc.{is_call_read, reply_text};
 ghost use Rattle.model.specs.World.{Busy, called};
 ghost use Rattle.rpc.specs.Views.{reply_view, tail_of};
 ghost use Rattle.session.specs.Views.{table_of};
+ghost use Rattle.compound.specs.States.{shared_of};
 ghost use Rattle.compound.specs.Steps.{StaysInRun, turn_by};
 ghost use Rattle.compound.specs.Volumes.{TurnGives, ending};
 ghost use Rattle.compound.specs.declared.fault.Fault.TheVariants.{Memory};
@@ -46,13 +47,14 @@ pub fn first_turn<D: Device>(
     requires up { (fs_of fs.old).is_down ≡ false }
     requires call { is_call_read (rpc.read_call request.now) ≡ true }
     ensures turn { IfOk result (λ done. Leads (λ world number.
-        called world number now (rpc.read_call request.now)) (fs_of fs.old) (fs_of fs.new)
-        (table_of table.old) (table_of table.new) (left_by (asked_in request.now) done) (turn_by done)) }
+        called world number now (rpc.read_call request.now))
+        (shared_of fs.old table.old) (shared_of fs.new table.new)
+        (left_by (asked_in request.now) done) (turn_by done)) }
     ensures stays { IfOk result (StaysInRun (fs_of fs.old).run) }
     ensures follows { IfOk result (λ done. can_follow (asked_in request.now) done ≡ true) }
     ensures table { OnErr result (table_of table.new ≡ table_of table.old) }
-    ensures volume { Alters fs.old fs.new (TurnGives (fs_of fs.old) (λ world number.
-        called world number now (rpc.read_call request.now))) (ending result) }
+    ensures volume { Alters fs.old fs.new (TurnGives (shared_of fs.old table.old)
+        (λ world number. called world number now (rpc.read_call request.now))) (ending result) }
 {
     match open(alloc, fs.restart_count(), request)? {
         Opened::Answers(reply) => Ok(Stepped::Answered(reply)),
@@ -109,7 +111,8 @@ pub fn resume(alloc: Global, request: &[u8], progress: Progress) -> Running<'_>
 /// The whole record of a reply.
 fn record_of(alloc: Global, xid: u32, reply: &Reply<'_>) -> Result<Vec<u8>, Fault>
     requires { tail_of reply.now ≡ [] }
-    ensures ok { IfOk result (λ bytes. bytes.items ≡ framed (reply_text xid (reply_view reply.now))) }
+    ensures ok { IfOk result (λ bytes.
+        bytes.items ≡ framed (reply_text xid (reply_view reply.now))) }
     ensures err { IfErr result (λ fault. fault ≡ Memory) }
 {
     let size = reply.size().saturating_add(HEADER_SIZE);

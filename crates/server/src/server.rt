@@ -27,7 +27,8 @@ pub struct Server<D: Device> {
     pub(crate) table: Table,
     pub(crate) connections: Slab<Connection>,
     ghost few: { slab_len connections ≤ 16 },
-    ghost of_run: { (n : ℕ) (connection : world.Connection) → at n (connections_of connections) ≡ Some connection → IsOfRun (fs_of fs).run connection },
+    ghost of_run: { (n : ℕ) (connection : world.Connection)
+        → at n (connections_of connections) ≡ Some connection → IsOfRun (fs_of fs).run connection },
 }
 
 #[tactic(auto, unfolding(crate::specs::Servers::world_of, crate::specs::Servers::volume_of, crate::specs::Servers::failures_of))]
@@ -160,8 +161,9 @@ impl<D: Device> Server<D> {
     /// Device and NoConnection as in `turn`. After Memory what was run stays run, and the connection stays.
     pub fn hangup(&mut self, conn: usize, now: u64) -> Result<(), ServerFault>
         // Done
-        ensures ok { D.keeps_word → OnOk result (Turning self.old conn now (λ between.
-            (after : List Tree) × Does between (runs.HangsUp conn) Done (seen_with self.new after))) }
+        ensures ok { D.keeps_word → OnOk result
+            (Turning self.old conn now (λ between. (after : List Tree)
+            × Does between (runs.HangsUp conn) Done (seen_with self.new after))) }
         ensures gone { OnOk result (connection_at (view self.new) conn ≡ None) }
         // Ended within its turns: no memory for one, or the device fails in one
         ensures memory { D.keeps_word → IsErrOf result ServerFault.Memory

@@ -19,6 +19,7 @@ impl Connection {
     ghost use Rattle.model.specs.World.{turned};
     ghost use Rattle.session.specs.Views.{table_of};
     ghost use Rattle.rpc.specs.Assembly.{Holds};
+    ghost use Rattle.compound.specs.States.{shared_of};
     ghost use Rattle.compound.specs.Steps.{turn_by};
     ghost use Rattle.compound.specs.Volumes.{TurnGives, ending};
     ghost use Rattle.server.specs.Connections.{connection_view, turn_view, Turns, Leads, IsOfRun};
@@ -33,13 +34,14 @@ impl Connection {
     ) -> Result<Turn, Fault>
         requires up { (fs_of fs.old).is_down ≡ false }
         requires run { IsOfRun (fs_of fs.old).run (connection_view self.old) }
-        ensures turn { IfOk result (Turns now (fs_of fs.old) (fs_of fs.new) (table_of table.old)
-            (table_of table.new) (connection_view self.old) (connection_view self.new)) }
+        ensures turn { IfOk result (Turns now (shared_of fs.old table.old)
+            (shared_of fs.new table.new) (connection_view self.old) (connection_view self.new)) }
         ensures run { IsOfRun (fs_of fs.old).run (connection_view self.new) }
         ensures back { OnErr result ((connection_view self.new ≡ connection_view self.old)
             × (table_of table.new ≡ table_of table.old)) }
-        ensures volume { Alters fs.old fs.new (TurnGives (fs_of fs.old) (λ world number.
-            turned world number now (Some (connection_view self.old)))) (ending result) }
+        ensures volume { Alters fs.old fs.new (TurnGives (shared_of fs.old table.old)
+            (λ world number. turned world number now (Some (connection_view self.old))))
+            (ending result) }
     {
         match mem::replace(&mut self.stage, Stage::Receiving) {
             Stage::Receiving => match self.assembler.record() {
@@ -69,15 +71,16 @@ impl Connection {
         requires up { (fs_of fs.old).is_down ≡ false }
         requires run { progress.run ≡ (fs_of fs.old).run }
         ensures turn { IfOk result (λ done. Leads (λ world number. turned world number now
-            (Some (begun (asked_held self.old.assembler) progress))) (fs_of fs.old) (fs_of fs.new)
-            (table_of table.old) (table_of table.new) (connection_view self.new) (turn_view done)) }
+            (Some (begun (asked_held self.old.assembler) progress)))
+            (shared_of fs.old table.old) (shared_of fs.new table.new)
+            (connection_view self.new) (turn_view done)) }
         ensures run { IsOfRun (fs_of fs.old).run (connection_view self.new) }
         ensures back { OnErr result
             ((connection_view self.new ≡ begun (asked_held self.old.assembler) progress)
             × (table_of table.new ≡ table_of table.old)) }
-        ensures volume { Alters fs.old fs.new (TurnGives (fs_of fs.old) (λ world number.
-            turned world number now (Some (begun (asked_held self.old.assembler) progress))))
-            (ending result) }
+        ensures volume { Alters fs.old fs.new (TurnGives (shared_of fs.old table.old)
+            (λ world number. turned world number now
+            (Some (begun (asked_held self.old.assembler) progress)))) (ending result) }
     {
         let Some(record) = self.assembler.record() else {
             unreachable!();

@@ -10,25 +10,27 @@ use std::alloc::Global;
 #[tactic(auto, unfolding(crate::specs::Servers::world_of, crate::specs::Servers::volume_of, crate::specs::Servers::failures_of, crate::specs::Connections::connections_of))]
 impl<D: Device> Server<D> {
     ghost use Rattle.std.specs.Prelude.{◌≡◌, ◌≤◌, ◌⊎◌, ◌↔◌, false, OnOk, IfOk, IfErr, IsErrOf};
-    ghost use Rattle.disk.specs.Calls.{zero_sector};
     ghost use Rattle.disk.specs.Cause.{IsCounted};
-    ghost use Rattle.disk.specs.Moments.{Image, AddsOnly, Left};
     ghost use Rattle.fs.specs.FileSystem.{IsNew};
+    ghost use Rattle.fs.specs.Formats.{AddsFresh, LeavesFresh};
     ghost use Rattle.fs.specs.MountAnswers.{HasMounted, IsRefused, ComesBack};
-    ghost use Rattle.fs.specs.Stands.{StandsFor};
     ghost use Rattle.fs.specs.Superblock.{is_size};
-    ghost use Rattle.model.specs.Fresh.{fresh_tree};
     ghost use Rattle.server.specs.Headline.{Begins};
     ghost use Rattle.server.specs.Servers.{BeginsEmpty, volume_of, failures_of};
 
     /// Makes the device a new volume of this many nodes, with an empty root: `Fs::format`.
     pub fn format(alloc: Global, device: &mut D, nodes: u32) -> Result<(), FormatFault>
-        ensures any_moment { D.keeps_word → AddsOnly (λ image. (image 0 ≡ zero_sector) ⊎ StandsFor (D.size device.old) nodes 0 fresh_tree image)
+        ensures any_moment { D.keeps_word → AddsFresh (D.size device.old) nodes
             (D.history device.old) (D.history device.new) }
-        ensures ok { D.keeps_word → OnOk result ((image : Image) → Left (D.history device.new).now image → StandsFor (D.size device.old) nodes 0 fresh_tree image) }
-        ensures size { IsErrOf result FormatFault.Size ↔ (is_size (D.size device.old) nodes ≡ false) }
-        ensures untouched { (IsErrOf result FormatFault.Size ⊎ IsErrOf result FormatFault.Memory) → D.history device.new ≡ D.history device.old }
-        ensures cause { IsErrOf result FormatFault.Device → IsCounted (D.failed device.old) (D.failed device.new) }
+        ensures ok { D.keeps_word → OnOk result
+            (LeavesFresh (D.size device.old) nodes (D.history device.new)) }
+        // Refused
+        ensures size { IsErrOf result FormatFault.Size
+            ↔ (is_size (D.size device.old) nodes ≡ false) }
+        ensures untouched { (IsErrOf result FormatFault.Size ⊎ IsErrOf result FormatFault.Memory)
+            → D.history device.new ≡ D.history device.old }
+        ensures cause { IsErrOf result FormatFault.Device
+            → IsCounted (D.failed device.old) (D.failed device.new) }
         ensures later { D.failed device.old ≤ D.failed device.new }
         ensures same_size { D.size device.new ≡ D.size device.old }
     {
@@ -45,11 +47,11 @@ impl<D: Device> Server<D> {
         ensures world { IfOk result BeginsEmpty }
         ensures new { IfOk result (λ server. IsNew (D.size device) (volume_of server)) }
         ensures later { IfOk result (λ server. D.failed device ≤ failures_of server) }
-        ensures mounted { D.keeps_word
-            → IfOk result (λ server. HasMounted (D.size device) (D.history device) (volume_of server)) }
+        ensures mounted { D.keeps_word → IfOk result (λ server.
+            HasMounted (D.size device) (D.history device) (volume_of server)) }
         ensures begins { D.keeps_word → IfOk result Begins }
         // Refused
-        ensures back { IfErr result (ComesBack D.size D.failed device) }
+        ensures back { IfErr result (ComesBack D.size D.failed (D.size device) (D.failed device)) }
         ensures refused { D.keeps_word → IfErr result (λ refused.
             IsRefused (D.size device) (D.history device) (D.history refused.device) refused.fault) }
     {

@@ -6,9 +6,8 @@ use Rattle.journal.specs.Commit.{AddsEither}
 use Rattle.journal.specs.Journal.{log_of}
 use Rattle.journal.specs.Log.{Log}
 use Rattle.journal.specs.Settled.{AreSame}
-use Rattle.model.specs.declared.limits.Limits.{Limits}
 use Rattle.plain.specs.View.{tree_of}
-use Rattle.fs.specs.Mounts.{IsTreeOf}
+use Rattle.fs.specs.Mounts.{StandsOn}
 use Rattle.fs.proofs.MountLaws.{first_update, raise_moments, stands_of, raised_base}
 use Rattle.fs.proofs.mount.start.Goals as goal
 
@@ -17,8 +16,8 @@ returns-in_err-superblock-clause-moments g c = λ k tree stands.
     let found = c.args.found in
     let old : Log = log_of c.args.journal.now in
     let history = (log_of c.superblock.new.self).history in
-    raise_moments found.sectors found.nodes found.run old.base c.requires.counted tree old.history history stands
-    (subst (λ (n : ℕ). AddsEither n (first_update found.sectors found.nodes (found.run + 1) ∷ []) old.base old.history history) (sym c.requires.size)
+    raise_moments found.sectors found.nodes found.run old.base c.requires.volume.counted tree old.history history stands
+    (subst (λ (n : ℕ). AddsEither n (first_update found.sectors found.nodes (found.run + 1) ∷ []) old.base old.history history) (sym c.requires.volume.size)
     (subst (λ (content : List ℕ). AddsEither old.size ((let u : Update = record { target = 0; content = content } in u) ∷ []) old.base old.history history) c.superblock_of-sector.ensures
     (subst (λ (l : Log). AddsEither l.size ((let u : Update = record { target = 0; content = c.superblock_of-sector.result } in u) ∷ []) l.base l.history history)
     c.in_ok-tree.ensures.log (c.in_err-superblock.ensures.moments k))))
@@ -28,25 +27,28 @@ returns-clause-moments g c = λ k tree stands.
     let found = c.args.found in
     let old : Log = log_of c.args.journal.now in
     let history = (log_of c.superblock.new.self).history in
-    raise_moments found.sectors found.nodes found.run old.base c.requires.counted tree old.history history stands
-    (subst (λ (n : ℕ). AddsEither n (first_update found.sectors found.nodes (found.run + 1) ∷ []) old.base old.history history) (sym c.requires.size)
+    raise_moments found.sectors found.nodes found.run old.base c.requires.volume.counted tree old.history history stands
+    (subst (λ (n : ℕ). AddsEither n (first_update found.sectors found.nodes (found.run + 1) ∷ []) old.base old.history history) (sym c.requires.volume.size)
     (subst (λ (content : List ℕ). AddsEither old.size ((let u : Update = record { target = 0; content = content } in u) ∷ []) old.base old.history history) c.superblock_of-sector.ensures
     (subst (λ (l : Log). AddsEither l.size ((let u : Update = record { target = 0; content = c.superblock_of-sector.result } in u) ∷ []) l.base l.history history)
     c.in_ok-tree.ensures.log (c.in_ok-superblock.ensures.moments k))))
 
-pub returns-clause-found : goal.returns-clause-found
-returns-clause-found g c = λ k.
-    let found = c.args.found in
-    ∥∥₁_map (c.in_ok-tree.ensures.found k) (λ of. stands_of found.sectors found.nodes found.run (log_of c.args.journal.now).base c.requires.counted (tree_of c.in_ok-tree.tree)
-    c.requires.sized (c.requires.first k) (subst (λ (l : Limits). IsTreeOf l found.run (log_of c.args.journal.now).base (tree_of c.in_ok-tree.tree)) c.requires.limited of))
-
-pub returns-clause-stands : goal.returns-clause-stands
-returns-clause-stands g c = λ k.
+pub returns-clause-raised : goal.returns-clause-raised
+returns-clause-raised g c =
     let found = c.args.found in
     let old : Log = log_of c.args.journal.now in
     let after = (log_of c.superblock.new.self).base in
-    ∥∥₁_map (returns-clause-found g c k) (raised_base found.sectors found.nodes found.run old.base c.requires.counted after (tree_of c.in_ok-tree.tree)
-    (subst (λ (n : ℕ). AreSame n (put old.base (first_update found.sectors found.nodes (found.run + 1))) after) (sym c.requires.size)
-    (subst (λ (content : List ℕ). AreSame old.size (put old.base (let u : Update = record { target = 0; content = content } in u)) after) c.superblock_of-sector.ensures
-    (subst (λ (l : Log). AreSame l.size (put l.base (let u : Update = record { target = 0; content = c.superblock_of-sector.result } in u)) after)
-    c.in_ok-tree.ensures.log (c.in_ok-superblock.ensures.ok k)))))
+    let tree = tree_of c.in_ok-tree.tree in
+    let stood : g.D.Device.keeps_word → ∥ StandsOn found old.base tree ∥₁ =
+    λ k. ∥∥₁_map (c.in_ok-tree.ensures.found k) (stands_of found.sectors found.nodes found.run old.base c.requires.volume.counted tree c.requires.volume.sized (c.requires.first k)) in
+    record {
+      still_up = c.in_ok-superblock.ensures.answers.stays_up c.in_ok-tree.ensures.up (λ e. absurd (cc));
+      start = c.in_ok-tree.ensures.start;
+      stood = stood;
+      stands = λ k. ∥∥₁_map (stood k) (raised_base found.sectors found.nodes found.run old.base c.requires.volume.counted after tree
+          (subst (λ (n : ℕ). AreSame n (put old.base (first_update found.sectors found.nodes (found.run + 1))) after) (sym c.requires.volume.size)
+          (subst (λ (content : List ℕ). AreSame old.size (put old.base (let u : Update = record { target = 0; content = content } in u)) after) c.superblock_of-sector.ensures
+          (subst (λ (l : Log). AreSame l.size (put l.base (let u : Update = record { target = 0; content = c.superblock_of-sector.result } in u)) after)
+          c.in_ok-tree.ensures.log (c.in_ok-superblock.ensures.ok.ok k)))));
+      settled = c.in_ok-superblock.ensures.ok.settled;
+    }

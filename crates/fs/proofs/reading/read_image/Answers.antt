@@ -17,20 +17,20 @@ returns-in_err-push_sector-clause-damaged g c = λ k is others used same.
     let fault = damaged_is c.in_err-push_sector.field-0.0 (same_fault _ _ (rw (p.1, p.2) at is)) in
     HaveNone-more (image_in base) (c.loop-i.i + 1) 32 (omega arith)
     (c.in_err-push_sector.ensures.not_image (ap (λ x. Err x) fault) (image_in base) (c.loop-i.invariant.read k)
-    (sym (read_base (log_of c.args.journal.now) (log_of c.loop-i.journal) (100 + c.loop-i.i) c.in_ok-sector.sector c.requires.listed c.loop-i.invariant.log
-    (c.in_ok-sector.ensures.content k)))) others used same
+    (sym (read_base (log_of c.args.journal.now) (log_of c.loop-i.journal) (100 + c.loop-i.i) c.read.new.content c.requires.rests.listed c.loop-i.invariant.log
+    (c.in_ok-read.ensures.ok k)))) others used same
 
 pub loop-i-preserved : goal.loop-i-preserved
 loop-i-preserved g c =
     let base = (log_of c.args.journal.now).base in
     record {
       read = λ k. c.in_ok-push_sector.ensures.ok (image_in base) (c.loop-i.invariant.read k)
-          (sym (read_base (log_of c.args.journal.now) (log_of c.loop-i.journal) (100 + c.loop-i.i) c.in_ok-sector.sector c.requires.listed c.loop-i.invariant.log
-          (c.in_ok-sector.ensures.content k)));
+          (sym (read_base (log_of c.args.journal.now) (log_of c.loop-i.journal) (100 + c.loop-i.i) c.read.new.content c.requires.rests.listed c.loop-i.invariant.log
+          (c.in_ok-read.ensures.ok k)));
       some = ∥∥₁_map c.loop-i.invariant.some (λ far. read_more c.loop-i.i (all_viewed c.loop-i.records.items) (all_viewed c.push_sector.new.records.items)
-          c.in_ok-sector.sector far c.in_ok-push_sector.ensures.ok);
-      log = stays_same (log_of c.args.journal.now) (log_of c.loop-i.journal) (log_of c.read.new.self) c.requires.up c.loop-i.invariant.log c.in_ok-sector.ensures.log
-          (c.in_ok-sector.ensures.answers.stays_up (ap (λ (l : Log). l.is_down) c.loop-i.invariant.log ∙ c.requires.up) (λ e. absurd (cc)));
+          c.read.new.content far c.in_ok-push_sector.ensures.ok);
+      log = stays_same (log_of c.args.journal.now) (log_of c.loop-i.journal) (log_of c.read.new.self) c.requires.rests.up c.loop-i.invariant.log c.in_ok-read.ensures.log
+          (c.in_ok-read.ensures.answers.stays_up (ap (λ (l : Log). l.is_down) c.loop-i.invariant.log ∙ c.requires.rests.up) (λ e. absurd (cc)));
       later = search rules;
     }
 
@@ -48,8 +48,8 @@ loop-i-init g c = record {
   later = omega arith;
 }
 
-pub returns-clause-used : goal.returns-clause-used
-returns-clause-used g c = read_used c.loop-i.i (all_viewed c.loop-i.records.items) c.loop-i.invariant.some
-
-pub returns-clause-few : goal.returns-clause-few
-returns-clause-few g c = read_few c.loop-i.i (all_viewed c.loop-i.records.items) (omega arith) c.loop-i.invariant.some
+pub returns-clause-kept : goal.returns-clause-kept
+returns-clause-kept g c = record {
+  used = read_used c.loop-i.i (all_viewed c.loop-i.records.items) c.loop-i.invariant.some;
+  few = read_few c.loop-i.i (all_viewed c.loop-i.records.items) (omega arith) c.loop-i.invariant.some;
+}

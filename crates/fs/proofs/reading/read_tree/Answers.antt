@@ -1,10 +1,13 @@
-use Rattle.std.proofs.Common.{List, ◌∙◌, ap, sym, Err}
+use Rattle.std.proofs.Common.{List, ◌∙◌, ap, sym, subst, Err}
 use Rattle.std.proofs.Math.Logic.{∥∥₁_map}
 use Rattle.std.proofs.lemmas.Result.{err_from_is_err_and}
 use Rattle.image.specs.declared.record.NodeRecord.{NodeRecord}
 use Rattle.image.specs.RecordSpelling.{record_sector}
 use Rattle.image.specs.RecordViews.{all_viewed}
 use Rattle.image.specs.TreeRecords.{records_of}
+use Rattle.model.specs.declared.limits.Limits.{Limits}
+use Rattle.model.specs.WellFormed.{IsWellFormed}
+use Rattle.plain.specs.View.{tree_of}
 use Rattle.fs.proofs.ReadLaws.{same_fault}
 use Rattle.fs.proofs.ToldLaws.{used_records}
 use Rattle.fs.proofs.reading.read_tree.Goals as goal
@@ -18,7 +21,7 @@ returns-in_err-records-clause-damaged g c = λ k is other of.
 
 pub returns-clause-found : goal.returns-clause-found
 returns-clause-found g c = λ k. ∥∥₁_map c.in_ok-tree.ensures.found (λ of. record {
-  well_formed = of.well_formed;
+  well_formed = subst (λ (l : Limits). IsWellFormed l (tree_of c.in_ok-tree.tree)) c.of_volume-limits.ensures of.well_formed;
   before = of.before;
   imaged = record {
     has_image = of.has_image;
@@ -26,5 +29,9 @@ returns-clause-found g c = λ k. ∥∥₁_map c.in_ok-tree.ensures.found (λ of
   };
 })
 
-pub returns-clause-sound : goal.returns-clause-sound
-returns-clause-sound g c = ∥∥₁_map c.in_ok-tree.ensures.found (λ of. record { well_formed = of.well_formed; before = of.before; plain = of.has_image.plain })
+pub returns-clause-start : goal.returns-clause-start
+returns-clause-start g c = ∥∥₁_map c.in_ok-tree.ensures.found (λ of. record {
+  well_formed = subst (λ (l : Limits). IsWellFormed l (tree_of c.in_ok-tree.tree)) c.of_volume-limits.ensures of.well_formed;
+  before = of.before;
+  plain = of.has_image.plain;
+})

@@ -1,4 +1,4 @@
-use Rattle.std.proofs.Common.{◌≡◌, ℕ, true, List, sym, subst, ◌∙◌, refl, arith}
+use Rattle.std.proofs.Common.{◌≡◌, true, sym, subst, ◌∙◌, refl, arith}
 use Rattle.fs.specs.FileSystem.{FileSystem}
 use Rattle.fs.specs.FileSystems.{fs_of, fs_failures}
 use Rattle.fs.specs.Operations.{new_directory}
@@ -8,23 +8,23 @@ use Rattle.model.specs.declared.status.Status.{Status}
 use Rattle.model.specs.declared.status.Status.TheVariants as status
 use Rattle.wire.specs.SmallViews.{attributes_view}
 use Rattle.compound.specs.Operates.{GivesIn, RunsTo, HasRoom}
-use Rattle.compound.specs.Runs.{with_rest}
+use Rattle.compound.specs.States.{shared}
 use Rattle.compound.specs.Views.{in_progress_of}
 use Rattle.compound.proofs.Creating.{made_runs, made_room, create_err, full, made_short, up_or_down}
 use Rattle.fs.proofs.ChangeLaws.{changes_nothing, changes_by}
 use Rattle.compound.proofs.VolumeLaws.{refusal_changes, made_gives}
 use Rattle.compound.proofs.Rooms.{gives_in_room, gives_refusal}
-use Rattle.compound.proofs.Trees.{here, is_on, is_there, of_request, create_bad, wants}
+use Rattle.compound.proofs.Trees.{is_on, is_there, of_request, create_bad, wants}
 use Rattle.compound.proofs.running.Running.create_directory.Goals as goal
 
 pub returns-in-Err-clause-gives : goal.returns-in-Err-clause-gives
-returns-in-Err-clause-gives g c = λ table.
+returns-in-Err-clause-gives g c = λ table opens.
     let fs = fs_of c.args.fs.now in
     let request = in_progress_of c.args.self.now in
     let kind = new_directory c.args.name.now (attributes_view c.args.attributes.now) in
-    c.refuse.ensures.gives c.args.now fs fs table table kind
-    (subst (λ (reason : Status). GivesIn c.args.now fs fs table table request request kind (Refused 6 reason)) (sym c.in-Err.ensures.err.0)
-    (gives_refusal c.args.now fs fs table table request kind 6 _ (wants c.args.now fs table request kind refl c.in-Err.ensures.err.1)))
+    c.refuse.ensures.gives c.args.now (shared fs table opens) (shared fs table opens) kind
+    (subst (λ (reason : Status). GivesIn c.args.now (shared fs table opens) (shared fs table opens) request request kind (Refused 6 reason)) (sym c.in-Err.ensures.err.0)
+    (gives_refusal c.args.now (shared fs table opens) (shared fs table opens) request kind 6 _ (wants c.args.now fs table opens request kind refl c.in-Err.ensures.err.1)))
 
 pub refuse-requires-in-Err-Status : goal.refuse-requires-in-Err-Status
 unfolding in_progress_of
@@ -46,7 +46,7 @@ unreachable-requires g c =
 
 pub returns-in-Ok-make_dir-clause-gives : goal.returns-in-Ok-make_dir-clause-gives
 unfolding in_progress_of
-returns-in-Ok-make_dir-clause-gives g c = λ table.
+returns-in-Ok-make_dir-clause-gives g c = λ table opens.
     let fs = fs_of c.args.fs.now in
     let new = fs_of c.make_dir.new.self in
     let request = in_progress_of c.args.self.now in
@@ -54,10 +54,10 @@ returns-in-Ok-make_dir-clause-gives g c = λ table.
     let kind = new_directory c.args.name.now given in
     let made = c.in-Ok-make_dir.made in
     let step = rw c.as_slice.ensures.numbers at c.in-Ok-make_dir.ensures.step in
-    subst (λ (outcome : Outcome). GivesIn c.args.now fs new table table request (record request { context = at_node request.context made.number }) kind outcome) (sym c.created.ensures.is)
-    (gives_in_room c.args.now fs new table table request (record request { context = at_node request.context made.number }) kind _
+    subst (λ (outcome : Outcome). GivesIn c.args.now (shared fs table opens) (shared new table opens) request (record request { context = at_node request.context made.number }) kind outcome) (sym c.created.ensures.is)
+    (gives_in_room c.args.now (shared fs table opens) (shared new table opens) request (record request { context = at_node request.context made.number }) kind _
     (made_room request made.before made.number _ (sym c.in-Ok-make_dir.ensures.room ∙ c.has_created_room-has_room.ensures))
-    (made_runs c.args.now fs table request c.args.name.now given new made
+    (made_runs c.args.now fs table opens request c.args.name.now given new made
     (λ state there. step state (is_on fs request _ _ c.requires.run c.in-Ok.ensures.ok.0 c.in-Ok.ensures.ok.1 there))))
 
 pub returns-in-Ok-make_dir-clause-answered : goal.returns-in-Ok-make_dir-clause-answered
@@ -74,7 +74,7 @@ returns-in-Ok-make_dir-clause-answered g c =
 
 pub returns-in-Err-Status-clause-gives : goal.returns-in-Err-Status-clause-gives
 unfolding in_progress_of
-returns-in-Err-Status-clause-gives g c = λ table.
+returns-in-Err-Status-clause-gives g c = λ table opens.
     let fs = fs_of c.args.fs.now in
     let new = fs_of c.make_dir.new.self in
     let request = in_progress_of c.args.self.now in
@@ -82,15 +82,15 @@ returns-in-Err-Status-clause-gives g c = λ table.
     let kind = new_directory c.args.name.now given in
     let step = rw (c.in-Err-Status.field-0-is, c.as_slice.ensures.numbers) at c.in-Err-Status.ensures.step in
     let same = (rw c.in-Err-Status.field-0-is at c.in-Err-Status.ensures.volume).ends in
-    c.refuse-in-Err-Status.ensures.gives c.args.now fs new table table kind
-    (gives_refusal c.args.now fs new table table request kind 6 c.in-Err-Status.status
-    (subst (λ (after : FileSystem). RunsTo c.args.now fs after table table request request kind (Refused 6 c.in-Err-Status.status)) (sym same)
-    (create_err c.args.now fs table request c.args.name.now given c.in-Err-Status.status
+    c.refuse-in-Err-Status.ensures.gives c.args.now (shared fs table opens) (shared new table opens) kind
+    (gives_refusal c.args.now (shared fs table opens) (shared new table opens) request kind 6 c.in-Err-Status.status
+    (subst (λ (after : FileSystem). RunsTo c.args.now (shared fs table opens) (shared after table opens) request request kind (Refused 6 c.in-Err-Status.status)) (sym same)
+    (create_err c.args.now fs table opens request c.args.name.now given c.in-Err-Status.status
     (λ state there. step state (is_on fs request _ _ c.requires.run c.in-Ok.ensures.ok.0 c.in-Ok.ensures.ok.1 there)))))
 
 pub returns-in-Err-NoRoom-clause-gives : goal.returns-in-Err-NoRoom-clause-gives
 unfolding in_progress_of
-returns-in-Err-NoRoom-clause-gives g c = λ table.
+returns-in-Err-NoRoom-clause-gives g c = λ table opens.
     let fs = fs_of c.args.fs.now in
     let new = fs_of c.make_dir.new.self in
     let request = in_progress_of c.args.self.now in
@@ -99,34 +99,34 @@ returns-in-Err-NoRoom-clause-gives g c = λ table.
     let step = rw (c.in-Err-NoRoom.field-0-is, c.as_slice.ensures.numbers) at c.in-Err-NoRoom.ensures.step in
     let same = (rw c.in-Err-NoRoom.field-0-is at c.in-Err-NoRoom.ensures.volume).ends in
     let no_room = rw c.in-Err-NoRoom.field-0-is at c.in-Err-NoRoom.ensures.no_room in
-    c.refuse-in-Err-NoRoom.ensures.gives c.args.now fs new table table kind
-    (subst (λ (after : FileSystem). GivesIn c.args.now fs after table table request request kind (Refused 6 status.RepTooBig)) (sym same)
-    (full c.args.now fs table request c.args.name.now given (sym (no_room refl) ∙ c.has_created_room-has_room.ensures)
+    c.refuse-in-Err-NoRoom.ensures.gives c.args.now (shared fs table opens) (shared new table opens) kind
+    (subst (λ (after : FileSystem). GivesIn c.args.now (shared fs table opens) (shared after table opens) request request kind (Refused 6 status.RepTooBig)) (sym same)
+    (full c.args.now fs table opens request c.args.name.now given (sym (no_room refl) ∙ c.has_created_room-has_room.ensures)
     (λ state there. step state (is_on fs request _ _ c.requires.run c.in-Ok.ensures.ok.0 c.in-Ok.ensures.ok.1 there))))
 
 pub returns-in-Err-clause-volume : goal.returns-in-Err-clause-volume
-returns-in-Err-clause-volume g c =
+returns-in-Err-clause-volume g c = λ table opens.
     let fs = fs_of c.args.fs.now in
     let request = in_progress_of c.args.self.now in
     let kind = new_directory c.args.name.now (attributes_view c.args.attributes.now) in
-    refusal_changes g.D.Device.keeps_word fs fs (fs_failures c.args.fs.now) (fs_failures c.args.fs.now) request c.args.now kind 6 c.in-Err.status refl (omega arith) c.requires.up
-    (λ table. subst (λ (reason : Status). GivesIn c.args.now fs fs table table request request kind (Refused 6 reason)) (sym c.in-Err.ensures.err.0)
-    (gives_refusal c.args.now fs fs table table request kind 6 _ (wants c.args.now fs table request kind refl c.in-Err.ensures.err.1)))
+    refusal_changes g.D.Device.keeps_word fs fs table opens (fs_failures c.args.fs.now) (fs_failures c.args.fs.now) request c.args.now kind 6 c.in-Err.status refl (omega arith) c.requires.up
+    (subst (λ (reason : Status). GivesIn c.args.now (shared fs table opens) (shared fs table opens) request request kind (Refused 6 reason)) (sym c.in-Err.ensures.err.0)
+    (gives_refusal c.args.now (shared fs table opens) (shared fs table opens) request kind 6 _ (wants c.args.now fs table opens request kind refl c.in-Err.ensures.err.1)))
 
 pub returns-in-Ok-make_dir-clause-volume : goal.returns-in-Ok-make_dir-clause-volume
 unfolding in_progress_of
-returns-in-Ok-make_dir-clause-volume g c =
+returns-in-Ok-make_dir-clause-volume g c = λ table opens.
     let fs = fs_of c.args.fs.now in
     let request = in_progress_of c.args.self.now in
     let volume = rw c.as_slice.ensures.numbers at c.in-Ok-make_dir.ensures.volume in
     changes_by g.D.Device.keeps_word _ _
-    (made_gives fs request c.args.now _ c.args.name.now (attributes_view c.args.attributes.now) c.requires.run c.in-Ok.ensures.ok.0 c.in-Ok.ensures.ok.1
+    (made_gives fs table opens request c.args.now _ c.args.name.now (attributes_view c.args.attributes.now) c.requires.run c.in-Ok.ensures.ok.0 c.in-Ok.ensures.ok.1
     (sym c.in-Ok-make_dir.ensures.room ∙ c.has_created_room-has_room.ensures))
     _ _ _ _ _ volume
 
 pub returns-in-Err-Status-clause-volume : goal.returns-in-Err-Status-clause-volume
 unfolding in_progress_of
-returns-in-Err-Status-clause-volume g c =
+returns-in-Err-Status-clause-volume g c = λ table opens.
     let fs = fs_of c.args.fs.now in
     let new = fs_of c.make_dir.new.self in
     let request = in_progress_of c.args.self.now in
@@ -135,15 +135,15 @@ returns-in-Err-Status-clause-volume g c =
     let step = rw (c.in-Err-Status.field-0-is, c.as_slice.ensures.numbers) at c.in-Err-Status.ensures.step in
     let volume = rw c.in-Err-Status.field-0-is at c.in-Err-Status.ensures.volume in
     let same = volume.ends in
-    refusal_changes g.D.Device.keeps_word fs new _ _ request c.args.now kind 6 c.in-Err-Status.status same volume.later c.requires.up
-    (λ table. gives_refusal c.args.now fs new table table request kind 6 c.in-Err-Status.status
-    (subst (λ (after : FileSystem). RunsTo c.args.now fs after table table request request kind (Refused 6 c.in-Err-Status.status)) (sym same)
-    (create_err c.args.now fs table request c.args.name.now given c.in-Err-Status.status
+    refusal_changes g.D.Device.keeps_word fs new table opens _ _ request c.args.now kind 6 c.in-Err-Status.status same volume.later c.requires.up
+    (gives_refusal c.args.now (shared fs table opens) (shared new table opens) request kind 6 c.in-Err-Status.status
+    (subst (λ (after : FileSystem). RunsTo c.args.now (shared fs table opens) (shared after table opens) request request kind (Refused 6 c.in-Err-Status.status)) (sym same)
+    (create_err c.args.now fs table opens request c.args.name.now given c.in-Err-Status.status
     (λ state there. step state (is_on fs request _ _ c.requires.run c.in-Ok.ensures.ok.0 c.in-Ok.ensures.ok.1 there)))))
 
 pub returns-in-Err-NoRoom-clause-volume : goal.returns-in-Err-NoRoom-clause-volume
 unfolding in_progress_of
-returns-in-Err-NoRoom-clause-volume g c =
+returns-in-Err-NoRoom-clause-volume g c = λ table opens.
     let fs = fs_of c.args.fs.now in
     let new = fs_of c.make_dir.new.self in
     let request = in_progress_of c.args.self.now in
@@ -153,24 +153,24 @@ returns-in-Err-NoRoom-clause-volume g c =
     let volume = rw c.in-Err-NoRoom.field-0-is at c.in-Err-NoRoom.ensures.volume in
     let same = volume.ends in
     let no_room = rw c.in-Err-NoRoom.field-0-is at c.in-Err-NoRoom.ensures.no_room in
-    refusal_changes g.D.Device.keeps_word fs new _ _ request c.args.now kind 6 status.RepTooBig same volume.later c.requires.up
-    (λ table. subst (λ (after : FileSystem). GivesIn c.args.now fs after table table request request kind (Refused 6 status.RepTooBig)) (sym same)
-    (full c.args.now fs table request c.args.name.now given (sym (no_room refl) ∙ c.has_created_room-has_room.ensures)
+    refusal_changes g.D.Device.keeps_word fs new table opens _ _ request c.args.now kind 6 status.RepTooBig same volume.later c.requires.up
+    (subst (λ (after : FileSystem). GivesIn c.args.now (shared fs table opens) (shared after table opens) request request kind (Refused 6 status.RepTooBig)) (sym same)
+    (full c.args.now fs table opens request c.args.name.now given (sym (no_room refl) ∙ c.has_created_room-has_room.ensures)
     (λ state there. step state (is_on fs request _ _ c.requires.run c.in-Ok.ensures.ok.0 c.in-Ok.ensures.ok.1 there))))
 
 pub returns-in-Err-Memory-clause-volume : goal.returns-in-Err-Memory-clause-volume
-returns-in-Err-Memory-clause-volume g c =
+returns-in-Err-Memory-clause-volume g c = λ table opens.
     let volume = rw c.in-Err-Memory.field-0-is at c.in-Err-Memory.ensures.volume in
     changes_nothing g.D.Device.keeps_word _ _ _ _ _ volume.ends volume.later
 
 pub returns-in-Err-Device-clause-volume : goal.returns-in-Err-Device-clause-volume
 unfolding in_progress_of
-returns-in-Err-Device-clause-volume g c =
+returns-in-Err-Device-clause-volume g c = λ table opens.
     let fs = fs_of c.args.fs.now in
     let request = in_progress_of c.args.self.now in
     let volume = rw (c.in-Err-Device.field-0-is, c.as_slice.ensures.numbers) at c.in-Err-Device.ensures.volume in
     let device_room = rw c.in-Err-Device.field-0-is at c.in-Err-Device.ensures.device_room in
     changes_by g.D.Device.keeps_word _ _
-    (made_gives fs request c.args.now _ c.args.name.now (attributes_view c.args.attributes.now) c.requires.run c.in-Ok.ensures.ok.0 c.in-Ok.ensures.ok.1
+    (made_gives fs table opens request c.args.now _ c.args.name.now (attributes_view c.args.attributes.now) c.requires.run c.in-Ok.ensures.ok.0 c.in-Ok.ensures.ok.1
     (sym (device_room refl) ∙ c.has_created_room-has_room.ensures))
     _ _ _ _ _ volume

@@ -1,24 +1,25 @@
 use Rattle.fs.specs.FileSystems.{fs_of}
 use Rattle.model.specs.Operation.{Argument, OtherType}
 use Rattle.model.specs.declared.status.Status.TheVariants as status
+use Rattle.compound.specs.States.{shared}
 use Rattle.compound.specs.Views.{in_progress_of}
 use Rattle.compound.proofs.Rooms.{gives_refusal}
 use Rattle.compound.proofs.Trees.{other_ok, other_err}
 use Rattle.compound.proofs.running.Running.create_other.Goals as goal
 
 pub returns-in-Ok-clause-gives : goal.returns-in-Ok-clause-gives
-returns-in-Ok-clause-gives g c = λ now table.
+returns-in-Ok-clause-gives g c = λ now table opens.
     let fs = fs_of c.args.fs.now in
     let request = in_progress_of c.args.self.now in
     let kind = Argument.Create (OtherType c.args.kind) in
-    c.refuse.ensures.gives now fs fs table table kind
-    (gives_refusal now fs fs table table request kind 6 status.BadType (other_ok now fs table request c.args.kind c.in-Ok.ensures.tests))
+    c.refuse.ensures.gives now (shared fs table opens) (shared fs table opens) kind
+    (gives_refusal now (shared fs table opens) (shared fs table opens) request kind 6 status.BadType (other_ok now fs table opens request c.args.kind c.in-Ok.ensures.tests))
 
 pub returns-in-Err-clause-gives : goal.returns-in-Err-clause-gives
-returns-in-Err-clause-gives g c = λ now table.
+returns-in-Err-clause-gives g c = λ now table opens.
     let fs = fs_of c.args.fs.now in
     let request = in_progress_of c.args.self.now in
     let kind = Argument.Create (OtherType c.args.kind) in
-    c.refuse-in-Err.ensures.gives now fs fs table table kind
-    (gives_refusal now fs fs table table request kind 6 c.in-Err.status
-    (other_err now fs table request c.args.kind c.in-Err.status c.in-Err.ensures.tests))
+    c.refuse-in-Err.ensures.gives now (shared fs table opens) (shared fs table opens) kind
+    (gives_refusal now (shared fs table opens) (shared fs table opens) request kind 6 c.in-Err.status
+    (other_err now fs table opens request c.args.kind c.in-Err.status c.in-Err.ensures.tests))

@@ -5,6 +5,7 @@ use Rattle.session.specs.Views.{table_of}
 use Rattle.wire.specs.AnswerViews as answers
 use Rattle.wire.specs.ArgumentViews.{create_session_view}
 use Rattle.compound.specs.Runs.{with_rest}
+use Rattle.compound.specs.States.{without_opens}
 use Rattle.compound.specs.Views.{in_progress_of}
 use Rattle.compound.proofs.Rooms.{gives_refusal}
 use Rattle.compound.proofs.Tables.{ran_create, created_ok, created_err, table_runs}
@@ -16,7 +17,7 @@ returns-in-Ok-clause-gives c = λ now fs.
     let request = in_progress_of c.args.self.now in
     let kind = Argument.CreateSession (create_session_view c.args.arguments.now) in
     let known = answers.create_session_view c.in-Ok.created.answer in
-    c.answer_first.ensures.gives now fs fs (table_of c.args.table.now) (table_of c.create_session.new.self) kind
+    c.answer_first.ensures.gives now (without_opens fs (table_of c.args.table.now)) (without_opens fs (table_of c.create_session.new.self)) kind
     (table_runs now fs (table_of c.args.table.now) (table_of c.create_session.new.self) request request kind (Done (Answer.CreateSession known))
     (λ world rest on. ran_create world (with_rest request rest) now _ _ on
     ∙ created_ok world (with_rest request rest) _ _ _ on.opens c.in-Ok.ensures.answered.0 c.in-Ok.ensures.answered.2))
@@ -27,8 +28,8 @@ returns-in-Err-Status-clause-gives c = λ now fs.
     let request = in_progress_of c.args.self.now in
     let kind = Argument.CreateSession (create_session_view c.args.arguments.now) in
     let refused = rw c.in-Err-Status.field-0-is at c.in-Err-Status.ensures.answered in
-    c.refuse.ensures.gives now fs fs (table_of c.args.table.now) (table_of c.create_session.new.self) kind
-    (gives_refusal now fs fs (table_of c.args.table.now) (table_of c.create_session.new.self) request kind 43 c.in-Err-Status.status
+    c.refuse.ensures.gives now (without_opens fs (table_of c.args.table.now)) (without_opens fs (table_of c.create_session.new.self)) kind
+    (gives_refusal now (without_opens fs (table_of c.args.table.now)) (without_opens fs (table_of c.create_session.new.self)) request kind 43 c.in-Err-Status.status
     (table_runs now fs (table_of c.args.table.now) (table_of c.create_session.new.self) request request kind (Refused 43 c.in-Err-Status.status)
     (λ world rest on. ran_create world (with_rest request rest) now _ _ on
     ∙ created_err world (with_rest request rest) _ _ _ _ on.table_is refused.1 refused.0)))

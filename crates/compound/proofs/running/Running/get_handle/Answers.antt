@@ -6,19 +6,20 @@ use Rattle.model.specs.Answer.{Refused}
 use Rattle.model.specs.Operation.{Argument}
 use Rattle.model.specs.declared.status.Status.{Status}
 use Rattle.compound.specs.Operates.{GivesIn}
+use Rattle.compound.specs.States.{shared}
 use Rattle.compound.specs.Views.{in_progress_of}
 use Rattle.compound.proofs.Rooms.{gives_refusal}
 use Rattle.compound.proofs.Trees.{is_on, is_there, of_request, gets_status, get_bad, got_ok, got_err, wants}
 use Rattle.compound.proofs.running.Running.get_handle.Goals as goal
 
 pub returns-in-Err-clause-gives : goal.returns-in-Err-clause-gives
-returns-in-Err-clause-gives g c = λ now table.
+returns-in-Err-clause-gives g c = λ now table opens.
     let fs = fs_of c.args.fs.now in
     let request = in_progress_of c.args.self.now in
     let kind = Argument.GetFh in
-    c.refuse.ensures.gives now fs fs table table kind
-    (subst (λ (reason : Status). GivesIn now fs fs table table request request kind (Refused 10 reason)) (sym c.in-Err.ensures.err.0)
-    (gives_refusal now fs fs table table request kind 10 _ (wants now fs table request kind refl c.in-Err.ensures.err.1)))
+    c.refuse.ensures.gives now (shared fs table opens) (shared fs table opens) kind
+    (subst (λ (reason : Status). GivesIn now (shared fs table opens) (shared fs table opens) request request kind (Refused 10 reason)) (sym c.in-Err.ensures.err.0)
+    (gives_refusal now (shared fs table opens) (shared fs table opens) request kind 10 _ (wants now fs table opens request kind refl c.in-Err.ensures.err.1)))
 
 pub status_of-requires : goal.status_of-requires
 status_of-requires g c =
@@ -37,20 +38,20 @@ refuse-requires-in-Err-handle g c =
     (c.in-Err-handle.ensures.step request.context.cred state 0 (is_on fs request _ _ c.requires.run c.in-Ok.ensures.ok.0 c.in-Ok.ensures.ok.1 (is_there fs request))))
 
 pub returns-in-Ok-handle-clause-gives : goal.returns-in-Ok-handle-clause-gives
-returns-in-Ok-handle-clause-gives g c = λ now table.
+returns-in-Ok-handle-clause-gives g c = λ now table opens.
     let fs = fs_of c.args.fs.now in
     let request = in_progress_of c.args.self.now in
-    c.settle_handle.ensures.gives now fs table
-    (got_ok now fs table request c.in-Ok-handle.handle
+    c.settle_handle.ensures.gives now (shared fs table opens)
+    (got_ok now fs table opens request c.in-Ok-handle.handle
     (λ state there. c.in-Ok-handle.ensures.step request.context.cred state now (is_on fs request _ _ c.requires.run c.in-Ok.ensures.ok.0 c.in-Ok.ensures.ok.1 there)))
 
 pub returns-in-Err-handle-clause-gives : goal.returns-in-Err-handle-clause-gives
-returns-in-Err-handle-clause-gives g c = λ now table.
+returns-in-Err-handle-clause-gives g c = λ now table opens.
     let fs = fs_of c.args.fs.now in
     let request = in_progress_of c.args.self.now in
     let kind = Argument.GetFh in
-    c.refuse-in-Err-handle.ensures.gives now fs fs table table kind
-    (gives_refusal now fs fs table table request kind 10 c.status_of.result
-    (got_err now fs table request c.status_of.result
+    c.refuse-in-Err-handle.ensures.gives now (shared fs table opens) (shared fs table opens) kind
+    (gives_refusal now (shared fs table opens) (shared fs table opens) request kind 10 c.status_of.result
+    (got_err now fs table opens request c.status_of.result
     (λ state there. subst (λ (why : FsFault). GetsHandle fs state now (Err why)) c.status_of.ensures
     (c.in-Err-handle.ensures.step request.context.cred state now (is_on fs request _ _ c.requires.run c.in-Ok.ensures.ok.0 c.in-Ok.ensures.ok.1 there)))))

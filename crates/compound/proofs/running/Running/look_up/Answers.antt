@@ -6,6 +6,7 @@ use Rattle.model.specs.Answer.{Refused}
 use Rattle.model.specs.Operation.{Argument}
 use Rattle.model.specs.declared.status.Status.{Status}
 use Rattle.compound.specs.Operates.{GivesIn}
+use Rattle.compound.specs.States.{shared}
 use Rattle.compound.specs.Views.{in_progress_of}
 use Rattle.compound.proofs.Rooms.{gives_refusal}
 use Rattle.compound.proofs.Trees.{is_on, is_there, of_request, looks_status, lookup_bad, looked_ok, looked_err, wants}
@@ -13,13 +14,13 @@ use Rattle.compound.proofs.running.Running.look_up.Goals as goal
 
 pub returns-in-Err-clause-gives : goal.returns-in-Err-clause-gives
 unfolding in_progress_of
-returns-in-Err-clause-gives g c = λ now table.
+returns-in-Err-clause-gives g c = λ now table opens.
     let fs = fs_of c.args.fs.now in
     let request = in_progress_of c.args.self.now in
     let kind = Argument.Lookup c.args.name.now in
-    c.refuse.ensures.gives now fs fs table table kind
-    (subst (λ (reason : Status). GivesIn now fs fs table table request request kind (Refused 15 reason)) (sym c.in-Err.ensures.err.0)
-    (gives_refusal now fs fs table table request kind 15 _ (wants now fs table request kind refl c.in-Err.ensures.err.1)))
+    c.refuse.ensures.gives now (shared fs table opens) (shared fs table opens) kind
+    (subst (λ (reason : Status). GivesIn now (shared fs table opens) (shared fs table opens) request request kind (Refused 15 reason)) (sym c.in-Err.ensures.err.0)
+    (gives_refusal now (shared fs table opens) (shared fs table opens) request kind 15 _ (wants now fs table opens request kind refl c.in-Err.ensures.err.1)))
 
 pub status_of-requires : goal.status_of-requires
 unfolding in_progress_of
@@ -41,21 +42,21 @@ refuse-requires-in-Err-lookup g c =
 
 pub returns-in-Ok-lookup-clause-gives : goal.returns-in-Ok-lookup-clause-gives
 unfolding in_progress_of
-returns-in-Ok-lookup-clause-gives g c = λ now table.
+returns-in-Ok-lookup-clause-gives g c = λ now table opens.
     let fs = fs_of c.args.fs.now in
     let request = in_progress_of c.args.self.now in
-    c.settle.ensures.gives now fs table (Argument.Lookup c.args.name.now) refl
-    (looked_ok now fs table request c.args.name.now c.in-Ok-lookup.number
+    c.settle.ensures.gives now (shared fs table opens) (Argument.Lookup c.args.name.now) refl
+    (looked_ok now fs table opens request c.args.name.now c.in-Ok-lookup.number
     (λ state there. c.in-Ok-lookup.ensures.step state now (is_on fs request _ _ c.requires.run c.in-Ok.ensures.ok.0 c.in-Ok.ensures.ok.1 there)))
 
 pub returns-in-Err-lookup-clause-gives : goal.returns-in-Err-lookup-clause-gives
 unfolding in_progress_of
-returns-in-Err-lookup-clause-gives g c = λ now table.
+returns-in-Err-lookup-clause-gives g c = λ now table opens.
     let fs = fs_of c.args.fs.now in
     let request = in_progress_of c.args.self.now in
     let kind = Argument.Lookup c.args.name.now in
-    c.refuse-in-Err-lookup.ensures.gives now fs fs table table kind
-    (gives_refusal now fs fs table table request kind 15 c.status_of.result
-    (looked_err now fs table request c.args.name.now c.status_of.result
+    c.refuse-in-Err-lookup.ensures.gives now (shared fs table opens) (shared fs table opens) kind
+    (gives_refusal now (shared fs table opens) (shared fs table opens) request kind 15 c.status_of.result
+    (looked_err now fs table opens request c.args.name.now c.status_of.result
     (λ state there. subst (λ (why : FsFault). LooksUp fs state now c.args.name.now (Err why)) c.status_of.ensures
     (c.in-Err-lookup.ensures.step state now (is_on fs request _ _ c.requires.run c.in-Ok.ensures.ok.0 c.in-Ok.ensures.ok.1 there)))))

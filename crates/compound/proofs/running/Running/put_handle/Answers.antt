@@ -3,6 +3,7 @@ use Rattle.fs.specs.FileSystems.{fs_of}
 use Rattle.fs.specs.Operations.{PutsHandle}
 use Rattle.fs.specs.declared.fault.FsFault.{FsFault}
 use Rattle.model.specs.Operation.{Argument}
+use Rattle.compound.specs.States.{shared}
 use Rattle.compound.specs.Views.{in_progress_of}
 use Rattle.compound.proofs.Rooms.{gives_refusal}
 use Rattle.compound.proofs.Trees.{of_request, puts_status, put_bad, put_ok, put_err}
@@ -22,17 +23,17 @@ refuse-requires g c =
     (subst (λ (why : FsFault). PutsHandle fs state 0 c.args.handle.now (Err why)) c.status_of.ensures (c.in-Err.ensures.step state 0 refl))
 
 pub returns-in-Ok-clause-gives : goal.returns-in-Ok-clause-gives
-returns-in-Ok-clause-gives g c = λ now table.
+returns-in-Ok-clause-gives g c = λ now table opens.
     let fs = fs_of c.args.fs.now in
-    c.settle.ensures.gives now fs table (Argument.PutFh c.args.handle.now) refl
-    (put_ok now fs table (in_progress_of c.args.self.now) c.args.handle.now c.in-Ok.number (λ state there. c.in-Ok.ensures.step state now there.tree_is))
+    c.settle.ensures.gives now (shared fs table opens) (Argument.PutFh c.args.handle.now) refl
+    (put_ok now fs table opens (in_progress_of c.args.self.now) c.args.handle.now c.in-Ok.number (λ state there. c.in-Ok.ensures.step state now there.tree_is))
 
 pub returns-in-Err-clause-gives : goal.returns-in-Err-clause-gives
-returns-in-Err-clause-gives g c = λ now table.
+returns-in-Err-clause-gives g c = λ now table opens.
     let fs = fs_of c.args.fs.now in
     let request = in_progress_of c.args.self.now in
     let kind = Argument.PutFh c.args.handle.now in
-    c.refuse.ensures.gives now fs fs table table kind
-    (gives_refusal now fs fs table table request kind 22 c.status_of.result
-    (put_err now fs table request c.args.handle.now c.status_of.result
+    c.refuse.ensures.gives now (shared fs table opens) (shared fs table opens) kind
+    (gives_refusal now (shared fs table opens) (shared fs table opens) request kind 22 c.status_of.result
+    (put_err now fs table opens request c.args.handle.now c.status_of.result
     (λ state there. subst (λ (why : FsFault). PutsHandle fs state now c.args.handle.now (Err why)) c.status_of.ensures (c.in-Err.ensures.step state now there.tree_is))))

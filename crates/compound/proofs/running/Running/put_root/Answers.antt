@@ -1,8 +1,10 @@
 use Rattle.std.proofs.Common.{refl}
 use Rattle.model.specs.Operation.{Argument}
+use Rattle.compound.specs.States.{shared}
 use Rattle.compound.specs.Views.{in_progress_of}
 use Rattle.compound.proofs.Trees.{root_runs}
 use Rattle.compound.proofs.running.Running.put_root.Goals as goal
 
 pub returns-clause-gives : goal.returns-clause-gives
-returns-clause-gives c = λ now fs table. c.settle.ensures.gives now fs table Argument.PutRootFh refl (root_runs now fs table (in_progress_of c.args.self.now))
+returns-clause-gives c = λ files now table opens.
+    c.settle.ensures.gives now (shared files table opens) Argument.PutRootFh refl (root_runs now files table opens (in_progress_of c.args.self.now))

@@ -1,4 +1,4 @@
-use Rattle.std.proofs.Common.{◌≡◌, ℕ, ◌-◌, List, Result, false, not, ◌&&◌, length, drop, ap, sym, subst, ◌∙◌, arith}
+use Rattle.std.proofs.Common.{◌≡◌, ℕ, ◌-◌, List, Result, true, false, not, ◌&&◌, length, drop, ap, sym, subst, ◌∙◌, arith}
 use Rattle.model.specs.Rpc.{is_empty}
 use Rattle.model.specs.Served.{looks_no_further}
 use Rattle.model.specs.World.{is_last}
@@ -6,8 +6,8 @@ use Rattle.xdr.specs.Grammar.{◌>>=◌}
 use Rattle.xdr.specs.declared.refusal.Refusal.{Refusal}
 use Rattle.model.specs.WireArguments.{arguments_at}
 use Rattle.wire.specs.ArgumentView.{argument_view}
-use Rattle.compound.specs.Views.{in_progress_of}
-use Rattle.compound.proofs.Rests.{rest_short, drop_rest, by_read}
+use Rattle.compound.specs.Views.{in_progress_of, next_view}
+use Rattle.compound.proofs.Rests.{rest_short, drop_rest, by_read, by_much}
 use Rattle.compound.proofs.running.Running.read_next.Goals as goal
 
 pub overflow_sub-position : goal.overflow_sub-position
@@ -25,3 +25,12 @@ returns-clause-ok c = λ bytes e.
     (subst (λ (r : List ℕ). (is_last (in_progress_of c.args.self.now) && (not (looks_no_further (argument_view c.in-Ok.argument)) && not (is_empty r))) ≡ false)
     c.rest.ensures (sym c.has_too_much.ensures ∙ c.if-has_too_much.false))
     (ap (λ (n : ℕ). drop (length c.args.self.now.compound.operations.now - n) c.args.self.now.compound.operations.now) c.len.ensures ∙ behind)
+
+pub returns-then-has_too_much-clause-ok : goal.returns-then-has_too_much-clause-ok
+unfolding in_progress_of
+returns-then-has_too_much-clause-ok c = λ bytes e.
+    by_much (in_progress_of c.args.self.now) c.args.number (arguments_at c.args.number bytes) (argument_view c.in-Ok.argument) c.read_numbered.new.r
+    (sym (ap (λ (r : Result (ℕ × List ℕ) Refusal). r >>= λ n. arguments_at n.0 n.1) e) ∙ c.in-Ok.ensures.reads)
+    (subst (λ (r : List ℕ). (is_last (in_progress_of c.args.self.now) && (not (looks_no_further (argument_view c.in-Ok.argument)) && not (is_empty r))) ≡ true)
+    c.rest.ensures (sym c.has_too_much.ensures ∙ c.if-has_too_much.true))
+    ∙ ap (next_view c.args.self.now.compound.operations.now) (sym c.bad_arguments-then-has_too_much.ensures)

@@ -4,6 +4,7 @@ use Rattle.model.specs.Operation.{Argument}
 use Rattle.model.specs.Session.{reclaim_complete}
 use Rattle.session.specs.Views.{table_of}
 use Rattle.compound.specs.Runs.{with_rest}
+use Rattle.compound.specs.States.{without_opens}
 use Rattle.compound.specs.Views.{in_progress_of}
 use Rattle.compound.proofs.Rooms.{gives_in_room, refused_in_room}
 use Rattle.compound.proofs.Sequencing.{ran_reclaim, reclaim_none}
@@ -17,8 +18,8 @@ returns-then-not-has_reclaim_room-clause-gives c = λ now fs.
     let old = table_of c.args.table.now in
     let new = (reclaim_complete request.context.client old).1 in
     let kind = Argument.ReclaimComplete false in
-    c.refuse.ensures.gives now fs fs old old kind
-    (refused_in_room now fs fs old new request request kind Answer.ReclaimComplete (sym c.if-not-has_reclaim_room.true ∙ c.has_reclaim_room.ensures.room)
+    c.refuse.ensures.gives now (without_opens fs old) (without_opens fs old) kind
+    (refused_in_room now (without_opens fs old) (without_opens fs new) request request kind Answer.ReclaimComplete (sym c.if-not-has_reclaim_room.true ∙ c.has_reclaim_room.ensures.room)
     (table_runs now fs old new request request kind (Done Answer.ReclaimComplete)
     (λ world rest on. ran_reclaim world (with_rest request rest) now _ _ on (reclaim_none request.context.client old c.requires))))
 
@@ -29,6 +30,6 @@ returns-clause-gives c = λ now fs.
     let old = table_of c.args.table.now in
     let new = table_of c.reclaim_complete.new.self in
     let kind = Argument.ReclaimComplete false in
-    gives_in_room now fs fs old new request request kind Answer.ReclaimComplete (sym c.if-not-has_reclaim_room.false ∙ c.has_reclaim_room.ensures.room)
+    gives_in_room now (without_opens fs old) (without_opens fs new) request request kind Answer.ReclaimComplete (sym c.if-not-has_reclaim_room.false ∙ c.has_reclaim_room.ensures.room)
     (table_runs now fs old new request request kind (Done Answer.ReclaimComplete)
     (λ world rest on. ran_reclaim world (with_rest request rest) now _ _ on c.in-Ok.ensures.answered))

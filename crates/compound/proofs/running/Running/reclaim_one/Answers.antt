@@ -1,22 +1,23 @@
 use Rattle.std.proofs.Common.{refl, true}
 use Rattle.fs.specs.FileSystems.{fs_of}
 use Rattle.model.specs.Operation.{Argument}
+use Rattle.compound.specs.States.{shared}
 use Rattle.compound.specs.Views.{in_progress_of}
 use Rattle.compound.proofs.Rooms.{gives_refusal}
 use Rattle.compound.proofs.Trees.{reclaim_ok, reclaim_err}
 use Rattle.compound.proofs.running.Running.reclaim_one.Goals as goal
 
 pub returns-in-Ok-clause-gives : goal.returns-in-Ok-clause-gives
-returns-in-Ok-clause-gives g c = λ now table.
+returns-in-Ok-clause-gives g c = λ now table opens.
     let fs = fs_of c.args.fs.now in
-    c.settle.ensures.gives now fs table (Argument.ReclaimComplete true) refl
-    (reclaim_ok now fs table (in_progress_of c.args.self.now) c.in-Ok.ensures.tests)
+    c.settle.ensures.gives now (shared fs table opens) (Argument.ReclaimComplete true) refl
+    (reclaim_ok now fs table opens (in_progress_of c.args.self.now) c.in-Ok.ensures.tests)
 
 pub returns-in-Err-clause-gives : goal.returns-in-Err-clause-gives
-returns-in-Err-clause-gives g c = λ now table.
+returns-in-Err-clause-gives g c = λ now table opens.
     let fs = fs_of c.args.fs.now in
     let request = in_progress_of c.args.self.now in
     let kind = Argument.ReclaimComplete true in
-    c.refuse.ensures.gives now fs fs table table kind
-    (gives_refusal now fs fs table table request kind 58 c.in-Err.status
-    (reclaim_err now fs table request c.in-Err.status c.in-Err.ensures.tests))
+    c.refuse.ensures.gives now (shared fs table opens) (shared fs table opens) kind
+    (gives_refusal now (shared fs table opens) (shared fs table opens) request kind 58 c.in-Err.status
+    (reclaim_err now fs table opens request c.in-Err.status c.in-Err.ensures.tests))

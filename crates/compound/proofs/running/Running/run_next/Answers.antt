@@ -1,11 +1,11 @@
 use Rattle.std.proofs.Common.{◌≡◌, refl, sym, subst, arith}
 use Rattle.std.specs.Prelude.{drop}
-use Rattle.fs.specs.FileSystems.{fs_of}
-use Rattle.session.specs.Views.{table_of}
 use Rattle.wire.specs.ArgumentView.{argument_view}
 use Rattle.compound.specs.Operates.{IsAnswered}
+use Rattle.compound.specs.States.{shared_of}
 use Rattle.compound.specs.Views.{in_progress_of}
-use Rattle.compound.proofs.Firsts.{first_alone, is_served_next}
+use Rattle.model.proofs.ReadOperations.{is_served_next}
+use Rattle.compound.proofs.Firsts.{first_alone}
 use Rattle.compound.proofs.Refusals.{refused_spelled}
 use Rattle.compound.proofs.Turning.{turns_read}
 use Rattle.compound.proofs.VolumeLaws.{read_gives, refused_turn}
@@ -16,7 +16,7 @@ use Rattle.compound.proofs.running.Running.run_next.Goals as goal
 pub returns-in_ok-done-in-Reads-clause-turns : goal.returns-in_ok-done-in-Reads-clause-turns
 returns-in_ok-done-in-Reads-clause-turns g c =
     let next = rw c.in-Reads.is at c.in_ok-operation.ensures.ok in
-    turns_read c.args.now (fs_of c.args.fs.now) (fs_of c.operate.new.fs) (table_of c.args.table.now) (table_of c.operate.new.table) (in_progress_of c.args.self.now)
+    turns_read c.args.now (shared_of c.args.fs.now c.args.table.now) (shared_of c.operate.new.fs c.operate.new.table) (in_progress_of c.args.self.now)
     (argument_view c.in-Reads.argument) (drop c.in-Reads.position c.args.self.now.compound.operations.now) c.in_ok-done-in-Reads.done next
     c.in_ok-done-in-Reads.ensures.gives
 
@@ -49,7 +49,7 @@ returns-in_err-done-in-Reads-clause-volume g c =
     let reason = c.in_err-done-in-Reads.field-0.0 in
     let told = told_err c.from_residual-in_err-done-in-Reads.result reason c.from_residual-in_err-done-in-Reads.ensures.1 in
     rw told (changes_by g.D.Device.keeps_word _ _
-    (read_gives (fs_of c.args.fs.now) (in_progress_of c.args.self.now) c.args.now (argument_view c.in-Reads.argument)
+    (read_gives (shared_of c.args.fs.now c.args.table.now) (in_progress_of c.args.self.now) c.args.now (argument_view c.in-Reads.argument)
     (drop c.in-Reads.position c.args.self.now.compound.operations.now) next)
     _ _ _ _ _ (rw c.in_err-done-in-Reads.was at c.operate.ensures.volume))
 
@@ -57,7 +57,7 @@ pub returns-in_ok-done-in-Reads-clause-volume : goal.returns-in_ok-done-in-Reads
 returns-in_ok-done-in-Reads-clause-volume g c =
     let next = rw c.in-Reads.is at c.in_ok-operation.ensures.ok in
     changes_by g.D.Device.keeps_word _ _
-    (read_gives (fs_of c.args.fs.now) (in_progress_of c.args.self.now) c.args.now (argument_view c.in-Reads.argument)
+    (read_gives (shared_of c.args.fs.now c.args.table.now) (in_progress_of c.args.self.now) c.args.now (argument_view c.in-Reads.argument)
     (drop c.in-Reads.position c.args.self.now.compound.operations.now) next)
     _ _ _ _ _ (rw c.in_ok-done-in-Reads.was at c.operate.ensures.volume)
 
@@ -65,4 +65,4 @@ pub returns-in-Refuses-clause-volume : goal.returns-in-Refuses-clause-volume
 returns-in-Refuses-clause-volume g c =
     let next = rw c.in-Refuses.is at c.in_ok-operation.ensures.ok in
     answers_quietly g.D.Device.keeps_word _ _ _ _ _ refl (omega arith) c.requires.up
-    (refused_turn (fs_of c.args.fs.now) (in_progress_of c.args.self.now) c.args.now c.in-Refuses.operation c.in-Refuses.status next)
+    (refused_turn (shared_of c.args.fs.now c.args.table.now) (in_progress_of c.args.self.now) c.args.now c.in-Refuses.operation c.in-Refuses.status next)

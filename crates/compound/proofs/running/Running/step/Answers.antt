@@ -1,11 +1,11 @@
 use Rattle.std.proofs.Common.{ap, ◌∙◌}
 use Rattle.std.specs.Prelude.{drop}
-use Rattle.fs.specs.FileSystems.{fs_of}
 use Rattle.model.specs.Answer as model
 use Rattle.session.specs.Views.{table_of}
 use Rattle.wire.specs.OutcomeView.{outcome_view}
 use Rattle.compound.specs.Operates.{left_by}
 use Rattle.compound.specs.Runs.{with_rest}
+use Rattle.compound.specs.States.{shared_of}
 use Rattle.compound.specs.Views.{asked_of, in_progress_of}
 use Rattle.compound.proofs.Stepping.{steps_to, left_rest}
 use Rattle.compound.proofs.running.Running.step.Goals as goal
@@ -15,7 +15,7 @@ returns-in-Gives-clause-step g c =
     let request = in_progress_of c.args.self in
     let rest = drop c.in-Ok.ran.position c.args.self.compound.operations.now in
     let turns = rw c.in-Gives.is at c.in-Ok.ensures.turns in
-    steps_to c.args.now (fs_of c.args.fs.now) (fs_of c.run_next.new.fs) (table_of c.args.table.now) (table_of c.run_next.new.table) (table_of c.answer-in-Gives.new.table)
+    steps_to c.args.now (shared_of c.args.fs.now c.args.table.now) (shared_of c.run_next.new.fs c.run_next.new.table) (table_of c.answer-in-Gives.new.table)
     (asked_of c.args.self) (asked_of c.leave.new.self) request (with_rest (left_by c.in-Gives.effect request) rest) (in_progress_of c.leave.new.self)
     (outcome_view c.in-Gives.outcome) c.answer-in-Gives.result turns (c.leave.ensures.asked ∙ c.advance.ensures.asked)
     (c.leave.ensures.request ∙ (ap (left_by c.in-Gives.effect) c.advance.ensures.request ∙ left_rest c.in-Gives.effect request rest)) c.answer-in-Gives.ensures.stands
@@ -25,6 +25,6 @@ returns-in-GivesHandle-clause-step g c =
     let request = in_progress_of c.args.self in
     let rest = drop c.in-Ok.ran.position c.args.self.compound.operations.now in
     let turns = rw c.in-GivesHandle.is at c.in-Ok.ensures.turns in
-    steps_to c.args.now (fs_of c.args.fs.now) (fs_of c.run_next.new.fs) (table_of c.args.table.now) (table_of c.run_next.new.table) (table_of c.answer.new.table)
+    steps_to c.args.now (shared_of c.args.fs.now c.args.table.now) (shared_of c.run_next.new.fs c.run_next.new.table) (table_of c.answer.new.table)
     (asked_of c.args.self) (asked_of c.advance.new.self) request (with_rest request rest) (in_progress_of c.advance.new.self)
     (model.Done (model.GetFh c.in-GivesHandle.handle)) c.answer.result turns c.advance.ensures.asked c.advance.ensures.request c.answer.ensures.stands

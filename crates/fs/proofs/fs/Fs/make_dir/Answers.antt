@@ -1,4 +1,4 @@
-use Rattle.std.proofs.Common.{sym, ap, subst, refl, ◌∙◌, arith}
+use Rattle.std.proofs.Common.{ap, refl, ◌∙◌, arith}
 use Rattle.model.specs.Step.{Stepped}
 use Rattle.fs.specs.Changes.{IsTree}
 use Rattle.fs.specs.Refusals.{fault_of}

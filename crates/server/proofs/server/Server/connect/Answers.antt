@@ -1,15 +1,15 @@
 use Rattle.std.proofs.Common.{◌<◌, [], refl, sym, ap, subst, arith}
 use Rattle.slab.specs.Slab.{slab_len}
+use Rattle.compound.specs.States.{shared_of}
 use Rattle.fs.specs.FileSystems.{fs_of}
-use Rattle.session.specs.Views.{table_of}
 use Rattle.server.specs.Connections.{connections_of, connection_view, IsOfRun}
 use Rattle.server.specs.declared.fault.ServerFault.TheVariants as faults
 use Rattle.server.specs.Servers.{world_of, volume_of, world_by}
 use Rattle.model.specs.Runs as runs
-use Rattle.server.proofs.Moves.{moves_none, does_quietly}
+use Rattle.server.proofs.Moves.{does_quietly}
 use Rattle.server.proofs.Refusals.{told_by}
 use Rattle.server.proofs.SlabLaws.{count_of, with_slot, stands_none, grew}
-use Rattle.server.proofs.Worlds.{quiet_of_run, can_connect_by, connected, happens, inserted_of_run, inserted_count}
+use Rattle.server.proofs.Worlds.{quiet_of_run, can_connect_by, connected, inserted_of_run, inserted_count}
 use Rattle.server.proofs.server.Server.connect.Goals as goal
 
 pub returns-then-len-ge-MOST_CONNECTIONS-clause-full : goal.returns-then-len-ge-MOST_CONNECTIONS-clause-full
@@ -36,7 +36,7 @@ returns-in_err-insert-clause-err g c =
     let s = c.args.self.now in
     let told = told_by c.from_residual-in_err-insert.result faults.Memory c.from_residual-in_err-insert.ensures.1 in
     let failed = rw c.in_err-insert.was at c.insert.ensures.err in
-    rw told (ap (world_by (fs_of s.fs) (table_of s.table)) (grew s.connections c.insert.new.self failed))
+    rw told (ap (world_by (shared_of s.fs s.table)) (grew s.connections c.insert.new.self failed))
 
 pub returns-clause-fresh : goal.returns-clause-fresh
 unfolding world_of
@@ -45,7 +45,7 @@ returns-clause-fresh g c =
     let conn = c.in_ok-insert.field-0 in
     let vacant = rw c.in_ok-insert.was at c.insert.ensures.was_vacant in
     let few : slab_len s.connections < 16 = omega arith in
-    can_connect_by (world_by (fs_of s.fs) (table_of s.table) (connections_of s.connections)) conn (stands_none s.connections conn (sym vacant))
+    can_connect_by (world_by (shared_of s.fs s.table) (connections_of s.connections)) conn (stands_none s.connections conn (sym vacant))
     (omega (arith, count_of s.connections))
 
 pub returns-clause-ok : goal.returns-clause-ok
@@ -56,11 +56,11 @@ returns-clause-ok g c =
     let updates = rw c.in_ok-insert.was at c.insert.ensures.updates in
     let vacant = rw c.in_ok-insert.was at c.insert.ensures.was_vacant in
     let few : slab_len s.connections < 16 = omega arith in
-    let can = can_connect_by (world_by (fs_of s.fs) (table_of s.table) (connections_of s.connections)) conn (stands_none s.connections conn (sym vacant))
+    let can = can_connect_by (world_by (shared_of s.fs s.table) (connections_of s.connections)) conn (stands_none s.connections conn (sym vacant))
     (omega (arith, count_of s.connections)) in
     let up = sym c.if-is_down.ensures in
     λ keeps. does_quietly (fs_of s.fs) _ _ _ (runs.Connects conn) _ refl up
-    (connected (fs_of s.fs) (table_of s.table) (connections_of s.connections) _ conn (connection_view c.in_ok-connection.connection) can
+    (connected (shared_of s.fs s.table) (connections_of s.connections) _ conn (connection_view c.in_ok-connection.connection) can
     (with_slot s.connections c.insert.new.self conn c.in_ok-connection.connection updates) c.in_ok-connection.ensures)
     refl
 

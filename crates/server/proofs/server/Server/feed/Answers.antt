@@ -1,13 +1,13 @@
 use Rattle.std.proofs.Common.{refl, sym, ap, ◌∙◌, subst, arith}
+use Rattle.compound.specs.States.{shared_of}
 use Rattle.fs.specs.FileSystems.{fs_of}
 use Rattle.model.specs.Runs as runs
-use Rattle.session.specs.Views.{table_of}
 use Rattle.server.specs.Connections.{connections_of, connection_view}
 use Rattle.server.specs.Seen.{Took, taken_on}
 use Rattle.server.specs.Servers.{world_of, volume_of, world_by}
-use Rattle.server.proofs.Moves.{moves_none, does_quietly}
+use Rattle.server.proofs.Moves.{does_quietly}
 use Rattle.server.proofs.SlabLaws.{stands, stands_none, wrote, wrote_count}
-use Rattle.server.proofs.Worlds.{AllOfRun, all_of_run_with, fed, happens, feeds_of_run}
+use Rattle.server.proofs.Worlds.{AllOfRun, all_of_run_with, fed, feeds_of_run}
 use Rattle.server.proofs.server.Server.feed.Goals as goal
 
 pub returns-in_default-clause-no_connection : goal.returns-in_default-clause-no_connection
@@ -38,9 +38,9 @@ returns-in_err-feed-clause-closed g c =
     let all = rw c.in_err-feed.was at c.feed.ensures.closed in
     let up = sym c.if-is_down.ensures in
     λ keeps is. does_quietly (fs_of s.fs) _ _ _ (runs.Arrives c.args.conn c.args.piece.now) _ refl up
-    (fed (fs_of s.fs) (table_of s.table) (connections_of s.connections) _ c.args.conn c.args.piece.now (connection_view before) (connection_view after)
+    (fed (shared_of s.fs s.table) (connections_of s.connections) _ c.args.conn c.args.piece.now (connection_view before) (connection_view after)
     there (wrote s.connections c.args.conn before after c.in-Some.ensures.value) (all.0 ∙ sym all.1))
-    (ap Took (sym (ap (taken_on (world_by (fs_of s.fs) (table_of s.table) (connections_of s.connections)) c.args.piece.now) there ∙ all.2)))
+    (ap Took (sym (ap (taken_on (world_by (shared_of s.fs s.table) (connections_of s.connections)) c.args.piece.now) there ∙ all.2)))
 
 pub returns-in_err-feed-clause-is_none : goal.returns-in_err-feed-clause-is_none
 unfolding world_of
@@ -58,9 +58,9 @@ returns-clause-ok g c =
     let e = rw c.in_ok-feed.was at c.feed.ensures.arrived in
     let up = sym c.if-is_down.ensures in
     λ keeps. does_quietly (fs_of s.fs) _ _ _ (runs.Arrives c.args.conn c.args.piece.now) _ refl up
-    (fed (fs_of s.fs) (table_of s.table) (connections_of s.connections) _ c.args.conn c.args.piece.now (connection_view before) (connection_view after)
+    (fed (shared_of s.fs s.table) (connections_of s.connections) _ c.args.conn c.args.piece.now (connection_view before) (connection_view after)
     there (wrote s.connections c.args.conn before after c.in-Some.ensures.value) e.0)
-    (ap Took (sym (ap (taken_on (world_by (fs_of s.fs) (table_of s.table) (connections_of s.connections)) c.args.piece.now) there ∙ e.1)))
+    (ap Took (sym (ap (taken_on (world_by (shared_of s.fs s.table) (connections_of s.connections)) c.args.piece.now) there ∙ e.1)))
 
 pub returns-clause-is_none : goal.returns-clause-is_none
 unfolding world_of

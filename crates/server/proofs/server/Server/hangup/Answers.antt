@@ -1,8 +1,8 @@
 use Rattle.std.proofs.Common.{◌≡◌, Err, inl, refl, sym, ap, ◌∙◌, subst, arith}
+use Rattle.compound.specs.States.{shared_of}
 use Rattle.fs.specs.FileSystems.{fs_of}
 use Rattle.model.specs.Runs as runs
 use Rattle.model.specs.World.{World}
-use Rattle.session.specs.Views.{table_of}
 use Rattle.server.specs.Connections.{connections_of}
 use Rattle.server.specs.declared.fault.ServerFault.TheVariants as faults
 use Rattle.server.specs.Refused.{view, IsUntouched, RefusesTurn}
@@ -12,7 +12,7 @@ use Rattle.server.specs.Servers.{world_of, volume_of, seen_with}
 use Rattle.server.proofs.HangUps.{turned_on, fewer_left}
 use Rattle.server.proofs.Moves.{does_quietly, same_seen}
 use Rattle.server.proofs.SlabLaws.{stands_none, without_slot, absent, present, removed_count}
-use Rattle.server.proofs.Worlds.{AllOfRun, all_of_run_without, happens, hung_up}
+use Rattle.server.proofs.Worlds.{AllOfRun, all_of_run_without, hung_up}
 use Rattle.server.proofs.server.Server.hangup.Goals as goal
 
 pub returns-then-is_down-clause-refused : goal.returns-then-is_down-clause-refused
@@ -85,7 +85,7 @@ returns-clause-ok g c =
       seen_with mid was.0,
       was.1,
       does_quietly (fs_of mid.fs) _ _ _ (runs.HangsUp c.args.conn) _ refl inv.is_up
-          (hung_up (fs_of mid.fs) (table_of mid.table) (connections_of mid.connections) _ c.args.conn (sym c.is_busy.ensures ∙ c.loop-self-test.false)
+          (hung_up (shared_of mid.fs mid.table) (connections_of mid.connections) _ c.args.conn (sym c.is_busy.ensures ∙ c.loop-self-test.false)
           (without_slot mid.connections c.try_remove.new.self c.args.conn c.try_remove.ensures.updates)) refl was.0 was.2,
     )
 

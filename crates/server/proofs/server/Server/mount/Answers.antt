@@ -5,8 +5,8 @@ use Rattle.fs.proofs.MountedLaws.{refused_untouched}
 use Rattle.model.specs.Session.{empty_table}
 use Rattle.session.specs.Views.{table_of}
 use Rattle.server.specs.Connections.{connections_of}
-use Rattle.server.specs.Servers.{world_of, volume_of}
-use Rattle.server.proofs.Moves.{mounted_by}
+use Rattle.server.specs.Servers.{world_of, volume_of, failures_of}
+use Rattle.server.proofs.Moves.{mounted_by, world_mounted}
 use Rattle.server.proofs.Refusals.{told_err}
 use Rattle.server.proofs.server.Server.mount.Goals as goal
 
@@ -16,6 +16,29 @@ returns-clause-begins g c =
     let new = c.in_ok-fs.ensures.new in
     λ keeps. mounted_by (fs_of c.in_ok-fs.fs) (table_of c.new-table.result) (connections_of c.in-Ok.connections)
     (c.new-table.ensures ∙ ap empty_table c.restart_count.ensures) (rw c.in-Ok.ensures.empty refl) new.no_change new.is_up (c.in_ok-fs.ensures.mounted keeps).holds
+
+pub returns-clause-world : goal.returns-clause-world
+unfolding world_of volume_of connections_of
+returns-clause-world g c =
+    world_mounted (fs_of c.in_ok-fs.fs) (table_of c.new-table.result) (connections_of c.in-Ok.connections)
+    (c.new-table.ensures ∙ ap empty_table c.restart_count.ensures) (rw c.in-Ok.ensures.empty refl) c.in_ok-fs.ensures.new.no_change
+
+pub returns-clause-new : goal.returns-clause-new
+unfolding volume_of
+returns-clause-new g c = c.in_ok-fs.ensures.new
+
+pub returns-clause-later : goal.returns-clause-later
+unfolding failures_of
+returns-clause-later g c = c.in_ok-fs.ensures.later
+
+pub returns-clause-mounted : goal.returns-clause-mounted
+unfolding volume_of
+returns-clause-mounted g c = c.in_ok-fs.ensures.mounted
+
+pub returns-in_err-fs-clause-back : goal.returns-in_err-fs-clause-back
+returns-in_err-fs-clause-back g c =
+    let told = told_err c.from_residual.result c.in_err-fs.field-0.0 c.from_residual.ensures.1 in
+    rw told (rw c.in_err-fs.was at c.mount.ensures.back)
 
 -- no memory for the connections: the device was not asked
 pub returns-in-Err-clause-refused : goal.returns-in-Err-clause-refused

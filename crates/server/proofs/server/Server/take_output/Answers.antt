@@ -1,14 +1,14 @@
 use Rattle.std.proofs.Common.{sym, refl, ap, ◌∙◌, subst, arith}
+use Rattle.compound.specs.States.{shared_of}
 use Rattle.fs.specs.FileSystems.{fs_of}
 use Rattle.model.specs.Runs as runs
 use Rattle.model.specs.World.{reply_in}
-use Rattle.session.specs.Views.{table_of}
 use Rattle.server.specs.Connections.{connections_of, connection_view, IsOfRun}
 use Rattle.server.specs.Seen.{Gave}
 use Rattle.server.specs.Servers.{world_of, volume_of}
 use Rattle.server.proofs.Moves.{moves_none, does_quietly}
 use Rattle.server.proofs.SlabLaws.{stands, stands_none, wrote, wrote_count}
-use Rattle.server.proofs.Worlds.{AllOfRun, all_of_run_with, taken_of_run, took, happens, stays_down}
+use Rattle.server.proofs.Worlds.{AllOfRun, all_of_run_with, taken_of_run, took, stays_down}
 use Rattle.server.proofs.server.Server.take_output.Goals as goal
 
 pub invariant_of-self : goal.invariant_of-self
@@ -33,7 +33,7 @@ returns-in-Some-clause-ok g c =
     let after = c.take_output.new.self in
     let there = stands s.connections c.args.conn before c.in-Some.ensures.value in
     λ keeps up. does_quietly (fs_of s.fs) _ _ _ (runs.Takes c.args.conn) _ refl up
-    (took (fs_of s.fs) (table_of s.table) (connections_of s.connections) _ c.args.conn (connection_view before) (connection_view after)
+    (took (shared_of s.fs s.table) (connections_of s.connections) _ c.args.conn (connection_view before) (connection_view after)
     there (wrote s.connections c.args.conn before after c.in-Some.ensures.value) c.take_output.ensures.left)
     (ap Gave (c.take_output.ensures.given ∙ ap reply_in (sym there)))
 
@@ -46,7 +46,7 @@ returns-in-Some-clause-down g c =
     let there = stands s.connections c.args.conn before c.in-Some.ensures.value in
     λ keeps down recent leaves. record {
       stays = stays_down _ _ _ _ recent c.args.conn down down
-          (took (fs_of s.fs) (table_of s.table) (connections_of s.connections) _ c.args.conn (connection_view before) (connection_view after)
+          (took (shared_of s.fs s.table) (connections_of s.connections) _ c.args.conn (connection_view before) (connection_view after)
           there (wrote s.connections c.args.conn before after c.in-Some.ensures.value) c.take_output.ensures.left);
       says = ap Gave (c.take_output.ensures.given ∙ ap reply_in (sym there));
       moves = moves_none _ _ (runs.Takes c.args.conn) (fs_of s.fs) leaves;

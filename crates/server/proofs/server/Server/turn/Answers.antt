@@ -1,11 +1,11 @@
-use Rattle.std.proofs.Common.{◌≡◌, ℕ, Some, Err, true, inl, inr, refl, sym, ap, ◌∙◌, subst, arith}
+use Rattle.std.proofs.Common.{◌≡◌, ℕ, Some, true, inl, inr, refl, sym, ap, ◌∙◌, subst, arith}
 use Rattle.compound.specs.declared.fault.Fault.TheVariants as turns
 use Rattle.slab.specs.Slab.{with_value}
+use Rattle.compound.specs.States.{shared_of, without_opens}
 use Rattle.fs.specs.FileSystem.{FileSystem}
 use Rattle.fs.specs.FileSystems.{fs_of}
 use Rattle.model.specs.Runs as runs
 use Rattle.model.specs.World.{Closed}
-use Rattle.session.specs.Views.{table_of}
 use Rattle.server.specs.Connections.{connections_of, connection_view}
 use Rattle.server.specs.Faults.{turn_fault}
 use Rattle.server.specs.declared.fault.ServerFault.TheVariants as faults
@@ -54,7 +54,7 @@ returns-then-is_closed-clause-refused g c =
     let s = c.args.self.now in
     let before = c.in-Some.connection.now in (
       stands s.connections c.args.conn before c.in-Some.ensures.value ∙ ap Some (c.is_closed.ensures.0 c.if-is_closed.true),
-      (ap (world_by (fs_of s.fs) (table_of s.table)) (rewrote s.connections c.args.conn before before c.in-Some.ensures.value refl), refl),
+      (ap (world_by (shared_of s.fs s.table)) (rewrote s.connections c.args.conn before before c.in-Some.ensures.value refl), refl),
     )
 
 pub turn-requires-clause-run : goal.turn-requires-clause-run
@@ -88,7 +88,7 @@ returns-in_err-turn-clause-fails g c =
     let back = rw c.in_err-turn.was at c.turn.ensures.back in
     λ keeps up is.
     let device : refusal ≡ turns.Device = device_told refusal (let told_is : turn_fault refusal ≡ faults.Device = cc in told_is) in
-    let adds = c.turn.ensures.volume.moments keeps _ _ (gives_one (fs_of s.fs) (table_of s.table) (connections_of s.connections) c.args.conn c.args.now (connection_view before)
+    let adds = c.turn.ensures.volume.moments keeps _ _ (gives_one (shared_of s.fs s.table) (connections_of s.connections) c.args.conn c.args.now (connection_view before)
     (stands s.connections c.args.conn before c.in-Some.ensures.value)) in
     let same = c.turn.ensures.volume.same in
     λ recent ready. (
@@ -96,11 +96,11 @@ returns-in_err-turn-clause-fails g c =
       record {
         fails = failed_from _ _ recent _ _ (runs.Turns c.args.conn c.args.now) ready.newest up
             (ap (λ (f : FileSystem). f.is_down) (rw (c.in_err-turn.was, device) at c.turn.ensures.volume).ends.only)
-            (undone (fs_of s.fs) (fs_of c.turn.new.fs) (table_of s.table) (table_of c.turn.new.table) (connections_of s.connections) _ refusal
-            (λ memory. (rw (c.in_err-turn.was, memory) at c.turn.ensures.volume).ends) (λ device. (rw (c.in_err-turn.was, device) at c.turn.ensures.volume).ends.only) back.1
+            (undone (shared_of s.fs s.table) (shared_of c.turn.new.fs c.turn.new.table) (connections_of s.connections) _ refusal
+            (λ memory. (rw (c.in_err-turn.was, memory) at c.turn.ensures.volume).ends) (λ device. (rw (c.in_err-turn.was, device) at c.turn.ensures.volume).ends.only) (ap (without_opens (fs_of c.turn.new.fs)) back.1)
             (rewrote s.connections c.args.conn before after c.in-Some.ensures.value back.0));
         moves = record {
-          moments = turning_moments (fs_of s.fs) (table_of s.table) (connections_of s.connections) c.args.conn c.args.now recent _ ready up adds;
+          moments = turning_moments (shared_of s.fs s.table) (connections_of s.connections) c.args.conn c.args.now recent _ ready up adds;
           leaves = broken_leaves (fs_of s.fs) (fs_of c.turn.new.fs) _ recent ready adds same;
           same = same;
         };
@@ -131,8 +131,8 @@ returns-in_err-turn-clause-refused g c =
     let refusal = c.in_err-turn.field-0.0 in
     let told = told_by c.from_residual.result (turn_fault refusal) c.from_residual.ensures.1 in
     let back = rw c.in_err-turn.was at c.turn.ensures.back in
-    let same = undone (fs_of s.fs) (fs_of c.turn.new.fs) (table_of s.table) (table_of c.turn.new.table) (connections_of s.connections) _ refusal
-    (λ memory. (rw (c.in_err-turn.was, memory) at c.turn.ensures.volume).ends) (λ device. (rw (c.in_err-turn.was, device) at c.turn.ensures.volume).ends.only) back.1
+    let same = undone (shared_of s.fs s.table) (shared_of c.turn.new.fs c.turn.new.table) (connections_of s.connections) _ refusal
+    (λ memory. (rw (c.in_err-turn.was, memory) at c.turn.ensures.volume).ends) (λ device. (rw (c.in_err-turn.was, device) at c.turn.ensures.volume).ends.only) (ap (without_opens (fs_of c.turn.new.fs)) back.1)
     (rewrote s.connections c.args.conn before after c.in-Some.ensures.value back.0) in
     rw told (turn_refused _ _ c.args.conn refusal same (λ memory. (rw (c.in_err-turn.was, memory) at c.turn.ensures.volume).ends)
     (λ device. inr (rw (c.in_err-turn.was, device) at c.turn.ensures.volume).ends.cause))
@@ -145,8 +145,8 @@ returns-clause-ok g c =
     let after = c.turn.new.self in
     let there = stands s.connections c.args.conn before c.in-Some.ensures.value in
     let volume = rw c.in_ok-turn.was at c.turn.ensures.volume in
-    let gives = gives_one (fs_of s.fs) (table_of s.table) (connections_of s.connections) c.args.conn c.args.now (connection_view before) there in
-    let made = turned (fs_of s.fs) (fs_of c.turn.new.fs) (table_of s.table) (table_of c.turn.new.table) (connections_of s.connections) _ c.args.conn c.args.now
+    let gives = gives_one (shared_of s.fs s.table) (connections_of s.connections) c.args.conn c.args.now (connection_view before) there in
+    let made = turned (shared_of s.fs s.table) (shared_of c.turn.new.fs c.turn.new.table) (connections_of s.connections) _ c.args.conn c.args.now
     (connection_view before) (connection_view after) (wrote s.connections c.args.conn before after c.in-Some.ensures.value) c.in_ok-turn.field-0
     (rw c.in_ok-turn.was at c.turn.ensures.turn) (numbers_rise s.connections) there (volume_is (fs_of s.fs) (fs_of c.turn.new.fs) volume.same) in
     let up = sym c.if-is_down.ensures in
@@ -157,7 +157,7 @@ returns-clause-ok g c =
         happens = happened_leaving (fs_of c.turn.new.fs) _ _ recent left.0 _ _ (runs.Turns c.args.conn c.args.now) ready.newest up volume.ends.still_up made.1 left.1;
         says = ap Turned made.0;
         moves = record {
-          moments = turning_moments (fs_of s.fs) (table_of s.table) (connections_of s.connections) c.args.conn c.args.now recent _ ready up (volume.moments keeps _ _ gives);
+          moments = turning_moments (shared_of s.fs s.table) (connections_of s.connections) c.args.conn c.args.now recent _ ready up (volume.moments keeps _ _ gives);
           leaves = left.1.ready.leaves;
           same = volume.same;
         };
@@ -187,7 +187,7 @@ returns-clause-turned g c =
     let before = c.in-Some.connection.now in
     let after = c.turn.new.self in
     let volume = rw c.in_ok-turn.was at c.turn.ensures.volume in
-    let made = turned (fs_of s.fs) (fs_of c.turn.new.fs) (table_of s.table) (table_of c.turn.new.table) (connections_of s.connections) _ c.args.conn c.args.now
+    let made = turned (shared_of s.fs s.table) (shared_of c.turn.new.fs c.turn.new.table) (connections_of s.connections) _ c.args.conn c.args.now
     (connection_view before) (connection_view after) (wrote s.connections c.args.conn before after c.in-Some.ensures.value) c.in_ok-turn.field-0
     (rw c.in_ok-turn.was at c.turn.ensures.turn) (numbers_rise s.connections) (stands s.connections c.args.conn before c.in-Some.ensures.value)
     (volume_is (fs_of s.fs) (fs_of c.turn.new.fs) volume.same) in

@@ -1,0 +1,43 @@
+-- What all COMPOUNDs of a server work on: the file system, the clients and sessions, and what these have open.
+use Rattle.std.specs.Prelude.{◌≡◌}
+use Rattle.fs.specs.FileSystem.{FileSystem}
+use Rattle.fs.specs.FileSystems.{fs_of}
+use Rattle.fs.specs.declared.fs.Fs.{Fs}
+use Rattle.model.specs.Opens.{Opens, no_opens}
+use Rattle.model.specs.Session.{Table}
+use Rattle.model.specs.World.{World}
+use Rattle.session.specs.Limits.{served}
+use Rattle.session.specs.Views.{table_of}
+use Rattle.session.specs.declared.table.Table as code
+
+pub record SharedState : Type 0 where
+  pub files : FileSystem
+  pub table : Table
+  pub opens : Opens
+
+abbrev pub shared : FileSystem → Table → Opens → SharedState
+shared files table opens = record { files = files; table = table; opens = opens }
+
+-- while nothing is open
+abbrev pub without_opens : FileSystem → Table → SharedState
+without_opens files table = shared files table no_opens
+
+-- what stands in memory: no operation that opens is served yet
+abbrev pub shared_of : {D : _} {g : _} → Fs D g → code.Table → SharedState
+shared_of fs table = without_opens (fs_of fs) (table_of table)
+
+-- a world that has it
+pub record HasState (world : World) (state : SharedState) : Type 0 where
+  pub volume : world.limits.volume ≡ state.files.limits
+  pub sessions : world.limits.sessions ≡ served
+  pub reply_bytes : world.limits.reply_bytes ≡ 16368
+  pub run : world.run ≡ state.files.run
+  pub tree : world.tree ≡ state.files.tree
+  pub changes : world.changes ≡ state.files.changes
+  pub opens : world.opens ≡ state.opens
+  pub table_is : world.table ≡ state.table
+
+-- the world with what it is now
+abbrev pub with_state : World → SharedState → World
+with_state world state =
+    record world { tree = state.files.tree; changes = state.files.changes; table = state.table; opens = state.opens }

@@ -1,0 +1,19 @@
+-- What making a new volume leaves.
+use Rattle.std.specs.Prelude.{ℕ, ◌≡◌, ◌⊎◌}
+use Rattle.disk.specs.Calls.{zero_sector}
+use Rattle.disk.specs.Moments.{Image, History, AddsOnly, Left}
+use Rattle.model.specs.Fresh.{fresh_tree}
+use Rattle.fs.specs.Stands.{StandsFor}
+
+-- the new volume: an empty root, which was never mounted
+abbrev pub IsFresh : (sectors nodes : ℕ) → Image → Type 0
+IsFresh sectors nodes image = StandsFor sectors nodes 0 fresh_tree image
+
+-- what a format adds to what a stop may leave: no volume, or the new one
+abbrev pub AddsFresh : (sectors nodes : ℕ) → (old new : History) → Type 0
+AddsFresh sectors nodes old new =
+    AddsOnly (λ image. (image 0 ≡ zero_sector) ⊎ IsFresh sectors nodes image) old new
+
+-- a stop leaves the new volume, and nothing else
+abbrev pub LeavesFresh : (sectors nodes : ℕ) → History → Type 0
+LeavesFresh sectors nodes history = (image : Image) → Left history.now image → IsFresh sectors nodes image
