@@ -2,10 +2,12 @@
 
 use crate::calls::{Kind, Stream, stream_of};
 use crate::copying::Copies;
-use crate::places::{FillsPlaces, PLACES, TakesFarPlaces, fill};
+use crate::journals::{FIRST_TARGET, Flushes, Held, ReadsListed};
+use crate::places::{FillsPlaces, PLACES, TakesFarPlaces, WritesSectors, fill};
 use crate::reading::{ReadsCalls, ReadsRecord, Tally};
 use crate::replies::{REPLIES, WritesReplies};
 use crate::work::{Work, best_rate};
+use disk::SECTOR;
 use freemap::Bitmap;
 use rpc::Assembler;
 use std::alloc::Global;
@@ -23,7 +25,8 @@ pub fn print_figures<R: Clock + Print>(rt: &R, alloc: Global) -> anyhow::Result<
     let asks = stream_of(alloc, Kind::GetAttr)?;
     print_reads(rt, alloc, "SEQUENCE-PUTFH-GETATTR calls", &asks)?;
     print_replies(rt, alloc)?;
-    print_places(rt, alloc)
+    print_places(rt, alloc)?;
+    print_journals(rt, alloc)
 }
 
 fn print_reads<R: Clock + Print>(
@@ -89,7 +92,36 @@ fn print_places<R: Clock + Print>(rt: &R, alloc: Global) -> anyhow::Result<()> {
     let mut far = TakesFarPlaces {
         places: fills.places,
     };
-    print_rate(rt, "taken in the worst order", &mut far)
+    print_rate(rt, "taken in the worst order", &mut far)?;
+    let mut writes = WritesSectors {
+        places: far.places,
+        sector: [0; 4096],
+    };
+    print_rate(rt, "sector written", &mut writes)
+}
+
+/// Reads of a sector that waits for a flush, behind one transaction and behind 90, and transactions of 1 and of 48 sectors.
+fn print_journals<R: Clock + Print>(rt: &R, alloc: Global) -> anyhow::Result<()> {
+    for waiting in [1, 90] {
+        println!(rt; "journal: {waiting} transactions wait")?;
+        let mut held = Held::new(alloc)?;
+        for i in 0..waiting {
+            held.apply(FIRST_TARGET.saturating_add(i), 1)?;
+        }
+        let mut reads = ReadsListed {
+            held,
+            sector: FIRST_TARGET,
+            content: [0; SECTOR],
+        };
+        print_rate(rt, "the first one's sector read", &mut reads)?;
+    }
+    for count in [1, 48] {
+        println!(rt; "journal: transactions of {count} sectors, over memory")?;
+        let held = Held::new(alloc)?;
+        let mut flushes = Flushes { held, count };
+        print_rate(rt, "applied and flushed", &mut flushes)?;
+    }
+    Ok(())
 }
 
 fn print_rate<R: Clock + Print, W: Work>(rt: &R, verb: &str, work: &mut W) -> anyhow::Result<()> {

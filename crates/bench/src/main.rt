@@ -4,6 +4,7 @@
 mod calls;
 mod copying;
 mod figures;
+mod journals;
 mod places;
 mod reading;
 mod replies;

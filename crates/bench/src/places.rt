@@ -1,5 +1,7 @@
 //! Taking and giving back the places of a volume.
 
+ghost use Rattle.std.specs.Prelude.{◌<◌};
+
 use crate::work::Work;
 use freemap::{Bitmap, Full};
 
@@ -31,6 +33,29 @@ impl Work for FillsPlaces {
         }
         Ok(done)
     }
+}
+
+/// Writes the two bitmap sectors.
+#[derive(Drop)]
+pub struct WritesSectors {
+    pub places: Bitmap,
+    pub sector: [u8; 4096],
+}
+
+impl Work for WritesSectors {
+    fn turn(&mut self) -> anyhow::Result<u64> {
+        write_sector(&self.places, 0, &mut self.sector);
+        write_sector(&self.places, 1, &mut self.sector);
+        Ok(2)
+    }
+}
+
+// A call of its own, so that no sector is left out whose bytes are not looked at.
+#[inline(never)]
+fn write_sector(places: &Bitmap, part: u32, sector: &mut [u8; 4096])
+    requires { part < 2 }
+{
+    places.to_sector(part, sector);
 }
 
 /// Gives the first and the last place of a full volume back, and takes both: the last is looked for over all between.

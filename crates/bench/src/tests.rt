@@ -2,7 +2,7 @@
 
 use crate::calls::{DATA_BYTES, Kind, stream_of};
 use crate::copying::Copies;
-use crate::places::{FillsPlaces, PLACES, TakesFarPlaces, fill};
+use crate::places::{FillsPlaces, PLACES, TakesFarPlaces, WritesSectors, fill};
 use crate::reading::{ReadsCalls, ReadsRecord, Tally};
 use crate::replies::WritesReplies;
 use crate::work::Work;
@@ -88,5 +88,11 @@ fn places_are_filled_and_emptied(rt: HostRuntime) -> Result<(), Fail> {
     };
     assert_eq!(rt; far.turn()?, 2);
     assert_eq!(rt; far.places.free_count(), 0);
+    let mut writes = WritesSectors {
+        places: far.places,
+        sector: [0; 4096],
+    };
+    assert_eq!(rt; writes.turn()?, 2);
+    assert!(rt; writes.sector == [0xff; 4096]);
     Ok(())
 }

@@ -6,4 +6,6 @@ mod fields;
 mod names;
 mod nodes;
 mod places;
+mod scans;
 mod transactions;
+mod volumes;

@@ -1,4 +1,4 @@
-//! What no contract says: worked lists and trees, the bytes of an image, and that calls succeed.
+//! What no contract says: worked lists and trees, operations as the oracle computes them, the bytes of an image, and that calls succeed.
 
 mod creation;
 mod images;
@@ -6,4 +6,5 @@ mod lists;
 mod operations;
 mod rights;
 mod soundness;
+mod steps;
 mod volumes;

@@ -46,6 +46,10 @@ fn set(list: &mut BlockList, block: u32, sector: u32) -> Result<(), AllocError>
     list.set(block, sector)
 }
 
+fn copy_of(list: &BlockList) -> Result<BlockList, AllocError> {
+    list.try_clone()
+}
+
 /// Blocks 1 and 2 in sectors 256 and 257, block 4 in sector 7.
 #[test]
 fn reads_the_layout(rt: HostRuntime) -> Result<(), Fail> {
@@ -106,7 +110,10 @@ fn sets_grows_and_cuts(rt: HostRuntime) -> Result<(), Fail> {
     for (block, sector) in (0..4).zip(wanted) {
         assert_eq!(rt; at(&list, block), sector);
     }
+    let copy = copy_of(&list)?;
     list.cut(2);
+    assert_eq!(rt; copy.count(), 5);
+    assert_eq!(rt; at(&copy, 2), Some(200));
     assert_eq!(rt; list.count(), 2);
     assert_eq!(rt; at(&list, 2), None);
     assert_eq!(rt;
@@ -138,5 +145,19 @@ fn largest_files(rt: HostRuntime) -> Result<(), Fail> {
     };
     let first = runs_in(rt.alloc(), &sector_of(front))?;
     assert!(rt; first.as_slice() == front);
+    Ok(())
+}
+
+/// Blocks that were set one by one, in any order, are one run where they stand one behind the other.
+#[test]
+fn neighbours_are_one_run(rt: HostRuntime) -> Result<(), Fail> {
+    let mut list = BlockList::new(rt.alloc());
+    for (block, sector) in [(2, 302), (0, 300), (1, 301), (3, 400), (5, 402), (4, 401)] {
+        set(&mut list, block, sector)?;
+    }
+    assert_eq!(rt;
+        runs_of(rt.alloc(), &list)?.as_slice(),
+        [run(0, 3, 300), run(3, 3, 400)].as_slice()
+    );
     Ok(())
 }

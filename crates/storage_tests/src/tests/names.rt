@@ -1,7 +1,7 @@
 ghost use Rattle.std.specs.Prelude.{◌≤◌, ◌<◌, length};
 
 use directory::{DirectoryFault, Entry, Names, RecordsFault, every_paging, read_records};
-use std::alloc::Global;
+use std::alloc::{AllocError, Global};
 use std::test::Fail;
 
 // The calls of names, each of which stands here once: a call brings all that it promises into the proof of its caller.
@@ -17,8 +17,14 @@ fn get(names: &Names, name: &[u8]) -> Option<(u64, u64)> {
     names.get(name)
 }
 
-fn remove(names: &mut Names, name: &[u8]) -> Option<usize> {
-    names.remove(name)
+/// The place of the name that is removed, and its stamp and number.
+fn remove(names: &mut Names, name: &[u8]) -> Option<(usize, u64, u64)> {
+    let (place, entry) = names.remove(name)?;
+    Some((place, entry.stamp, entry.number))
+}
+
+fn copy_of(names: &Names) -> Result<Names, AllocError> {
+    names.try_clone()
 }
 
 fn records_in(alloc: Global, count: usize, sector: &[u8; 4096]) -> Result<Vec<Entry>, RecordsFault>
@@ -95,8 +101,11 @@ fn puts_gets_and_removes(rt: HostRuntime) -> Result<(), Fail> {
     assert_eq!(rt; names.count(), 3);
     assert_eq!(rt; get(&names, b"a"), Some((10, 11)));
     assert_eq!(rt; get(&names, b"b"), None);
-    assert_eq!(rt; remove(&mut names, b"a"), Some(0));
+    let copy = copy_of(&names)?;
+    assert_eq!(rt; remove(&mut names, b"a"), Some((0, 10, 11)));
     assert_eq!(rt; remove(&mut names, b"a"), None);
+    assert_eq!(rt; get(&copy, b"a"), Some((10, 11)));
+    assert_eq!(rt; copy.count(), 3);
     assert_eq!(rt; get(&names, b"a"), None);
     assert_eq!(rt; get(&names, b"d"), Some((9, 9)));
     assert_eq!(rt; put(&mut names, b"bc", 12, 13)?, 1);
@@ -147,7 +156,7 @@ fn lists_behind_a_cookie(rt: HostRuntime) -> Result<(), Fail> {
         stamps(rt.alloc(), &names, 3)?.as_slice(),
         [5, 9].as_slice()
     );
-    assert_eq!(rt; remove(&mut names, b"a"), Some(0));
+    assert_eq!(rt; remove(&mut names, b"a"), Some((0, 5, 7)));
     put(&mut names, b"d", 12, 7)?;
     assert_eq!(rt;
         stamps(rt.alloc(), &names, 3)?.as_slice(),

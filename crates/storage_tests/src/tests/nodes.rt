@@ -1,7 +1,8 @@
 use bitflags::Flags;
-use inode::{Form, InodeFault, from_sector, to_sector};
+use inode::{Form, Inode, InodeFault, from_sector, to_sector};
 use model::acl::{Ace, AceFlags, AceKind, Acl, Mask, Who};
 use model::node::NodeKind;
+use std::alloc::{AllocError, Global};
 use std::test::Fail;
 
 /// A directory, number 0x0000000100000002, owner 7, group 8, change 3, time 4, one name in one run, and two entries:
@@ -51,6 +52,28 @@ fn reads_the_layout(rt: HostRuntime) -> Result<(), Fail> {
         },
     ];
     assert_eq!(rt; inode.acl.as_slice(), wanted.as_slice());
+    Ok(())
+}
+
+fn copy_of(alloc: Global, inode: &Inode) -> Result<Inode, AllocError> {
+    inode.try_clone(alloc)
+}
+
+fn reserve(inode: &mut Inode) -> Result<(), AllocError> {
+    inode.reserve()
+}
+
+#[test]
+fn copies_a_node(rt: HostRuntime) -> Result<(), Fail> {
+    let mut inode = from_sector(rt.alloc(), Form::One, &vector())?;
+    let copy = copy_of(rt.alloc(), &inode)?;
+    reserve(&mut inode)?;
+    inode.run_sectors.clear();
+    inode.number = 1;
+    assert_eq!(rt; copy.number, 0x1_0000_0002);
+    assert_eq!(rt; copy.runs, 1);
+    assert_eq!(rt; copy.run_sectors.as_slice(), [261].as_slice());
+    assert_eq!(rt; copy.acl.as_slice(), inode.acl.as_slice());
     Ok(())
 }
 

@@ -49,6 +49,20 @@ fn give_back(places: &mut Bitmap, place: u32) {
     }
 }
 
+fn mark(places: &mut Bitmap, place: u32) {
+    if place < places.count() && !places.is_used(place) {
+        places.mark(place);
+    }
+}
+
+fn copy_of(places: &Bitmap) -> Result<Bitmap, AllocError> {
+    places.try_clone()
+}
+
+fn become_same(places: &mut Bitmap, other: &Bitmap) {
+    places.copy_from(other);
+}
+
 #[test]
 fn takes_and_gives(rt: HostRuntime) -> Result<(), Fail> {
     let mut places = empty(rt.alloc(), 3)?;
@@ -112,5 +126,29 @@ fn fills_and_empties(rt: HostRuntime) -> Result<(), Fail> {
         take(&mut places)?;
     }
     assert_eq!(rt; free_count(&places), 0);
+    Ok(())
+}
+
+/// Places 64 to 127 and the last one are marked: a mount reads which places are used. A copy is the same set.
+#[test]
+fn marks_and_copies(rt: HostRuntime) -> Result<(), Fail> {
+    let mut places = empty(rt.alloc(), 200)?;
+    for place in 64..128 {
+        mark(&mut places, place);
+    }
+    mark(&mut places, 199);
+    mark(&mut places, 199);
+    assert_eq!(rt; free_count(&places), 135);
+    let mut other = copy_of(&places)?;
+    for _ in 0..135 {
+        let place = take(&mut places)?;
+        assert!(rt; place < 64 || (128..199).contains(&place), "at {place}");
+    }
+    assert_eq!(rt; take(&mut places), Err(Full));
+    assert_eq!(rt; free_count(&other), 135);
+    assert!(rt; is_used(&other, 64) && is_used(&other, 199) && !is_used(&other, 63));
+    become_same(&mut other, &places);
+    assert_eq!(rt; free_count(&other), 0);
+    assert!(rt; is_used(&other, 63));
     Ok(())
 }

@@ -2,17 +2,18 @@ use acl_eval::{Ace, AceFlags, AceKind, Acl, Cred, Gids, Mask, NodeKind, Who};
 use bitflags::Flags;
 use model::limits::Limits;
 use model::status::Status;
+use names::check_name;
 use plain::attributes::{
     Attributes, SETTABLE_AT_CREATION, SUPPORTED, check_attributes, has_one_outside, mode_in,
-    trimmed,
 };
+use plain::entries::entry_named;
 use plain::handles::without_current;
-use plain::names::{check_name, entry_named};
 use plain::refusal::Refusal;
 use plain::stamp::{filehandle_of, next_stamp, number_of};
 use plain::tree::{Content, DirEntry, Node, Tree};
 use std::alloc::Global;
 use std::test::Fail;
+use wire::trimmed;
 use wire_attributes::{numbers_of, read_values};
 
 const RIGHTS: u32 = 0x1F01E7;

@@ -59,7 +59,8 @@ impl<D: Device> Held<D> {
         if n >= SECTORS {
             return Ok(255);
         }
-        let content = self.journal.read(n)?;
+        let mut content = [0; SECTOR];
+        self.journal.read(n, &mut content)?;
         if content == filled(content[0]) {
             Ok(content[0])
         } else {
@@ -68,9 +69,13 @@ impl<D: Device> Held<D> {
     }
 
     /// Applies; updates that are no transaction are refused as too many.
-    pub(super) fn apply(&mut self, alloc: Global, updates: &[Update]) -> Result<(), JournalFault> {
+    pub(super) fn apply(
+        &mut self,
+        alloc: Global,
+        updates: Vec<Update>,
+    ) -> Result<(), JournalFault> {
         let mut to = Vec::with_capacity(alloc, updates.len())?;
-        name_targets(&mut to, updates);
+        name_targets(&mut to, &updates);
         if !are_targets(&to) {
             return Err(JournalFault::TooMany);
         }

@@ -100,7 +100,7 @@ impl Reached {
         match step {
             Step::Apply(targets) => {
                 let count = self.applied.saturating_add(1);
-                held.apply(alloc, &updates(alloc, targets, byte_of(count))?)?;
+                held.apply(alloc, updates(alloc, targets, byte_of(count))?)?;
                 self.applied = count;
             }
             Step::Flush => {

@@ -1,0 +1,135 @@
+//! Volumes of files and directories: formatted, mounted, and with a byte that is another one.
+
+use disk::{Device, MemDevice, SECTOR};
+use std::alloc::Global;
+use std::test::Fail;
+use volume::{FormatFault, MountFault, Unmounted, Volume, format};
+
+/// The smallest volume of 16 nodes: 92 sectors of it are the data region.
+const SECTORS: u32 = 256;
+
+const NODES: u32 = 16;
+
+// a new volume in memory
+fn formatted(alloc: Global) -> Result<MemDevice, Fail> {
+    let mut device = MemDevice::new(alloc, SECTORS)?;
+    format(alloc, &mut device, NODES)?;
+    device.sync()?;
+    Ok(device)
+}
+
+// a device with these bytes of a sector changed
+fn changed(alloc: Global, sector: u32, bytes: &[(usize, u8)]) -> Result<MemDevice, Fail> {
+    let mut device = formatted(alloc)?;
+    let mut content = [0; SECTOR];
+    device.read(sector, &mut content)?;
+    for (place, byte) in bytes {
+        if let Some(old) = content.get_mut(*place) {
+            *old = *byte;
+        }
+    }
+    device.write(sector, &content)?;
+    device.sync()?;
+    Ok(device)
+}
+
+// the run of a mount, or why there was none
+fn run_of(alloc: Global, device: MemDevice) -> Result<(u32, MemDevice), Unmounted<MemDevice>> {
+    let volume = Volume::mount(alloc, device)?;
+    Ok((volume.restart_count(), volume.into_device()))
+}
+
+#[test]
+fn each_mount_raises_the_count(rt: HostRuntime) -> Result<(), Fail> {
+    let mut device = formatted(rt.alloc())?;
+    for count in 1..4 {
+        match run_of(rt.alloc(), device) {
+            Ok((run, back)) => {
+                assert_eq!(rt; run, count);
+                device = back;
+            }
+            Err(refused) => return Err(refused.fault.into()),
+        }
+    }
+    Ok(())
+}
+
+#[test]
+fn the_root_is_there(rt: HostRuntime) -> Result<(), Fail> {
+    let device = formatted(rt.alloc())?;
+    let Ok(mut volume) = Volume::mount(rt.alloc(), device) else {
+        return Err("not mounted".into());
+    };
+    volume.flush()?;
+    match volume.node(1) {
+        Some(root) => {
+            assert_eq!(rt; root.inode.change, 1);
+            assert_eq!(rt; root.names.count(), 0);
+        }
+        None => assert!(rt; false, "no root"),
+    }
+    assert!(rt; volume.node(2).is_none());
+    Ok(())
+}
+
+#[test]
+fn sizes_that_no_volume_has(rt: HostRuntime) -> Result<(), Fail> {
+    for (sectors, nodes) in [(255, 2), (256, 1), (256, 93), (65_537, 2), (65_536, 16_385)] {
+        let mut device = MemDevice::new(rt.alloc(), sectors)?;
+        let answer = format(rt.alloc(), &mut device, nodes);
+        assert!(rt;
+            answer == Err(FormatFault::Size),
+            "{sectors} sectors, {nodes} nodes"
+        );
+    }
+    Ok(())
+}
+
+// a sector, bytes of it that are changed, and what a mount answers
+const CHANGES: [(u32, &[(usize, u8)], MountFault); 17] = [
+    // the magic, the version, the numbers of sectors and nodes
+    (0, &[(0, 0)], MountFault::NotVolume),
+    (0, &[(11, 0)], MountFault::NotVolume),
+    (0, &[(14, 2)], MountFault::NotVolume),
+    (0, &[(19, 1)], MountFault::NotVolume),
+    // a full count, and a byte behind the fields
+    (
+        0,
+        &[(20, 255), (21, 255), (22, 255), (23, 255)],
+        MountFault::Worn,
+    ),
+    (0, &[(24, 1)], MountFault::Damaged),
+    // a gate of no form
+    (1, &[(3, 2)], MountFault::Damaged),
+    // a used place that no node names, and one past the data region
+    (98, &[(0, 128)], MountFault::Damaged),
+    (98, &[(11, 8)], MountFault::Damaged),
+    (99, &[(0, 1)], MountFault::Damaged),
+    // a spare sector, and a free place that is not zero
+    (147, &[(9, 1)], MountFault::Damaged),
+    (150, &[(4095, 1)], MountFault::Damaged),
+    // the root: none, a file, of another number, with one name, of a later run, and another byte
+    (148, &[(0, 0)], MountFault::Damaged),
+    (148, &[(4, 1)], MountFault::Damaged),
+    (148, &[(15, 2)], MountFault::Damaged),
+    (148, &[(27, 2)], MountFault::Damaged),
+    (148, &[(90, 1)], MountFault::Damaged),
+];
+
+#[test]
+fn changed_bytes_are_found(rt: HostRuntime) -> Result<(), Fail> {
+    for (sector, bytes, fault) in CHANGES {
+        let device = changed(rt.alloc(), sector, bytes)?;
+        match run_of(rt.alloc(), device) {
+            Ok((run, _device)) => assert!(rt; false, "sector {sector}, {bytes:?}: run {run}"),
+            Err(refused) => {
+                assert!(rt;
+                    refused.fault == fault,
+                    "sector {sector}, {bytes:?}: {:?}",
+                    refused.fault
+                )
+            }
+        }
+    }
+    Ok(())
+}
