@@ -4,6 +4,7 @@ pub mod AnswerLaws
 pub mod AttributeExact
 pub mod AttributeLaws
 pub mod ChangeLaws
+pub mod ClientTables
 pub mod EditLaws
 pub mod EditViews
 pub mod FeedingLaws
@@ -18,6 +19,7 @@ pub mod ModeLaws
 pub mod NodeAttributeLaws
 pub mod NodeChangeLaws
 pub mod NumberLaws
+pub mod OpenClients
 pub mod OpensLaws
 pub mod OpensGoOn
 pub mod OpensSteps
@@ -43,4 +45,5 @@ pub mod StepProofs
 pub mod TableCalls
 pub mod TableIds
 pub mod TableLaws
+pub mod TurnCases
 pub mod WorldRows

@@ -1,6 +1,6 @@
 -- An operation that comes only first in a COMPOUND is read as no later one, and each that is read is served.
 use Rattle.std.proofs.Common.{◌≡◌, ℕ, Bool, true, false, not, ◌&&◌, ◌||◌, ◌==◌, if◌then◌else◌, List, Result, Ok, Err, refl, ap, sym, subst, ◌∙◌, ◌⊎◌, inl, inr, nat_lt}
-use Rattle.std.proofs.lemmas.Bool.{eqb-true}
+use Rattle.std.proofs.lemmas.Bool.{eqb-true, eq-eqb}
 use Rattle.std.specs.Int.{w32}
 use Rattle.xdr.specs.Forms.{boolean, bitmap}
 use Rattle.xdr.specs.Grammar.{Grammar, ◌>>=◌, number_at, void, unsigned_int, unsigned_hyper}
@@ -190,3 +190,51 @@ first_read request argument rest is = (passed_tests request argument rest is).0
 pub is_served_next : (request : InProgress) (argument : Argument) (rest : List ℕ) → next_operation request ≡ Reads argument rest
     → is_served (operation_of argument) ≡ true
 is_served_next request argument rest is = (passed_tests request argument rest is).1
+
+-- What is read first of all comes first, and stands alone where it is to
+
+abbrev ComesFirst : InProgress → Next → Type 0
+ComesFirst request (Refuses operation reason) = Unit {0}
+ComesFirst request (Reads argument rest) = (is_first (operation_of argument) ≡ true)
+    × ((stands_alone (operation_of argument) && nat_lt 1 request.count) ≡ false)
+
+by_either : (request : InProgress) (test : Bool) (one other : Next) → ComesFirst request one → (test ≡ false → ComesFirst request other)
+    → ComesFirst request (if test then one else other)
+by_either request true one other first second = first
+by_either request false one other first second = second refl
+
+turned_round : (left right : Bool) → (left || right) ≡ true → (right || left) ≡ true
+turned_round true true is = refl
+turned_round true false is = refl
+turned_round false right is = ap (λ b. b || false) is
+
+read_first : (request : InProgress) (operation : ℕ) (given : Result (Argument × List ℕ) Refusal) → IsOf operation given → is_first operation ≡ true
+    → (stands_alone operation && nat_lt 1 request.count) ≡ false → ComesFirst request (by_arguments request operation given)
+read_first request operation (Err fault) of first alone = tt
+read_first request operation (Ok read) of first alone =
+    by_either request (is_last request && (not (looks_no_further read.0) && not (is_empty read.1))) (Refuses operation status.BadXdr) (Reads read.0 read.1) tt
+    (λ enough. (ap is_first of ∙ first, ap (λ (n : ℕ). stands_alone n && nat_lt 1 request.count) of ∙ alone))
+
+begins_first : (request : InProgress) (operation : ℕ) (given : Result (Argument × List ℕ) Refusal) → IsOf operation given
+    → ComesFirst request (first_or (first_tests request.count operation) (by_arguments request operation given))
+begins_first request operation given of =
+    by_either request (is_no_operation operation) (Refuses op_illegal status.OpIllegal) _ tt (λ some.
+    by_either request (not (is_sequence operation || stands_alone operation)) (Refuses operation status.OpNotInSession) _ tt (λ known.
+    by_either request (stands_alone operation && nat_lt 1 request.count) (Refuses operation status.NotOnlyOp) (by_arguments request operation given) tt (λ only.
+    read_first request operation given of
+    (turned_round (is_sequence operation) (stands_alone operation) (is_not (is_sequence operation || stands_alone operation) known)) only)))
+
+number_first : (request : InProgress) → request.answered ≡ 0 → (given : Result (ℕ × List ℕ) Refusal) → ComesFirst request (by_number request given)
+number_first request none (Err fault) = tt
+number_first request none (Ok read) =
+    subst (λ (b : Bool). ComesFirst request (first_or (if b then first_tests request.count read.0 else later_tests read.0)
+    (by_arguments request read.0 (arguments_at read.0 read.1)))) (sym (eq-eqb request.answered 0 none))
+    (begins_first request read.0 (arguments_at read.0 read.1) (is_of read.0 (arguments_at read.0 read.1) (arguments_first read.0 read.1)))
+
+next_first : (request : InProgress) → request.answered ≡ 0 → ComesFirst request (next_operation request)
+unfolding next_operation
+next_first request none = number_first request none (number_at w32 request.rest)
+
+pub alone_read : (request : InProgress) (argument : Argument) (rest : List ℕ) → next_operation request ≡ Reads argument rest → request.answered ≡ 0
+    → (is_first (operation_of argument) ≡ true) × ((stands_alone (operation_of argument) && nat_lt 1 request.count) ≡ false)
+alone_read request argument rest is none = subst (ComesFirst request) is (next_first request none)

@@ -17,7 +17,7 @@ use Rattle.model.proofs.TableLaws.{size}
 
 -- Tests over lists
 
-or_parts : (a b : Bool) → (a || b) ≡ false → (a ≡ false) × (b ≡ false)
+pub or_parts : (a b : Bool) → (a || b) ≡ false → (a ≡ false) × (b ≡ false)
 or_parts true b is = absurd (cc)
 or_parts false b is = (refl, is)
 
@@ -25,7 +25,7 @@ or_none : (a : Bool) → (a || false) ≡ a
 or_none true = refl
 or_none false = refl
 
-and_none : (a : Bool) → (a && false) ≡ false
+pub and_none : (a : Bool) → (a && false) ≡ false
 and_none true = refl
 and_none false = refl
 
@@ -33,20 +33,20 @@ not_false : (b : Bool) → not b ≡ false → b ≡ true
 not_false true is = refl
 not_false false is = sym is
 
-any-map : {A : Type 0} (p q : A → Bool) (f : A → A) (xs : List A) → ((x : A) → p (f x) ≡ q x) → list_any p (map f xs) ≡ list_any q xs
+pub any-map : {A : Type 0} (p q : A → Bool) (f : A → A) (xs : List A) → ((x : A) → p (f x) ≡ q x) → list_any p (map f xs) ≡ list_any q xs
 any-map p q f [] same = refl
 any-map p q f (x ∷ xs) same = ap (λ b. b || list_any p (map f xs)) (same x) ∙ ap (λ b. q x || b) (any-map p q f xs same)
 
-any-none : {A : Type 0} (p : A → Bool) (xs : List A) → ((x : A) → p x ≡ false) → list_any p xs ≡ false
+pub any-none : {A : Type 0} (p : A → Bool) (xs : List A) → ((x : A) → p x ≡ false) → list_any p xs ≡ false
 any-none p [] none = refl
 any-none p (x ∷ xs) none = ap (λ b. b || list_any p xs) (none x) ∙ any-none p xs none
 
-any-append : {A : Type 0} (p : A → Bool) (xs : List A) (y : A) → p y ≡ false → list_any p (xs ++ y ∷ []) ≡ list_any p xs
+pub any-append : {A : Type 0} (p : A → Bool) (xs : List A) (y : A) → p y ≡ false → list_any p (xs ++ y ∷ []) ≡ list_any p xs
 any-append p [] y none = or_none (p y) ∙ none
 any-append p (x ∷ xs) y none = ap (λ b. p x || b) (any-append p xs y none)
 
 -- those that are left out do not pass
-any-filter : {A : Type 0} (p keeps bad : A → Bool) (xs : List A) → ((x : A) → keeps x ≡ false → bad x ≡ false → p x ≡ false) → list_any bad xs ≡ false
+pub any-filter : {A : Type 0} (p keeps bad : A → Bool) (xs : List A) → ((x : A) → keeps x ≡ false → bad x ≡ false → p x ≡ false) → list_any bad xs ≡ false
     → list_any p (filter keeps xs) ≡ list_any p xs
 any-filter p keeps bad [] each none = refl
 any-filter {A} p keeps bad (x ∷ xs) each none =
@@ -68,7 +68,7 @@ any-kept {A} p keeps (x ∷ xs) none = by_test (keeps x) refl (any-kept p keeps 
     by_test false is same = same
 
 -- what is found passes behind the change
-any-found : {A : Type 0} (p q : A → Bool) (f : A → A) (xs : List A) (y : A) → find p xs ≡ Some y → q (f y) ≡ true → list_any q (map f xs) ≡ true
+pub any-found : {A : Type 0} (p q : A → Bool) (f : A → A) (xs : List A) (y : A) → find p xs ≡ Some y → q (f y) ≡ true → list_any q (map f xs) ≡ true
 any-found p q f [] y found passes = absurd (cc)
 any-found {A} p q f (x ∷ xs) y found passes = by_test (λ later. any-found p q f xs y later passes) (p x) found
   where
@@ -83,7 +83,7 @@ any-found {A} p q f (x ∷ xs) y found passes = by_test (λ later. any-found p q
 
 -- Slots and sessions
 
-at_rest : (slots : List Slot) (place : ℕ) → list_any (λ slot. is_running_state slot.state) slots ≡ false → is_running_state (get_or slots place no_slot).state ≡ false
+pub at_rest : (slots : List Slot) (place : ℕ) → list_any (λ slot. is_running_state slot.state) slots ≡ false → is_running_state (get_or slots place no_slot).state ≡ false
 at_rest [] zero none = refl
 at_rest [] (suc place) none = refl
 at_rest (slot ∷ slots) zero none = (or_parts (is_running_state slot.state) (list_any (λ slot. is_running_state slot.state) slots) none).0
@@ -236,7 +236,7 @@ none_of id place (session ∷ sessions) none = by_test (none_of id place session
     by_test later true is some = absurd (omega (arith, some))
     by_test later false is rest = ap (λ b. b || list_any (runs_at id place) sessions) (not_here id place session is) ∙ later rest
 
-told_by : (id : List ℕ) (place : ℕ) (sessions : List Session) (first : Session) → size (is_session id) sessions ≤ 1 → find (is_session id) sessions ≡ Some first
+pub told_by : (id : List ℕ) (place : ℕ) (sessions : List Session) (first : Session) → size (is_session id) sessions ≤ 1 → find (is_session id) sessions ≡ Some first
     → list_any (runs_at id place) sessions ≡ is_running_state (slot_at first place).state
 told_by id place [] first few found = absurd (cc)
 told_by id place (session ∷ sessions) first few found = by_test (told_by id place sessions first) (is_session id session) refl few found

@@ -25,11 +25,11 @@ use Rattle.model.proofs.TableCalls.{Holds, either, call_holds, begins, ids_diffe
 use Rattle.model.proofs.TableLaws.{size}
 
 -- What stands between two events
-record Held (limits : ServerLimits) (world : World) : Type 0 where
-  law : RunsWhereBusy world
-  begun : (number : ℕ) (request : InProgress) → at number world.connections ≡ Some (Busy request) → 0 < request.answered
-  holds : Holds limits.sessions world.table
-  limits_are : world.limits ≡ limits
+pub record Held (limits : ServerLimits) (world : World) : Type 0 where
+  pub law : RunsWhereBusy world
+  pub begun : (number : ℕ) (request : InProgress) → at number world.connections ≡ Some (Busy request) → 0 < request.answered
+  pub holds : Holds limits.sessions world.table
+  pub limits_are : world.limits ≡ limits
 
 and_parts : (a b : Bool) → (a && b) ≡ true → (a ≡ true) × (b ≡ true)
 and_parts true b is = (refl, is)
@@ -502,7 +502,7 @@ module _ (limits : ServerLimits) (world : World) (held : Held limits world) (her
       by_call true = refl
       by_call false = refl
 
-  arrival_only : (piece : List ℕ) (c : Connection) (request : InProgress) → arrives_at world.limits.records piece c ≡ Busy request → c ≡ Busy request
+  pub arrival_only : (piece : List ℕ) (c : Connection) (request : InProgress) → arrives_at world.limits.records piece c ≡ Busy request → c ≡ Busy request
   arrival_only piece (Quiet bytes) request same = absurd (arrived_quiet (bytes ++ piece) (marks.front world.limits.records (bytes ++ piece)) request same)
   arrival_only piece (Waiting record_of) request same = same
   arrival_only piece (Busy other) request same = same
@@ -517,7 +517,7 @@ module _ (limits : ServerLimits) (world : World) (held : Held limits world) (her
   arrival_same piece (Replied reply) id place = refl
   arrival_same piece Closed id place = refl
 
-  taking_only : (c : Connection) (request : InProgress) → without_reply c ≡ Busy request → c ≡ Busy request
+  pub taking_only : (c : Connection) (request : InProgress) → without_reply c ≡ Busy request → c ≡ Busy request
   taking_only (Quiet bytes) request same = same
   taking_only (Waiting record_of) request same = same
   taking_only (Busy other) request same = same
@@ -620,7 +620,7 @@ mounted_held limits run start = record {
     nothing : (request : InProgress) → None ≡ Some (Busy request) → ⊥
     nothing request same = cc
 
-run_held : (limits : ServerLimits) (run : ℕ) (start : Tree) (serving : Serving) (history : History) → IsRun (mounted limits run start) serving history
+pub run_held : (limits : ServerLimits) (run : ℕ) (start : Tree) (serving : Serving) (history : History) → IsRun (mounted limits run start) serving history
     → Held limits serving.world
 run_held limits run start serving history Begins = mounted_held limits run start
 run_held limits run start serving history (Goes_on {old = old} {new = new} {history = earlier} event is_run happens) =

@@ -230,7 +230,7 @@ all_given : {A : Type 0} (p : A → Bool) (xs : List A) → list_all p xs ≡ tr
 all_given p [] all = tt
 all_given p (x ∷ xs) all = let parts = and_parts (p x) (list_all p xs) all in (parts.0, all_given p xs parts.1)
 
-found_given : {A : Type 0} (p q : A → Bool) (xs : List A) (y : A) → list_all q xs ≡ true → find p xs ≡ Some y → q y ≡ true
+pub found_given : {A : Type 0} (p q : A → Bool) (xs : List A) (y : A) → list_all q xs ≡ true → find p xs ≡ Some y → q y ≡ true
 found_given p q [] y all found = absurd (cc)
 found_given p q (x ∷ xs) y all found =
     let parts = and_parts (q x) (list_all q xs) all in

@@ -27,6 +27,7 @@ pub mod Name
 pub mod Need
 pub mod NodeAttributes
 pub mod Open
+pub mod OpenClients
 pub mod Opens
 pub mod OpensLaws
 pub mod Operation

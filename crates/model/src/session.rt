@@ -1,6 +1,7 @@
 //! Client records, sessions and slots (RFC 8881, section 2.10): their law over whole runs.
 
 ghost use Rattle.model.specs.KeptReplies.{KeepsShort};
+ghost use Rattle.model.specs.OpenClients.{EveryOpenHasClient};
 ghost use Rattle.model.specs.SessionRuns.{EverySlot};
 ghost use Rattle.model.specs.SessionTables.{EveryCallGivesNew, EveryTable};
 ghost use Rattle.model.specs.SlotsHeld.{EveryRunningSlot};
@@ -30,4 +31,11 @@ pub fn kept_replies_are_short()
 /// At each moment of every run of the server: a slot runs a request exactly where one connection is busy on it.
 pub fn every_running_slot()
     ensures { EveryRunningSlot }
+{}
+
+/// At each moment of every run of the server: each open and each session is of a client whose
+/// confirmed record stands, and a request that has begun runs in a session of its client. So no
+/// open outlives its client.
+pub fn every_open_has_client()
+    ensures { EveryOpenHasClient }
 {}
