@@ -20,6 +20,7 @@ pub mod NodeAttributeLaws
 pub mod NodeChangeLaws
 pub mod NumberLaws
 pub mod OpenClients
+pub mod OpensJoined
 pub mod OpensLaws
 pub mod OpensGoOn
 pub mod OpensSteps
@@ -39,6 +40,7 @@ pub mod SlotsHeld
 pub mod SoundLaws
 pub mod StampLaws
 pub mod StateIdLaws
+pub mod StateIdRuns
 pub mod StateIdRows
 pub mod StepCases
 pub mod StepProofs

@@ -30,12 +30,12 @@ use Rattle.model.proofs.KeyedLaws.{at-with_same, at-with_other, at-without_same,
 use Rattle.model.proofs.LimitLaws.{modes_keep_limits, inheritance_keeps_limits}
 use Rattle.model.proofs.OpensSteps.{set_opens, write_opens}
 use Rattle.model.proofs.ReadOperations.{is_first, first_read, alone_read}
-use Rattle.model.proofs.SlotsHeld.{Held, run_held, arrival_only, taking_only}
+use Rattle.model.proofs.SlotsHeld.{Held, run_held}
 use Rattle.model.proofs.StepCases.{does_cases}
 use Rattle.model.proofs.StepProofs.{every_step}
 use Rattle.model.proofs.TableCalls.{either, found_given, ids_differ}
 use Rattle.model.proofs.TableLaws.{size, all-filter}
-use Rattle.model.proofs.TurnCases.{GoesWith, Begun, New, IsTurn, Idles, Says, Unread, TooBig, Gave, Repeats, turn_is, read_of}
+use Rattle.model.proofs.TurnCases.{GoesWith, Begun, New, IsTurn, Idles, Says, Unread, TooBig, Gave, Repeats, turn_is, read_of, arrival_only, taking_only}
 
 -- Opens as lists of entries that all pass a test
 
@@ -143,7 +143,7 @@ fewer_busy world connections living before = record {
   requests = λ number request is. living.requests number request (before number request is);
 }
 
-in_place : (connections : Keyed Connection) (here : ℕ) (new : Connection) → ((request : InProgress) → new ≡ Busy request → at here connections ≡ Some (Busy request))
+pub in_place : (connections : Keyed Connection) (here : ℕ) (new : Connection) → ((request : InProgress) → new ≡ Busy request → at here connections ≡ Some (Busy request))
     → (number : ℕ) (request : InProgress) → at number (with connections here new) ≡ Some (Busy request) → at number connections ≡ Some (Busy request)
 in_place connections here new only number request is = elim (cases_eq number here) [
   | inl same ↦
@@ -466,7 +466,7 @@ module _ (limits : ServerLimits) (world : World) (held : Held limits world) (liv
 event_living : (limits : ServerLimits) (world : World) (event : Event) → Held limits world → Living world → Living (effect_of world event)
 unfolding arrives takes connects hangs_up
 event_living limits world (Arrives connection piece) held living =
-    changed_living limits world held living connection (arrives_at world.limits.records piece) (arrival_only limits world held connection piece)
+    changed_living limits world held living connection (arrives_at world.limits.records piece) (arrival_only world.limits.records piece)
     (at connection world.connections) refl
 event_living limits world (Turns connection now) held living = one_living limits world held living connection now
 event_living limits world (HangsUp connection) held living =
@@ -474,7 +474,7 @@ event_living limits world (HangsUp connection) held living =
 event_living limits world (Connects connection) held living =
     either Living (can_connect world connection) _ _ (λ free. connected limits world held living connection) (λ full. living)
 event_living limits world (Takes connection) held living =
-    changed_living limits world held living connection without_reply (taking_only limits world held connection) (at connection world.connections) refl
+    changed_living limits world held living connection without_reply taking_only (at connection world.connections) refl
 
 -- A run
 

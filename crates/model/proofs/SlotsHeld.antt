@@ -23,6 +23,7 @@ use Rattle.model.proofs.SlotLaw.{exchange_same, destroy_client_same, reclaim_sam
 use Rattle.model.proofs.SlotRuns.{RunsSame, same_sessions, finished, created_runs, destroyed_runs, rested_before, started_runs}
 use Rattle.model.proofs.TableCalls.{Holds, either, call_holds, begins, ids_differ}
 use Rattle.model.proofs.TableLaws.{size}
+use Rattle.model.proofs.TurnCases.{arrival_only, taking_only}
 
 -- What stands between two events
 pub record Held (limits : ServerLimits) (world : World) : Type 0 where
@@ -484,15 +485,6 @@ module _ (limits : ServerLimits) (world : World) (held : Held limits world) (her
       replaced (change connection) (λ request busy. is ∙ ap (λ (c : Connection). Some c) (only connection request busy))
       (λ id place. same connection id place ∙ sym (ap (is_busy_on id place) is))
 
-  arrived_quiet : (bytes : List ℕ) (f : Front) (request : InProgress) → arrived bytes f ≡ Busy request → ⊥
-  arrived_quiet bytes Partial request same = cc
-  arrived_quiet bytes (marks.Refused fault) request same = cc
-  arrived_quiet bytes (Whole one rest) request same = by_call (is_call_read (read_call one)) same
-    where
-      by_call : (b : Bool) → cond b (Waiting one) Closed ≡ Busy request → ⊥
-      by_call true same = cc
-      by_call false same = cc
-
   arrived_idle : (bytes : List ℕ) (f : Front) (id : List ℕ) (place : ℕ) → is_busy_on id place (Some (arrived bytes f)) ≡ false
   arrived_idle bytes Partial id place = refl
   arrived_idle bytes (marks.Refused fault) id place = refl
@@ -502,13 +494,6 @@ module _ (limits : ServerLimits) (world : World) (held : Held limits world) (her
       by_call true = refl
       by_call false = refl
 
-  pub arrival_only : (piece : List ℕ) (c : Connection) (request : InProgress) → arrives_at world.limits.records piece c ≡ Busy request → c ≡ Busy request
-  arrival_only piece (Quiet bytes) request same = absurd (arrived_quiet (bytes ++ piece) (marks.front world.limits.records (bytes ++ piece)) request same)
-  arrival_only piece (Waiting record_of) request same = same
-  arrival_only piece (Busy other) request same = same
-  arrival_only piece (Replied reply) request same = same
-  arrival_only piece Closed request same = same
-
   arrival_same : (piece : List ℕ) (c : Connection) (id : List ℕ) (place : ℕ)
       → is_busy_on id place (Some (arrives_at world.limits.records piece c)) ≡ is_busy_on id place (Some c)
   arrival_same piece (Quiet bytes) id place = arrived_idle (bytes ++ piece) (marks.front world.limits.records (bytes ++ piece)) id place
@@ -516,13 +501,6 @@ module _ (limits : ServerLimits) (world : World) (held : Held limits world) (her
   arrival_same piece (Busy other) id place = refl
   arrival_same piece (Replied reply) id place = refl
   arrival_same piece Closed id place = refl
-
-  pub taking_only : (c : Connection) (request : InProgress) → without_reply c ≡ Busy request → c ≡ Busy request
-  taking_only (Quiet bytes) request same = same
-  taking_only (Waiting record_of) request same = same
-  taking_only (Busy other) request same = same
-  taking_only (Replied reply) request same = absurd (cc)
-  taking_only Closed request same = same
 
   taking_same : (c : Connection) (id : List ℕ) (place : ℕ) → is_busy_on id place (Some (without_reply c)) ≡ is_busy_on id place (Some c)
   taking_same (Quiet bytes) id place = refl
@@ -592,7 +570,7 @@ module _ (limits : ServerLimits) (world : World) (held : Held limits world) (her
 event_held : (limits : ServerLimits) (world : World) (event : Event) → Held limits world → Held limits (effect_of world event)
 unfolding arrives takes connects hangs_up
 event_held limits world (Arrives connection piece) held =
-    changed_held limits world held connection (arrives_at world.limits.records piece) (arrival_only limits world held connection piece)
+    changed_held limits world held connection (arrives_at world.limits.records piece) (arrival_only world.limits.records piece)
     (arrival_same limits world held connection piece) (at connection world.connections) refl
 event_held limits world (Turns connection now) held = one_held limits world connection now held
 event_held limits world (HangsUp connection) held =
@@ -600,7 +578,7 @@ event_held limits world (HangsUp connection) held =
 event_held limits world (Connects connection) held =
     connects_held limits world held connection (at connection world.connections) refl (can_connect world connection) refl
 event_held limits world (Takes connection) held =
-    changed_held limits world held connection without_reply (taking_only limits world held connection)
+    changed_held limits world held connection without_reply taking_only
     (taking_same limits world held connection) (at connection world.connections) refl
 
 -- A run

@@ -1,5 +1,5 @@
 -- What a turn may be: each law that is kept by turns is shown case by case of these.
-use Rattle.std.proofs.Common.{◌≡◌, ◌≢◌, ℕ, Bool, true, false, cond, if◌then◌else◌, not, ◌==◌, List, Option, None, Some, Result, Ok, Err, refl, sym, ◌∙◌}
+use Rattle.std.proofs.Common.{◌≡◌, ◌≢◌, ℕ, Bool, true, false, cond, if◌then◌else◌, not, ◌==◌, List, ◌++◌, Option, None, Some, Result, Ok, Err, refl, sym, ◌∙◌}
 use Rattle.std.proofs.lemmas.Bool.{true≢false, eq-eqb}
 use Rattle.xdr.specs.declared.refusal.Refusal.{Refusal}
 use Rattle.model.specs.declared.acl.Cred.{Cred}
@@ -8,9 +8,9 @@ use Rattle.model.specs.declared.status.Status.TheVariants as status
 use Rattle.model.specs.Answer.{Outcome, Done, Refused}
 use Rattle.model.specs.Keyed.{at}
 use Rattle.model.specs.Operation.{Argument, operation_of}
-use Rattle.model.specs.Record.{framed}
-use Rattle.model.specs.Rpc.{CallRead, NoCall, OtherVersion, Calls, VersionRefused, read_call, Call, Request, Answers, Runs, request_of, by_head, by_cred, compound_request, is_empty, cred_of, compound_head, Compound, Reply, Success, reply_text}
-use Rattle.model.specs.World.{World, InProgress, Connection, Quiet, Waiting, Busy, Replied, Closed, HasRun, Gives, Replays, Next, Refuses, Reads, next_operation, run, has_room, in_room, Turned, Answered, idle, replies, behind, has_run, operates, entry_of, in_progress, requested, called, turned, one, with_connection}
+use Rattle.model.specs.Record.{RecordLimits, Front, Partial, Refused as BadRecord, Whole, front, framed}
+use Rattle.model.specs.Rpc.{CallRead, NoCall, OtherVersion, Calls, VersionRefused, read_call, is_call_read, Call, Request, Answers, Runs, request_of, by_head, by_cred, compound_request, is_empty, cred_of, compound_head, Compound, Reply, Success, reply_text}
+use Rattle.model.specs.World.{World, InProgress, Connection, Quiet, Waiting, Busy, Replied, Closed, HasRun, Gives, Replays, Next, Refuses, Reads, next_operation, run, has_room, in_room, Turned, Answered, idle, replies, behind, has_run, operates, entry_of, in_progress, requested, called, turned, one, with_connection, arrived, arrives_at, without_reply}
 
 -- the request that a turn of this connection goes on with: one that has begun, or that begins
 pub data GoesWith (world : World) (here : ℕ) : InProgress → Type 0 where
@@ -124,3 +124,28 @@ module _ (world : World) (here now : ℕ) where
 pub turn_is : (world : World) (here now : ℕ) → IsTurn world here now (one world here now)
 unfolding one
 turn_is world here now = turned_is world here now (at here world.connections) refl
+
+-- What comes and what is taken: no request begins by it
+
+arrived_quiet : (bytes : List ℕ) (f : Front) (request : InProgress) → arrived bytes f ≡ Busy request → ⊥
+arrived_quiet bytes Partial request same = cc
+arrived_quiet bytes (BadRecord fault) request same = cc
+arrived_quiet bytes (Whole one rest) request same = by_call (is_call_read (read_call one)) same
+  where
+    by_call : (b : Bool) → cond b (Waiting one) Closed ≡ Busy request → ⊥
+    by_call true same = cc
+    by_call false same = cc
+
+pub arrival_only : (limits : RecordLimits) (piece : List ℕ) (c : Connection) (request : InProgress) → arrives_at limits piece c ≡ Busy request → c ≡ Busy request
+arrival_only limits piece (Quiet bytes) request same = absurd (arrived_quiet (bytes ++ piece) (front limits (bytes ++ piece)) request same)
+arrival_only limits piece (Waiting record_of) request same = same
+arrival_only limits piece (Busy other) request same = same
+arrival_only limits piece (Replied reply) request same = same
+arrival_only limits piece Closed request same = same
+
+pub taking_only : (c : Connection) (request : InProgress) → without_reply c ≡ Busy request → c ≡ Busy request
+taking_only (Quiet bytes) request same = same
+taking_only (Waiting record_of) request same = same
+taking_only (Busy other) request same = same
+taking_only (Replied reply) request same = absurd (cc)
+taking_only Closed request same = same

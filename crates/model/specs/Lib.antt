@@ -53,6 +53,7 @@ pub mod SoundRuns
 pub mod Stamp
 pub mod State
 pub mod StateIdLaws
+pub mod StateIdRuns
 pub mod StateIds
 pub mod Status
 pub mod Step
