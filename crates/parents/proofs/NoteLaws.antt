@@ -1,0 +1,155 @@
+-- Names are noted one after the other.
+use Rattle.std.proofs.Common.{◌≡◌, ◌≢◌, ◌<◌, ◌+◌, ◌++◌, ℕ, zero, suc, List, [], ◌∷◌, Option, Some, length, get_or, map, replicate, set, take, refl, sym, ap, subst, ◌∙◌, arith, inl, inr, eqb, eq-eqb, ne_eqb}
+use Rattle.std.proofs.lemmas.Bool.{cases_eq}
+use Rattle.std.proofs.lemmas.List.{length-set, get_or-set_same, get_or-set_other, get_or-map, length-map, length-replicate}
+use Rattle.directory.specs.declared.entry.Entry.{Entry}
+use Rattle.directory.specs.Records.{Record, record_of}
+use Rattle.cards.specs.Tables.{number_at, HasNot, HaveOwnPlaces}
+use Rattle.cards.proofs.TableLaws.{within-numbered}
+use Rattle.layout.specs.Cards.{Card}
+use Rattle.layout.specs.Marks.{once_if, times}
+use Rattle.layout.specs.SumLaws.{numbers_of}
+use Rattle.model.specs.Tree.{root}
+use Rattle.shape.specs.Trees.{led_at, IsOneTree}
+use Rattle.shape.proofs.Sums.{times-append, take-one}
+use Rattle.parents.specs.Notes.{IsNoted}
+use Rattle.parents.specs.Parents.{LeadsTo, AreParents}
+use Rattle.parents.proofs.LinkLaws.{some_is, no_root, one_place}
+
+-- One name
+
+module _ (cards : List (Option Card)) (old now numbers : List ℕ) (directory number : ℕ) (noted : IsNoted cards old now numbers directory) where
+  times-one : (n : ℕ) → times n (numbers ++ number ∷ []) ≡ times n numbers + once_if (eqb n number)
+  times-one n = omega (arith, times-append n numbers (number ∷ []))
+
+  here : (n : ℕ) → n ≡ number → once_if (eqb n number) ≡ 1
+  here n same = rw (eq-eqb n number same) refl
+
+  off : (n : ℕ) → n ≢ number → once_if (eqb n number) ≡ 0
+  off n apart = rw (ne_eqb n number apart) refl
+
+  note-found : HaveOwnPlaces cards → (place : ℕ) → number_at cards place ≡ Some number → place < length now
+      → IsNoted cards old (set now place directory) (numbers ++ number ∷ []) directory
+  note-found own place is inside = record {
+    count = length-set now place directory ∙ noted.count;
+    led = λ p n there some. elim (cases_eq n number) [
+      | inl same ↦
+          let at : p ≡ place = own p place number (there ∙ ap Some same) is in
+          ap (λ k. get_or (set now place directory) k 0) at ∙ get_or-set_same now place directory 0 inside
+      | inr apart ↦
+          get_or-set_other now place p directory 0 (λ at. apart (some_is n number (sym there ∙ ap (number_at cards) at ∙ is)))
+          ∙ noted.led p n there (omega (arith, some, times-one n, off n apart))
+    ];
+    others = λ p n there none. elim (cases_eq n number) [
+      | inl same ↦ absurd (omega (arith, none, times-one n, here n same))
+      | inr apart ↦
+          get_or-set_other now place p directory 0 (λ at. apart (some_is n number (sym there ∙ ap (number_at cards) at ∙ is)))
+          ∙ noted.others p n there (omega (arith, none, times-one n, off n apart))
+    ];
+  }
+
+  note-none : HasNot cards number → IsNoted cards old now (numbers ++ number ∷ []) directory
+  note-none lack = record {
+    count = noted.count;
+    led = λ p n there some. elim (cases_eq n number) [
+      | inl same ↦ absurd (lack p (there ∙ ap Some same))
+      | inr apart ↦ noted.led p n there (omega (arith, some, times-one n, off n apart))
+    ];
+    others = λ p n there none. noted.others p n there (omega (arith, none, times-one n));
+  }
+
+pub begins : (cards : List (Option Card)) (old : List ℕ) (directory : ℕ) → IsNoted cards old old [] directory
+begins cards old directory = record { count = refl; led = λ p n there some. absurd (omega arith); others = λ p n there none. refl }
+
+module _ (cards : List (Option Card)) (old now : List ℕ) (directory i : ℕ) (entries : List Entry) (entry : Entry) (inside : i < length entries) (is : entry ≡ get_or entries i entry)
+    (noted : IsNoted cards old now (take i (numbers_of (map record_of entries))) directory) where
+  number-is : get_or (numbers_of (map record_of entries)) i 0 ≡ entry.number
+  number-is =
+      let within : i < length (map record_of entries) = rw length-map inside in
+      get_or-map (λ (r : Record). r.1.number) (map record_of entries) i (record_of entry) 0 within
+      ∙ (ap (λ (r : Record). r.1.number) (get_or-map record_of entries i entry (record_of entry) inside)
+      ∙ ap (λ (e : Entry). e.number) (sym is))
+
+  one-more : take (i + 1) (numbers_of (map record_of entries)) ≡ take i (numbers_of (map record_of entries)) ++ entry.number ∷ []
+  one-more =
+      let all = numbers_of (map record_of entries) in
+      let within : i < length all = omega (arith, inside, length-map (map record_of entries) (λ (r : Record). r.1.number), length-map entries record_of) in
+      (let e : i + 1 ≡ suc i = omega arith in ap (λ n. take n all) e)
+      ∙ (take-one all i 0 within ∙ ap (λ n. take i all ++ n ∷ []) number-is)
+
+  pub next-found : HaveOwnPlaces cards → (place : ℕ) → number_at cards place ≡ Some entry.number → place < length now
+      → (new : List ℕ) → new ≡ set now place directory → IsNoted cards old new (take (i + 1) (numbers_of (map record_of entries))) directory
+  next-found own place there low new set_is =
+      subst (λ numbers. IsNoted cards old new numbers directory) (sym one-more)
+      (subst (λ list. IsNoted cards old list (take i (numbers_of (map record_of entries)) ++ entry.number ∷ []) directory) (sym set_is)
+      (note-found cards old now (take i (numbers_of (map record_of entries))) directory entry.number noted own place there low))
+
+  pub next-none : HasNot cards entry.number → (new : List ℕ) → new ≡ now → IsNoted cards old new (take (i + 1) (numbers_of (map record_of entries))) directory
+  next-none lack new same =
+      subst (λ numbers. IsNoted cards old new numbers directory) (sym one-more)
+      (subst (λ list. IsNoted cards old list (take i (numbers_of (map record_of entries)) ++ entry.number ∷ []) directory) (sym same)
+      (note-none cards old now (take i (numbers_of (map record_of entries))) directory entry.number noted lack))
+
+-- One directory after the other: those in front of a place
+
+pub record AreNoted (cards : List (Option Card)) (parents : List ℕ) (front : ℕ) : Type 0 where
+  pub count : length parents ≡ length cards
+  pub named : (place number of directory : ℕ) → of < front → number_at cards place ≡ Some number
+      → number_at cards of ≡ Some directory → LeadsTo cards of number → get_or parents place 0 ≡ directory
+  pub nameless : (place number : ℕ) → number_at cards place ≡ Some number
+      → ((of : ℕ) → of < front → times number (led_at cards of) ≡ 0) → get_or parents place 0 ≡ 0
+
+zeros : (n p none : ℕ) → get_or (replicate n none) p none ≡ none
+zeros zero p none = refl
+zeros (suc n) zero none = refl
+zeros (suc n) (suc p) none = zeros n p none
+
+pub none-noted : (cards : List (Option Card)) (parents : List ℕ) → parents ≡ replicate (length cards) 0 → AreNoted cards parents 0
+none-noted cards parents are = record {
+  count = ap length are ∙ length-replicate (length cards) 0;
+  named = λ p n of directory low. absurd (omega arith);
+  nameless = λ p n there none. ap (λ list. get_or list p 0) are ∙ zeros (length cards) p 0;
+}
+
+module _ (cards : List (Option Card)) (tree : IsOneTree cards) (own : HaveOwnPlaces cards) (front : ℕ) (now : List ℕ) (noted : AreNoted cards now front) where
+  pub free-place : led_at cards front ≡ [] → AreNoted cards now (front + 1)
+  free-place none = record {
+    count = noted.count;
+    named = λ p n of directory low there at leads. elim (cases_eq of front) [
+      | inl same ↦
+          let empty : times n (led_at cards of) ≡ 0 = ap (λ k. times n (led_at cards k)) same ∙ ap (times n) none in
+          absurd (omega (arith, leads, empty))
+      | inr apart ↦ noted.named p n of directory (omega (arith, low, apart)) there at leads
+    ];
+    nameless = λ p n there all. noted.nameless p n there (λ of low. all of (omega (arith, low)));
+  }
+
+  pub directory-noted : (new numbers : List ℕ) (directory : ℕ) → number_at cards front ≡ Some directory → led_at cards front ≡ numbers
+      → IsNoted cards now new numbers directory → AreNoted cards new (front + 1)
+  directory-noted new numbers directory there_is led_is one = record {
+    count = one.count ∙ noted.count;
+    named = λ p n of of_number low there at leads. elim (cases_eq (times n numbers) 0) [
+      | inl none ↦
+          let empty : times n (led_at cards front) ≡ 0 = ap (times n) led_is ∙ none in
+          let apart : of ≢ front = λ same. (let both : times n (led_at cards of) ≡ 0 = ap (λ k. times n (led_at cards k)) same ∙ empty in omega (arith, leads, both)) in
+          one.others p n there none ∙ noted.named p n of of_number (omega (arith, low, apart)) there at leads
+      | inr some ↦
+          let led : times n (led_at cards front) ≡ times n numbers = ap (times n) led_is in
+          let same : front ≡ of = one_place cards tree own n front of (omega (arith, led, some)) leads in
+          one.led p n there (omega (arith, some)) ∙ some_is directory of_number (sym there_is ∙ ap (number_at cards) same ∙ at)
+    ];
+    nameless = λ p n there all.
+        (let empty : times n numbers ≡ 0 = ap (times n) (sym led_is) ∙ all front (omega arith) in
+        one.others p n there empty ∙ noted.nameless p n there (λ of low. all of (omega (arith, low))));
+  }
+
+pub all-noted : (cards : List (Option Card)) (parents : List ℕ) (front : ℕ) → IsOneTree cards → length cards ≡ front → AreNoted cards parents front → AreParents cards parents
+all-noted cards parents front tree all noted = record {
+  count = noted.count;
+  named = λ p n directory there has.
+      noted.named p n has.place directory (omega (arith, within-numbered cards has.place directory has.there, all)) there has.there has.leads;
+  rooted = λ p there. noted.nameless p root there (λ of low. elim (cases_eq (times root (led_at cards of)) 0) [
+    | inl none ↦ none
+    | inr some ↦ absurd (no_root cards tree of (omega (arith, some)))
+  ]);
+}

@@ -1,0 +1,4 @@
+pub mod Notes
+pub mod ParentLaws
+pub mod ParentProps
+pub mod Parents

@@ -1,0 +1,10 @@
+//! In which directory each node's name stands: parents and ancestors without a search over names.
+#![tactic(auto)]
+
+mod ancestors;
+mod laws;
+mod places;
+
+pub use ancestors::is_below;
+pub use laws::{changes, tells};
+pub use places::Parents;
