@@ -62,7 +62,7 @@ own_test : (context : Context) (known : Open) → IsOwn context known
 own_test context known own =
     rw (eq-eqb known.client context.client own.client, eq-eqb known.number (current_number context) own.file) refl
 
-own : (opens : Opens) (context : Context) (serial seqid : ℕ) (known : Open) → Stands opens context serial known → IsOwn context known
+pub own : (opens : Opens) (context : Context) (serial seqid : ℕ) (known : Open) → Stands opens context serial known → IsOwn context known
     → found opens context (state_of context.run serial seqid) ≡ by_seqid (state_of context.run serial seqid) known
 own opens context serial seqid known stands mine =
     standing opens context serial seqid known stands

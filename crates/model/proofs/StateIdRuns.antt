@@ -16,7 +16,7 @@ use Rattle.model.specs.Rpc.{Success, reply_text}
 use Rattle.model.specs.Runs.{Serving, History, IsRun, mounted, Event, Arrives, Turns, HangsUp, Connects, Takes, effect_of, executed_of, executed_by, executed, Begins, Goes_on, Fails_at, Stays_down, history_after}
 use Rattle.model.specs.Session as sessions
 use Rattle.model.specs.Session.{Session, Table, is_session}
-use Rattle.model.specs.StateIds.{Found, Anonymous, Names, found, is_like, open_like, joined, next_seqid, opened, opened_by, Opened, is_table_full, without_clients, without_number, state_of}
+use Rattle.model.specs.StateIds.{by_seqid, Found, Anonymous, Names, found, is_like, open_like, joined, next_seqid, opened, opened_by, Opened, is_table_full, without_clients, without_number, state_of}
 use Rattle.model.specs.StateIds as stateids
 use Rattle.model.specs.StateIdLaws.{IsOwn, IsGiven, Stands as StandsIn, is_open}
 use Rattle.model.specs.StateIdRuns.{WasAnswered, IsOpenOf, access_by, accesses_in, joined_by, Stands, HasEnded, Verdicts, EveryStateIdGoesOn, JoinsAreCounted, EveryOtherRunRefuses}
@@ -27,7 +27,7 @@ use Rattle.model.proofs.Headline.{done_behind}
 use Rattle.model.proofs.KeyedLaws.{at-with_same, at-with_other, at-without_same, at-without_other, some≢none}
 use Rattle.model.proofs.LimitLaws.{modes_keep_limits, inheritance_keeps_limits}
 use Rattle.model.proofs.OpenClients.{in_place}
-use Rattle.model.proofs.StateIdLaws.{newest, lower, not_own, other_run, ended}
+use Rattle.model.proofs.StateIdLaws.{newest, lower, own, not_own, other_run, ended}
 use Rattle.model.proofs.StepProofs.{every_step}
 use Rattle.model.proofs.TableCalls.{either}
 use Rattle.model.proofs.TurnCases.{GoesWith, Begun, New, IsTurn, Idles, Says, Unread, TooBig, Gave, Repeats, turn_is, read_of, arrival_only, taking_only}
@@ -444,6 +444,15 @@ module _ (run : ℕ) (asked : Open) (state : StateId) (serial : ℕ) (known : Op
       ∙ lower used.opens used.context serial last (stands_here last there)
       (record { client = joins.client ∙ own.client; file = joins.number ∙ own.file }) known.seqid is.counted (omega (arith, seqid, some))
 
+  by_its_seqid : IsOwn used.context known → Stands later serial last → found used.opens used.context state ≡ by_seqid state last
+  by_its_seqid mine there =
+      let here : state ≡ state_of used.context.run serial known.seqid = is.is ∙ ap (λ (r : ℕ). state_of r serial known.seqid) (sym of_run) in
+      let joins = joins_counted accesses known in
+      state_here
+      ∙ (own used.opens used.context serial known.seqid last (stands_here last there)
+      (record { client = joins.client ∙ mine.client; file = joins.number ∙ mine.file })
+      ∙ ap (λ (s : StateId). by_seqid s last) (sym here))
+
   is_bad : HasEnded later serial → found used.opens used.context state ≡ stateids.Refused status.BadStateId
   is_bad gone = state_here ∙ ended used.opens used.context serial known.seqid given_here (ap (λ (o : Opens). at serial o.known) same ∙ gone)
 
@@ -460,7 +469,7 @@ module _ (run : ℕ) (asked : Open) (state : StateId) (serial : ℕ) (known : Op
       still (inr file) = inr (λ equal. file (sym (joins_counted accesses known).number ∙ equal))
 
   verdicts : Verdicts later state serial known accesses used
-  verdicts = record { newest = is_newest; old = is_old; other = is_not_own; ended = is_bad }
+  verdicts = record { newest = is_newest; old = is_old; own = by_its_seqid; other = is_not_own; ended = is_bad }
 
 -- The laws
 
@@ -478,6 +487,7 @@ every_state_id_goes_on run entry arguments answer new later since small was is_r
       serial = opened.serial;
       known = opened.known;
       is = opened.is;
+      stood = opened.there;
       now = now;
       stays = λ gone last more goes. (run_gone run small later later_numbered opened.serial (still.0, gone) last more goes).1;
       verdicts = λ event used is.

@@ -10,7 +10,7 @@ use Rattle.model.specs.Opens.{Open}
 use Rattle.model.specs.Operation.{Argument, OpenArguments, StateId}
 use Rattle.model.specs.Runs.{Event, Serving, History, IsRun, Happens, executed, mounted}
 use Rattle.model.specs.StateIdLaws.{IsOwn, IsGiven}
-use Rattle.model.specs.StateIds.{Refused, Names, found, is_like, joined, state_of}
+use Rattle.model.specs.StateIds.{Refused, Names, by_seqid, found, is_like, joined, state_of}
 use Rattle.model.specs.Step.{State}
 use Rattle.model.specs.Tree.{Tree}
 use Rattle.model.specs.World.{ServerLimits, Entry}
@@ -73,6 +73,9 @@ pub record Verdicts (later : Serving) (state : StateId) (serial : ℕ) (known : 
   pub old : IsOwn used.context known → 0 < length accesses
       → known.seqid + length accesses < 2 ^ 32 → Stands later serial (joined_by accesses known)
       → found used.opens used.context state ≡ Refused status.OldStateId
+  -- in any case its seqid decides, beside that of the open
+  pub own : IsOwn used.context known → Stands later serial (joined_by accesses known)
+      → found used.opens used.context state ≡ by_seqid state (joined_by accesses known)
   -- for another client or on another file, and once the open has ended, it is bad
   pub other : (known.client ≢ used.context.client) ⊎ (known.number ≢ current_number used.context)
       → found used.opens used.context state ≡ Refused status.BadStateId
@@ -81,11 +84,12 @@ pub record Verdicts (later : Serving) (state : StateId) (serial : ℕ) (known : 
 
 -- The open stands as those that joined it since have made it, or it has ended, and then it never
 -- comes back.
-pub record GoesOnAs (run : ℕ) (asked : Open) (state : StateId) (later : Serving)
+pub record GoesOnAs (run : ℕ) (asked : Open) (state : StateId) (new later : Serving)
     (since : List Entry) : Type 0 where
   pub serial : ℕ
   pub known : Open
   pub is : IsOpenOf run asked state serial known
+  pub stood : Stands new serial known
   pub now : Stands later serial (joined_by (accesses_in state.other since) known)
       ⊎ HasEnded later serial
   pub stays : HasEnded later serial → (last : Serving) (more : History) → IsRun later last more
@@ -98,7 +102,7 @@ abbrev pub EveryStateIdGoesOn : Type 0
 EveryStateIdGoesOn = (run : ℕ) (entry : Entry) (arguments : OpenArguments) (answer : OpenAnswer)
     (new later : Serving) (since : History) → run < 2 ^ 32
     → WasAnswered run entry arguments answer new → IsRun new later since → later.is_down ≡ false
-    → GoesOnAs run (asked_open entry.state arguments) answer.state later since.done
+    → GoesOnAs run (asked_open entry.state arguments) answer.state new later since.done
 
 -- those that join it keep its client, owner and file, and raise its seqid by one each, until it
 -- begins again at 1

@@ -3,7 +3,7 @@
 ghost use Rattle.model.specs.RuledOut.{NoSkip, NoEarlyReply, NoTakingBack, NoSecondRun, NoForgetting, NoGap, OneATurn, HangsUpLast, HangUpIsEvents, EachEventHappens};
 ghost use Rattle.model.specs.Runs.{EveryRun, EveryStamp};
 ghost use Rattle.model.specs.ServedOnce.{EveryServedSlot};
-ghost use Rattle.model.specs.StateIdRuns.{EveryStateIdGoesOn, JoinsAreCounted, EveryOtherRunRefuses};
+ghost use Rattle.model.specs.StateIdRuns.{EveryOtherRunRefuses, EveryStateIdGoesOn, JoinsAreCounted};
 
 /// Whatever bytes arrive on whatever connections, and wherever the server is stopped: the tree that a stop may leave is the
 /// one that a prefix of the executed operations gives. None of them is skipped and none is there in part; the prefix holds
@@ -44,10 +44,11 @@ pub fn every_stamp()
     ensures { EveryStamp }
 {}
 
-/// From the moment on at which an OPEN is answered with a stateid, at each later moment of the run: its
-/// open stands as the OPENs that joined it since have made it, or it has ended and never comes back. The
-/// stateid names the open until one joins it, is OLD_STATEID behind that, and BAD_STATEID for another
-/// client, on another file and once the open has ended; in every other run it is BAD_STATEID.
+/// From the moment on at which an OPEN is answered with a stateid, at each later moment of the run:
+/// its open stands as the OPENs that joined it since have made it, or it has ended and never comes
+/// back. The stateid names the open until one joins it, is OLD_STATEID behind that until seqids
+/// begin again at 1, and BAD_STATEID for another client, on another file and once the open has
+/// ended; in every other run it is BAD_STATEID.
 pub fn every_stateid_goes_on()
     ensures goes_on { EveryStateIdGoesOn }
     ensures joins { JoinsAreCounted }
