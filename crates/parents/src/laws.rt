@@ -2,8 +2,8 @@
 
 ghost use Rattle.parents.specs.ParentLaws.{EachKept, EachMove, EachParent};
 
-/// Of cards that are one tree, the number at the place of a node is its parent in the tree that they
-/// are, whatever the sectors hold.
+/// Of cards that are one tree, the number at the place of a node is its parent in the tree that
+/// they are, whatever the sectors hold.
 pub fn tells()
     ensures { EachParent }
 {}

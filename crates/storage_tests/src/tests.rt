@@ -1,5 +1,6 @@
 //! What no contract says: the bytes of each layout, that calls succeed, and what stands in a file.
 
+mod ancestors;
 mod blocks;
 mod devices;
 mod fields;

@@ -1,5 +1,9 @@
 //! A small volume byte by byte, and each way in which one byte breaks it.
 
+ghost use Rattle.std.specs.Prelude.{IfOk};
+ghost use Rattle.layout.specs.Known.{AreCards};
+ghost use Rattle.layout.specs.Marks.{mark_by};
+
 use disk::SECTOR;
 use layout::sectors::{ReadFault, Sectors};
 use scan::{Contents, ScanFault, read_volume};
@@ -8,9 +12,9 @@ use std::test::Fail;
 
 /// Sectors in memory. As a device it claims nothing.
 #[derive(Drop)]
-struct Rows {
-    rows: Vec<[u8; SECTOR]>,
-    is_down: bool,
+pub(super) struct Rows {
+    pub(super) rows: Vec<[u8; SECTOR]>,
+    pub(super) is_down: bool,
 }
 
 impl Sectors for Rows {
@@ -36,7 +40,7 @@ impl Sectors for Rows {
     }
 }
 
-const SIZE: u32 = 256;
+pub(super) const SIZE: u32 = 256;
 
 const NODES: u32 = 16;
 
@@ -55,7 +59,7 @@ const FILE: [u8; 52] = [
 /// The name `a`, stamp 5, which leads to node 2.
 const NAME: [u8; 18] = [0, 0, 0, 0, 0, 0, 0, 2, 0, 0, 0, 0, 0, 0, 0, 5, 1, b'a'];
 
-fn put(rows: &mut Vec<[u8; SECTOR]>, sector: usize, at: usize, bytes: &[u8]) {
+pub(super) fn put(rows: &mut Vec<[u8; SECTOR]>, sector: usize, at: usize, bytes: &[u8]) {
     if let Some(row) = rows.get_mut(sector) {
         for (byte, new) in row.iter_mut().skip(at).zip(bytes) {
             *byte = *new;
@@ -82,7 +86,10 @@ fn volume(alloc: Global) -> Result<Rows, Fail> {
 }
 
 /// The call, which stands here once.
-fn read(alloc: Global, rows: &mut Rows) -> Result<Contents, ScanFault> {
+pub(super) fn read(alloc: Global, rows: &mut Rows) -> Result<Contents, ScanFault>
+    ensures { IfOk result (λ contents.
+        AreCards 16 (mark_by 164 contents.places) contents.cards.items) }
+{
     if rows.rows.len() != SIZE as usize {
         return Err(ScanFault::Memory);
     }
