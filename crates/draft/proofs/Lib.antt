@@ -2,6 +2,7 @@ pub mod BackLaws
 pub mod BlockLaws
 pub mod CountLaws
 pub mod CutLaws
+pub mod DropLaws
 pub mod FaultLaws
 pub mod FreeLaws
 pub mod GrowLaws

@@ -1,23 +1,23 @@
 -- A name that is put, as one edit.
-use Rattle.std.proofs.Common.{◌≡◌, ◌≢◌, ◌≤◌, ◌<◌, ◌+◌, ◌/◌, ◌^◌, ℕ, zero, suc, Bool, List, [], ◌∷◌, ◌++◌, Option, Some, None, length, get_or, set, max, refl, sym, ap, ◌∙◌, arith, subst, eq-eqb, ne_eqb, inl, inr}
+use Rattle.std.proofs.Common.{◌≡◌, ◌≢◌, ◌≤◌, ◌<◌, ◌+◌, ℕ, zero, suc, Bool, List, [], ◌∷◌, ◌++◌, Option, Some, None, length, get_or, set, max, refl, sym, ap, ◌∙◌, arith, subst, eq-eqb, ne_eqb, inl, inr}
 use Rattle.std.proofs.lemmas.Bool.{cases_eq}
 use Rattle.std.proofs.lemmas.List.{length-append}
 use Rattle.disk.specs.Moments.{Image, applied}
 use Rattle.disk.specs.declared.update.Update.{Update}
 use Rattle.freemap.specs.Kept.{free_places}
 use Rattle.directory.specs.Listing.{by_stamp}
-use Rattle.directory.specs.Records.{Record, IsDirectory, AreStamped, with_record, record_from, place_of, name_of}
+use Rattle.directory.specs.Records.{Record, IsDirectory, AreStamped, with_record, record_from, place_of}
 use Rattle.directory.specs.Spelling.{directory_sector}
 use Rattle.directory.proofs.Places.{with_record-push}
 use Rattle.inode.specs.Fields.{Fields}
 use Rattle.model.specs.declared.node.NodeKind.{NodeKind}
 use Rattle.model.specs.declared.node.NodeKind.TheVariants as kind
 use Rattle.model.specs.Charge.{blocks_of, charge_of_blocks}
-use Rattle.model.specs.Edit.{PutName, done}
+use Rattle.model.specs.Edit.{PutName}
 use Rattle.model.specs.Keyed.{at, with}
 use Rattle.model.specs.Tree.{entry_of}
 use Rattle.layout.specs.Cards.{Card, content_at}
-use Rattle.layout.specs.Directories.{RewritesBlocks, block_put}
+use Rattle.layout.specs.Directories.{block_put}
 use Rattle.layout.specs.Known.{IsCard, HasNames}
 use Rattle.layout.specs.Laid.{HoldsNames, HoldsContent, names_of_block}
 use Rattle.layout.specs.Marks.{times, times_set, mark_by}
@@ -28,7 +28,7 @@ use Rattle.layout.proofs.NodeEditLaws.{put_one_name}
 use Rattle.cards.specs.Tables.{charge_of, charge_of_all}
 use Rattle.draft.specs.Blocks.{HaveRegion, GetSectors, WritesOne, set_blocks}
 use Rattle.draft.specs.declared.draft.Draft.{Draft}
-use Rattle.draft.specs.Drafts.{cards_of, image_of, tree_of, IsKnown, StaysKnown, MakesOver, HasNow, IsBack}
+use Rattle.draft.specs.Drafts.{cards_of, image_of, IsKnown, StaysKnown, MakesOver, HasNow, IsBack}
 use Rattle.draft.specs.Laying.{CanBeLaid, IsRerun, sectors_for}
 use Rattle.draft.specs.Naming.{CanName, renamed, with_name, blocks_named}
 use Rattle.draft.proofs.BackLaws.{charged, IsMoved, stays, has_now, kept, makes, steps, shows_same, shows_sized}
@@ -48,6 +48,10 @@ stamp-new (entry ∷ names) stamp none i d h = elim (cases_eq stamp entry.0) [
 -- the directory's card with these names and blocks
 abbrev pub named_card : Card → List (Option ℕ) → List Record → Card
 named_card card blocks names = record card { fields = record card.fields { size = length names }; blocks = blocks; names = names }
+
+-- the runs of so few blocks stand in one sector
+pub few_runs : (blocks : List (Option ℕ)) (count : ℕ) → length blocks ≡ blocks_of kind.Directory count → count ≤ 1024 → sectors_for (set_blocks blocks) ≤ 1
+few_runs blocks count long few = omega (arith, long, set_most blocks)
 
 -- a directory whose blocks and names have changed, laid anew
 module _ (old : Draft) (place : ℕ) (was : Card) (known : IsKnown old) (there : get_or (cards_of old) place None ≡ Some was) (directory : was.fields.kind ≡ kind.Directory) where
@@ -172,6 +176,9 @@ module _ (old : Draft) (place : ℕ) (was : Card) (name : List ℕ) (stamp numbe
 
       pub can_be_named : CanBeLaid old.nodes place mid_places (named_card was blocks names)
       can_be_named = can_lay_names old place was known there directory mid_places blocks names gets.len (omega (arith, longer, few)) (λ n. omega (arith, named_here old place was known there directory n, gets.marks n, gets.more n))
+
+      pub named_few : sectors_for (set_blocks blocks) ≤ 1
+      named_few = few_runs blocks (length names) counted (omega (arith, longer, few))
 
       -- no sector was free for its runs
       pub named_last : free_places mid_places + length was.fields.run_sectors < sectors_for (set_blocks blocks) → length old.places + charge_of was < charge_of_all (cards_of old) + charge_of_blocks (blocks_named was)

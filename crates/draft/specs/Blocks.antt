@@ -1,5 +1,7 @@
 -- Bytes that are written over a file's blocks.
-use Rattle.std.specs.Prelude.{◌≡◌, ◌≢◌, ◌≤◌, ◌<◌, ◌+◌, ◌-◌, ◌/◌, ◌%◌, ◌^◌, ◌⊎◌, ℕ, Bool, true, false, List, Option, Some, None, max, length, count_by, is_some, slice_get, slice_set, slice_index_or}
+use Rattle.std.specs.Prelude.{◌≡◌, ◌≢◌, ◌≤◌, ◌<◌, ◌+◌, ◌-◌, ◌/◌, ◌%◌, ◌^◌, ◌⊎◌}
+use Rattle.std.specs.Prelude.{ℕ, Bool, true, false, List, Option, Some, None, max, length, count_by}
+use Rattle.std.specs.Prelude.{is_some, slice_get, slice_set, slice_index_or}
 use Rattle.disk.specs.Moments.{Image, put, applied}
 use Rattle.disk.specs.declared.update.Update.{Update}
 use Rattle.freemap.specs.Kept.{free_places}
@@ -32,9 +34,10 @@ abbrev pub set_blocks : List (Option ℕ) → ℕ
 set_blocks blocks = count_by is_some blocks
 
 -- the marks follow the blocks
-abbrev pub FollowBlocks : (first : ℕ) → (was is : List Bool) → (was_blocks is_blocks : List (Option ℕ)) → Type 0
-FollowBlocks first was is was_blocks is_blocks =
-    (n : ℕ) → mark_by first is n + times_set n was_blocks ≡ mark_by first was n + times_set n is_blocks
+abbrev pub FollowBlocks : (first : ℕ) → (was is : List Bool)
+    → (was_blocks is_blocks : List (Option ℕ)) → Type 0
+FollowBlocks first was is was_blocks is_blocks = (n : ℕ)
+    → mark_by first is n + times_set n was_blocks ≡ mark_by first was n + times_set n is_blocks
 
 -- Blocks get sectors: the marks follow, and so does how many places are free. No block loses its
 -- sector.
@@ -59,12 +62,14 @@ pub record FindsNone (places : List Bool) (blocks : List (Option ℕ)) (block : 
   pub hole : slice_index_or blocks block None ≡ None
   pub full : free_places places ≡ 0
 
--- One block holds this content, which is a new one behind the last where there was none, and each other one what it held. No
--- sector has changed but of these blocks.
-pub record WritesOne (old new : Image) (was is : List (Option ℕ)) (block : ℕ) (content : List ℕ) : Type 0 where
+-- One block holds this content, which is a new one behind the last where there was none, and each
+-- other one what it held. No sector has changed but of these blocks.
+pub record WritesOne (old new : Image) (was is : List (Option ℕ)) (block : ℕ)
+    (content : List ℕ) : Type 0 where
   pub here : content_at new (slice_index_or is block None) ≡ content
   pub kept : (i : ℕ) → i ≢ block → i < length is
-      → (i < length was) × (content_at new (slice_index_or is i None) ≡ content_at old (slice_index_or was i None))
+      → (i < length was)
+      × (content_at new (slice_index_or is i None) ≡ content_at old (slice_index_or was i None))
   pub others : (n : ℕ) → times_set n is ≡ 0 → new n ≡ old n
   pub count : length is ≡ max (length was) (block + 1)
 
@@ -76,15 +81,18 @@ AreWithin size blocks = (block sector : ℕ)
 -- In the block of byte `size` zeros stand from there on; no other block has changed
 pub record ClearsTail (old new : Image) (blocks : List (Option ℕ)) (size : ℕ) : Type 0 where
   pub kept : (i : ℕ) → (i ≢ size / 4096) ⊎ (size % 4096 ≡ 0)
-      → content_at new (slice_index_or blocks i None) ≡ content_at old (slice_index_or blocks i None)
+      → content_at new (slice_index_or blocks i None)
+      ≡ content_at old (slice_index_or blocks i None)
   pub tail : (j : ℕ) → j < 4096 → 0 < size % 4096
       → slice_index_or (content_at new (slice_index_or blocks (size / 4096) None)) j 0
-      ≡ below (λ k. slice_index_or (content_at old (slice_index_or blocks (size / 4096) None)) k 0) (size % 4096) j
+      ≡ below (λ k. slice_index_or (content_at old (slice_index_or blocks (size / 4096) None)) k 0)
+      (size % 4096) j
 
 -- the blocks hold these bytes from a place on, in place of what they held there
 abbrev pub WritesBytes : (old new : Image) (was is : List (Option ℕ)) (offset : ℕ)
     → (bytes : List ℕ) → Type 0
-WritesBytes old new was is offset bytes = (k : ℕ) → byte_at new is k ≡ over (byte_at old was) offset bytes k
+WritesBytes old new was is offset bytes = (k : ℕ)
+    → byte_at new is k ≡ over (byte_at old was) offset bytes k
 
 -- whatever is under the updates, no sector has changed but of these blocks
 abbrev pub ChangeBlocks : (old new : List Update) → List (Option ℕ) → Type 0

@@ -1,5 +1,6 @@
 -- What a draft is, and what calls make of it.
-use Rattle.std.specs.Prelude.{◌≡◌, ◌≤◌, ◌<◌, ◌+◌, ◌^◌, ℕ, Bool, List, Option, Some, None, length, set, slice_index_or}
+use Rattle.std.specs.Prelude.{◌≡◌, ◌≤◌, ◌<◌, ◌+◌, ◌^◌}
+use Rattle.std.specs.Prelude.{ℕ, Bool, List, Option, Some, None, length, set, slice_index_or}
 use Rattle.disk.specs.declared.update.Update.{Update}
 use Rattle.disk.specs.Moments.{Image, applied}
 use Rattle.model.specs.Charge.{charge_of_blocks}
@@ -45,11 +46,13 @@ pub record StaysKnown (old new : Draft) : Type 0 where
 
 -- Its cards are laid by its updates and its places, over a volume of so many sectors
 pub record IsDraft (base : Image) (size : ℕ) (draft : Draft) : Type 0 where
-  pub laid : AreLaid draft.nodes (image_of base draft) (mark_by (148 + draft.nodes) draft.places) (cards_of draft)
+  pub laid : AreLaid draft.nodes (image_of base draft)
+      (mark_by (148 + draft.nodes) draft.places) (cards_of draft)
   pub within : end_of draft ≤ size
   pub small : size < 2 ^ 32
 
--- over this base a draft stays one, and its tree is the one before with this edit; and the same over whatever base
+-- over this base a draft stays one, and its tree is the one before with this edit; and the same
+-- over whatever base
 
 abbrev pub MakesOver : (base : Image) (size : ℕ) → (old new : Draft) → Edit → Type 0
 MakesOver base size old new edit = IsDraft base size old

@@ -1,5 +1,6 @@
 -- A node's sectors as they are laid.
-use Rattle.std.specs.Prelude.{◌≡◌, ◌≢◌, ◌≤◌, ◌<◌, ◌+◌, ◌^◌, ℕ, List, [], Bool, length, slice_index_or}
+use Rattle.std.specs.Prelude.{◌≡◌, ◌≢◌, ◌≤◌, ◌<◌, ◌+◌, ◌^◌, []}
+use Rattle.std.specs.Prelude.{ℕ, List, Bool, length, slice_index_or}
 use Rattle.std.specs.List.{AllByRecursion}
 use Rattle.disk.specs.Moments.{Image, applied}
 use Rattle.disk.specs.declared.update.Update.{Update}
@@ -16,11 +17,14 @@ use Rattle.layout.specs.Marks.{mark_by}
 
 -- no sector is there twice
 abbrev pub AreOnce : List ℕ → Type 0
-AreOnce numbers = (i j : ℕ) → i < j → j < length numbers → slice_index_or numbers i 0 ≢ slice_index_or numbers j 0
+AreOnce numbers = (i j : ℕ) → i < j → j < length numbers
+    → slice_index_or numbers i 0 ≢ slice_index_or numbers j 0
 
 -- the first run sectors hold their runs, and no other sector has changed
-pub record LaysFront (old new : Image) (numbers : List ℕ) (runs : List Run) (count : ℕ) : Type 0 where
-  pub spelled : (i : ℕ) → i < count → new (slice_index_or numbers i 0) ≡ run_sector (runs_of_sector i runs)
+pub record LaysFront (old new : Image) (numbers : List ℕ) (runs : List Run)
+    (count : ℕ) : Type 0 where
+  pub spelled : (i : ℕ) → i < count
+      → new (slice_index_or numbers i 0) ≡ run_sector (runs_of_sector i runs)
   pub others : (n : ℕ) → times n numbers ≡ 0 → new n ≡ old n
 
 -- a node's sector and its run sectors hold it, and no other sector has changed
@@ -31,7 +35,8 @@ pub record LaysNode (old new : Image) (sector : ℕ) (card : Card) : Type 0 wher
 
 -- the marks follow what is named
 abbrev pub Follow : (first : ℕ) → (was is : List Bool) → (named_was named_is : List ℕ) → Type 0
-Follow first was is named_was named_is = (n : ℕ) → mark_by first is n + times n named_was ≡ mark_by first was n + times n named_is
+Follow first was is named_was named_is = (n : ℕ)
+    → mark_by first is n + times n named_was ≡ mark_by first was n + times n named_is
 
 -- what is named is marked
 abbrev pub AreMarked : (first : ℕ) → List Bool → List ℕ → Type 0

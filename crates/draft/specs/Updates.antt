@@ -1,5 +1,6 @@
 -- Updates of different sectors.
-use Rattle.std.specs.Prelude.{◌≡◌, ◌≢◌, ◌≤◌, ◌<◌, ◌==◌, ℕ, zero, suc, List, [], ◌∷◌, length, if◌then◌else◌}
+use Rattle.std.specs.Prelude.{◌≡◌, ◌≢◌, ◌≤◌, ◌<◌, ◌==◌, [], ◌∷◌, if◌then◌else◌}
+use Rattle.std.specs.Prelude.{ℕ, zero, suc, List, length}
 use Rattle.disk.specs.declared.update.Update.{Update}
 use Rattle.disk.specs.Moments.{Image, applied}
 
@@ -25,7 +26,8 @@ AreApart (update ∷ updates) = HasNot update.target updates × AreApart updates
 -- with this update in place of the one of its sector, or behind the others
 abbrev pub updated : List Update → Update → List Update
 updated [] update = update ∷ []
-updated (first ∷ updates) update = if first.target == update.target then update ∷ updates else first ∷ updated updates update
+updated (first ∷ updates) update =
+    if first.target == update.target then update ∷ updates else first ∷ updated updates update
 
 -- each is of a sector from `first` on, and below `end`
 abbrev pub AreBetween : (first end : ℕ) → List Update → Type 0

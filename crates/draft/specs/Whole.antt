@@ -11,7 +11,8 @@ pub record ShowsPart (old new : Image) (places : List Bool) (part : ℕ) : Type 
   pub shows : Shows (new (98 + part)) places (32768 * part)
   pub others : (n : ℕ) → n ≢ 98 + part → new n ≡ old n
 
--- the draft is one of a volume of this version: its places are the whole data region, and the spare sectors are as they are to be
+-- the draft is one of a volume of this version: its places are the whole data region, and the spare
+-- sectors are as they are to be
 pub record IsWhole (version : Version) (base : Image) (size : ℕ) (draft : Draft) : Type 0 where
   pub size_is : size ≡ 148 + draft.nodes + length draft.places
   pub few : size ≤ 65536
@@ -24,5 +25,5 @@ pub record LeavesLaid (version : Version) (base : Image) (size : ℕ) (old new :
   pub tree_is : tree_of base new ≡ tree_of base old
 
 abbrev pub Finishes : (old new : Draft) → Type 0
-Finishes old new = (version : Version) (base : Image) (size : ℕ) → IsDraft base size old → IsWhole version base size old
-    → LeavesLaid version base size old new
+Finishes old new = (version : Version) (base : Image) (size : ℕ) → IsDraft base size old
+    → IsWhole version base size old → LeavesLaid version base size old new

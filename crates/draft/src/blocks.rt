@@ -1,11 +1,12 @@
 //! Bytes and names over a node's blocks.
 
-ghost use Rattle.std.specs.Prelude.{◌≡◌, ◌≢◌, ◌≤◌, ◌<◌, ◌+◌, ◌*◌, ◌/◌, ◌%◌, ◌^◌, ℕ, Some, None, length, replicate, max, ◌-◌, set, IfOk, OnOk, IsErrOf};
+ghost use Rattle.std.specs.Prelude.{◌≡◌, ◌≢◌, ◌≤◌, ◌<◌, ◌+◌, ◌*◌, ◌/◌, ◌%◌, ◌^◌, ℕ, Some, None, length, replicate, max, ◌-◌, set, slice_index_or, IfOk, OnOk, IsErrOf};
 ghost use Rattle.disk.specs.Calls.{zero_sector};
 ghost use Rattle.sector.specs.Placed.{placed};
 ghost use Rattle.disk.specs.Moments.{Image, applied};
 ghost use Rattle.freemap.specs.Kept.{free_places};
 ghost use Rattle.draft.specs.Blocks.{IsPut, Takes, HaveRegion, GetSectors, GetsSector, FindsNone, WritesOne, AreWithin, ClearsTail, WritesBytes, ChangeBlocks, set_blocks};
+ghost use Rattle.draft.specs.Naming.{Rewrites};
 ghost use Rattle.draft.specs.Updates.{ChangeOne};
 ghost use Rattle.directory.specs.Spelling.{directory_sector};
 ghost use Rattle.layout.specs.Health.{Reads};
@@ -217,6 +218,28 @@ pub(crate) fn write_names(
 {
     blocks.grow(block + 1)?;
     let sector = sector_for(places, first, blocks, block)?;
+    let mut spelled = [0; SECTOR];
+    names.to_sector(RECORDS * block as usize, &mut spelled);
+    updates.put(sector, &spelled)?;
+    Ok(())
+}
+
+/// Writes the names of a block again, where there is such a block.
+pub(crate) fn rewrite_names(
+    updates: &mut Updates,
+    blocks: &BlockList,
+    names: &Names,
+    block: u32,
+) -> Result<(), AllocError>
+    requires { block < 4096 }
+    ensures names { OnOk result ((image : Image) → Rewrites (applied updates.old image)
+        (applied updates.new image) (slice_index_or blocks.now block None)
+        (directory_sector (names_of_block block names.now))) }
+    ensures count { length updates.new ≤ length updates.old + 1 }
+{
+    let Some(sector) = blocks.at(block) else {
+        return Ok(());
+    };
     let mut spelled = [0; SECTOR];
     names.to_sector(RECORDS * block as usize, &mut spelled);
     updates.put(sector, &spelled)?;

@@ -12,12 +12,12 @@ ghost use Rattle.draft.specs.Blocks.{set_blocks};
 ghost use Rattle.draft.specs.Drafts.{cards_of, end_of, IsKnown, StaysKnown, Makes, Edits, EditsOver, Turns, IsBack, IsOvercharged};
 ghost use Rattle.draft.specs.Grown.{grown, reaching, sized, blocks_to, CanWrite, CanGrow, CanCut};
 ghost use Rattle.draft.specs.Laying.{CanBeLaid, HasEnough, sectors_for};
-ghost use Rattle.draft.specs.Naming.{CanName, with_name, blocks_named};
+ghost use Rattle.draft.specs.Naming.{CanName, HasName, DropsNamed, with_name, without_name, blocks_named};
 ghost use Rattle.draft.specs.Nodes.{IsNew, new_node, shown_of, showing, HasNode, CanShow};
 ghost use Rattle.draft.specs.Updates.{AreTargets};
 ghost use Rattle.draft.specs.Whole.{Finishes};
 
-use crate::blocks::{clear_tail, write_blocks, write_names};
+use crate::blocks::{clear_tail, rewrite_names, write_blocks, write_names};
 use crate::fault::{DraftFault, SpaceFault};
 use crate::laying::{rerun, rerun_fewer};
 use crate::marks::put_marks;
@@ -203,7 +203,7 @@ impl<'a> Draft<'a> {
             (with_name (record_from stamp name.now number))) }
         ensures put { OnOk result (Edits self.old self.new place
             (λ to. PutName to stamp (record { name = name.now; number = number }))) }
-        ensures count { OnOk result (length self.new.updates ≤ length self.old.updates + 11) }
+        ensures count { length self.new.updates ≤ length self.old.updates + 4 }
         ensures full { IsErrOf result SpaceFault.Full → IsOvercharged self.old place blocks_named }
         ensures table { self.new.cards.table ≡ self.old.cards.table }
     {
@@ -222,6 +222,35 @@ impl<'a> Draft<'a> {
             (at / RECORDS) as u32,
         )?;
         self.lay_back(place, card)?;
+        Ok(())
+    }
+
+    /// Drops a name of a directory; the last record moves into its place.
+    ///
+    /// # Errors
+    ///
+    /// Memory alone.
+    pub fn drop_name(&mut self, place: u32, name: &[u8]) -> Result<(), AllocError>
+        requires known { IsKnown self.old }
+        requires names { HasName (cards_of self.old) place name.now }
+        ensures known { OnOk result (StaysKnown self.old self.new) }
+        ensures cards { OnOk result (Turns self.old self.new place (without_name name.now)) }
+        ensures dropped { OnOk result (DropsNamed self.old self.new place name.now) }
+        ensures count { length self.new.updates ≤ length self.old.updates + 4 }
+        ensures table { self.new.cards.table ≡ self.old.cards.table }
+    {
+        let mut card = take_card(&mut self.cards, place)?;
+        let (at, _entry) = card.names.remove(name).unwrap();
+        let left = card.names.count();
+        card.inode.size = left as u64;
+        let count = ((left + RECORDS - 1) / RECORDS) as u32;
+        give_blocks(&mut self.places, 148 + self.nodes, &card.blocks, count);
+        card.blocks.cut(count);
+        let block = (at / RECORDS) as u32;
+        let last = (left / RECORDS) as u32;
+        rewrite_names(&mut self.updates, &card.blocks, &card.names, block)?;
+        rewrite_names(&mut self.updates, &card.blocks, &card.names, last)?;
+        self.lay_back_fewer(place, card)?;
         Ok(())
     }
 
@@ -347,7 +376,8 @@ impl<'a> Draft<'a> {
         ensures back { OnOk result (IsBack self.old.nodes place self.old.places self.old.updates
             (cards_of self.old) self.new card) }
         ensures table { self.new.cards.table ≡ self.old.cards.table }
-        ensures count { OnOk result (length self.new.updates ≤ length self.old.updates + 10) }
+        ensures count { length self.new.updates
+            ≤ length self.old.updates + 1 + sectors_for (set_blocks card.blocks) }
         ensures full { IsErrOf result SpaceFault.Full
             → free_places self.old.places + length card.fields.run_sectors
             < sectors_for (set_blocks card.blocks) }
@@ -372,7 +402,8 @@ impl<'a> Draft<'a> {
         ensures back { OnOk result (IsBack self.old.nodes place self.old.places self.old.updates
             (cards_of self.old) self.new card) }
         ensures table { self.new.cards.table ≡ self.old.cards.table }
-        ensures count { OnOk result (length self.new.updates ≤ length self.old.updates + 10) }
+        ensures count { length self.new.updates
+            ≤ length self.old.updates + 1 + sectors_for (set_blocks card.blocks) }
     {
         rerun_fewer(
             self.alloc,

@@ -71,7 +71,8 @@ fn lay_card(
     requires enough { sectors_for (length runs.items) ≤ length card.old.fields.run_sectors }
     ensures laid { OnOk result
         (LaysCard nodes place places.old places.new updates.old updates.new card.old card.new) }
-    ensures count { OnOk result (length updates.new ≤ length updates.old + 10) }
+    ensures count { length updates.new
+        ≤ length updates.old + 1 + sectors_for (length runs.items) }
 {
     let wanted = (runs.len() + 499) / MOST_RUNS;
     give_numbers(places, 148 + nodes, &mut card.inode.run_sectors, wanted);
@@ -93,7 +94,8 @@ pub(crate) fn rerun(
     requires { CanBeLaid nodes place places.old card.old }
     ensures laid { OnOk result
         (LaysCard nodes place places.old places.new updates.old updates.new card.old card.new) }
-    ensures count { OnOk result (length updates.new ≤ length updates.old + 10) }
+    ensures count { length updates.new
+        ≤ length updates.old + 1 + sectors_for (set_blocks card.old.blocks) }
     ensures full { IsErrOf result SpaceFault.Full
         → free_places places.old + length card.old.fields.run_sectors
         < sectors_for (set_blocks card.old.blocks) }
@@ -118,7 +120,8 @@ pub(crate) fn rerun_fewer(
     requires enough { HasEnough card.old }
     ensures laid { OnOk result
         (LaysCard nodes place places.old places.new updates.old updates.new card.old card.new) }
-    ensures count { OnOk result (length updates.new ≤ length updates.old + 10) }
+    ensures count { length updates.new
+        ≤ length updates.old + 1 + sectors_for (set_blocks card.old.blocks) }
 {
     let runs = card.blocks.to_runs(alloc)?;
     lay_card(updates, places, nodes, place, card, runs)?;

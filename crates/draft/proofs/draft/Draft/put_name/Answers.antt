@@ -1,4 +1,4 @@
-use Rattle.std.proofs.Common.{◌≡◌, ◌≤◌, ◌<◌, ◌+◌, ◌/◌, ◌∙◌, ℕ, Bool, List, Option, Some, None, length, set, get_or, max, refl, ap, sym, subst, arith}
+use Rattle.std.proofs.Common.{◌≡◌, ◌<◌, ◌+◌, ◌/◌, ◌∙◌, ℕ, Bool, List, Option, None, length, set, max, ap, sym, subst, arith}
 use Rattle.std.specs.Prelude.{Err}
 use Rattle.disk.specs.Moments.{Image, applied}
 use Rattle.freemap.specs.Kept.{free_places}
@@ -19,7 +19,7 @@ use Rattle.draft.specs.Laying.{CanBeLaid, sectors_for}
 use Rattle.draft.specs.Naming.{with_name, blocks_named}
 use Rattle.draft.proofs.FaultLaws.{told}
 use Rattle.draft.proofs.KnownLaws.{edits, turns, overcharged}
-use Rattle.draft.proofs.NameLaws.{named_card, unnamed, unused, stamped_was, named_region, block_within, named_first, can_be_named, named_last, put_stays, put_now, put_made}
+use Rattle.draft.proofs.NameLaws.{named_card, unnamed, unused, stamped_was, named_region, block_within, named_first, can_be_named, named_few, named_last, put_stays, put_now, put_made}
 use Rattle.draft.proofs.draft.Draft.put_name.Goals as goal
 
 pub write_names-requires-clause-region : goal.write_names-requires-clause-region
@@ -95,6 +95,19 @@ returns-in_err-lay_back-clause-full c full =
     (λ image. writes was _ c.card.view_is blocks names (applied old.updates image) (applied c.write_names.new.updates image) (c.in-Ok.at / 15) (place_of c.args.name.now was.names / 15) at (c.in_ok-write_names.ensures.names image))
     (subst (λ (one : Card). free_places c.write_names.new.places + length one.fields.run_sectors < sectors_for (set_blocks one.blocks)) (card_is was _ c.card.view_is blocks names c.count.result c.count.ensures.count) more))
 
+pub returns-in_err-lay_back-clause-count : goal.returns-in_err-lay_back-clause-count
+returns-in_err-lay_back-clause-count c =
+    let old = c.args.self.now in
+    let was : Card = c.in_ok-card.card in
+    let names : List Record = c.put.new.self in
+    let blocks : List (Option ℕ) = c.write_names.new.blocks in
+    let entry : Record = record_from c.args.stamp c.args.name.now c.args.number in
+    let at = at_block c.in-Ok.at c.args.name.now c.card.inside.names was c.in-Ok.ensures.place (names_of _ _ c.card.view_is) in
+    let few = named_few old c.args.place was c.args.name.now c.args.stamp c.args.number c.requires.known c.in_ok-card.ensures.card c.requires.names names (are was _ c.card.view_is blocks names entry c.in-Ok.ensures.ok) blocks c.write_names.new.places
+    c.write_names.new.updates (gets was _ c.card.view_is blocks names (148 + old.nodes) old.places c.write_names.new.places c.in_ok-write_names.ensures.gets)
+    (λ image. writes was _ c.card.view_is blocks names (applied old.updates image) (applied c.write_names.new.updates image) (c.in-Ok.at / 15) (place_of c.args.name.now was.names / 15) at (c.in_ok-write_names.ensures.names image)) in
+    omega (arith, few, c.write_names.ensures.count, c.lay_back.ensures.count)
+
 module _ (c : goal.In_ok-lay_back) where
   abbrev was : Card
   was = c.in_ok-card.card
@@ -153,3 +166,9 @@ pub returns-clause-put : goal.returns-clause-put
 returns-clause-put c = edits c.args.self.now c.lay_back.new.self c.args.place (was c) c.in_ok-card.ensures.card (λ to. PutName to c.args.stamp (record { name = c.args.name.now; number = c.args.number }))
     (λ base size. put_made c.args.self.now c.args.place (was c) c.args.name.now c.args.stamp c.args.number c.requires.known c.in_ok-card.ensures.card c.requires.names (names c) (are_now c) (blocks c) c.write_names.new.places
     c.write_names.new.updates (gets_now c) (writes_now c) c.lay_back.new.self c.count.ensures.names (back c) base size (map_is c))
+
+pub returns-clause-count : goal.returns-clause-count
+returns-clause-count c =
+    let few = named_few c.args.self.now c.args.place (was c) c.args.name.now c.args.stamp c.args.number c.requires.known c.in_ok-card.ensures.card c.requires.names (names c) (are_now c) (blocks c) c.write_names.new.places
+    c.write_names.new.updates (gets_now c) (writes_now c) in
+    omega (arith, few, c.write_names.ensures.count, c.lay_back.ensures.count)

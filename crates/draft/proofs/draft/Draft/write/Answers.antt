@@ -1,4 +1,4 @@
-use Rattle.std.proofs.Common.{◌≡◌, ◌≤◌, ◌<◌, ◌+◌, ◌∙◌, ℕ, Bool, List, Option, Some, None, length, set, refl, ap, sym, subst, arith}
+use Rattle.std.proofs.Common.{◌≡◌, ◌<◌, ◌+◌, ◌∙◌, ℕ, Bool, List, Option, None, length, set, refl, ap, sym, subst, arith}
 use Rattle.std.specs.Prelude.{Err}
 use Rattle.disk.specs.Moments.{Image, applied}
 use Rattle.freemap.specs.Kept.{free_places}
@@ -9,11 +9,11 @@ use Rattle.draft.specs.Blocks.{HaveRegion, GetSectors, WritesBytes, set_blocks}
 use Rattle.draft.specs.declared.fault.DraftFault.{DraftFault}
 use Rattle.draft.specs.declared.fault.DraftFault.TheVariants as fault
 use Rattle.draft.specs.declared.fault.SpaceFault.{SpaceFault}
-use Rattle.draft.specs.declared.fault.SpaceFault.TheVariants as space
 use Rattle.draft.specs.Drafts.{IsBack}
 use Rattle.draft.specs.Faults.{fault_of}
 use Rattle.draft.specs.Grown.{grown, reaching, blocks_to}
 use Rattle.draft.specs.Laying.{CanBeLaid, sectors_for}
+use Rattle.draft.proofs.CountLaws.{set_most}
 use Rattle.draft.proofs.FaultLaws.{told, full_of}
 use Rattle.draft.proofs.KnownLaws.{edits_over, turns, overcharged}
 use Rattle.draft.proofs.WriteLaws.{grown_region, charged_first, can_be_laid, charged_last, write_stays, write_now, write_made}
@@ -112,3 +112,8 @@ returns-clause-tree g c word =
     (write_made c.args.self.now c.args.place (end g c) (was g c) c.requires.known.0 c.in_ok-card.ensures.card c.requires.file c.write_blocks.new.blocks c.write_blocks.new.places (gets_now g c) (count_now g c)
     c.lay_back.new.self c.write_blocks.new.updates c.in_ok-write_blocks.ensures.others (back g c) base size c.args.offset c.args.bytes.now refl
     (subst (λ (one : Card). WritesBytes (applied c.args.self.now.updates base) (applied c.write_blocks.new.updates base) one.blocks c.write_blocks.new.blocks c.args.offset c.args.bytes.now) (grown_is g c) (c.in_ok-write_blocks.ensures.bytes word)))
+
+pub returns-clause-count : goal.returns-clause-count
+returns-clause-count g c =
+    let region = grown_region c.args.self.now c.args.place (end g c) (was g c) c.requires.known.0 c.in_ok-card.ensures.card c.requires.file in
+    omega (arith, region.few, count_now g c, set_most c.write_blocks.new.blocks, c.in_ok-write_blocks.ensures.count, c.lay_back.ensures.count)
