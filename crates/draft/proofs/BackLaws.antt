@@ -1,5 +1,5 @@
 -- A card whose blocks have changed is laid anew and put back: what is known then, and the step on it.
-use Rattle.std.proofs.Common.{◌≡◌, ◌≢◌, ◌≤◌, ◌<◌, ◌+◌, ◌^◌, ◌⊎◌, ℕ, Bool, List, [], Option, Some, None, length, get_or, set, refl, sym, ap, ◌∙◌, arith, subst, inl, inr}
+use Rattle.std.proofs.Common.{◌≡◌, ◌≤◌, ◌<◌, ◌+◌, ◌⊎◌, ℕ, Bool, List, [], Option, Some, None, length, get_or, set, refl, sym, ap, ◌∙◌, arith, subst, inl, inr}
 use Rattle.disk.specs.Moments.{Image, applied}
 use Rattle.disk.specs.declared.update.Update.{Update}
 use Rattle.freemap.specs.Kept.{free_places}
@@ -16,11 +16,10 @@ use Rattle.layout.specs.Steps.{Steps, Gives, ShowsSame}
 use Rattle.layout.proofs.Changing.{named-set}
 use Rattle.layout.proofs.MarkProofs.{each_mark}
 use Rattle.layout.proofs.NodeEditLaws.{named_by-parts}
-use Rattle.layout.specs.SumLaws.{sum_over}
 use Rattle.cards.specs.Tables.{charge_of, charge_of_all}
 use Rattle.draft.specs.Blocks.{set_blocks}
 use Rattle.draft.specs.declared.draft.Draft.{Draft}
-use Rattle.draft.specs.Drafts.{cards_of, end_of, image_of, tree_of, IsKnown, StaysKnown, IsDraft, MakesOver, HasNow, IsBack}
+use Rattle.draft.specs.Drafts.{cards_of, end_of, image_of, tree_of, IsKnown, StaysKnown, IsDraft, HasNow, IsBack}
 use Rattle.draft.specs.Laying.{fields_with, IsRerun}
 use Rattle.draft.specs.Updates.{AreBetween}
 use Rattle.draft.proofs.CountLaws.{region_named, sum_over-set, less_others, named_count, named_charged}

@@ -1,7 +1,7 @@
 -- How many places are free, how many blocks are set, and what cards name of a data region.
-use Rattle.std.proofs.Common.{◌≡◌, ◌≤◌, ◌<◌, ◌+◌, ◌-◌, ◌*◌, ◌⊎◌, ℕ, zero, suc, Bool, true, false, not, cond, List, [], ◌∷◌, ◌++◌, Option, Some, None, length, get_or, set, replicate, refl, sym, ap, ◌∙◌, arith, inl, inr, eqb, slice_get}
+use Rattle.std.proofs.Common.{◌≡◌, ◌≤◌, ◌<◌, ◌+◌, ◌-◌, ℕ, zero, suc, Bool, true, false, cond, List, [], ◌∷◌, ◌++◌, Option, Some, None, length, get_or, set, replicate, refl, ap, ◌∙◌, arith, eqb, slice_get}
 use Rattle.std.specs.Prelude.{is_some, All}
-use Rattle.std.specs.List.{sum_by, count_by}
+use Rattle.std.specs.List.{sum_by}
 use Rattle.std.proofs.lemmas.List.Sums.{sum_by-cons, sum_by-set, count_by-le-length}
 use Rattle.std.proofs.lemmas.List.{length-set}
 use Rattle.std.proofs.lemmas.Option.{slice_get_within, get_or_from_slice_get}
@@ -10,15 +10,13 @@ use Rattle.freemap.specs.Kept.{free_places}
 use Rattle.freemap.specs.Places.{bit_from}
 use Rattle.freemap.proofs.Bits.{free_from}
 use Rattle.layout.specs.Cards.{Card}
-use Rattle.layout.specs.Known.{IsCard, IsPlace, AreCards}
+use Rattle.layout.specs.Known.{IsCard}
 use Rattle.layout.specs.Marks.{once_if, times, times_set, named, named_by, mark_by}
 use Rattle.layout.specs.SumLaws.{sum_over}
 use Rattle.layout.proofs.ChargeLaws.{sum_to, sum_to-zero, sum_to-plus, sum_once, sum_times, few_runs}
 use Rattle.layout.proofs.MarkProofs.{mark-back}
-use Rattle.layout.proofs.NodeEditLaws.{named_by-parts}
-use Rattle.layout.proofs.Changing.{named-set}
-use Rattle.cards.specs.Tables.{charge_of, charge_of_all}
-use Rattle.draft.specs.Blocks.{Takes, set_blocks, FollowBlocks}
+use Rattle.cards.specs.Tables.{charge_of}
+use Rattle.draft.specs.Blocks.{set_blocks}
 use Rattle.draft.specs.Laying.{sectors_for}
 
 -- ---- free places

@@ -1,5 +1,5 @@
 -- A file that is cut, as one edit.
-use Rattle.std.proofs.Common.{◌≡◌, ◌≢◌, ◌≤◌, ◌<◌, ◌+◌, ◌-◌, ◌*◌, ◌/◌, ◌%◌, ◌^◌, ◌⊎◌, ℕ, Bool, List, [], Option, Some, None, length, get_or, set, take, drop, min, replicate, inl, inr, refl, sym, ap, ◌∙◌, arith, subst}
+use Rattle.std.proofs.Common.{◌≡◌, ◌≤◌, ◌<◌, ◌+◌, ◌-◌, ◌*◌, ◌/◌, ◌%◌, ◌^◌, ℕ, Bool, List, [], Option, Some, None, length, get_or, set, take, replicate, inl, inr, refl, sym, ap, ◌∙◌, arith, subst}
 use Rattle.std.proofs.lemmas.Bool.{cases_eq, cases_lt}
 use Rattle.std.proofs.lemmas.List.{length-take, get_or-take, length-replicate}
 use Rattle.disk.specs.Moments.{Image, applied}
@@ -21,7 +21,7 @@ use Rattle.layout.proofs.NodeEditLaws.{cut_file}
 use Rattle.layout.proofs.StepLaws.{each_own, others_hold}
 use Rattle.draft.specs.Blocks.{IsPut, HaveMarks, AreWithin, ClearsTail, ChangeBlocks}
 use Rattle.draft.specs.declared.draft.Draft.{Draft}
-use Rattle.draft.specs.Drafts.{cards_of, end_of, image_of, tree_of, IsKnown, StaysKnown, IsDraft, MakesOver, HasNow, IsBack}
+use Rattle.draft.specs.Drafts.{cards_of, end_of, image_of, tree_of, IsKnown, StaysKnown, MakesOver, HasNow, IsBack}
 use Rattle.draft.specs.Grown.{sized}
 use Rattle.draft.specs.Laying.{CanBeLaid, HasEnough, IsRerun}
 use Rattle.draft.proofs.BackLaws.{IsMoved, stays, has_now, kept, makes, steps, are_files, file_content, shows_sized}

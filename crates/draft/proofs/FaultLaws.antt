@@ -2,7 +2,6 @@
 use Rattle.std.proofs.Common.{◌≡◌, sym, ◌∙◌}
 use Rattle.std.specs.Prelude.{Result, Ok, Err}
 use Rattle.std.specs.Result.{IsErrAnd}
-use Rattle.draft.specs.declared.fault.DraftFault.{DraftFault}
 use Rattle.draft.specs.declared.fault.DraftFault.TheVariants as fault
 use Rattle.draft.specs.declared.fault.SpaceFault.{SpaceFault}
 use Rattle.draft.specs.declared.fault.SpaceFault.TheVariants as space

@@ -1,7 +1,7 @@
 -- A node that is removed.
-use Rattle.std.proofs.Common.{◌≡◌, ◌≢◌, ◌≤◌, ◌<◌, ◌+◌, ◌-◌, ℕ, zero, suc, Bool, false, true, List, [], ◌∷◌, Option, Some, None, length, get_or, set, take, replicate, refl, sym, ap, ◌∙◌, arith, subst, eqb, slice_index_or, slice_set}
+use Rattle.std.proofs.Common.{◌≡◌, ◌≤◌, ◌<◌, ◌+◌, ◌-◌, ℕ, zero, suc, Bool, false, true, List, [], ◌∷◌, Option, Some, None, length, get_or, set, take, replicate, refl, sym, ap, ◌∙◌, arith, subst, eqb, slice_index_or, slice_set}
 use Rattle.disk.specs.Moments.{Image, applied}
-use Rattle.model.specs.Edit.{DropNode, done}
+use Rattle.model.specs.Edit.{DropNode}
 use Rattle.layout.specs.Cards.{Card}
 use Rattle.layout.specs.Known.{AreCards}
 use Rattle.layout.specs.Marks.{once_if, times, times_set, named_by, mark_by}
@@ -11,7 +11,7 @@ use Rattle.layout.proofs.MarkProofs.{each_mark}
 use Rattle.layout.proofs.NodeEditLaws.{named_by-parts, free_node}
 use Rattle.draft.specs.Blocks.{IsPut, HaveMarks}
 use Rattle.draft.specs.declared.draft.Draft.{Draft}
-use Rattle.draft.specs.Drafts.{cards_of, image_of, tree_of, IsKnown, StaysKnown, MakesOver}
+use Rattle.draft.specs.Drafts.{cards_of, image_of, IsKnown, StaysKnown, MakesOver}
 use Rattle.draft.proofs.BlockLaws.{here, elsewhere, zeros-are}
 use Rattle.draft.specs.Laying.{AreMarked}
 use Rattle.draft.proofs.KnownLaws.{in_table, named_once, stays_put, made}

@@ -1,7 +1,6 @@
 -- A file that grows by holes, as one edit: its runs stay those of its blocks.
-use Rattle.std.proofs.Common.{◌≡◌, ◌≤◌, ◌<◌, ◌+◌, ◌^◌, ℕ, Bool, List, [], Option, Some, None, length, get_or, set, max, refl, sym, ap, ◌∙◌, arith, subst}
+use Rattle.std.proofs.Common.{◌≡◌, ◌≤◌, ◌+◌, ℕ, [], Some, None, length, get_or, set, max, refl, sym, ap, ◌∙◌, arith}
 use Rattle.disk.specs.Moments.{Image, applied}
-use Rattle.inode.specs.Fields.{Fields}
 use Rattle.inode.specs.Spelling.{inode_sector}
 use Rattle.extents.proofs.RunLemmas.{AreRising-widen}
 use Rattle.model.specs.declared.node.NodeKind.{NodeKind}
@@ -20,7 +19,7 @@ use Rattle.draft.specs.Drafts.{cards_of, image_of, tree_of, IsKnown, StaysKnown,
 use Rattle.draft.specs.Grown.{grown, sized, blocks_to}
 use Rattle.draft.proofs.BackLaws.{shows_sized}
 use Rattle.draft.proofs.BlockLaws.{length-holes}
-use Rattle.draft.proofs.KnownLaws.{card_at, file_blocks, file_unnamed, content_of_file, fields_fit, made}
+use Rattle.draft.proofs.KnownLaws.{card_at, file_blocks, file_unnamed, content_of_file, made}
 use Rattle.draft.proofs.NodeLaws.{alone_stays, alone_kept, alone_steps}
 
 module _ (old : Draft) (place size : ℕ) (was : Card) (known : IsKnown old) (there : get_or (cards_of old) place None ≡ Some was) (file : was.fields.kind ≡ kind.File) (longer : was.fields.size ≤ size) (few : size ≤ 16777216) where

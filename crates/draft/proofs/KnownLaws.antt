@@ -1,7 +1,6 @@
 -- What is known of a draft's cards, and what a change of one of them leaves.
-use Rattle.std.proofs.Common.{◌≡◌, ◌≢◌, ◌≤◌, ◌<◌, ◌+◌, ◌^◌, ◌⊎◌, ℕ, zero, suc, Bool, List, [], ◌∷◌, Option, Some, None, length, get_or, set, refl, sym, ap, ◌∙◌, arith, subst, inl, inr}
+use Rattle.std.proofs.Common.{◌≡◌, ◌≤◌, ◌<◌, ◌+◌, ◌^◌, ◌⊎◌, ℕ, zero, suc, Bool, List, [], ◌∷◌, Option, Some, None, length, get_or, set, refl, sym, ap, ◌∙◌, arith, subst, inl, inr}
 use Rattle.disk.specs.Moments.{Image}
-use Rattle.disk.specs.declared.update.Update.{Update}
 use Rattle.inode.specs.Fields.{Fields, IsInode}
 use Rattle.model.specs.declared.node.NodeKind.{NodeKind}
 use Rattle.model.specs.declared.node.NodeKind.TheVariants as kind
@@ -9,9 +8,8 @@ use Rattle.model.specs.Edit.{Edit, done}
 use Rattle.model.specs.Charge.{blocks_of, charge_of_blocks}
 use Rattle.layout.specs.Cards.{Card}
 use Rattle.layout.specs.Cards as layout
-use Rattle.layout.specs.ChangeLaws.{IsOwnNumber}
-use Rattle.layout.specs.Known.{IsCard, IsPlace, HasContent, HasNames, AreCards, MovesMarks}
-use Rattle.layout.specs.Laid.{AreLaid, HoldsCard, HoldsPlace, AreNumbered}
+use Rattle.layout.specs.Known.{IsCard, IsPlace, HasContent, HasNames, AreCards}
+use Rattle.layout.specs.Laid.{AreLaid, HoldsCard, HoldsPlace}
 use Rattle.layout.specs.Marks.{times, times_set, named, named_by, mark_by}
 use Rattle.layout.proofs.Changing.{named-at}
 use Rattle.layout.proofs.Knowing.{one_card_change}
@@ -20,7 +18,7 @@ use Rattle.layout.proofs.NodeEditLaws.{named_by-parts}
 use Rattle.cards.specs.Tables.{charge_of, charge_of_all}
 use Rattle.draft.specs.declared.draft.Draft.{Draft}
 use Rattle.draft.specs.Drafts.{cards_of, end_of, image_of, tree_of, IsKnown, StaysKnown, IsDraft, MakesOver, Makes, Edits, EditsOver, HasNow, Turns, IsOvercharged}
-use Rattle.draft.specs.Laying.{CanBeLaid, AreMarked, fields_with}
+use Rattle.draft.specs.Laying.{fields_with}
 use Rattle.draft.specs.Updates.{AreBetween, ChangeOne}
 use Rattle.draft.proofs.UpdateLaws.{between-one}
 

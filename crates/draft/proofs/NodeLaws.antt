@@ -1,30 +1,28 @@
 -- Nodes that are made, and what they show.
-use Rattle.std.proofs.Common.{◌≡◌, ◌≢◌, ◌≤◌, ◌<◌, ◌+◌, ℕ, Bool, List, [], ◌∷◌, Option, Some, None, length, get_or, set, refl, sym, ap, ◌∙◌, arith, subst}
+use Rattle.std.proofs.Common.{◌≡◌, ◌≢◌, ◌≤◌, ◌<◌, ◌+◌, ℕ, Bool, List, Option, Some, None, length, get_or, set, refl, sym, ap, ◌∙◌, arith, subst}
 use Rattle.disk.specs.Moments.{Image, applied}
 use Rattle.inode.specs.declared.node.Form.{Form}
 use Rattle.inode.specs.Fields.{Fields, IsInode}
 use Rattle.inode.specs.Spelling.{inode_sector}
-use Rattle.extents.specs.declared.run.Run.{Run}
 use Rattle.model.specs.declared.node.NodeKind.{NodeKind}
 use Rattle.model.specs.declared.node.NodeKind.TheVariants as kind
 use Rattle.model.specs.Charge.{blocks_of}
 use Rattle.model.specs.Edit.{Shown, Show, PutNode, done}
-use Rattle.model.specs.Tree.{File, Directory}
 use Rattle.layout.specs.Cards.{Card, byte_at, bytes_in, content_of, node_sector, node_with, node_of}
 use Rattle.layout.specs.Cards as layout
 use Rattle.layout.specs.ChangeLaws.{ChangesOwn}
 use Rattle.layout.specs.Known.{IsCard, HasContent, AreCards}
-use Rattle.layout.specs.Laid.{AreLaid, HoldsNode, HoldsCard, HoldsContent}
+use Rattle.layout.specs.Laid.{AreLaid, HoldsNode, HoldsContent}
 use Rattle.layout.specs.Marks.{times, times_set, named_by, mark_by}
 use Rattle.layout.specs.Steps.{Steps, Gives}
 use Rattle.layout.proofs.Frame.{run_sectors-kept}
 use Rattle.layout.proofs.Knowing.{one_card_change}
 use Rattle.layout.proofs.MarkProofs.{each_mark}
 use Rattle.layout.proofs.NodeEditLaws.{named_by-parts, make_node, show_other}
-use Rattle.cards.specs.Tables.{number_at, number_of, HasNot, IsFree}
+use Rattle.cards.specs.Tables.{number_of, HasNot, IsFree}
 use Rattle.draft.specs.Blocks.{IsPut}
 use Rattle.draft.specs.declared.draft.Draft.{Draft}
-use Rattle.draft.specs.Drafts.{cards_of, end_of, image_of, tree_of, IsKnown, StaysKnown, IsDraft, MakesOver, HasNow}
+use Rattle.draft.specs.Drafts.{cards_of, image_of, tree_of, IsKnown, StaysKnown, MakesOver, HasNow}
 use Rattle.draft.specs.Nodes.{new_card, IsNew, no_content, new_node, fields_showing, showing}
 use Rattle.draft.proofs.BlockLaws.{here, elsewhere}
 use Rattle.draft.proofs.KnownLaws.{in_table, card_at, named_once, held_at, changed_known, stays_put, made}

@@ -9,7 +9,7 @@ use Rattle.layout.specs.Marks.{times}
 use Rattle.layout.specs.Marks.{mark_by}
 use Rattle.layout.proofs.Frame.{once_same}
 use Rattle.layout.proofs.MarkProofs.{each_mark, mark-front}
-use Rattle.draft.specs.Laying.{Follow, AreMarked, AreOnce, IsRerun, LaysCard, fields_with}
+use Rattle.draft.specs.Laying.{Follow, AreMarked, AreOnce, LaysCard, fields_with}
 use Rattle.draft.proofs.NumberLaws.{are_once}
 
 pub fields-fit : (fields : Fields) (runs : ℕ) (numbers : List ℕ) → IsInode fields → runs ≤ 4500 → length numbers ≡ (runs + 499) / 500 → AllByRecursion IsRunSector numbers → IsInode (fields_with fields runs numbers)

@@ -1,13 +1,13 @@
 -- The shortest list of runs is no longer than any other.
-use Rattle.std.proofs.Common.{◌≡◌, ◌≤◌, ◌<◌, ◌+◌, ◌-◌, ◌/◌, ℕ, List, [], ◌∷◌, Option, Some, None, length, get_or, take, min, refl, sym, ap, ◌∙◌, arith, inl, inr}
+use Rattle.std.proofs.Common.{◌≡◌, ◌≤◌, ◌<◌, ◌+◌, ◌-◌, ℕ, List, [], ◌∷◌, Option, Some, None, length, get_or, take, refl, sym, ap, ◌∙◌, arith, inl, inr}
 use Rattle.std.proofs.lemmas.Bool.{cases_order, cases_lt}
 use Rattle.std.proofs.lemmas.List.{length-take, get_or-take}
 use Rattle.extents.specs.declared.run.Run.{Run}
-use Rattle.extents.specs.Runs.{is_in, sector_by, AreRising, AreRunsOf, CanJoin, AreApart}
+use Rattle.extents.specs.Runs.{sector_by, AreRising, AreApart}
 use Rattle.extents.proofs.RunLemmas.{is_in-yes, is_in-before, is_in-behind}
 use Rattle.layout.specs.Cards.{Card}
 use Rattle.layout.specs.Known.{IsCard}
-use Rattle.draft.specs.Laying.{HasEnough, sectors_for}
+use Rattle.draft.specs.Laying.{HasEnough}
 
 -- what runs have in front of the first, in it, and behind it
 

@@ -1,6 +1,5 @@
 -- Bytes that are written over a file, as one edit.
-use Rattle.std.proofs.Common.{◌≡◌, ◌≤◌, ◌<◌, ◌+◌, ◌-◌, ◌^◌, ℕ, Bool, List, [], Option, Some, None, length, get_or, set, max, replicate, refl, sym, ap, ◌∙◌, arith, subst}
-use Rattle.std.proofs.lemmas.List.{length-append, length-replicate}
+use Rattle.std.proofs.Common.{◌≡◌, ◌≤◌, ◌<◌, ◌+◌, ℕ, Bool, List, [], Option, Some, None, length, get_or, set, max, refl, sym, ap, ◌∙◌, arith}
 use Rattle.disk.specs.Moments.{Image, applied}
 use Rattle.disk.specs.declared.update.Update.{Update}
 use Rattle.freemap.specs.Kept.{free_places}
@@ -8,7 +7,7 @@ use Rattle.inode.specs.Fields.{Fields}
 use Rattle.model.specs.declared.node.NodeKind.{NodeKind}
 use Rattle.model.specs.declared.node.NodeKind.TheVariants as kind
 use Rattle.model.specs.Charge.{blocks_of, charge_of_blocks}
-use Rattle.model.specs.Edit.{PutBytes, done}
+use Rattle.model.specs.Edit.{PutBytes}
 use Rattle.layout.specs.Cards.{Card, byte_at}
 use Rattle.layout.specs.Known.{IsCard}
 use Rattle.layout.specs.Marks.{times, times_set, mark_by}
@@ -19,9 +18,9 @@ use Rattle.layout.proofs.StepLaws.{each_change}
 use Rattle.cards.specs.Tables.{charge_of, charge_of_all}
 use Rattle.draft.specs.Blocks.{HaveRegion, GetSectors, ChangeBlocks, WritesBytes, set_blocks}
 use Rattle.draft.specs.declared.draft.Draft.{Draft}
-use Rattle.draft.specs.Drafts.{cards_of, end_of, image_of, tree_of, IsKnown, StaysKnown, IsDraft, MakesOver, HasNow, IsBack}
+use Rattle.draft.specs.Drafts.{cards_of, image_of, IsKnown, StaysKnown, MakesOver, HasNow, IsBack}
 use Rattle.draft.specs.Grown.{grown, reaching, blocks_to, CanWrite}
-use Rattle.draft.specs.Laying.{CanBeLaid, IsRerun, sectors_for}
+use Rattle.draft.specs.Laying.{CanBeLaid, sectors_for}
 use Rattle.draft.proofs.BackLaws.{charged, IsMoved, stays, has_now, kept, makes, steps, are_files, file_content, shows_sized}
 use Rattle.draft.proofs.BlockLaws.{length-holes}
 use Rattle.draft.proofs.CountLaws.{few_numbers, set_holes, set_most}

@@ -1,4 +1,4 @@
-use Rattle.std.proofs.Common.{◌≡◌, ◌≢◌, ◌<◌, ◌/◌, ◌%◌, ◌∙◌, ℕ, sym, arith}
+use Rattle.std.proofs.Common.{◌<◌, ◌/◌, ◌%◌, ◌∙◌, sym, arith}
 use Rattle.draft.proofs.BlockLaws.{on_ok, on_both, changes_one}
 use Rattle.draft.proofs.CutLaws.{clears_hole, clears_set}
 use Rattle.draft.proofs.blocks.clear_tail.Goals as goal

@@ -1,5 +1,5 @@
-use Rattle.std.proofs.Common.{◌≡◌, ◌∙◌, ℕ, List, Option, Some, set, sym, subst}
-use Rattle.draft.specs.Blocks.{Takes, GetsSector}
+use Rattle.std.proofs.Common.{◌∙◌, ℕ, List, Option, sym, subst}
+use Rattle.draft.specs.Blocks.{GetsSector}
 use Rattle.draft.proofs.BlockLaws.{gets_old, gets_new, if_both}
 use Rattle.draft.proofs.blocks.sector_for.Goals as goal
 

@@ -3,7 +3,7 @@ use Rattle.std.proofs.lemmas.List.{length-set, get_or-set_same}
 use Rattle.disk.specs.Calls.{zero_sector}
 use Rattle.disk.specs.Moments.{Image, applied}
 use Rattle.sector.specs.Placed.{placed}
-use Rattle.draft.specs.Blocks.{WritesBytes, GetSectors, ChangeBlocks}
+use Rattle.draft.specs.Blocks.{WritesBytes, GetSectors}
 use Rattle.draft.proofs.BlockLaws.{writes_set, writes_hole, sector-within, takes_sector, changes_one, elsewhere, on_ok, on_both}
 use Rattle.draft.proofs.blocks.write_block.Goals as goal
 

@@ -3,8 +3,8 @@ use Rattle.std.specs.Prelude.{Err}
 use Rattle.std.proofs.lemmas.Bool.{cases_lt}
 use Rattle.std.proofs.Math.Seq.{take-add}
 use Rattle.std.proofs.lemmas.List.{length-take}
-use Rattle.disk.specs.Moments.{Image, applied}
-use Rattle.draft.specs.Blocks.{WritesBytes, HaveRegion}
+use Rattle.disk.specs.Moments.{applied}
+use Rattle.draft.specs.Blocks.{WritesBytes}
 use Rattle.draft.proofs.BlockLaws.{bytes_none, bytes_on, gets_none, gets_on, changes_on, region_on, parts_counted}
 use Rattle.draft.proofs.CountLaws.{set_less}
 use Rattle.draft.specs.declared.fault.DraftFault.{DraftFault}

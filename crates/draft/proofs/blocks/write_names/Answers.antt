@@ -1,10 +1,10 @@
-use Rattle.std.proofs.Common.{◌≡◌, ◌+◌, ◌∙◌, ℕ, List, Option, length, ap, sym, subst, arith}
+use Rattle.std.proofs.Common.{◌+◌, ◌∙◌, ℕ, List, Option, length, ap, sym, subst, arith}
 use Rattle.std.specs.Prelude.{Err}
 use Rattle.draft.specs.declared.fault.SpaceFault.{SpaceFault}
 use Rattle.draft.specs.declared.fault.SpaceFault.TheVariants as space
 use Rattle.draft.proofs.FaultLaws.{told}
-use Rattle.disk.specs.Moments.{Image, applied, put}
-use Rattle.draft.specs.Blocks.{HaveRegion, GetSectors, GetsSector, FindsNone, set_blocks}
+use Rattle.disk.specs.Moments.{applied, put}
+use Rattle.draft.specs.Blocks.{HaveRegion, GetSectors, GetsSector, set_blocks}
 use Rattle.draft.proofs.BlockLaws.{region_holes, gets_holes, writes_one, length-holes}
 use Rattle.draft.proofs.CountLaws.{set_less, set_holes}
 use Rattle.draft.proofs.blocks.write_names.Goals as goal

@@ -1,4 +1,4 @@
-use Rattle.std.proofs.Common.{◌≡◌, ◌+◌, [], length, ap, sym, ◌∙◌, arith, subst}
+use Rattle.std.proofs.Common.{◌+◌, [], length, ap, sym, ◌∙◌, arith, subst}
 use Rattle.inode.specs.Fields.{IsInode, fields_of}
 use Rattle.layout.specs.Cards as layout
 use Rattle.draft.specs.Laying.{AreMarked, fields_with}

@@ -1,7 +1,7 @@
-use Rattle.std.proofs.Common.{◌≡◌, ◌+◌, ◌-◌, ◌∙◌, ℕ, List, Bool, Option, Some, None, false, length, get_or, take, set, ap, sym, arith}
+use Rattle.std.proofs.Common.{◌≡◌, ◌+◌, ◌-◌, ◌∙◌, List, Bool, None, false, length, get_or, take, set, ap, sym, arith}
 use Rattle.std.proofs.lemmas.List.{length-set}
 use Rattle.layout.specs.Marks.{times_set, mark_by}
-use Rattle.draft.proofs.FreeLaws.{GivesBlock, gives_block, take-hole}
+use Rattle.draft.proofs.FreeLaws.{gives_block, take-hole}
 use Rattle.draft.proofs.numbers.give_blocks.Goals as goal
 use Rattle.draft.proofs.numbers.give_blocks.Goals.{in-Some, in_default}
 

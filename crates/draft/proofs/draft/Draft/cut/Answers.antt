@@ -1,6 +1,5 @@
-use Rattle.std.proofs.Common.{◌≡◌, ◌≤◌, ◌<◌, ◌+◌, ◌∙◌, ◌^◌, ℕ, List, Option, Some, None, length, set, take, refl, ap, sym, subst, arith}
+use Rattle.std.proofs.Common.{◌≡◌, ◌≤◌, ◌<◌, ◌+◌, ◌∙◌, ◌^◌, ℕ, List, Option, None, set, take, ap, sym, subst, arith}
 use Rattle.disk.specs.Moments.{Image, applied}
-use Rattle.disk.specs.declared.update.Update.{Update}
 use Rattle.model.specs.declared.node.NodeKind.TheVariants as kind
 use Rattle.model.specs.Charge.{blocks_of}
 use Rattle.model.specs.Edit.{SetSize}

@@ -1,5 +1,4 @@
-use Rattle.std.proofs.Common.{◌≤◌, ◌∙◌, ◌+◌, length, arith}
-use Rattle.disk.specs.Moments.{applied}
+use Rattle.std.proofs.Common.{◌∙◌, arith}
 use Rattle.draft.specs.Drafts.{end_of}
 use Rattle.draft.proofs.UpdateLaws.{between-wider}
 use Rattle.draft.proofs.WholeLaws.{tree_same, marks_written, spare_still, marks_between}

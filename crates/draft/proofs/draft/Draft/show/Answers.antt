@@ -1,4 +1,4 @@
-use Rattle.std.proofs.Common.{◌≡◌, ◌+◌, ◌∙◌, ℕ, List, Option, Some, None, set, refl, sym, ap, subst}
+use Rattle.std.proofs.Common.{◌≡◌, ◌+◌, ◌∙◌, List, Option, Some, set, refl, ap, subst}
 use Rattle.disk.specs.Moments.{Image, applied}
 use Rattle.inode.specs.Fields.{IsInode}
 use Rattle.inode.specs.Spelling.{inode_sector}
