@@ -1,0 +1,13 @@
+-- Blocks that can be read, and bytes that are read of them.
+use Rattle.std.specs.Prelude.{◌≡◌, ◌<◌, ◌+◌, ℕ, List, Option, Some, None, length, take}
+use Rattle.std.specs.Prelude.{slice_index_or}
+
+-- each block that has a sector has one below the last
+abbrev pub AreWithin : (size : ℕ) → List (Option ℕ) → Type 0
+AreWithin size blocks = (block sector : ℕ)
+    → slice_index_or blocks block None ≡ Some sector → sector < size
+
+-- behind the old bytes stand so many more
+pub record GetsMore (old new : List ℕ) (count : ℕ) : Type 0 where
+  pub front : take (length old) new ≡ old
+  pub count_is : length new ≡ length old + count
