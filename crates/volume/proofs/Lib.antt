@@ -8,6 +8,7 @@ pub mod MountLaws
 pub mod MountedLaws
 pub mod NodeLaws
 pub mod OneTree
+pub mod ReadLaws
 pub mod RemountLaws
 pub mod ServeLaws
 pub mod StandLaws

@@ -8,6 +8,7 @@ pub mod Loads
 pub mod MountAnswers
 pub mod Mounts
 pub mod Nodes
+pub mod Reading
 pub mod Refusals
 pub mod Remounts
 pub mod Stands

@@ -3,6 +3,7 @@
 #![tactic(auto)]
 
 mod fault;
+mod file_bytes;
 mod formatting;
 mod laws;
 mod load;

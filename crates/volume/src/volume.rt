@@ -25,10 +25,10 @@ use std::alloc::Global;
 #[derive(Drop)]
 pub struct Volume<D: Device> {
     alloc: Global,
-    store: Store<D>,
+    pub(crate) store: Store<D>,
     limits: Limits,
     run: u32,
-    table: Table,
+    pub(crate) table: Table,
     places: Bitmap,
     ghost bounded: { run < 2 ^ 32 },
     ghost sized: { IsTrue (is_size (log_of store.journal).size limits.nodes) },

@@ -1,0 +1,58 @@
+-- The file that is read.
+use Rattle.std.proofs.Common.{◌≡◌, ◌+◌, ℕ, Bool, List, Option, Some, None, get_or, inl, inr, refl, sym, ap, ◌∙◌, arith}
+use Rattle.std.proofs.lemmas.Bool.{cases_lt}
+use Rattle.std.specs.Prelude.{IsSome, IfSome, IfNone}
+use Rattle.disk.specs.Moments.{Image}
+use Rattle.cards.specs.Tables.{number_at, HasNot}
+use Rattle.layout.specs.Cards.{Card, bytes_in, content_of, node_of, tree_of}
+use Rattle.layout.specs.Laid.{AreNumbered}
+use Rattle.layout.specs.Marks.{named_by}
+use Rattle.layout.proofs.Answering.{tree-has}
+use Rattle.layout.proofs.Changing.{named-at}
+use Rattle.layout.proofs.Frame.{times_set-at}
+use Rattle.layout.proofs.MarkProofs.{each_mark}
+use Rattle.model.specs.declared.node.NodeKind.{NodeKind}
+use Rattle.model.specs.declared.node.NodeKind.TheVariants as kind
+use Rattle.model.specs.Files.{bytes_at, bytes_of_node}
+use Rattle.model.specs.Keyed.{at}
+use Rattle.model.specs.Tree.{Node, kind_of, bytes_of}
+use Rattle.reading.specs.Files.{AreWithin}
+use Rattle.volume.specs.Known.{IsKnown}
+use Rattle.volume.specs.Reading.{HasFile}
+use Rattle.volume.proofs.NodeLaws.{node_there, none_there}
+
+-- its blocks are the volume's
+pub blocks_within : (size nodes place : ℕ) (cards : List (Option Card)) (places : List Bool) (card : Card) → IsKnown size nodes cards places → get_or cards place None ≡ Some card → AreWithin size card.blocks
+unfolding named_by
+blocks_within size nodes place cards places card known there block sector is =
+    let each = each_mark (148 + nodes) places 0 in
+    let some = times_set-at card.blocks block sector is in
+    let here = ap (named_by sector) there in
+    elim (cases_lt sector size) [
+      | inl low ↦ low
+      | inr high ↦ absurd (let none = each.within sector (omega (arith, known.whole)) in omega (arith, named-at sector cards place, known.are_cards.marks sector))
+    ]
+
+content_bytes : (image : Image) (of : NodeKind) (card : Card) → kind_of (content_of image of card) ≡ kind.File → bytes_of (content_of image of card) ≡ bytes_in image card.blocks card.fields.size
+content_bytes image kind.File card is = refl
+content_bytes image kind.Directory card is = absurd (cc)
+
+-- its bytes are those of its card
+pub file_bytes : (image : Image) (cards : List (Option Card)) (place number : ℕ) (card : Card) → AreNumbered cards → get_or cards place None ≡ Some card → number_at cards place ≡ Some number
+    → HasFile (tree_of image cards) number → bytes_at (tree_of image cards) number ≡ bytes_in image card.blocks card.fields.size
+unfolding node_of
+file_bytes image cards place number card apart there is file =
+    let shown = node_there image cards place number card apart there is in
+    let same : card.fields.number ≡ number = shown.number_is in
+    let found : at number (tree_of image cards) ≡ Some (node_of image card) = ap (λ (n : ℕ). at n (tree_of image cards)) (sym same) ∙ tree-has image cards place card apart there in
+    let node : file.node ≡ node_of image card = (let was = file.there in cc) in
+    ap bytes_of_node found ∙ content_bytes image card.fields.kind card (ap (λ (n : Node). kind_of n.content) (sym node) ∙ file.file)
+
+-- and its place is there
+pub place_there : (image : Image) (cards : List (Option Card)) (number : ℕ) (place : Option ℕ) → IfNone place (HasNot cards number) → HasFile (tree_of image cards) number → IsSome place
+place_there image cards number (Some place) none file = refl
+place_there image cards number None none file = absurd (let lacks = none_there image cards number none in let there = file.there in cc)
+
+-- what is known of what was found
+pub some_at : {T : Type 0} (option : Option T) (P : T → Type 0) (value : T) → option ≡ Some value → IfSome option P → P value
+some_at option P value is so = rw is at so

@@ -1,0 +1,41 @@
+use Rattle.std.proofs.Common.{◌++◌, ◌∙◌, ℕ, List, take, drop, sym, ap, subst}
+use Rattle.journal.specs.Journal.{log_of}
+use Rattle.journal.specs.Log.{Log, contents}
+use Rattle.layout.specs.Cards.{bytes_in}
+use Rattle.reading.specs.Files.{AreWithin}
+use Rattle.volume.specs.Volumes.{held_of}
+use Rattle.volume.proofs.ReadLaws.{blocks_within, file_bytes, place_there, some_at}
+use Rattle.volume.proofs.volume.Volume.bytes.Goals as goal
+
+pub unwrap-place-requires : goal.unwrap-place-requires
+unfolding held_of
+unwrap-place-requires g c =
+    let volume = c.args.self.now in
+    place_there (contents (log_of volume.store.journal)) volume.table c.args.number c.find.result c.find.ensures.none c.requires.file
+
+pub read_bytes-requires : goal.read_bytes-requires
+read_bytes-requires g c =
+    let volume = c.args.self.now in
+    let old : Log = log_of volume.store.journal in
+    let sees = c.see_up.ensures.sees in
+    let card = c.unwrap-card.result.now in
+    record {
+      within = subst (λ (n : ℕ). AreWithin n card.blocks) (sym (ap (λ (log : Log). log.size) sees.only))
+          (blocks_within old.size volume.limits.nodes c.unwrap-place.result volume.table volume.places card volume.known
+          (some_at c.card.result _ c.unwrap-card.result c.unwrap-card.ensures c.card.ensures.some));
+    }
+
+pub returns-clause-bytes : goal.returns-clause-bytes
+unfolding held_of
+returns-clause-bytes g c w =
+    let volume = c.args.self.now in
+    let old : Log = log_of volume.store.journal in
+    let sees = c.in_ok-see_up.ensures.sees in
+    let card = c.unwrap-card.result.now in
+    let there = some_at c.card.result _ c.unwrap-card.result c.unwrap-card.ensures c.card.ensures.some in
+    let number = some_at c.find.result _ c.unwrap-place.result c.unwrap-place.ensures c.find.ensures.some in
+    let front : List ℕ = c.args.out.now.items in
+    c.in_ok-read_bytes.ensures.bytes w
+    ∙ ap (λ (log : Log). front ++ take c.args.len (drop c.args.offset (bytes_in (contents log) card.blocks card.fields.size))) sees.only
+    ∙ ap (λ (s : List ℕ). front ++ take c.args.len (drop c.args.offset s))
+    (sym (file_bytes (contents old) volume.table c.unwrap-place.result c.args.number card volume.known.are_cards.apart there number c.requires.file))

@@ -1,0 +1,76 @@
+//! The bytes of files.
+
+ghost use Rattle.std.specs.Prelude.{◌≡◌, ◌<◌};
+ghost use Rattle.journal.specs.Journal.{log_of, failures_of};
+ghost use Rattle.volume.specs.Reading.{reading_fault, Sees};
+
+use crate::fault::VolumeFault;
+use crate::store::Store;
+use crate::volume::Volume;
+use disk::{Device, SECTOR};
+use reading::{ReadingFault, read_bytes};
+
+impl From<ReadingFault> for VolumeFault {
+    ghost from_gives = { λ refusal fault. fault ≡ reading_fault refusal };
+
+    fn from(fault: ReadingFault) -> Self {
+        match fault {
+            ReadingFault::Device => VolumeFault::Device,
+            ReadingFault::Memory => VolumeFault::Memory,
+        }
+    }
+}
+
+/// Refuses a store that is down. It reads the first sector, since a journal tells no other way.
+fn see_up<D: Device>(store: &mut Store<D>) -> Result<(), VolumeFault>
+    requires { 0 < (log_of store.old.journal).size }
+    ensures sees { Sees (log_of store.old.journal) (log_of store.new.journal)
+        (failures_of store.old.journal) (failures_of store.new.journal) result }
+{
+    let mut content = [0; SECTOR];
+    store.journal.read(0, &mut content)?;
+    Ok(())
+}
+
+#[tactic(auto, unfolding(crate::specs::Volumes::held_of, crate::specs::Volumes::volume_failures))]
+impl<D: Device> Volume<D> {
+    ghost use Rattle.std.specs.Prelude.{◌≡◌, ◌++◌, ◌⊎◌, ◌↔◌, true, take, drop};
+    ghost use Rattle.std.specs.Prelude.{OnOk, OnErr, IfErr, IsErrOf};
+    ghost use Rattle.model.specs.Files.{bytes_at};
+    ghost use Rattle.volume.specs.Changes.{IsTree};
+    ghost use Rattle.volume.specs.Reading.{HasFile, ending_of_reading};
+    ghost use Rattle.volume.specs.Volumes.{held_of, Alters};
+
+    /// Appends to `out` the bytes of a file from `offset` on: `len` of them, or as many as there
+    /// are up to its end.
+    ///
+    /// # Errors
+    ///
+    /// [`VolumeFault::Device`] where the device failed, [`VolumeFault::Down`] after such a call, and
+    /// [`VolumeFault::Memory`]: `out` is as it was.
+    pub fn bytes(
+        &mut self,
+        number: u64,
+        offset: u64,
+        len: usize,
+        out: &mut Vec<u8>,
+    ) -> Result<(), VolumeFault>
+        requires file { HasFile (held_of self.old).tree number }
+        ensures bytes { D.keeps_word → OnOk result (out.new.items ≡ out.old.items
+            ++ take len (drop offset (bytes_at (held_of self.old).tree number))) }
+        ensures err { OnErr result (out.new.items ≡ out.old.items) }
+        // It only reads
+        ensures volume { Alters self.old self.new
+            (IsTree (held_of self.old).tree) (ending_of_reading result) }
+        // Refused
+        ensures down { IsErrOf result VolumeFault.Down ↔ ((held_of self.old).is_down ≡ true) }
+        ensures refuses { IfErr result (λ fault. (fault ≡ VolumeFault.Device)
+            ⊎ ((fault ≡ VolumeFault.Memory) ⊎ (fault ≡ VolumeFault.Down))) }
+    {
+        see_up(&mut self.store)?;
+        let place = self.table.find(number).unwrap();
+        let card = self.table.card(place).unwrap();
+        read_bytes(&mut self.store, card, offset, len, out)?;
+        Ok(())
+    }
+}
