@@ -3,8 +3,8 @@
 mod ancestors;
 mod blocks;
 mod devices;
+mod directories;
 mod fields;
-mod names;
 mod nodes;
 mod places;
 mod scans;
