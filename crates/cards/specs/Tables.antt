@@ -36,6 +36,10 @@ pub record IsFree (cards : List (Option Card)) (place : ℕ) : Type 0 where
   pub within : place < length cards
   pub free : slice_index_or cards place None ≡ None
 
+-- no place is free
+abbrev pub AreTaken : List (Option Card) → Type 0
+AreTaken cards = (place : ℕ) → place < length cards → slice_index_or cards place None ≢ None
+
 -- what a node takes of the data region, and what all of them take; how many they are
 
 abbrev pub charge_of : Card → ℕ

@@ -2,7 +2,7 @@
 
 ghost use Rattle.std.specs.Prelude.{◌≡◌, ◌≢◌, ◌<◌, ℕ, Some, None, length, set, slice_index_or, IfOk, IfSome, IfNone, OnOk, OnErr, IsOk};
 ghost use Rattle.cards.specs.Overlays.{changed, change_at};
-ghost use Rattle.cards.specs.Tables.{number_of, number_at, HasNot};
+ghost use Rattle.cards.specs.Tables.{number_of, number_at, HasNot, IsFree, AreTaken};
 
 use crate::card::Card;
 use crate::changes::Changes;
@@ -85,6 +85,31 @@ impl<'a> Overlay<'a> {
             Some(_) => None,
             None => Some(place),
         }
+    }
+
+    /// A free place, if there is one. It stays free. The places are gone through only where the next
+    /// free one of the table is taken.
+    pub fn free_place(&self) -> Option<u32>
+        ensures some { IfSome result (λ place. IsFree self.now.cards place) }
+        ensures none { IfNone result (AreTaken self.now.cards) }
+    {
+        match self.table.free_place() {
+            Some(place) if self.card(place).is_none() => Some(place),
+            _ => self.first_free(),
+        }
+    }
+
+    /// The lowest free place.
+    fn first_free(&self) -> Option<u32>
+        ensures some { IfSome result (λ place. IsFree self.now.cards place) }
+        ensures none { IfNone result (AreTaken self.now.cards) }
+    {
+        for place in 0..self.places() {
+            if self.card(place).is_none() {
+                return Some(place);
+            }
+        }
+        None
     }
 
     /// Takes the card of a place out: none stands there then. It is a copy where it was the

@@ -5,5 +5,6 @@ pub mod Grown
 pub mod Laying
 pub mod Naming
 pub mod Nodes
+pub mod Ranges
 pub mod Updates
 pub mod Whole

@@ -5,6 +5,7 @@ ghost use Rattle.disk.specs.Moments.{Image, applied};
 ghost use Rattle.inode.specs.Fields.{IsInode};
 ghost use Rattle.inode.specs.Spelling.{inode_sector};
 ghost use Rattle.draft.specs.Blocks.{IsPut};
+ghost use Rattle.draft.specs.Ranges.{IsInRange};
 
 use crate::updates::Updates;
 use cards::Card;
@@ -23,6 +24,8 @@ pub struct Shown {
     pub change: u64,
     /// When it was modified last, in nanoseconds since 1970.
     pub time_modify: u64,
+    // What a proof knows so of the numbers without a read.
+    ghost in_range: { IsInRange owner group change time_modify },
 }
 
 /// Writes a node's sector.

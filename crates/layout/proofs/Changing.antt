@@ -43,7 +43,7 @@ some_is x y e = cc
 none_some : (x : Card) → (let none : Option Card = None in none ≡ Some x) → ⊥
 none_some x e = cc
 
-abbrev AreAbove : List (Option Card) → Type 0
+abbrev pub AreAbove : List (Option Card) → Type 0
 AreAbove cards = (i : ℕ) (card : Card) → get_or cards i None ≡ Some card → 0 < card.fields.number
 
 pub tree-above : (image : Image) (cards : List (Option Card)) → AreAbove cards → IsAbove 0 (tree_of image cards)
@@ -75,7 +75,7 @@ module _ (old new : Image) where
   abbrev Keeps : List (Option Card) → Type 0
   Keeps cards = (i : ℕ) (card : Card) → get_or cards i None ≡ Some card → node_of new card ≡ node_of old card
 
-  abbrev KeepsOthers : List (Option Card) → ℕ → Type 0
+  abbrev pub KeepsOthers : List (Option Card) → ℕ → Type 0
   KeepsOthers cards place = (i : ℕ) (card : Card) → i ≢ place → get_or cards i None ≡ Some card → node_of new card ≡ node_of old card
 
   pub tree-kept : (cards : List (Option Card)) → Keeps cards → tree_of new cards ≡ tree_of old cards
@@ -85,7 +85,7 @@ module _ (old new : Image) where
       ap₂ (λ (tree : Tree) (node : Node). with tree one.fields.number node) (tree-kept cards (λ i card is. keeps (suc i) card is)) (keeps 0 one refl)
 
   -- a card in place of another of its number, or of none
-  tree-put : (cards : List (Option Card)) (place : ℕ) (is : Card) → place < length cards → KeepsOthers cards place → IsSameNumber (get_or cards place None) (Some is) → IsOwnNumber cards place (Some is)
+  pub tree-put : (cards : List (Option Card)) (place : ℕ) (is : Card) → place < length cards → KeepsOthers cards place → IsSameNumber (get_or cards place None) (Some is) → IsOwnNumber cards place (Some is)
       → tree_of new (set cards place (Some is)) ≡ with (tree_of old cards) is.fields.number (node_of new is)
   tree-put [] place is h keeps same own = absurd (omega arith)
   tree-put (None ∷ cards) zero is h keeps same own =
@@ -102,7 +102,7 @@ module _ (old new : Image) where
       ∙ with-with_other (tree_of old cards) is.fields.number one.fields.number (node_of new is) (node_of old one) (λ e. own 0 one (omega arith) refl (sym e))
 
   -- no card in place of one
-  tree-drop : (cards : List (Option Card)) (place : ℕ) (was : Card) → get_or cards place None ≡ Some was → KeepsOthers cards place → AreAbove cards → IsOwnNumber cards place (Some was)
+  pub tree-drop : (cards : List (Option Card)) (place : ℕ) (was : Card) → get_or cards place None ≡ Some was → KeepsOthers cards place → AreAbove cards → IsOwnNumber cards place (Some was)
       → tree_of new (set cards place None) ≡ without (tree_of old cards) was.fields.number
   tree-drop [] place was there keeps above own = absurd (none_some was there)
   tree-drop (None ∷ cards) zero was there keeps above own = absurd (none_some was there)

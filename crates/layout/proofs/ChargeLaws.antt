@@ -93,7 +93,7 @@ total-ones (entry ∷ rest) = omega (arith, total-ones rest)
 pub none_worth : {A : Type 0} (worth : A → ℕ) (found : Option A) → found ≡ None → worth_at worth found ≡ 0
 none_worth worth found e = ap (worth_at worth) e
 
-length-with : {A : Type 0} (entries : Keyed A) (key least : ℕ) (value : A) → IsAbove least entries → at key entries ≡ None → length (with entries key value) ≡ length entries + 1
+pub length-with : {A : Type 0} (entries : Keyed A) (key least : ℕ) (value : A) → IsAbove least entries → at key entries ≡ None → length (with entries key value) ≡ length entries + 1
 length-with {A = A} entries key least value above none =
     let one : A → ℕ = λ v. 1 in
     omega (arith, total-with one entries key least value above, none_worth one (at key entries) none, total-ones (with entries key value), total-ones entries)
@@ -114,7 +114,7 @@ above_by_stamp (entry ∷ names) stamped = IsAbove-with (by_stamp names) entry.0
 pub fresh_stamp : (entry : Record) (names : List Record) → AreStamped (entry ∷ names) → at entry.0 (by_stamp names) ≡ None
 fresh_stamp entry names stamped = at-by_stamp entry.0 names ∙ at-absent names entry.0 (λ i d h e. stamped.apart 0 (suc i) d (omega arith) (omega arith) (sym e))
 
-length-by_stamp : (names : List Record) → AreStamped names → length (by_stamp names) ≡ length names
+pub length-by_stamp : (names : List Record) → AreStamped names → length (by_stamp names) ≡ length names
 length-by_stamp [] stamped = refl
 length-by_stamp (entry ∷ names) stamped =
     let rest = stamped-rest entry names stamped in

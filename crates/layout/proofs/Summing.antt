@@ -15,7 +15,7 @@ use Rattle.layout.specs.Cards.{Card, tree_of, node_of, content_of}
 use Rattle.layout.specs.Laid.{AreLaid, HoldsContent, AreNumbered}
 use Rattle.layout.specs.Marks.{once_if, times}
 use Rattle.layout.specs.SumLaws.{sum_over, numbers_of, entry_numbers, NamesTotal, EachSum}
-use Rattle.layout.proofs.Changing.{tree-lacks, tree-above}
+use Rattle.layout.proofs.Changing.{AreAbove, tree-lacks, tree-above}
 use Rattle.layout.proofs.ChargeLaws.{IsHeld, held_card, charge_is, none_worth, total-ones, stamped-rest, above_by_stamp, fresh_stamp}
 
 pub names_total : NamesTotal
@@ -27,14 +27,17 @@ names_total worth (entry ∷ names) stamped =
 abbrev AreHeld : Image → List (Option Card) → Type 0
 AreHeld image cards = (i : ℕ) (card : Card) → get_or cards i None ≡ Some card → IsHeld image card
 
-total-tree : (worth : Node → ℕ) (image : Image) (cards : List (Option Card)) → AreHeld image cards → AreNumbered cards → total worth (tree_of image cards) ≡ sum_over (λ card. worth (node_of image card)) cards
-total-tree worth image [] held apart = refl
-total-tree worth image (None ∷ cards) held apart = total-tree worth image cards (λ i card e. held (suc i) card e) (λ i j x y off. apart (suc i) (suc j) x y (omega arith))
-total-tree worth image (Some one ∷ cards) held apart =
-    let rest = total-tree worth image cards (λ i card e. held (suc i) card e) (λ i j x y off. apart (suc i) (suc j) x y (omega arith)) in
-    let above = tree-above image cards (λ i card e. let other = held (suc i) card e in other.holds.node.number) in
+pub total-tree : (worth : Node → ℕ) (image : Image) (cards : List (Option Card)) → AreAbove cards → AreNumbered cards → total worth (tree_of image cards) ≡ sum_over (λ card. worth (node_of image card)) cards
+total-tree worth image [] above apart = refl
+total-tree worth image (None ∷ cards) above apart = total-tree worth image cards (λ i card e. above (suc i) card e) (λ i j x y off. apart (suc i) (suc j) x y (omega arith))
+total-tree worth image (Some one ∷ cards) above apart =
+    let rest = total-tree worth image cards (λ i card e. above (suc i) card e) (λ i j x y off. apart (suc i) (suc j) x y (omega arith)) in
+    let rising = tree-above image cards (λ i card e. above (suc i) card e) in
     let fresh : at one.fields.number (tree_of image cards) ≡ None = tree-lacks image cards one.fields.number (λ i card e. apart (suc i) 0 card one (omega arith) e refl) in
-    omega (arith, total-with worth (tree_of image cards) one.fields.number 0 (node_of image one) above, none_worth worth (at one.fields.number (tree_of image cards)) fresh)
+    omega (arith, total-with worth (tree_of image cards) one.fields.number 0 (node_of image one) rising, none_worth worth (at one.fields.number (tree_of image cards)) fresh)
+
+held-above : (image : Image) (cards : List (Option Card)) → AreHeld image cards → AreAbove cards
+held-above image cards held i card there = let it = held i card there in it.holds.node.number
 
 sum_over-same : (f g : Card → ℕ) (image : Image) (cards : List (Option Card)) → AreHeld image cards → ((card : Card) → IsHeld image card → f card ≡ g card) → sum_over f cards ≡ sum_over g cards
 sum_over-same f g image [] held same = refl
@@ -71,7 +74,7 @@ entries-sum n (Some one ∷ cards) = omega (arith, times-append n (numbers_of on
 pub each_sum : EachSum
 each_sum nodes image mark cards laid =
     let held = held_card nodes image mark cards laid in
-    let any : (worth : Node → ℕ) → total worth (tree_of image cards) ≡ sum_over (λ card. worth (node_of image card)) cards = λ worth. total-tree worth image cards held laid.apart in
+    let any : (worth : Node → ℕ) → total worth (tree_of image cards) ≡ sum_over (λ card. worth (node_of image card)) cards = λ worth. total-tree worth image cards (held-above image cards held) laid.apart in
     record {
       any = any;
       charges = any charge ∙ sum_over-same (λ card. charge (node_of image card)) (λ card. charge_of_blocks (length card.blocks)) image cards held (λ card it. charge_is image it.place card it.holds);
@@ -81,5 +84,5 @@ each_sum nodes image mark cards laid =
 pub links-sum : (nodes : ℕ) (image : Image) (mark : ℕ → ℕ) (cards : List (Option Card)) → AreLaid nodes image mark cards → (n : ℕ) → links_to (tree_of image cards) n ≡ times n (entry_numbers cards)
 links-sum nodes image mark cards laid n =
     let held = held_card nodes image mark cards laid in
-    total-tree (links_from n) image cards held laid.apart
+    total-tree (links_from n) image cards (held-above image cards held) laid.apart
     ∙ sum_over-same (λ card. links_from n (node_of image card)) (λ card. times n (numbers_of card.names)) image cards held (links-card n image) ∙ entries-sum n cards
