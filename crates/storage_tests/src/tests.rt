@@ -7,6 +7,7 @@ mod directories;
 mod fields;
 mod nodes;
 mod places;
+mod readings;
 mod scans;
 mod transactions;
 mod volumes;
