@@ -125,6 +125,13 @@ impl<D: Device> Journal<D> {
         self.device
     }
 
+    /// Whether the device failed in a call: every call is refused from then on.
+    pub fn is_down(&self) -> bool
+        ensures { result ≡ (log_of self.now).is_down }
+    {
+        self.is_down
+    }
+
     /// Puts into `content` the newest content of sector `n`, whether it went into the base yet or
     /// not. After `Fault` it may hold anything. What is read of the journal's own sectors, 1 to 97,
     /// says nothing.

@@ -1,7 +1,5 @@
 -- What a call does to a volume that only reads its sectors.
-use Rattle.std.specs.Prelude.{◌≡◌, ◌⊎◌, ◌↔◌, ℕ, true, Result, Ok, Err, Some, IfErr, IsErrOf}
-use Rattle.disk.specs.Cause.{IsCounted}
-use Rattle.journal.specs.Log.{Log}
+use Rattle.std.specs.Prelude.{◌≡◌, ℕ, Result, Ok, Err, Some}
 use Rattle.model.specs.declared.node.NodeKind.TheVariants as kind
 use Rattle.model.specs.Keyed.{at}
 use Rattle.model.specs.Tree.{Tree, Node, kind_of}
@@ -29,12 +27,3 @@ ending_of_reading (Err fault.Down) = Nothing
 abbrev pub reading_fault : ReadingFault → VolumeFault
 reading_fault readings.Device = fault.Device
 reading_fault readings.Memory = fault.Memory
-
--- a journal that is up answers, and so it is known to be
-pub record Sees {T : Type 0} (old new : Log) (before after : ℕ) (result : Result T VolumeFault)
-    : Type 0 where
-  pub only : new ≡ record old { is_down = new.is_down }
-  pub down : IsErrOf result fault.Down ↔ (old.is_down ≡ true)
-  pub stays : (IsErrOf result fault.Device → ⊥) → (new ≡ old) × (after ≡ before)
-  pub fails : IsErrOf result fault.Device → (new.is_down ≡ true) × IsCounted before after
-  pub refuses : IfErr result (λ refused. (refused ≡ fault.Device) ⊎ (refused ≡ fault.Down))

@@ -1,13 +1,11 @@
 //! The bytes of files.
 
-ghost use Rattle.std.specs.Prelude.{◌≡◌, ◌<◌};
-ghost use Rattle.journal.specs.Journal.{log_of, failures_of};
-ghost use Rattle.volume.specs.Reading.{reading_fault, Sees};
+ghost use Rattle.std.specs.Prelude.{◌≡◌};
+ghost use Rattle.volume.specs.Reading.{reading_fault};
 
 use crate::fault::VolumeFault;
-use crate::store::Store;
 use crate::volume::Volume;
-use disk::{Device, SECTOR};
+use disk::Device;
 use reading::{ReadingFault, read_bytes};
 
 impl From<ReadingFault> for VolumeFault {
@@ -19,17 +17,6 @@ impl From<ReadingFault> for VolumeFault {
             ReadingFault::Memory => VolumeFault::Memory,
         }
     }
-}
-
-/// Refuses a store that is down. It reads the first sector, since a journal tells no other way.
-fn see_up<D: Device>(store: &mut Store<D>) -> Result<(), VolumeFault>
-    requires { 0 < (log_of store.old.journal).size }
-    ensures sees { Sees (log_of store.old.journal) (log_of store.new.journal)
-        (failures_of store.old.journal) (failures_of store.new.journal) result }
-{
-    let mut content = [0; SECTOR];
-    store.journal.read(0, &mut content)?;
-    Ok(())
 }
 
 #[tactic(auto, unfolding(crate::specs::Volumes::held_of, crate::specs::Volumes::volume_failures))]
@@ -67,7 +54,9 @@ impl<D: Device> Volume<D> {
         ensures refuses { IfErr result (λ fault. (fault ≡ VolumeFault.Device)
             ⊎ ((fault ≡ VolumeFault.Memory) ⊎ (fault ≡ VolumeFault.Down))) }
     {
-        see_up(&mut self.store)?;
+        if self.store.journal.is_down() {
+            return Err(VolumeFault::Down);
+        }
         let place = self.table.find(number).unwrap();
         let card = self.table.card(place).unwrap();
         read_bytes(&mut self.store, card, offset, len, out)?;

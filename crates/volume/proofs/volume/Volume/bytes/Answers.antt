@@ -17,12 +17,10 @@ pub read_bytes-requires : goal.read_bytes-requires
 read_bytes-requires g c =
     let volume = c.args.self.now in
     let old : Log = log_of volume.store.journal in
-    let sees = c.see_up.ensures.sees in
     let card = c.unwrap-card.result.now in
     record {
-      within = subst (λ (n : ℕ). AreWithin n card.blocks) (sym (ap (λ (log : Log). log.size) sees.only))
-          (blocks_within old.size volume.limits.nodes c.unwrap-place.result volume.table volume.places card volume.known
-          (some_at c.card.result _ c.unwrap-card.result c.unwrap-card.ensures c.card.ensures.some));
+      within = blocks_within old.size volume.limits.nodes c.unwrap-place.result volume.table volume.places card volume.known
+          (some_at c.card.result _ c.unwrap-card.result c.unwrap-card.ensures c.card.ensures.some);
     }
 
 pub returns-clause-bytes : goal.returns-clause-bytes
@@ -30,12 +28,10 @@ unfolding held_of
 returns-clause-bytes g c w =
     let volume = c.args.self.now in
     let old : Log = log_of volume.store.journal in
-    let sees = c.in_ok-see_up.ensures.sees in
     let card = c.unwrap-card.result.now in
     let there = some_at c.card.result _ c.unwrap-card.result c.unwrap-card.ensures c.card.ensures.some in
     let number = some_at c.find.result _ c.unwrap-place.result c.unwrap-place.ensures c.find.ensures.some in
     let front : List ℕ = c.args.out.now.items in
     c.in_ok-read_bytes.ensures.bytes w
-    ∙ ap (λ (log : Log). front ++ take c.args.len (drop c.args.offset (bytes_in (contents log) card.blocks card.fields.size))) sees.only
     ∙ ap (λ (s : List ℕ). front ++ take c.args.len (drop c.args.offset s))
     (sym (file_bytes (contents old) volume.table c.unwrap-place.result c.args.number card volume.known.are_cards.apart there number c.requires.file))
