@@ -1,0 +1,115 @@
+-- Names of the outline and names of cards.
+use Rattle.std.proofs.Common.{◌≡◌, ◌<◌, ◌+◌, ℕ, Bool, true, false, List, [], ◌∷◌, Option, Some, None, length, refl, sym, ap, ◌∙◌, arith, subst}
+use Rattle.std.specs.Prelude.{bytes_eq, if◌then◌else◌}
+use Rattle.directory.specs.Listing.{by_stamp, without_entry}
+use Rattle.directory.specs.Records.{Record, record_from, place_of, with_record, without_place}
+use Rattle.directory.proofs.ByStamp.{at-by_stamp}
+use Rattle.directory.proofs.NamedByStamp.{entry_of-by_stamp}
+use Rattle.directory.proofs.RecordMaps.{puts_by_stamp, removes_by_stamp}
+use Rattle.draft.specs.Naming.{CanName, HasName, blocks_named}
+use Rattle.draft.proofs.KnownLaws.{card_at}
+use Rattle.edits.specs.Edits.{IsNewName, IsName}
+use Rattle.edits.specs.Outlines.{outline_of}
+use Rattle.edits.proofs.PlaceLaws.{IsThere, names_there}
+use Rattle.layout.specs.Cards.{Card, node_of, content_of}
+use Rattle.layout.specs.Known.{AreCards, HasContent, HasNames}
+use Rattle.layout.proofs.ChargeLaws.{length-by_stamp, length-with, above_by_stamp}
+use Rattle.model.specs.declared.node.NodeKind.{NodeKind}
+use Rattle.model.specs.declared.node.NodeKind.TheVariants as kind
+use Rattle.model.specs.Charge.{charge, charge_of_blocks, blocks_of}
+use Rattle.model.specs.Edit.{name_put}
+use Rattle.model.specs.Keyed.{Keyed, at, with, without}
+use Rattle.model.specs.Tree.{DirEntry, entry_of, names_at, names_of, found_or}
+
+-- a name that is not among records stands behind the last
+pub place_behind : (name : List ℕ) (names : List Record) → entry_of name names ≡ None → place_of name names ≡ length names
+place_behind name [] none = refl
+place_behind name (entry ∷ names) none = by_name (place_behind name names) (bytes_eq name entry.1.name) none
+  where
+    by_name : (entry_of name names ≡ None → place_of name names ≡ length names) → (same : Bool) → found_or same entry (entry_of name names) ≡ None
+        → (if same then 0 else place_of name names + 1) ≡ length (entry ∷ names)
+    by_name rest true found = absurd cc
+    by_name rest false found = omega (arith, rest found)
+
+-- and one that is among them before
+pub place_before : (name : List ℕ) (names : List Record) (found : Record) → entry_of name names ≡ Some found → place_of name names < length names
+place_before name [] found some = absurd cc
+place_before name (entry ∷ names) found some = by_name (place_before name names found) (bytes_eq name entry.1.name) some
+  where
+    by_name : (entry_of name names ≡ Some found → place_of name names < length names) → (same : Bool) → found_or same entry (entry_of name names) ≡ Some found
+        → (if same then 0 else place_of name names + 1) < length (entry ∷ names)
+    by_name rest true here = omega arith
+    by_name rest false later = omega (arith, rest later)
+
+-- The names of a directory's card
+
+module _ (nodes : ℕ) (mark : ℕ → ℕ) (cards : List (Option Card)) (known : AreCards nodes mark cards) (place number : ℕ) (it : IsThere cards place number) (is : it.card.fields.kind ≡ kind.Directory) where
+  pub has_names : HasNames it.card
+  has_names = let card = card_at nodes mark cards place it.card known it.there in subst (λ (k : NodeKind). HasContent k it.card) is card.content
+
+  names_are : names_at (outline_of cards) number ≡ by_stamp it.card.names
+  names_are = names_there cards known.apart place number it is
+
+  pub count_is : length (names_at (outline_of cards) number) ≡ length it.card.names
+  count_is = ap (λ (l : Keyed DirEntry). length l) names_are ∙ length-by_stamp it.card.names has_names.stamped
+
+  pub entry_is : (name : List ℕ) → entry_of name (names_at (outline_of cards) number) ≡ entry_of name it.card.names
+  entry_is name = ap (entry_of name) names_are ∙ entry_of-by_stamp name it.card.names has_names.names.apart has_names.stamped.apart
+
+  pub stamp_is : (stamp : ℕ) → at stamp (names_at (outline_of cards) number) ≡ at stamp it.card.names
+  stamp_is stamp = ap (at stamp) names_are ∙ at-by_stamp stamp it.card.names
+
+  -- what a new name asks
+  module _ (stamp : ℕ) (name : List ℕ) (to : ℕ) (new : IsNewName (outline_of cards) number stamp (record { name = name; number = to })) where
+    unnamed : entry_of name it.card.names ≡ None
+    unnamed = sym (entry_is name) ∙ new.new_name
+
+    unstamped : at stamp it.card.names ≡ None
+    unstamped = sym (stamp_is stamp) ∙ new.new_stamp
+
+    pub can_name : CanName cards place name stamp
+    can_name = record {
+      card = it.card;
+      there = it.there;
+      directory = is;
+      few = omega (arith, count_is, new.room);
+      some = new.some;
+      short = new.short;
+      new_name = (place_behind name it.card.names unnamed, unnamed);
+      above = new.above;
+      new_stamp = unstamped;
+    }
+
+    pub names_with : by_stamp (with_record it.card.names (record_from stamp name to)) ≡ with (by_stamp it.card.names) stamp (record { name = name; number = to })
+    names_with =
+        let puts = puts_by_stamp it.card.names (record_from stamp name to) has_names.names.apart has_names.stamped new.above unstamped in
+        puts.entries ∙ ap (λ (found : Option Record). with (without_entry (by_stamp it.card.names) found) stamp (record { name = name; number = to })) unnamed
+
+    -- with which the directory is charged for as many blocks as one name more wants
+    pub named_charge : charge (name_put stamp (record { name = name; number = to }) (node_of (λ n. []) it.card)) ≡ charge_of_blocks (blocks_named it.card)
+    unfolding node_of
+    named_charge = ap (λ (k : NodeKind). charge_of_blocks (blocks_of kind.Directory (length (with (names_of (content_of (λ n. []) k it.card)) stamp (record { name = name; number = to }))))) is
+        ∙ ap (λ (n : ℕ). charge_of_blocks (blocks_of kind.Directory n))
+        (length-with (by_stamp it.card.names) stamp 0 (record { name = name; number = to }) (above_by_stamp it.card.names has_names.stamped) (at-by_stamp stamp it.card.names ∙ unstamped)
+        ∙ omega (arith, length-by_stamp it.card.names has_names.stamped))
+
+  -- what a name that goes asks
+  module _ (stamp : ℕ) (name : List ℕ) (named : IsName (outline_of cards) number stamp name) where
+    pub entry_there : entry_of name it.card.names ≡ Some (record_from stamp name named.number)
+    entry_there = sym (entry_is name) ∙ named.named
+
+    within : place_of name it.card.names < length it.card.names
+    within = place_before name it.card.names (record_from stamp name named.number) entry_there
+
+    pub has_name : HasName cards place name
+    has_name = record {
+      card = it.card;
+      there = it.there;
+      directory = is;
+      within = within;
+    }
+
+    pub names_without : by_stamp (without_place it.card.names (place_of name it.card.names)) ≡ without (by_stamp it.card.names) stamp
+    names_without =
+        let removes = removes_by_stamp name it.card.names within has_names.stamped in
+        removes.entries ∙ ap (without_entry (by_stamp it.card.names)) entry_there

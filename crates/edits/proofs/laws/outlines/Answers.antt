@@ -1,0 +1,12 @@
+use Rattle.edits.proofs.BlankLaws.{each_outline, edits_blanked}
+use Rattle.edits.proofs.DoableLaws.{doable_alike}
+use Rattle.edits.proofs.laws.outlines.Goals as goal
+
+pub returns-clause-each : goal.returns-clause-each
+returns-clause-each c = each_outline
+
+pub returns-clause-edits : goal.returns-clause-edits
+returns-clause-edits c = edits_blanked
+
+pub returns-clause-doable : goal.returns-clause-doable
+returns-clause-doable c = doable_alike

@@ -1,0 +1,3 @@
+pub mod Doing
+pub mod Edits
+pub mod Outlines

@@ -1,0 +1,36 @@
+-- What memory tells of a tree on any device: all but what the bytes of its files are.
+use Rattle.std.specs.Prelude.{◌≡◌, ℕ, List, [], ◌∷◌, Option, length, replicate}
+use Rattle.disk.specs.Moments.{Image}
+use Rattle.model.specs.Edit.{Edit, edited, with_content}
+use Rattle.model.specs.Tree.{Tree, Node, Content, File, Directory}
+use Rattle.layout.specs.Cards.{Card, tree_of}
+
+abbrev pub zeros : ℕ → List ℕ
+zeros count = replicate count 0
+
+-- as many zeros for the bytes of a file
+abbrev pub blank : Content → Content
+blank (File bytes) = File (zeros (length bytes))
+blank (Directory names) = Directory names
+
+abbrev pub blank_node : Node → Node
+blank_node node = with_content node (blank node.content)
+
+-- the tree with zeros for the bytes of its files
+abbrev pub blanked : Tree → Tree
+blanked [] = []
+blanked (entry ∷ rest) = (entry.0, blank_node entry.1) ∷ blanked rest
+
+-- the tree of cards with zeros for the bytes of its files: that of sectors without content
+abbrev pub outline_of : List (Option Card) → Tree
+outline_of cards = tree_of (λ n. []) cards
+
+-- which is what every tree of these cards is, blanked
+abbrev pub EachOutline : Type 0
+EachOutline = (image : Image) (cards : List (Option Card))
+    → blanked (tree_of image cards) ≡ outline_of cards
+
+-- blanked trees are edited alike
+abbrev pub EditsBlanked : Type 0
+EditsBlanked = (edits : List Edit) (tree : Tree)
+    → blanked (edited edits (blanked tree)) ≡ blanked (edited edits tree)
