@@ -1,13 +1,15 @@
 #!/usr/bin/env bash
-# Runs the program on a volume in a real file whose writes fail, by a limit on the size of files, and
-# prints what it answers, and what a run behind it finds, whose writes do not fail.
+# Runs the program on a volume in a real file whose writes fail, by a limit on the size of files and,
+# where root runs it, by a file system that is full, and prints what it answers, and what a run behind
+# it finds, whose writes do not fail.
 #
 # scripts/failing_writes.sh [PROGRAM]: by default what 'rt run' in crates/nfs41 has built.
 set -u
 program=$(realpath "${1:-$(dirname "$0")/../crates/nfs41/out/nfs41}")
 folder=$(mktemp -d)
-trap 'rm -r "$folder"' EXIT
+trap 'mountpoint -q "$folder/full" && umount "$folder/full"; rm -r "$folder"' EXIT
 cd "$folder" || exit 1
+volume=volume.img
 
 # a client, and what it asks
 script() {
@@ -22,7 +24,7 @@ run() {
     local limit=$1
     shift
     script "$@" > script.txt
-    (trap '' XFSZ; ulimit -f "$limit"; "$program" run volume.img script.txt) 2>&1 |
+    (trap '' XFSZ; ulimit -f "$limit"; "$program" run "$volume" script.txt) 2>&1 |
         sed -E '/ (session|sequence|root) /d; s/^/  /'
     echo "  status ${PIPESTATUS[0]}"
 }
@@ -38,3 +40,18 @@ for limit in 0 8 392; do
     echo 'behind it'
     run unlimited 'lookup a' 'lookup b' 'mkdir c 755'
 done
+
+# A file system of 2 MiB, which another file fills: of the volume's file only what is no zero has a
+# place there.
+[ "$(id -u)" = 0 ] || exit 0
+mkdir full
+mount -t tmpfs -o size=2m tmpfs full || exit 1
+volume=full/volume.img
+"$program" format "$volume" 256 16 > formatted.txt
+fallocate --dig-holes "$volume"
+head -c 4m /dev/zero > full/rest.bin 2> /dev/null
+echo 'a full file system'
+run unlimited 'mkdir b 755'
+rm full/rest.bin
+echo 'behind it'
+run unlimited 'lookup b' 'mkdir c 755'
