@@ -1,6 +1,6 @@
 -- Trees with zeros for the bytes of their files.
 use Rattle.std.proofs.Common.{◌≡◌, ◌+◌, ◌-◌, ◌++◌, ◌/◌, ◌%◌, ℕ, suc, Bool, true, false, List, [], ◌∷◌, Option, Some, None, length, map, take, drop, eqb, ltb, refl, sym, ap, ap₂, ◌∙◌, arith}
-use Rattle.std.specs.Prelude.{slice_index, slice_index_or, option_map, is_some}
+use Rattle.std.specs.Prelude.{slice_index, slice_index_or, option_map, is_some, nat_le, ◌&&◌}
 use Rattle.std.specs.List.{range_with_len}
 use Rattle.std.proofs.lemmas.List.{length-map, length-append, length-replicate, length-take, length-drop}
 use Rattle.std.proofs.lemmas.List.FromFn.{length-range_with_len}
@@ -8,7 +8,7 @@ use Rattle.disk.specs.Moments.{Image}
 use Rattle.layout.specs.Cards.{Card, byte_at, bytes_in, content_at, content_of, node_of, tree_of}
 use Rattle.model.specs.declared.node.NodeKind.{NodeKind}
 use Rattle.model.specs.declared.node.NodeKind.TheVariants as kind
-use Rattle.model.specs.Charge.{charge, charge_of_blocks, blocks, blocks_of}
+use Rattle.model.specs.Charge.{charge, charge_of_blocks, blocks, blocks_of, few_names}
 use Rattle.model.specs.Edit.{Edit, PutNode, DropNode, Show, PutName, DropName, PutBytes, SetSize, done, edited, altered, altered_at, showing, with_content, name_put, name_dropped, resized, overwritten}
 use Rattle.model.specs.Keyed.{Keyed, at, with, without, is_key, total, here_or, before_or_behind, in_place_of, kept_or_not}
 use Rattle.model.specs.Tree.{Tree, Node, Content, File, Directory, DirEntry, names_of, names_at, names_of_node, bytes_of, is_directory_at, is_directory, is_directory_node}
@@ -108,6 +108,10 @@ names-blanked tree number = ap names_of_node (at-blanked tree number) ∙ mapped
 pub charge-blanked : (tree : Tree) → total charge (blanked tree) ≡ total charge tree
 charge-blanked [] = refl
 charge-blanked (entry ∷ rest) = ap₂ (λ (n m : ℕ). n + m) (ap charge_of_blocks (blocks-blank entry.1.content)) (charge-blanked rest)
+
+pub few-blanked : (most : ℕ) (tree : Tree) → few_names most (blanked tree) ≡ few_names most tree
+few-blanked most [] = refl
+few-blanked most (entry ∷ rest) = ap₂ (λ (names : Keyed DirEntry) (few : Bool). nat_le (length names) most && few) (names-blank entry.1.content) (few-blanked most rest)
 
 -- The tree of cards
 

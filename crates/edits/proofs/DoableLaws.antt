@@ -3,9 +3,10 @@ use Rattle.std.proofs.Common.{◌≡◌, ◌<◌, ℕ, false, [], ◌∷◌, Opt
 use Rattle.std.specs.Prelude.{is_some, IsTrue, IsFalse}
 use Rattle.edits.specs.declared.edit.Edit.{Edit}
 use Rattle.edits.specs.declared.edit.Edit.TheVariants as declared
-use Rattle.edits.specs.Edits.{edit_of, size_of, CanDo, DoableAlike}
+use Rattle.edits.specs.Edits.{edit_of, size_of, CanDo, DoableAlike, StayFew, FewAlike}
 use Rattle.edits.specs.Outlines.{blanked}
-use Rattle.edits.proofs.BlankLaws.{key-blanked, directory-blanked, names-blanked, size-blanked, done-blanked}
+use Rattle.edits.proofs.BlankLaws.{key-blanked, directory-blanked, names-blanked, size-blanked, few-blanked, done-blanked}
+use Rattle.model.specs.Charge.{few_names}
 use Rattle.model.specs.Edit.{done}
 use Rattle.model.specs.Keyed.{Keyed, at, is_key}
 use Rattle.model.specs.Tree.{Tree, Node, DirEntry, names_at, is_directory_at, entry_of}
@@ -38,7 +39,6 @@ module _ (tree other : Tree) (alike : blanked other ≡ blanked tree) where
       let names = sym (names_alike directory) in
       record {
         there = subst IsTrue (sym (directory_alike directory)) can.there;
-        room = subst (λ (l : Keyed DirEntry). length l < 1024) names can.room;
         new_name = ap (entry_of name.now) (sym names) ∙ can.new_name;
         new_stamp = ap (at stamp) (sym names) ∙ can.new_stamp;
         some = can.some;
@@ -70,3 +70,12 @@ doable_alike tree other (edit ∷ edits) alike can = (
   doable_alike (done (edit_of edit) tree) (done (edit_of edit) other) edits
       (sym (done-blanked (edit_of edit) other) ∙ ap (λ (t : Tree). blanked (done (edit_of edit) t)) alike ∙ done-blanked (edit_of edit) tree) can.1,
 )
+
+pub few_alike : FewAlike
+few_alike tree other [] alike few = tt
+few_alike tree other (edit ∷ edits) alike few =
+    let next : blanked (done (edit_of edit) other) ≡ blanked (done (edit_of edit) tree) =
+    sym (done-blanked (edit_of edit) other) ∙ ap (λ (t : Tree). blanked (done (edit_of edit) t)) alike ∙ done-blanked (edit_of edit) tree in (
+      subst IsTrue (sym (few-blanked 1024 (done (edit_of edit) tree)) ∙ ap (few_names 1024) (sym next) ∙ few-blanked 1024 (done (edit_of edit) other)) few.0,
+      few_alike (done (edit_of edit) tree) (done (edit_of edit) other) edits next few.1,
+    )

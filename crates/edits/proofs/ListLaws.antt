@@ -8,10 +8,10 @@ use Rattle.draft.specs.Drafts.{cards_of, IsKnown}
 use Rattle.edits.specs.declared.edit.Edit.{Edit}
 use Rattle.edits.specs.declared.edit.Edit.TheVariants as declared
 use Rattle.edits.specs.Doing.{Does, DoesAnywhere, made_by, HasRoom, Overfills}
-use Rattle.edits.specs.Edits.{edit_of, edits_of, AreDoable}
+use Rattle.edits.specs.Edits.{edit_of, edits_of, AreDoable, StayFew}
 use Rattle.edits.specs.Outlines.{blanked, outline_of}
 use Rattle.edits.proofs.BlankLaws.{edits_blanked, charge-blanked, length-blanked}
-use Rattle.edits.proofs.DoableLaws.{doable_alike}
+use Rattle.edits.proofs.DoableLaws.{doable_alike, few_alike}
 use Rattle.edits.proofs.DoingLaws.{outline_fixed}
 use Rattle.model.specs.Charge.{charge}
 use Rattle.model.specs.Edit.{done, edited}
@@ -108,6 +108,9 @@ module _ (word : Type 0) (base : Image) (size : ℕ) (old mid : Draft) (edit : E
 
   pub still_doable : (edits : List Edit) → AreDoable (outline_of (cards_of old)) (edit ∷ edits) → AreDoable (outline_of (cards_of mid)) edits
   still_doable edits can = doable_alike (done (edit_of edit) (outline_of (cards_of old))) (outline_of (cards_of mid)) edits alike can.1
+
+  pub still_few : (edits : List Edit) → StayFew (outline_of (cards_of old)) (edit ∷ edits) → StayFew (outline_of (cards_of mid)) edits
+  still_few edits few = few_alike (done (edit_of edit) (outline_of (cards_of old))) (outline_of (cards_of mid)) edits alike few.1
 
   pub overfills_later : (edits : List Edit) → Overfills mid edits → Overfills old (edit ∷ edits)
   overfills_later edits over = record {

@@ -1,6 +1,7 @@
 -- Names of the outline and names of cards.
-use Rattle.std.proofs.Common.{◌≡◌, ◌<◌, ◌+◌, ℕ, Bool, true, false, List, [], ◌∷◌, Option, Some, None, length, refl, sym, ap, ◌∙◌, arith, subst}
-use Rattle.std.specs.Prelude.{bytes_eq, if◌then◌else◌}
+use Rattle.std.proofs.Common.{◌≡◌, ◌<◌, ◌+◌, ◌≤◌, eqb, ℕ, Bool, true, false, List, [], ◌∷◌, Option, Some, None, length, refl, sym, ap, ◌∙◌, arith, subst}
+use Rattle.std.specs.Prelude.{bytes_eq, if◌then◌else◌, nat_le, ◌&&◌, IsTrue}
+use Rattle.std.proofs.lemmas.Bool.{and_parts, leb-true}
 use Rattle.directory.specs.Listing.{by_stamp, without_entry}
 use Rattle.directory.specs.Records.{Record, record_from, place_of, with_record, without_place}
 use Rattle.directory.proofs.ByStamp.{at-by_stamp}
@@ -10,16 +11,17 @@ use Rattle.draft.specs.Naming.{CanName, HasName, blocks_named}
 use Rattle.draft.proofs.KnownLaws.{card_at}
 use Rattle.edits.specs.Edits.{IsNewName, IsName}
 use Rattle.edits.specs.Outlines.{outline_of}
-use Rattle.edits.proofs.PlaceLaws.{IsThere, names_there}
+use Rattle.edits.proofs.PlaceLaws.{IsThere, there_is, names_there}
 use Rattle.layout.specs.Cards.{Card, node_of, content_of}
 use Rattle.layout.specs.Known.{AreCards, HasContent, HasNames}
 use Rattle.layout.proofs.ChargeLaws.{length-by_stamp, length-with, above_by_stamp}
 use Rattle.model.specs.declared.node.NodeKind.{NodeKind}
 use Rattle.model.specs.declared.node.NodeKind.TheVariants as kind
-use Rattle.model.specs.Charge.{charge, charge_of_blocks, blocks_of}
-use Rattle.model.specs.Edit.{name_put}
-use Rattle.model.specs.Keyed.{Keyed, at, with, without}
-use Rattle.model.specs.Tree.{DirEntry, entry_of, names_at, names_of, found_or}
+use Rattle.model.specs.Charge.{charge, charge_of_blocks, blocks_of, few_names}
+use Rattle.model.specs.Edit.{altered, altered_at, name_put}
+use Rattle.model.specs.Keyed.{Keyed, at, here_or, with, without}
+use Rattle.model.proofs.KeyedLaws.{at-with_same}
+use Rattle.model.specs.Tree.{Tree, Node, DirEntry, entry_of, names_at, names_of, found_or}
 
 -- a name that is not among records stands behind the last
 pub place_behind : (name : List ℕ) (names : List Record) → entry_of name names ≡ None → place_of name names ≡ length names
@@ -40,6 +42,22 @@ place_before name (entry ∷ names) found some = by_name (place_before name name
         → (if same then 0 else place_of name names + 1) < length (entry ∷ names)
     by_name rest true here = omega arith
     by_name rest false later = omega (arith, rest later)
+
+-- in a tree of directories with few names each has few
+pub few-at : (most : ℕ) (tree : Tree) (number : ℕ) (node : Node) → IsTrue (few_names most tree) → at number tree ≡ Some node → length (names_of node.content) ≤ most
+few-at most [] number node few there = absurd cc
+few-at most (entry ∷ rest) number node few there = by_key (few-at most rest number node) (eqb number entry.0) there
+  where
+    some_is : {x y : Node} → (let one : Option Node = Some x in one ≡ Some y) → x ≡ y
+    some_is e = cc
+
+    parts : (nat_le (length (names_of entry.1.content)) most ≡ true) × (few_names most rest ≡ true)
+    parts = and_parts (nat_le (length (names_of entry.1.content)) most) (few_names most rest) few
+
+    by_key : (IsTrue (few_names most rest) → at number rest ≡ Some node → length (names_of node.content) ≤ most) → (same : Bool)
+        → here_or same entry.1 (at number rest) ≡ Some node → length (names_of node.content) ≤ most
+    by_key later true here = subst (λ (n : Node). length (names_of n.content) ≤ most) (some_is here) (leb-true (length (names_of entry.1.content)) most parts.0)
+    by_key later false found = later parts.1 found
 
 -- The names of a directory's card
 
@@ -67,12 +85,26 @@ module _ (nodes : ℕ) (mark : ℕ → ℕ) (cards : List (Option Card)) (known 
     unstamped : at stamp it.card.names ≡ None
     unstamped = sym (stamp_is stamp) ∙ new.new_stamp
 
-    pub can_name : CanName cards place name stamp
-    can_name = record {
+    -- there is room for it where few names stand behind it
+    pub room_there : IsTrue (few_names 1024 (altered (name_put stamp (record { name = name; number = to })) (outline_of cards) number)) → length it.card.names < 1024
+    unfolding node_of
+    room_there few =
+        let entry : DirEntry = record { name = name; number = to } in
+        let node = node_of (λ n. []) it.card in
+        let behind : at number (altered (name_put stamp entry) (outline_of cards) number) ≡ Some (name_put stamp entry node) =
+        ap (λ (found : Option Node). at number (altered_at (name_put stamp entry) (outline_of cards) number found)) (there_is cards known.apart place number it)
+        ∙ at-with_same (outline_of cards) number (name_put stamp entry node) in
+        let most = few-at 1024 (altered (name_put stamp entry) (outline_of cards) number) number (name_put stamp entry node) few behind in
+        let names = ap (λ (k : NodeKind). length (with (names_of (content_of (λ n. []) k it.card)) stamp entry)) is in
+        let more = length-with (by_stamp it.card.names) stamp 0 entry (above_by_stamp it.card.names has_names.stamped) (at-by_stamp stamp it.card.names ∙ unstamped) in
+        omega (arith, most, names, more, length-by_stamp it.card.names has_names.stamped)
+
+    pub can_name : length it.card.names < 1024 → CanName cards place name stamp
+    can_name room = record {
       card = it.card;
       there = it.there;
       directory = is;
-      few = omega (arith, count_is, new.room);
+      few = room;
       some = new.some;
       short = new.short;
       new_name = (place_behind name it.card.names unnamed, unnamed);

@@ -9,6 +9,7 @@ use Rattle.edits.specs.declared.edit.Edit.{Edit}
 use Rattle.edits.specs.declared.edit.Edit.TheVariants as declared
 use Rattle.model.specs.declared.acl.Ace.{Ace}
 use Rattle.model.specs.declared.node.NodeKind.{NodeKind}
+use Rattle.model.specs.Charge.{few_names}
 use Rattle.model.specs.Edit.{PutNode, DropNode, Show, PutName, DropName, PutBytes, SetSize}
 use Rattle.model.specs.Edit.{Shown, done}
 use Rattle.model.specs.Edit as model
@@ -71,10 +72,9 @@ pub record IsShown (tree : Tree) (number : ℕ) (shown : Shown) : Type 0 where
   pub there : IsTrue (is_key number tree)
   pub entries : AreEntries shown.acl
 
--- a directory has neither the name nor the stamp, and room
+-- a directory has neither the name nor the stamp
 pub record IsNewName (tree : Tree) (directory stamp : ℕ) (entry : DirEntry) : Type 0 where
   pub there : IsTrue (is_directory_at tree directory)
-  pub room : length (names_at tree directory) < 1024
   pub new_name : entry_of entry.name (names_at tree directory) ≡ None
   pub new_stamp : at stamp (names_at tree directory) ≡ None
   pub some : 0 < length entry.name
@@ -116,7 +116,18 @@ abbrev pub AreDoable : Tree → List Edit → Type 0
 AreDoable tree [] = Unit {0}
 AreDoable tree (edit ∷ edits) = CanDo tree edit × AreDoable (done (edit_of edit) tree) edits
 
--- what can be done to a tree can be done to each other one that is blanked alike
+-- and no directory has more than 1,024 names behind any of them
+abbrev pub StayFew : Tree → List Edit → Type 0
+StayFew tree [] = Unit {0}
+StayFew tree (edit ∷ edits) = IsTrue (few_names 1024 (done (edit_of edit) tree))
+    × StayFew (done (edit_of edit) tree) edits
+
+-- what can be done to a tree can be done to each other one that is blanked alike, and as few names
+-- stand behind it
 abbrev pub DoableAlike : Type 0
 DoableAlike = (tree other : Tree) (edits : List Edit) → blanked other ≡ blanked tree
     → AreDoable tree edits → AreDoable other edits
+
+abbrev pub FewAlike : Type 0
+FewAlike = (tree other : Tree) (edits : List Edit) → blanked other ≡ blanked tree
+    → StayFew tree edits → StayFew other edits

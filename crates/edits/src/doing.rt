@@ -8,11 +8,13 @@ ghost use Rattle.draft.specs.Nodes.{shown_of, new_card, HasNode};
 ghost use Rattle.edits.specs.declared.edit.Edit.TheVariants as edit;
 ghost use Rattle.edits.specs.Doing.{Does, DoesAnywhere, Overfills};
 ghost use Rattle.edits.specs.Edits.{IsNewNode, IsShown, IsNewName, IsName, IsFileTo};
-ghost use Rattle.edits.specs.Edits.{CanDo, AreDoable, fresh_node, fresh_fields};
+ghost use Rattle.edits.specs.Edits.{CanDo, AreDoable, StayFew, edit_of, fresh_node, fresh_fields};
 ghost use Rattle.edits.specs.Outlines.{outline_of};
 ghost use Rattle.inode.specs.declared.node.Form.TheVariants.{One};
 ghost use Rattle.layout.specs.Cards.{Card as LaidCard};
 ghost use Rattle.layout.specs.Health.{Reads};
+ghost use Rattle.model.specs.Charge.{few_names};
+ghost use Rattle.model.specs.Edit.{PutName, done};
 ghost use Rattle.model.specs.Keyed.{is_key};
 
 use crate::edit::Edit;
@@ -63,6 +65,8 @@ fn put_name(
     requires known { IsKnown draft.old }
     requires can { IsNewName (outline_of (cards_of draft.old)) directory stamp
         (record { name = name.now; number = number }) }
+    requires few { IsTrue (few_names 1024 (done (PutName directory stamp
+        (record { name = name.now; number = number })) (outline_of (cards_of draft.old)))) }
     ensures done { OnOk result (DoesAnywhere draft.old draft.new
         (edit.PutName directory stamp name.entry number)) }
     ensures full { IsErrOf result SpaceFault.Full
@@ -200,6 +204,8 @@ fn edit_one<S: Sectors>(
 ) -> Result<(), DraftFault>
     requires known { IsKnown draft.old × (end_of draft.old ≤ S.size (S.kept base.old)) }
     requires can { CanDo (outline_of (cards_of draft.old)) edit }
+    requires few { IsTrue (few_names 1024
+        (done (edit_of edit) (outline_of (cards_of draft.old)))) }
     ensures done { OnOk result (Does S.keeps_word (S.image (S.kept base.old))
         (S.size (S.kept base.old)) draft.old draft.new (edit.entry ∷ [])) }
     ensures full { IsErrOf result DraftFault.Full → Overfills draft.old (edit.entry ∷ []) }
@@ -238,7 +244,7 @@ fn edit_one<S: Sectors>(
 }
 
 /// Does edits one after the other. Each must be one that can be done in the tree that those before
-/// it give.
+/// it give, and behind none of them may a directory have more than 1,024 names.
 ///
 /// # Errors
 ///
@@ -252,6 +258,7 @@ pub fn edit_all<S: Sectors>(
 ) -> Result<(), DraftFault>
     requires known { IsKnown draft.old × (end_of draft.old ≤ S.size (S.kept base.old)) }
     requires can { AreDoable (outline_of (cards_of draft.old)) edits.items }
+    requires few { StayFew (outline_of (cards_of draft.old)) edits.items }
     ensures done { OnOk result (Does S.keeps_word (S.image (S.kept base.old))
         (S.size (S.kept base.old)) draft.old draft.new edits.entry.items) }
     ensures full { IsErrOf result DraftFault.Full → Overfills draft.old edits.entry.items }

@@ -1,6 +1,6 @@
 //! The laws of outlines: each is the contract of a function that does nothing.
 
-ghost use Rattle.edits.specs.Edits.{DoableAlike};
+ghost use Rattle.edits.specs.Edits.{DoableAlike, FewAlike};
 ghost use Rattle.edits.specs.Outlines.{EachOutline, EditsBlanked};
 
 /// What memory tells of a tree is the tree with zeros for the bytes of its files, and edits of the
@@ -9,4 +9,5 @@ pub fn outlines()
     ensures each { EachOutline }
     ensures edits { EditsBlanked }
     ensures doable { DoableAlike }
+    ensures few { FewAlike }
 {}

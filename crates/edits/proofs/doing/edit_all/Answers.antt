@@ -8,9 +8,9 @@ use Rattle.draft.specs.declared.fault.DraftFault.{DraftFault}
 use Rattle.draft.specs.declared.fault.DraftFault.TheVariants as fault
 use Rattle.edits.specs.declared.edit.Edit.{Edit}
 use Rattle.edits.specs.Doing.{Does, Overfills}
-use Rattle.edits.specs.Edits.{AreDoable}
+use Rattle.edits.specs.Edits.{AreDoable, StayFew}
 use Rattle.edits.specs.Outlines.{outline_of}
-use Rattle.edits.proofs.ListLaws.{does_nothing, goes_on, still_doable, overfills_later, overfills_first}
+use Rattle.edits.proofs.ListLaws.{does_nothing, goes_on, still_doable, still_few, overfills_later, overfills_first}
 use Rattle.edits.proofs.doing.edit_all.Goals as goal
 
 pub loop-edit-preserved : goal.loop-edit-preserved
@@ -29,6 +29,7 @@ loop-edit-preserved g c =
       known = first.known.known;
       within = omega (arith, first.known.nodes, first.known.places, so_far.within);
       can = still_doable S.keeps_word (S.image kept) (S.size kept) old mid edit first rest (subst (AreDoable (outline_of (cards_of old))) next so_far.can);
+      few = still_few S.keeps_word (S.image kept) (S.size kept) old mid edit first rest (subst (StayFew (outline_of (cards_of old))) next so_far.few);
       does = λ new does. so_far.does new (subst (λ (l : List Edit). Does S.keeps_word (S.image kept) (S.size kept) old new l) (sym next)
           (goes_on S.keeps_word (S.image kept) (S.size kept) old mid edit first new rest does));
       full = λ over. so_far.full (subst (Overfills old) (sym next) (overfills_later S.keeps_word (S.image kept) (S.size kept) old mid edit first rest over));

@@ -2,7 +2,7 @@ use Rattle.std.proofs.Common.{◌≡◌, ◌≤◌}
 use Rattle.draft.specs.declared.draft.Draft.{Draft}
 use Rattle.draft.specs.Drafts.{cards_of, end_of, IsKnown}
 use Rattle.edits.specs.Doing.{Does, Overfills}
-use Rattle.edits.specs.Edits.{AreDoable}
+use Rattle.edits.specs.Edits.{AreDoable, StayFew}
 use Rattle.edits.specs.Outlines.{outline_of}
 use Rattle.edits.proofs.doing.edit_all.Given as goal
 
@@ -11,6 +11,7 @@ invariant-loop-edit g l = record {
   known : IsKnown l.draft;
   within : end_of l.draft ≤ g.S.Sectors.size (g.S.Sectors.kept l.fn.base);
   can : AreDoable (outline_of (cards_of l.draft)) l.edit-iterator.rest.items;
+  few : StayFew (outline_of (cards_of l.draft)) l.edit-iterator.rest.items;
   does : (new : Draft) → Does g.S.Sectors.keeps_word (g.S.Sectors.image (g.S.Sectors.kept l.fn.base)) (g.S.Sectors.size (g.S.Sectors.kept l.fn.base)) l.draft new l.edit-iterator.rest.items
       → Does g.S.Sectors.keeps_word (g.S.Sectors.image (g.S.Sectors.kept l.fn.base)) (g.S.Sectors.size (g.S.Sectors.kept l.fn.base)) l.fn.draft new l.fn.edits.items;
   full : Overfills l.draft l.edit-iterator.rest.items → Overfills l.fn.draft l.fn.edits.items;

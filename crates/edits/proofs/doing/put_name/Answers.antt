@@ -5,7 +5,7 @@ use Rattle.draft.specs.Naming.{with_name, blocks_named}
 use Rattle.layout.specs.Marks.{mark_by}
 use Rattle.model.specs.Edit.{PutName, name_put}
 use Rattle.edits.proofs.DoingLaws.{over_number, turned, turned_forms, turned_made, node_named, all_ok}
-use Rattle.edits.proofs.NamedLaws.{can_name, names_with, named_charge}
+use Rattle.edits.proofs.NamedLaws.{room_there, can_name, names_with, named_charge}
 use Rattle.edits.proofs.PlaceLaws.{IsThere, there_at, directory_there, directory_key}
 use Rattle.edits.specs.Outlines.{outline_of}
 use Rattle.edits.proofs.RoomLaws.{no_room}
@@ -20,6 +20,7 @@ put_name-requires-clause-names c =
     let it : IsThere (cards_of old) c.place_of-place.result c.args.directory = there_at (cards_of old) c.place_of-place.result c.args.directory c.place_of-place.ensures in
     let is = directory_there (cards_of old) c.requires.known.cards.apart c.place_of-place.result c.args.directory it c.requires.can.there in
     can_name old.nodes (mark_by (148 + old.nodes) old.places) (cards_of old) c.requires.known.cards c.place_of-place.result c.args.directory it is c.args.stamp c.args.name.now c.args.number c.requires.can
+    (room_there old.nodes (mark_by (148 + old.nodes) old.places) (cards_of old) c.requires.known.cards c.place_of-place.result c.args.directory it is c.args.stamp c.args.name.now c.args.number c.requires.can c.requires.few)
 
 pub returns-clause-done : goal.returns-clause-done
 returns-clause-done c =

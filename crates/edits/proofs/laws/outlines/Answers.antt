@@ -1,5 +1,5 @@
 use Rattle.edits.proofs.BlankLaws.{each_outline, edits_blanked}
-use Rattle.edits.proofs.DoableLaws.{doable_alike}
+use Rattle.edits.proofs.DoableLaws.{doable_alike, few_alike}
 use Rattle.edits.proofs.laws.outlines.Goals as goal
 
 pub returns-clause-each : goal.returns-clause-each
@@ -10,3 +10,6 @@ returns-clause-edits c = edits_blanked
 
 pub returns-clause-doable : goal.returns-clause-doable
 returns-clause-doable c = doable_alike
+
+pub returns-clause-few : goal.returns-clause-few
+returns-clause-few c = few_alike
