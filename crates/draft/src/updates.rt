@@ -39,14 +39,6 @@ impl Updates {
         }
     }
 
-    /// The updates, for whoever writes them.
-    pub fn into_list(self) -> Vec<Update>
-        ensures list { result.items ≡ self }
-        ensures apart { AreApart self }
-    {
-        self.list
-    }
-
     /// Sector `n` after the updates.
     pub fn read<S: Sectors>(&self, base: &mut S, n: u32) -> Result<[u8; SECTOR], ReadFault>
         requires { n < S.size (S.kept base.old) }
@@ -88,7 +80,7 @@ impl Updates {
         Ok(())
     }
 
-    /// The updates themselves.
+    /// The updates, for whoever writes them.
     pub fn into_vec(self) -> Vec<Update>
         ensures { result.items ≡ self }
     {
