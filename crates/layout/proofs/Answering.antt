@@ -3,7 +3,7 @@ use Rattle.std.proofs.Common.{◌≡◌, ℕ, zero, suc, List, [], ◌∷◌, Op
 use Rattle.disk.specs.Moments.{Image}
 use Rattle.model.specs.Keyed.{at, with}
 use Rattle.model.proofs.KeyedLaws.{at-with_same, at-with_other}
-use Rattle.layout.specs.CardLaws.{EachAnswer}
+use Rattle.layout.specs.CardLaws.{Answers, EachAnswer}
 use Rattle.layout.specs.Cards.{Card, tree_of, node_of}
 use Rattle.layout.specs.Laid.{AreNumbered}
 use Rattle.layout.proofs.Changing.{tree-lacks}
@@ -25,8 +25,11 @@ tree-has image (Some one ∷ cards) (suc place) card apart there =
     at-with_other (tree_of image cards) one.fields.number card.fields.number (node_of image one) (apart (suc place) 0 card one (omega arith) there refl)
     ∙ tree-has image cards place card (λ i j a b off. apart (suc i) (suc j) a b (omega arith)) there
 
-pub each_answer : EachAnswer
-each_answer nodes image mark cards laid number = record {
-  found = λ place card there is. ap (λ (n : ℕ). at n (tree_of image cards)) (sym is) ∙ tree-has image cards place card laid.apart there;
+pub tree_answers : (image : Image) (cards : List (Option Card)) → AreNumbered cards → (number : ℕ) → Answers image cards number
+tree_answers image cards apart number = record {
+  found = λ place card there is. ap (λ (n : ℕ). at n (tree_of image cards)) (sym is) ∙ tree-has image cards place card apart there;
   none = tree-lacks image cards number;
 }
+
+pub each_answer : EachAnswer
+each_answer nodes image mark cards laid = tree_answers image cards laid.apart

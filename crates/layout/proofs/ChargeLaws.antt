@@ -1,6 +1,6 @@
 -- A volume with no free place is charged for all of them.
-use Rattle.std.proofs.Common.{◌≡◌, ◌≢◌, ◌≤◌, ◌<◌, ◌+◌, ℕ, zero, suc, List, [], ◌∷◌, Option, Some, None, length, get_or, refl, sym, ap, ◌∙◌, arith, inl, inr, subst, eqb, eq-eqb, ne_eqb}
-use Rattle.std.proofs.lemmas.Bool.{cases_eq, cases_lt, cases_order}
+use Rattle.std.proofs.Common.{◌≡◌, ◌≢◌, ◌≤◌, ◌<◌, ◌+◌, ℕ, zero, suc, List, [], ◌∷◌, Option, Some, None, length, get_or, refl, sym, ap, ◌∙◌, arith, inl, inr, eqb, eq-eqb, ne_eqb}
+use Rattle.std.proofs.lemmas.Bool.{cases_eq, cases_order}
 use Rattle.std.proofs.lemmas.List.FromFn.{length-map-range_with_len}
 use Rattle.disk.specs.Moments.{Image}
 use Rattle.model.specs.declared.node.NodeKind.{NodeKind}
@@ -9,16 +9,17 @@ use Rattle.model.specs.Charge.{charge, blocks, blocks_of, charge_of_blocks, divi
 use Rattle.model.specs.Keyed.{Keyed, at, with, total, worth_at, IsAbove}
 use Rattle.model.proofs.KeyedLaws.{total-with, IsAbove-with}
 use Rattle.directory.proofs.ByStamp.{at-by_stamp}
-use Rattle.std.proofs.lemmas.List.{get_or_past}
 use Rattle.extents.specs.declared.run.Run.{Run}
 use Rattle.extents.specs.Runs.{AreRising}
 use Rattle.directory.specs.Records.{Record, AreStamped}
 use Rattle.directory.specs.Listing.{by_stamp}
 use Rattle.layout.specs.Cards.{Card, tree_of, node_of, content_of, bytes_in, byte_at}
-use Rattle.layout.specs.Laid.{HoldsCard, HoldsPlace, HoldsContent, AreLaid, AreNumbered}
+use Rattle.layout.specs.Known.{HasContent, IsCard}
+use Rattle.layout.specs.Laid.{AreNumbered}
 use Rattle.layout.specs.MarkLaws.{FullIsCharged}
 use Rattle.layout.specs.Marks.{once_if, times, times_set, named_by, named}
 use Rattle.layout.proofs.Changing.{tree-lacks, tree-above}
+use Rattle.layout.proofs.Knowing.{AreEach, each_above, each_card, laid_are_cards}
 
 -- f 0 + f 1 + .. + f (n - 1)
 abbrev pub sum_to : (ℕ → ℕ) → ℕ → ℕ
@@ -121,45 +122,36 @@ length-by_stamp (entry ∷ names) stamped =
     let fresh : at entry.0 (by_stamp names) ≡ None = at-by_stamp entry.0 names ∙ at-absent names entry.0 (λ i d h e. stamped.apart 0 (suc i) d (omega arith) (omega arith) (sym e)) in
     omega (arith, length-with (by_stamp names) entry.0 0 entry.1 (above_by_stamp names rest) fresh, length-by_stamp names rest)
 
-content_blocks : (image : Image) (kind : NodeKind) (card : Card) → HoldsContent image kind card → blocks (content_of image kind card) ≡ blocks_of kind card.fields.size
+content_blocks : (image : Image) (kind : NodeKind) (card : Card) → HasContent kind card → blocks (content_of image kind card) ≡ blocks_of kind card.fields.size
 unfolding bytes_in
-content_blocks image kind.File card holds = ap (λ (n : ℕ). divided_up n 4096) (length-map-range_with_len (byte_at image card.blocks) 0 card.fields.size)
-content_blocks image kind.Directory card holds = ap (λ (n : ℕ). divided_up n 15) (length-by_stamp card.names holds.stamped ∙ holds.count)
+content_blocks image kind.File card has = ap (λ (n : ℕ). divided_up n 4096) (length-map-range_with_len (byte_at image card.blocks) 0 card.fields.size)
+content_blocks image kind.Directory card has = ap (λ (n : ℕ). divided_up n 15) (length-by_stamp card.names has.stamped ∙ has.count)
 
-pub charge_is : (image : Image) (place : ℕ) (card : Card) → HoldsCard image place card → charge (node_of image card) ≡ charge_of_blocks (length card.blocks)
+pub charge_is : (image : Image) (card : Card) → IsCard card → charge (node_of image card) ≡ charge_of_blocks (length card.blocks)
 unfolding node_of
-charge_is image place card holds = ap charge_of_blocks (content_blocks image card.fields.kind card holds.content ∙ sym holds.node.blocks)
+charge_is image card is = ap charge_of_blocks (content_blocks image card.fields.kind card is.content ∙ sym is.blocks)
 
-card_charged : (image : Image) (place : ℕ) (card : Card) (a n : ℕ) → HoldsCard image place card → sum_to (λ i. named_by (a + i) (Some card)) n ≤ charge (node_of image card)
-card_charged image place card a n holds =
-    let is = charge_is image place card holds in
-    let runs = few_runs 0 (length card.blocks) card.runs holds.node.runs.rising (omega arith) in
-    omega (arith, sum_card a n card, holds.node.fits.run_sectors, holds.node.run_count)
+card_charged : (image : Image) (card : Card) (a n : ℕ) → IsCard card → sum_to (λ i. named_by (a + i) (Some card)) n ≤ charge (node_of image card)
+card_charged image card a n is =
+    let charged = charge_is image card is in
+    let runs = few_runs 0 (length card.blocks) card.runs is.runs.rising (omega arith) in
+    omega (arith, sum_card a n card, is.fits.run_sectors, is.run_count)
 
 named-none : (n : ℕ) → named_by n None ≡ 0
 unfolding named_by
 named-none n = refl
 
-none_some : (x : Card) → (let none : Option Card = None in none ≡ Some x) → ⊥
-none_some x e = cc
-
--- each card is held somewhere
-pub record IsHeld (image : Image) (card : Card) : Type 0 where
-  pub place : ℕ
-  pub holds : HoldsCard image place card
-
-cards_charged : (image : Image) (a n : ℕ) (cards : List (Option Card)) → ((i : ℕ) (card : Card) → get_or cards i None ≡ Some card → IsHeld image card) → AreNumbered cards
+cards_charged : (image : Image) (a n : ℕ) (cards : List (Option Card)) → AreEach cards → AreNumbered cards
     → sum_to (λ i. named (a + i) cards) n ≤ total charge (tree_of image cards)
-cards_charged image a n [] held apart = omega (arith, sum_to-zero (λ i. 0) n (λ i. refl))
-cards_charged image a n (None ∷ cards) held apart =
-    let rest = cards_charged image a n cards (λ i card e. held (suc i) card e) (λ i j x y off. apart (suc i) (suc j) x y (omega arith)) in
+cards_charged image a n [] each apart = omega (arith, sum_to-zero (λ i. 0) n (λ i. refl))
+cards_charged image a n (None ∷ cards) each apart =
+    let rest = cards_charged image a n cards (λ i card e. each (suc i) card e) (λ i j x y off. apart (suc i) (suc j) x y (omega arith)) in
     let here = sum_to-zero (λ i. named_by (a + i) None) n (λ i. named-none (a + i)) in
     omega (arith, sum_to-plus (λ i. named_by (a + i) None) (λ i. named (a + i) cards) n)
-cards_charged image a n (Some one ∷ cards) held apart =
-    let rest = cards_charged image a n cards (λ i card e. held (suc i) card e) (λ i j x y off. apart (suc i) (suc j) x y (omega arith)) in
-    let it = held 0 one refl in
-    let here = card_charged image it.place one a n it.holds in
-    let above = tree-above image cards (λ i card e. let other = held (suc i) card e in other.holds.node.number) in
+cards_charged image a n (Some one ∷ cards) each apart =
+    let rest = cards_charged image a n cards (λ i card e. each (suc i) card e) (λ i j x y off. apart (suc i) (suc j) x y (omega arith)) in
+    let here = card_charged image one a n (each 0 one refl) in
+    let above = tree-above image cards (each_above cards (λ i card e. each (suc i) card e)) in
     let fresh : at one.fields.number (tree_of image cards) ≡ None = tree-lacks image cards one.fields.number (λ i card e. apart (suc i) 0 card one (omega arith) e refl) in
     omega (
       arith,
@@ -168,13 +160,7 @@ cards_charged image a n (Some one ∷ cards) held apart =
       none_worth charge (at one.fields.number (tree_of image cards)) fresh,
     )
 
-pub held_card : (nodes : ℕ) (image : Image) (mark : ℕ → ℕ) (cards : List (Option Card)) → AreLaid nodes image mark cards → (i : ℕ) (card : Card) → get_or cards i None ≡ Some card → IsHeld image card
-held_card nodes image mark cards laid i card there = elim (cases_lt i nodes) [
-  | inl low ↦ record { place = i; holds = subst (HoldsPlace image i) there (laid.held i low) }
-  | inr high ↦ absurd (none_some card (sym (get_or_past cards i None (omega (arith, laid.count))) ∙ there))
-]
-
 pub full_is_charged : FullIsCharged
 full_is_charged nodes image mark cards count laid full =
     let sum = sum_to-same (λ i. named (148 + nodes + i) cards) (λ i. 1) count (λ i h. laid.marks (148 + nodes + i) ∙ full i h) in
-    omega (arith, sum, sum_to-ones count, cards_charged image (148 + nodes) count cards (held_card nodes image mark cards laid) laid.apart)
+    omega (arith, sum, sum_to-ones count, cards_charged image (148 + nodes) count cards (each_card nodes mark cards (laid_are_cards nodes image mark cards laid)) laid.apart)

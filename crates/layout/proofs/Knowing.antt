@@ -1,16 +1,15 @@
 -- What is known of cards without their sectors.
-use Rattle.std.proofs.Common.{◌≡◌, ◌≢◌, ◌≤◌, ◌<◌, ◌+◌, ℕ, List, Option, Some, None, length, get_or, set, refl, sym, ap, ◌∙◌, arith, inl, inr, subst}
-use Rattle.std.proofs.lemmas.Bool.{cases_eq}
-use Rattle.std.proofs.lemmas.List.{length-set, get_or-set_same, get_or-set_other}
+use Rattle.std.proofs.Common.{◌≡◌, ◌<◌, ℕ, List, Option, Some, None, get_or, set, sym, ap, ◌∙◌, arith, inl, inr, subst}
+use Rattle.std.proofs.lemmas.Bool.{cases_eq, cases_lt}
+use Rattle.std.proofs.lemmas.List.{length-set, get_or_past, get_or-set_same, get_or-set_other}
 use Rattle.disk.specs.Moments.{Image}
 use Rattle.model.specs.declared.node.NodeKind.{NodeKind}
 use Rattle.model.specs.declared.node.NodeKind.TheVariants as kind
 use Rattle.layout.specs.Cards.{Card}
-use Rattle.layout.specs.ChangeLaws.{IsOwnNumber}
-use Rattle.layout.specs.Known.{HasContent, IsPlace, AreCards, MovesMarks, LaidAreCards, OneCardChange}
-use Rattle.layout.specs.Laid.{AreLaid, HoldsContent, HoldsPlace}
+use Rattle.layout.specs.Known.{HasContent, IsCard, IsPlace, AreCards, MovesMarks, LaidAreCards, OneCardChange}
+use Rattle.layout.specs.Laid.{HoldsContent, HoldsPlace}
 use Rattle.layout.specs.Marks.{named}
-use Rattle.layout.proofs.Changing.{named-set, apart_now}
+use Rattle.layout.proofs.Changing.{AreAbove, named-set, apart_now}
 
 content_known : (image : Image) (kind : NodeKind) (card : Card) → HoldsContent image kind card → HasContent kind card
 content_known image kind.File card holds = holds.unnamed
@@ -37,6 +36,22 @@ laid_are_cards nodes image mark cards laid = record {
   behind = laid.behind;
   once = laid.once;
 }
+
+none_some : (card : Card) → (let none : Option Card = None in none ≡ Some card) → ⊥
+none_some card e = cc
+
+-- each card of a table is one
+abbrev pub AreEach : List (Option Card) → Type 0
+AreEach cards = (i : ℕ) (card : Card) → get_or cards i None ≡ Some card → IsCard card
+
+pub each_card : (nodes : ℕ) (mark : ℕ → ℕ) (cards : List (Option Card)) → AreCards nodes mark cards → AreEach cards
+each_card nodes mark cards known i card there = elim (cases_lt i nodes) [
+  | inl low ↦ subst IsPlace there (known.each i low)
+  | inr high ↦ absurd (none_some card (sym (get_or_past cards i None (omega (arith, known.count))) ∙ there))
+]
+
+pub each_above : (cards : List (Option Card)) → AreEach cards → AreAbove cards
+each_above cards each i card there = let is = each i card there in is.number
 
 module _ (nodes : ℕ) (marked mark : ℕ → ℕ) (cards : List (Option Card)) (place : ℕ) (is : Option Card) (h : place < nodes) (old : AreCards nodes marked cards) (new : IsPlace is) (moves : MovesMarks nodes marked mark (get_or cards place None) is) where
   each_now : (p : ℕ) → p < nodes → IsPlace (get_or (set cards place is) p None)

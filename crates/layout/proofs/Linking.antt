@@ -10,10 +10,12 @@ use Rattle.model.specs.Tree.{root}
 use Rattle.model.specs.WellFormed.{links_owed, one_if}
 use Rattle.model.proofs.KeyedLaws.{at-with_same, at-with_other}
 use Rattle.layout.specs.Cards.{Card, tree_of, node_of, content_at, byte_at, bytes_in}
+use Rattle.layout.specs.Known.{AreCards}
 use Rattle.layout.specs.Laid.{AreNumbered}
-use Rattle.layout.specs.SumLaws.{other_numbers, EachLink, BytesFit}
+use Rattle.layout.specs.SumLaws.{other_numbers, Links, EachLink, BytesFit}
 use Rattle.layout.specs.Marks.{times}
 use Rattle.layout.proofs.Changing.{tree-lacks}
+use Rattle.layout.proofs.Knowing.{laid_are_cards}
 use Rattle.layout.proofs.Summing.{links-sum}
 
 abbrev owed_if : Bool → ℕ → ℕ
@@ -64,9 +66,12 @@ owed-times image (Some one ∷ cards) n apart =
           ]
     ]
 
+pub known_link : (nodes : ℕ) (mark : ℕ → ℕ) (cards : List (Option Card)) → AreCards nodes mark cards → (image : Image) (number : ℕ) → Links image cards number
+known_link nodes mark cards known image number =
+    record { to = links-sum nodes mark cards known image number; owed = owed-times image cards number known.apart }
+
 pub each_link : EachLink
-each_link nodes image mark cards laid number =
-    record { to = links-sum nodes image mark cards laid number; owed = owed-times image cards number laid.apart }
+each_link nodes image mark cards laid = known_link nodes mark cards (laid_are_cards nodes image mark cards laid) image
 
 byte-fits : (image : Image) (block : Option ℕ) (j : ℕ) → ((n : ℕ) → All (λ byte. byte < 256) (image n)) → get_or (content_at image block) j 0 < 256
 byte-fits image None j fits = omega arith

@@ -1,5 +1,5 @@
 -- Sums over the tree are sums over the cards.
-use Rattle.std.proofs.Common.{◌≡◌, ◌+◌, ℕ, suc, List, [], ◌∷◌, ◌++◌, Option, Some, None, length, get_or, refl, sym, ap, ◌∙◌, arith, inl, inr, eqb, eq-eqb, ne_eqb}
+use Rattle.std.proofs.Common.{◌≡◌, ◌+◌, ℕ, suc, List, [], ◌∷◌, ◌++◌, Option, Some, None, length, refl, sym, ap, ◌∙◌, arith, inl, inr, eqb, eq-eqb, ne_eqb}
 use Rattle.std.proofs.lemmas.Bool.{cases_eq}
 use Rattle.disk.specs.Moments.{Image}
 use Rattle.model.specs.declared.node.NodeKind.{NodeKind}
@@ -12,20 +12,19 @@ use Rattle.model.proofs.KeyedLaws.{total-with}
 use Rattle.directory.specs.Listing.{by_stamp}
 use Rattle.directory.specs.Records.{Record}
 use Rattle.layout.specs.Cards.{Card, tree_of, node_of, content_of}
-use Rattle.layout.specs.Laid.{AreLaid, HoldsContent, AreNumbered}
+use Rattle.layout.specs.Known.{HasContent, IsCard, AreCards}
+use Rattle.layout.specs.Laid.{AreNumbered}
 use Rattle.layout.specs.Marks.{once_if, times}
-use Rattle.layout.specs.SumLaws.{sum_over, numbers_of, entry_numbers, NamesTotal, EachSum}
+use Rattle.layout.specs.SumLaws.{sum_over, numbers_of, entry_numbers, NamesTotal, Sums, EachSum}
 use Rattle.layout.proofs.Changing.{AreAbove, tree-lacks, tree-above}
-use Rattle.layout.proofs.ChargeLaws.{IsHeld, held_card, charge_is, none_worth, total-ones, stamped-rest, above_by_stamp, fresh_stamp}
+use Rattle.layout.proofs.ChargeLaws.{charge_is, none_worth, total-ones, stamped-rest, above_by_stamp, fresh_stamp}
+use Rattle.layout.proofs.Knowing.{AreEach, each_above, each_card, laid_are_cards}
 
 pub names_total : NamesTotal
 names_total worth [] stamped = refl
 names_total worth (entry ∷ names) stamped =
     let rest = stamped-rest entry names stamped in
     omega (arith, total-with worth (by_stamp names) entry.0 0 entry.1 (above_by_stamp names rest), none_worth worth (at entry.0 (by_stamp names)) (fresh_stamp entry names stamped), names_total worth names rest)
-
-abbrev AreHeld : Image → List (Option Card) → Type 0
-AreHeld image cards = (i : ℕ) (card : Card) → get_or cards i None ≡ Some card → IsHeld image card
 
 pub total-tree : (worth : Node → ℕ) (image : Image) (cards : List (Option Card)) → AreAbove cards → AreNumbered cards → total worth (tree_of image cards) ≡ sum_over (λ card. worth (node_of image card)) cards
 total-tree worth image [] above apart = refl
@@ -36,13 +35,10 @@ total-tree worth image (Some one ∷ cards) above apart =
     let fresh : at one.fields.number (tree_of image cards) ≡ None = tree-lacks image cards one.fields.number (λ i card e. apart (suc i) 0 card one (omega arith) e refl) in
     omega (arith, total-with worth (tree_of image cards) one.fields.number 0 (node_of image one) rising, none_worth worth (at one.fields.number (tree_of image cards)) fresh)
 
-held-above : (image : Image) (cards : List (Option Card)) → AreHeld image cards → AreAbove cards
-held-above image cards held i card there = let it = held i card there in it.holds.node.number
-
-sum_over-same : (f g : Card → ℕ) (image : Image) (cards : List (Option Card)) → AreHeld image cards → ((card : Card) → IsHeld image card → f card ≡ g card) → sum_over f cards ≡ sum_over g cards
-sum_over-same f g image [] held same = refl
-sum_over-same f g image (None ∷ cards) held same = sum_over-same f g image cards (λ i card e. held (suc i) card e) same
-sum_over-same f g image (Some one ∷ cards) held same = omega (arith, same one (held 0 one refl), sum_over-same f g image cards (λ i card e. held (suc i) card e) same)
+sum_over-same : (f g : Card → ℕ) (cards : List (Option Card)) → AreEach cards → ((card : Card) → IsCard card → f card ≡ g card) → sum_over f cards ≡ sum_over g cards
+sum_over-same f g [] each same = refl
+sum_over-same f g (None ∷ cards) each same = sum_over-same f g cards (λ i card e. each (suc i) card e) same
+sum_over-same f g (Some one ∷ cards) each same = omega (arith, same one (each 0 one refl), sum_over-same f g cards (λ i card e. each (suc i) card e) same)
 
 times-append : (n : ℕ) (a b : List ℕ) → times n (a ++ b) ≡ times n a + times n b
 times-append n [] b = omega arith
@@ -58,31 +54,37 @@ links-names : (n : ℕ) (names : List Record) → total (λ (entry : DirEntry). 
 links-names n [] = refl
 links-names n (entry ∷ names) = omega (arith, one_once entry.1.number n, links-names n names)
 
-links-content : (n : ℕ) (image : Image) (kind : NodeKind) (card : Card) → HoldsContent image kind card → links_in n (names_of (content_of image kind card)) ≡ times n (numbers_of card.names)
-links-content n image kind.File card holds = ap (λ (names : List Record). times n (numbers_of names)) (sym holds.unnamed)
-links-content n image kind.Directory card holds = names_total (λ entry. one_if (eqb entry.number n)) card.names holds.stamped ∙ links-names n card.names
+links-content : (n : ℕ) (image : Image) (kind : NodeKind) (card : Card) → HasContent kind card → links_in n (names_of (content_of image kind card)) ≡ times n (numbers_of card.names)
+links-content n image kind.File card has = ap (λ (names : List Record). times n (numbers_of names)) (sym has)
+links-content n image kind.Directory card has = names_total (λ entry. one_if (eqb entry.number n)) card.names has.stamped ∙ links-names n card.names
 
-links-card : (n : ℕ) (image : Image) (card : Card) → IsHeld image card → links_from n (node_of image card) ≡ times n (numbers_of card.names)
+pub links-card : (n : ℕ) (image : Image) (card : Card) → IsCard card → links_from n (node_of image card) ≡ times n (numbers_of card.names)
 unfolding node_of
-links-card n image card it = links-content n image card.fields.kind card it.holds.content
+links-card n image card is = links-content n image card.fields.kind card is.content
 
 entries-sum : (n : ℕ) (cards : List (Option Card)) → sum_over (λ card. times n (numbers_of card.names)) cards ≡ times n (entry_numbers cards)
 entries-sum n [] = refl
 entries-sum n (None ∷ cards) = entries-sum n cards
 entries-sum n (Some one ∷ cards) = omega (arith, times-append n (numbers_of one.names) (entry_numbers cards), entries-sum n cards)
 
-pub each_sum : EachSum
-each_sum nodes image mark cards laid =
-    let held = held_card nodes image mark cards laid in
-    let any : (worth : Node → ℕ) → total worth (tree_of image cards) ≡ sum_over (λ card. worth (node_of image card)) cards = λ worth. total-tree worth image cards (held-above image cards held) laid.apart in
-    record {
-      any = any;
-      charges = any charge ∙ sum_over-same (λ card. charge (node_of image card)) (λ card. charge_of_blocks (length card.blocks)) image cards held (λ card it. charge_is image it.place card it.holds);
-      nodes = sym (total-ones (tree_of image cards)) ∙ any (λ node. 1);
-    }
+-- The tree of cards, whatever its image is
+module _ (nodes : ℕ) (mark : ℕ → ℕ) (cards : List (Option Card)) (known : AreCards nodes mark cards) (image : Image) where
+  each : AreEach cards
+  each = each_card nodes mark cards known
 
-pub links-sum : (nodes : ℕ) (image : Image) (mark : ℕ → ℕ) (cards : List (Option Card)) → AreLaid nodes image mark cards → (n : ℕ) → links_to (tree_of image cards) n ≡ times n (entry_numbers cards)
-links-sum nodes image mark cards laid n =
-    let held = held_card nodes image mark cards laid in
-    total-tree (links_from n) image cards (held-above image cards held) laid.apart
-    ∙ sum_over-same (λ card. links_from n (node_of image card)) (λ card. times n (numbers_of card.names)) image cards held (links-card n image) ∙ entries-sum n cards
+  any : (worth : Node → ℕ) → total worth (tree_of image cards) ≡ sum_over (λ card. worth (node_of image card)) cards
+  any worth = total-tree worth image cards (each_above cards each) known.apart
+
+  pub known_sum : Sums image cards
+  known_sum = record {
+    any = any;
+    charges = any charge ∙ sum_over-same (λ card. charge (node_of image card)) (λ card. charge_of_blocks (length card.blocks)) cards each (charge_is image);
+    nodes = sym (total-ones (tree_of image cards)) ∙ any (λ node. 1);
+  }
+
+  pub links-sum : (n : ℕ) → links_to (tree_of image cards) n ≡ times n (entry_numbers cards)
+  links-sum n = any (links_from n)
+      ∙ sum_over-same (λ card. links_from n (node_of image card)) (λ card. times n (numbers_of card.names)) cards each (links-card n image) ∙ entries-sum n cards
+
+pub each_sum : EachSum
+each_sum nodes image mark cards laid = known_sum nodes mark cards (laid_are_cards nodes image mark cards laid) image

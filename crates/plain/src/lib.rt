@@ -1,7 +1,7 @@
 //! The operations on directories that the server serves today, on a tree in memory: PUTROOTFH, PUTFH, GETFH, LOOKUP and CREATE.
 //!
-//! This is the program's own tree, and no reference of tests. Each call is the definition's; a look-up goes over all entries, so it
-//! serves small trees, until a body stands that keeps the tree on the volume.
+//! A plain and slow program for small trees, with which tests of whole servers compare. Each call is the definition's; a look-up
+//! goes over all entries. `fs` and `compound` stand on the parts that need no tree: attributes, refusals, handles, `NewDirectory`.
 #![tactic(auto)]
 
 pub mod attributes;

@@ -1,5 +1,5 @@
 -- Cards from before a stamp are a tree from before it.
-use Rattle.std.proofs.Common.{◌≡◌, ◌≤◌, ◌<◌, ℕ, zero, suc, List, [], ◌∷◌, Option, Some, None, length, map, get_or, refl, sym, ap, subst, ◌∙◌, arith, inl, inr, ne_eqb}
+use Rattle.std.proofs.Common.{◌≡◌, ◌≤◌, ◌<◌, ◌↔◌, ℕ, zero, suc, List, [], ◌∷◌, Option, Some, None, length, map, get_or, refl, sym, ap, subst, ◌∙◌, arith, inl, inr, ne_eqb}
 use Rattle.std.proofs.lemmas.Bool.{cases_eq}
 use Rattle.disk.specs.Moments.{Image}
 use Rattle.model.specs.Keyed.{at, here_or}
@@ -8,11 +8,12 @@ use Rattle.model.specs.WellFormed.{IsBefore}
 use Rattle.directory.specs.declared.entry.Entry.{Entry}
 use Rattle.directory.specs.Records.{Record, record_of}
 use Rattle.layout.specs.Cards.{Card, tree_of, node_of}
-use Rattle.layout.specs.Laid.{AreLaid}
-use Rattle.layout.proofs.Answering.{each_answer}
+use Rattle.layout.specs.Known.{AreCards}
+use Rattle.layout.proofs.Answering.{tree_answers}
+use Rattle.layout.proofs.Knowing.{laid_are_cards}
 use Rattle.shape.specs.Ages.{AreBefore, AreNamesBefore}
 use Rattle.shape.specs.ShapeLaws.{EachAge}
-use Rattle.shape.proofs.TreeLaws.{There, Nowhere, at-stamp, find, held, node-names, stamped-content}
+use Rattle.shape.proofs.TreeLaws.{There, Nowhere, at-stamp, find, is_card, node-names, stamped-content}
 
 pub not_before : (stamp : ℕ) (entries : List Entry) (i : ℕ) (entry : Entry) → entry ≡ get_or entries i entry → i < length entries → stamp ≤ entry.stamp
     → AreNamesBefore stamp (map record_of entries) → ⊥
@@ -41,12 +42,12 @@ all-before : (stamp : ℕ) (names : List Record) → ((i : ℕ) (d : Record) →
 all-before stamp [] each = tt
 all-before stamp (x ∷ names) each = (each 0 x (omega arith), all-before stamp names (λ i d h. each (suc i) d (omega arith)))
 
-module _ (nodes : ℕ) (image : Image) (mark : ℕ → ℕ) (cards : List (Option Card)) (laid : AreLaid nodes image mark cards) (stamp : ℕ) where
+module _ (nodes : ℕ) (image : Image) (mark : ℕ → ℕ) (cards : List (Option Card)) (known : AreCards nodes mark cards) (stamp : ℕ) where
   abbrev tree : Tree
   tree = tree_of image cards
 
   pub node-is : (number : ℕ) (node : Node) (place : ℕ) (card : Card) → at number tree ≡ Some node → get_or cards place None ≡ Some card → card.fields.number ≡ number → node ≡ node_of image card
-  node-is number node place card e there is = some_node node (node_of image card) (sym e ∙ (each_answer nodes image mark cards laid number).found place card there is)
+  node-is number node place card e there is = some_node node (node_of image card) (sym e ∙ (tree_answers image cards known.apart number).found place card there is)
     where
       some_node : (a b : Node) → (let one : Option Node = Some a in one ≡ Some b) → a ≡ b
       some_node a b e = cc
@@ -63,31 +64,31 @@ module _ (nodes : ℕ) (image : Image) (mark : ℕ → ℕ) (cards : List (Optio
 
   names-are : (place : ℕ) (card : Card) → get_or cards place None ≡ Some card → (key : ℕ) → at key (names_of (node_of image card).content) ≡ at key card.names
   unfolding node_of
-  names-are place card there key = node-names nodes image mark cards laid card.fields.kind card (held nodes image mark cards laid place card there).holds.content key
+  names-are place card there key = node-names nodes image mark cards known card.fields.kind card (is_card nodes image mark cards known place card there).content key
 
   before-tree : AreBefore stamp cards → IsBefore stamp tree
   before-tree before = record {
     number = λ number node e. elim (find cards number) [
       | There place card there is ↦ subst (λ n. n < stamp) is (before place card there).number
-      | Nowhere none ↦ absurd (none-node number node e ((each_answer nodes image mark cards laid number).none none))
+      | Nowhere none ↦ absurd (none-node number node e ((tree_answers image cards known.apart number).none none))
     ];
     change = λ number node e. elim (find cards number) [
       | There place card there is ↦
           subst (λ n. n < stamp) (sym (ap (λ (node : Node). node.change) (node-is number node place card e there is) ∙ change-is card)) (before place card there).change
-      | Nowhere none ↦ absurd (none-node number node e ((each_answer nodes image mark cards laid number).none none))
+      | Nowhere none ↦ absurd (none-node number node e ((tree_answers image cards known.apart number).none none))
     ];
     entry = λ number node key entry e has. elim (find cards number) [
       | There place card there is ↦
           at-before stamp card.names key entry (before place card there).names
           (sym (names-are place card there key) ∙ (ap (λ (node : Node). at key (names_of node.content)) (sym (node-is number node place card e there is)) ∙ has))
-      | Nowhere none ↦ absurd (none-node number node e ((each_answer nodes image mark cards laid number).none none))
+      | Nowhere none ↦ absurd (none-node number node e ((tree_answers image cards known.apart number).none none))
     ];
   }
 
   tree-before : IsBefore stamp tree → AreBefore stamp cards
   tree-before before place card there =
-      let has = (each_answer nodes image mark cards laid card.fields.number).found place card there refl in
-      let stamped = stamped-content nodes image mark cards laid card.fields.kind card (held nodes image mark cards laid place card there).holds.content in
+      let has = (tree_answers image cards known.apart card.fields.number).found place card there refl in
+      let stamped = stamped-content nodes image mark cards known card.fields.kind card (is_card nodes image mark cards known place card there).content in
       record {
         number = before.number card.fields.number (node_of image card) has;
         change = subst (λ n. n < stamp) (change-is card) (before.change card.fields.number (node_of image card) has);
@@ -95,5 +96,8 @@ module _ (nodes : ℕ) (image : Image) (mark : ℕ → ℕ) (cards : List (Optio
             (names-are place card there (get_or card.names i d).0 ∙ at-stamp card.names stamped i d h));
       }
 
+pub known_age : (nodes : ℕ) (image : Image) (mark : ℕ → ℕ) (cards : List (Option Card)) → AreCards nodes mark cards → (stamp : ℕ) → AreBefore stamp cards ↔ IsBefore stamp (tree_of image cards)
+known_age nodes image mark cards known stamp = (before-tree nodes image mark cards known stamp, tree-before nodes image mark cards known stamp)
+
 pub each_age : EachAge
-each_age nodes image mark cards laid stamp = (before-tree nodes image mark cards laid stamp, tree-before nodes image mark cards laid stamp)
+each_age nodes image mark cards laid = known_age nodes image mark cards (laid_are_cards nodes image mark cards laid)

@@ -1,5 +1,5 @@
 -- Nodes that are allowed are a tree's that the limits allow.
-use Rattle.std.proofs.Common.{zero, All, ◌+◌, ◌≡◌, ◌≢◌, ◌≤◌, ◌<◌, ℕ, suc, true, List, [], ◌∷◌, Option, Some, None, length, get_or, refl, sym, ap, subst, ◌∙◌, arith, inl, inr, eq-eqb, ne_eqb, bytes_eq, IsTrue, true≢false}
+use Rattle.std.proofs.Common.{zero, All, ◌+◌, ◌≡◌, ◌≢◌, ◌≤◌, ◌<◌, ◌↔◌, ℕ, suc, true, List, [], ◌∷◌, Option, Some, None, length, get_or, refl, sym, ap, subst, ◌∙◌, arith, inl, inr, eq-eqb, ne_eqb, bytes_eq, IsTrue, true≢false}
 use Rattle.std.proofs.lemmas.Bool.{cases_eq, cases_Bool}
 use Rattle.std.proofs.lemmas.List.FromFn.{length-map-range_with_len}
 use Rattle.std.proofs.lemmas.Slice.Eq.{bytes_eq-Decides}
@@ -16,18 +16,19 @@ use Rattle.directory.specs.Listing.{by_stamp}
 use Rattle.directory.specs.Records.{Record, name_of, AreApart, AreStamped}
 use Rattle.directory.proofs.ByStamp.{at-by_stamp}
 use Rattle.layout.specs.Cards.{Card, tree_of, node_of, content_of, bytes_in, byte_at}
-use Rattle.layout.specs.Laid.{AreLaid, HoldsContent}
+use Rattle.layout.specs.Known.{HasContent, AreCards}
 use Rattle.layout.specs.Marks.{times, times_set, named_by}
-use Rattle.layout.proofs.Answering.{each_answer}
+use Rattle.layout.proofs.Answering.{tree_answers}
 use Rattle.layout.proofs.Changing.{named-at}
 use Rattle.layout.proofs.ChargeLaws.{above_by_stamp}
 use Rattle.layout.proofs.Frame.{bytes-kept}
+use Rattle.layout.proofs.Knowing.{laid_are_cards}
 use Rattle.layout.proofs.Linking.{bytes_fit}
 use Rattle.layout.proofs.Summing.{names_total}
 use Rattle.shape.specs.Nodes.{IsNameAllowed, AreNamesAllowed, IsContentAllowed, IsNodeAllowed, HasRootDirectory, AreNodesAllowed}
 use Rattle.shape.specs.ShapeLaws.{HoldBytes, HasAllowedNodes, EachNode}
 use Rattle.shape.proofs.AgeLaws.{node-is, none-node}
-use Rattle.shape.proofs.TreeLaws.{There, Nowhere, at-stamp, find, held}
+use Rattle.shape.proofs.TreeLaws.{There, Nowhere, at-stamp, find, is_card}
 
 -- Names
 
@@ -101,7 +102,7 @@ marked-same : (n : ℕ) (content : List ℕ) → 0 < n → content ≡ marked_by
 marked-same zero content h = absurd (omega arith)
 marked-same (suc n) content h = refl
 
-module _ (nodes : ℕ) (image : Image) (mark : ℕ → ℕ) (cards : List (Option Card)) (laid : AreLaid nodes image mark cards) (bytes : HoldBytes image mark) where
+module _ (nodes : ℕ) (image : Image) (mark : ℕ → ℕ) (cards : List (Option Card)) (known : AreCards nodes mark cards) (bytes : HoldBytes image mark) where
   abbrev marked : Image
   marked n = marked_by (mark n) (image n)
 
@@ -110,7 +111,7 @@ module _ (nodes : ℕ) (image : Image) (mark : ℕ → ℕ) (cards : List (Optio
   named_there n place card there some =
       let least = named-at n cards place in
       let is : named_by n (get_or cards place None) ≡ times n card.fields.run_sectors + times_set n card.blocks = ap (named_by n) there in
-      omega (arith, laid.marks n)
+      omega (arith, known.marks n)
 
   file-bytes : (place : ℕ) (card : Card) → get_or cards place None ≡ Some card → All (λ byte. byte < 256) (bytes_in image card.blocks card.fields.size)
   file-bytes place card there =
@@ -130,26 +131,26 @@ module _ (image : Image) (limits : Limits) where
   unfolding bytes_in
   size-is card = length-map-range_with_len (byte_at image card.blocks) 0 card.fields.size
 
-  content-allowed : (kind : NodeKind) (card : Card) → All (λ byte. byte < 256) (bytes_in image card.blocks card.fields.size) → HoldsContent image kind card → IsContentAllowed limits kind card → IsContent limits (content_of image kind card)
-  content-allowed kind.File card bytes holds allowed = (bytes, omega (arith, size-is card))
-  content-allowed kind.Directory card bytes holds allowed = names-allowed limits card.names holds.stamped holds.names.apart allowed
+  content-allowed : (kind : NodeKind) (card : Card) → All (λ byte. byte < 256) (bytes_in image card.blocks card.fields.size) → HasContent kind card → IsContentAllowed limits kind card → IsContent limits (content_of image kind card)
+  content-allowed kind.File card bytes has allowed = (bytes, omega (arith, size-is card))
+  content-allowed kind.Directory card bytes has allowed = names-allowed limits card.names has.stamped has.names.apart allowed
 
-  allowed-content : (kind : NodeKind) (card : Card) → HoldsContent image kind card → IsContent limits (content_of image kind card) → IsContentAllowed limits kind card
-  allowed-content kind.File card holds is = let few = is.1 in omega (arith, size-is card)
-  allowed-content kind.Directory card holds is = allowed-names limits card.names holds.stamped is
+  allowed-content : (kind : NodeKind) (card : Card) → HasContent kind card → IsContent limits (content_of image kind card) → IsContentAllowed limits kind card
+  allowed-content kind.File card has is = let few = is.1 in omega (arith, size-is card)
+  allowed-content kind.Directory card has is = allowed-names limits card.names has.stamped is
 
-  node-allowed : (card : Card) → All (λ byte. byte < 256) (bytes_in image card.blocks card.fields.size) → HoldsContent image card.fields.kind card → IsNodeAllowed limits card → IsNode limits (node_of image card)
+  node-allowed : (card : Card) → All (λ byte. byte < 256) (bytes_in image card.blocks card.fields.size) → HasContent card.fields.kind card → IsNodeAllowed limits card → IsNode limits (node_of image card)
   unfolding node_of
-  node-allowed card bytes holds allowed = record {
+  node-allowed card bytes has allowed = record {
     entries = subst (λ (kind : NodeKind). IsTrue (is_list_for limits.aces_set limits.aces kind card.fields.acl)) (sym (kind-is card.fields.kind card)) allowed.entries;
-    content = content-allowed card.fields.kind card bytes holds allowed.content;
+    content = content-allowed card.fields.kind card bytes has allowed.content;
   }
 
-  allowed-node : (card : Card) → HoldsContent image card.fields.kind card → IsNode limits (node_of image card) → IsNodeAllowed limits card
+  allowed-node : (card : Card) → HasContent card.fields.kind card → IsNode limits (node_of image card) → IsNodeAllowed limits card
   unfolding node_of
-  allowed-node card holds is = record {
+  allowed-node card has is = record {
     entries = subst (λ (kind : NodeKind). IsTrue (is_list_for limits.aces_set limits.aces kind card.fields.acl)) (kind-is card.fields.kind card) is.entries;
-    content = allowed-content card.fields.kind card holds is.content;
+    content = allowed-content card.fields.kind card has is.content;
   }
 
   directory-content : (of : NodeKind) (card : Card) → of ≡ kind.Directory → is_directory (content_of image of card) ≡ true
@@ -170,7 +171,7 @@ module _ (image : Image) (limits : Limits) where
 
 -- The tree
 
-module _ (nodes : ℕ) (image : Image) (mark : ℕ → ℕ) (cards : List (Option Card)) (laid : AreLaid nodes image mark cards) (bytes : HoldBytes image mark) (limits : Limits) where
+module _ (nodes : ℕ) (image : Image) (mark : ℕ → ℕ) (cards : List (Option Card)) (known : AreCards nodes mark cards) (bytes : HoldBytes image mark) (limits : Limits) where
   abbrev tree : Tree
   tree = tree_of image cards
 
@@ -178,12 +179,12 @@ module _ (nodes : ℕ) (image : Image) (mark : ℕ → ℕ) (cards : List (Optio
   allowed-tree allowed = record {
     nodes = λ number node e. elim (find cards number) [
       | There place card there is ↦
-          subst (IsNode limits) (sym (node-is nodes image mark cards laid 0 number node place card e there is))
-          (node-allowed image limits card (file-bytes nodes image mark cards laid bytes place card there) (held nodes image mark cards laid place card there).holds.content (allowed.each place card there))
-      | Nowhere none ↦ absurd (none-node nodes image mark cards laid 0 number node e ((each_answer nodes image mark cards laid number).none none))
+          subst (IsNode limits) (sym (node-is nodes image mark cards known 0 number node place card e there is))
+          (node-allowed image limits card (file-bytes nodes image mark cards known bytes place card there) (is_card nodes image mark cards known place card there).content (allowed.each place card there))
+      | Nowhere none ↦ absurd (none-node nodes image mark cards known 0 number node e ((tree_answers image cards known.apart number).none none))
     ];
     rooted = (let rooted = allowed.rooted in
-        let at_root : at root tree ≡ Some (node_of image rooted.card) = (each_answer nodes image mark cards laid root).found rooted.place rooted.card rooted.there rooted.is.number in
+        let at_root : at root tree ≡ Some (node_of image rooted.card) = (tree_answers image cards known.apart root).found rooted.place rooted.card rooted.there rooted.is.number in
         ap is_directory_node at_root ∙ directory-is image limits rooted.card rooted.is.directory);
   }
 
@@ -195,18 +196,21 @@ module _ (nodes : ℕ) (image : Image) (mark : ℕ → ℕ) (cards : List (Optio
       there = there;
       is = record {
         number = is;
-        directory = is-directory image limits card (sym (ap is_directory_node ((each_answer nodes image mark cards laid root).found place card there is)) ∙ rooted);
+        directory = is-directory image limits card (sym (ap is_directory_node ((tree_answers image cards known.apart root).found place card there is)) ∙ rooted);
       };
     }
-    | Nowhere none ↦ absurd (true≢false (sym rooted ∙ ap is_directory_node ((each_answer nodes image mark cards laid root).none none)))
+    | Nowhere none ↦ absurd (true≢false (sym rooted ∙ ap is_directory_node ((tree_answers image cards known.apart root).none none)))
   ]
 
   tree-allowed : HasAllowedNodes limits tree → AreNodesAllowed limits cards
   tree-allowed has = record {
-    each = λ place card there. allowed-node image limits card (held nodes image mark cards laid place card there).holds.content
-        (has.nodes card.fields.number (node_of image card) ((each_answer nodes image mark cards laid card.fields.number).found place card there refl));
+    each = λ place card there. allowed-node image limits card (is_card nodes image mark cards known place card there).content
+        (has.nodes card.fields.number (node_of image card) ((tree_answers image cards known.apart card.fields.number).found place card there refl));
     rooted = root-card has.rooted;
   }
 
+  pub known_node : AreNodesAllowed limits cards ↔ HasAllowedNodes limits tree
+  known_node = (allowed-tree, tree-allowed)
+
 pub each_node : EachNode
-each_node nodes image mark cards laid bytes limits = (allowed-tree nodes image mark cards laid bytes limits, tree-allowed nodes image mark cards laid bytes limits)
+each_node nodes image mark cards laid = known_node nodes image mark cards (laid_are_cards nodes image mark cards laid)

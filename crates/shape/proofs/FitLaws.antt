@@ -2,6 +2,7 @@
 use Rattle.std.proofs.Common.{◌≡◌, ◌≤◌, ◌&&◌, ℕ, Bool, true, false, List, [], ◌∷◌, Option, Some, length, refl, sym, ap, ap₂, ◌∙◌, arith}
 use Rattle.std.proofs.lemmas.Bool.{le-leb}
 use Rattle.std.specs.Prelude.{nat_le}
+use Rattle.cards.specs.Tables.{charge_of_all, count_of_all}
 use Rattle.disk.specs.Moments.{Image}
 use Rattle.model.specs.declared.limits.Limits.{Limits}
 use Rattle.model.specs.declared.node.NodeKind.{NodeKind}
@@ -12,17 +13,18 @@ use Rattle.model.specs.Tree.{Tree, Node, names_of}
 use Rattle.model.proofs.KeyedLaws.{at-above, at-first, at-rest}
 use Rattle.directory.specs.Listing.{by_stamp}
 use Rattle.layout.specs.Cards.{Card, tree_of, node_of, content_of}
-use Rattle.layout.specs.Laid.{AreLaid, HoldsContent}
-use Rattle.layout.proofs.Answering.{each_answer}
+use Rattle.layout.specs.Known.{HasContent, AreCards}
+use Rattle.layout.proofs.Answering.{tree_answers}
 use Rattle.layout.proofs.Changing.{tree-above}
 use Rattle.layout.proofs.ChargeLaws.{total-ones}
-use Rattle.layout.proofs.Summing.{each_sum, names_total}
+use Rattle.layout.proofs.Knowing.{each_above, laid_are_cards}
+use Rattle.layout.proofs.Summing.{known_sum, names_total}
 use Rattle.shape.specs.ShapeLaws.{EachFit}
 use Rattle.shape.proofs.AgeLaws.{node-is, none-node}
-use Rattle.shape.proofs.TreeLaws.{There, Nowhere, find, held}
+use Rattle.shape.proofs.TreeLaws.{There, Nowhere, find, is_card}
 
 -- no directory has too many names where no node of the tree is one with too many
-few-from : (most least : ℕ) (entries : Tree) → IsAbove least entries → ((n : ℕ) (node : Node) → at n entries ≡ Some node → length (names_of node.content) ≤ most) → few_names most entries ≡ true
+pub few-from : (most least : ℕ) (entries : Tree) → IsAbove least entries → ((n : ℕ) (node : Node) → at n entries ≡ Some node → length (names_of node.content) ≤ most) → few_names most entries ≡ true
 few-from most least [] above each = refl
 few-from most least (entry ∷ rest) above each =
     let here = each entry.0 entry.1 (at-first entry.0 entry.0 entry.1 rest refl) in
@@ -36,34 +38,38 @@ and-true true true c is = is
 and-true true false c is = refl
 and-true false b c is = refl
 
-module _ (nodes : ℕ) (image : Image) (mark : ℕ → ℕ) (cards : List (Option Card)) (laid : AreLaid nodes image mark cards) where
-  few-names : (kind : NodeKind) (card : Card) → HoldsContent image kind card → length (names_of (content_of image kind card)) ≤ 1024
-  few-names kind.File card holds = omega arith
-  few-names kind.Directory card holds =
+module _ (nodes : ℕ) (image : Image) (mark : ℕ → ℕ) (cards : List (Option Card)) (known : AreCards nodes mark cards) where
+  few-names : (kind : NodeKind) (card : Card) → HasContent kind card → length (names_of (content_of image kind card)) ≤ 1024
+  few-names kind.File card has = omega arith
+  few-names kind.Directory card has =
       let same : length (by_stamp card.names) ≡ length card.names =
-      sym (total-ones (by_stamp card.names)) ∙ (names_total (λ entry. 1) card.names holds.stamped ∙ total-ones card.names) in
-      let few = holds.names.few in
+      sym (total-ones (by_stamp card.names)) ∙ (names_total (λ entry. 1) card.names has.stamped ∙ total-ones card.names) in
+      let few = has.names.few in
       omega arith
 
-  few-node : (card : Card) → HoldsContent image card.fields.kind card → length (names_of (node_of image card).content) ≤ 1024
+  few-node : (card : Card) → HasContent card.fields.kind card → length (names_of (node_of image card).content) ≤ 1024
   unfolding node_of
-  few-node card holds = few-names card.fields.kind card holds
+  few-node card has = few-names card.fields.kind card has
 
   few : (limits : Limits) → 1024 ≤ limits.names → few_names limits.names (tree_of image cards) ≡ true
   few limits most =
       few-from limits.names 0 (tree_of image cards)
-      (tree-above image cards (λ i card e. let it = held nodes image mark cards laid i card e in it.holds.node.number))
+      (tree-above image cards (each_above cards (is_card nodes image mark cards known)))
       (λ n node e. elim (find cards n) [
         | There place card there is ↦
-            let low = few-node card (held nodes image mark cards laid place card there).holds.content in
-            let same = ap (λ (node : Node). length (names_of node.content)) (node-is nodes image mark cards laid 0 n node place card e there is) in
+            let low = few-node card (is_card nodes image mark cards known place card there).content in
+            let same = ap (λ (node : Node). length (names_of node.content)) (node-is nodes image mark cards known 0 n node place card e there is) in
             omega arith
-        | Nowhere none ↦ absurd (none-node nodes image mark cards laid 0 n node e ((each_answer nodes image mark cards laid n).none none))
+        | Nowhere none ↦ absurd (none-node nodes image mark cards known 0 n node e ((tree_answers image cards known.apart n).none none))
       ])
 
+  pub known_fit : (limits : Limits) → 1024 ≤ limits.names
+      → fits limits (tree_of image cards) ≡ (nat_le (charge_of_all cards) limits.data_sectors && nat_le (count_of_all cards) limits.nodes)
+  unfolding fits
+  known_fit limits most =
+      let sums = known_sum nodes mark cards known image in
+      and-true _ _ _ (few limits most)
+      ∙ ap₂ (λ charge count. nat_le charge limits.data_sectors && nat_le count limits.nodes) sums.charges sums.nodes
+
 pub each_fit : EachFit
-unfolding fits
-each_fit nodes image mark cards laid limits most =
-    let sums = each_sum nodes image mark cards laid in
-    and-true _ _ _ (few nodes image mark cards laid limits most)
-    ∙ ap₂ (λ charge count. nat_le charge limits.data_sectors && nat_le count limits.nodes) sums.charges sums.nodes
+each_fit nodes image mark cards laid = known_fit nodes image mark cards (laid_are_cards nodes image mark cards laid)

@@ -1,5 +1,5 @@
 -- What is decided of cards holds of the tree that they are.
-use Rattle.std.proofs.Common.{◌≡◌, ◌≢◌, ◌<◌, ℕ, zero, suc, List, [], ◌∷◌, Option, Some, None, length, get_or, refl, sym, ap, subst, ◌∙◌, arith, inl, inr, eqb, eq-eqb, ne_eqb, IsTrue, true≢false}
+use Rattle.std.proofs.Common.{◌≡◌, ◌≢◌, ◌≤◌, ◌<◌, ◌↔◌, ℕ, zero, suc, List, [], ◌∷◌, Option, Some, None, length, get_or, refl, sym, ap, subst, ◌∙◌, arith, inl, inr, eqb, eq-eqb, ne_eqb, IsTrue, true≢false}
 use Rattle.std.proofs.lemmas.Bool.{cases_eq}
 use Rattle.std.proofs.lemmas.List.{get_or-map, length-map}
 use Rattle.std.specs.Prelude.{is_some}
@@ -13,15 +13,17 @@ use Rattle.directory.specs.Records.{Record, AreStamped}
 use Rattle.directory.proofs.ByStamp.{at-by_stamp}
 use Rattle.cards.specs.Tables.{number_of, number_at}
 use Rattle.layout.specs.Cards.{Card, tree_of, node_of, content_of}
-use Rattle.layout.specs.Laid.{AreLaid, HoldsContent}
+use Rattle.layout.specs.CardLaws.{Answers}
+use Rattle.layout.specs.Known.{HasContent, IsCard, AreCards}
 use Rattle.layout.specs.Marks.{once_if, times}
 use Rattle.layout.specs.SumLaws.{sum_over}
-use Rattle.layout.proofs.Answering.{each_answer}
-use Rattle.layout.proofs.ChargeLaws.{IsHeld, held_card, stamped-rest}
-use Rattle.layout.proofs.Linking.{each_link}
-use Rattle.layout.proofs.Summing.{each_sum}
+use Rattle.layout.proofs.Answering.{tree_answers}
+use Rattle.layout.proofs.ChargeLaws.{stamped-rest}
+use Rattle.layout.proofs.Knowing.{AreEach, each_card, laid_are_cards}
+use Rattle.layout.proofs.Linking.{known_link}
+use Rattle.layout.proofs.Summing.{known_sum}
 use Rattle.shape.specs.ShapeLaws.{IsLinked, EachWalk, EachStamp}
-use Rattle.shape.specs.Stamps.{stamps_of, entry_stamps}
+use Rattle.shape.specs.Stamps.{stamps_of, entry_stamps, AreStampsApart}
 use Rattle.shape.specs.Trees.{led_at, led_by, IsOneTree, IsReached}
 use Rattle.shape.specs.Trees as shape
 use Rattle.shape.proofs.Sums.{times-append, place-of}
@@ -134,27 +136,30 @@ numbered cards place number is = from (get_or cards place None) refl is
         none_number n e = cc
     from (Some card) e is = (card, (e, number_is card.fields.number number is))
 
-module _ (nodes : ℕ) (image : Image) (mark : ℕ → ℕ) (cards : List (Option Card)) (laid : AreLaid nodes image mark cards) where
+module _ (nodes : ℕ) (image : Image) (mark : ℕ → ℕ) (cards : List (Option Card)) (known : AreCards nodes mark cards) where
   abbrev tree : Tree
   tree = tree_of image cards
 
-  pub held : (place : ℕ) (card : Card) → get_or cards place None ≡ Some card → IsHeld image card
-  held = held_card nodes image mark cards laid
+  answers : (number : ℕ) → Answers image cards number
+  answers = tree_answers image cards known.apart
 
-  pub node-names : (kind : NodeKind) (card : Card) → HoldsContent image kind card → (key : ℕ) → at key (names_of (content_of image kind card)) ≡ at key card.names
-  node-names kind.File card holds key = sym (ap (at key) holds.unnamed)
-  node-names kind.Directory card holds key = at-by_stamp key card.names
+  pub is_card : AreEach cards
+  is_card = each_card nodes mark cards known
+
+  pub node-names : (kind : NodeKind) (card : Card) → HasContent kind card → (key : ℕ) → at key (names_of (content_of image kind card)) ≡ at key card.names
+  node-names kind.File card has key = sym (ap (at key) has)
+  node-names kind.Directory card has key = at-by_stamp key card.names
 
   names-there : (place : ℕ) (card : Card) → get_or cards place None ≡ Some card → (key : ℕ) → at key (names_at tree card.fields.number) ≡ at key card.names
   unfolding node_of
   names-there place card there key =
-      let it = held place card there in
-      ap (λ (node : Option Node). at key (names_of_node node)) ((each_answer nodes image mark cards laid card.fields.number).found place card there refl)
-      ∙ node-names card.fields.kind card it.holds.content key
+      let is = is_card place card there in
+      ap (λ (node : Option Node). at key (names_of_node node)) ((answers card.fields.number).found place card there refl)
+      ∙ node-names card.fields.kind card is.content key
 
-  pub stamped-content : (kind : NodeKind) (card : Card) → HoldsContent image kind card → AreStamped card.names
-  stamped-content kind.File card holds = subst AreStamped (sym holds.unnamed) (record { above = tt; apart = λ i j d low h. absurd (omega arith) })
-  stamped-content kind.Directory card holds = holds.stamped
+  pub stamped-content : (kind : NodeKind) (card : Card) → HasContent kind card → AreStamped card.names
+  stamped-content kind.File card has = subst AreStamped (sym has) (record { above = tt; apart = λ i j d low h. absurd (omega arith) })
+  stamped-content kind.Directory card has = has.stamped
 
   led-index : (place : ℕ) (card : Card) → get_or cards place None ≡ Some card → (i : ℕ) (d : Record) → i < length card.names → get_or (led_at cards place) i 0 ≡ (get_or card.names i d).1.number
   led-index place card there i d h =
@@ -172,12 +177,12 @@ module _ (nodes : ℕ) (image : Image) (mark : ℕ → ℕ) (cards : List (Optio
   from-walk number (shape.Named place directory i there reached within) =
       let at_place = numbered cards place directory there in
       let card = at_place.0 in
-      let it = held place card at_place.1.0 in
+      let is = is_card place card at_place.1.0 in
       let inside : i < length card.names = rw (← led-length place card at_place.1.0) within in
       let entry = get_or card.names i nameless in
       let has : at entry.0 (names_at tree directory) ≡ Some entry.1 =
       ap (λ n. at entry.0 (names_at tree n)) (sym at_place.1.1)
-      ∙ (names-there place card at_place.1.0 entry.0 ∙ at-stamp card.names (stamped-content card.fields.kind card it.holds.content) i nameless inside) in
+      ∙ (names-there place card at_place.1.0 entry.0 ∙ at-stamp card.names (stamped-content card.fields.kind card is.content) i nameless inside) in
       subst (IsFrom tree root) (sym (led-index place card at_place.1.0 i nameless inside)) (Named directory entry.0 entry.1 (from-walk directory reached) has)
 
   none-there : (number key : ℕ) (entry : DirEntry) → at number tree ≡ None → at key (names_at tree number) ≡ Some entry → ⊥
@@ -196,60 +201,64 @@ module _ (nodes : ℕ) (image : Image) (mark : ℕ → ℕ) (cards : List (Optio
         let led : get_or (led_at cards place) found.0 0 ≡ entry.number = led-index place card there found.0 nameless found.1.0 ∙ ap (λ (e : DirEntry). e.number) (found.1.1 nameless) in
         subst (IsReached cards) led
         (shape.Named place directory found.0 (ap number_of there ∙ ap Some is) (to-walk directory reached) (rw (led-length place card there) found.1.0))
-    | Nowhere none ↦ absurd (none-there directory stamp entry ((each_answer nodes image mark cards laid directory).none none) has)
+    | Nowhere none ↦ absurd (none-there directory stamp entry ((answers directory).none none) has)
   ]
 
   is-key : (place : ℕ) (card : Card) → get_or cards place None ≡ Some card → IsTrue (is_key card.fields.number tree)
-  is-key place card there = subst IsTrue (sym (ap is_some ((each_answer nodes image mark cards laid card.fields.number).found place card there refl))) refl
+  is-key place card there = subst IsTrue (sym (ap is_some ((answers card.fields.number).found place card there refl))) refl
 
   key-place : (number : ℕ) → IsTrue (is_key number tree) → (place : ℕ) × (number_at cards place ≡ Some number)
   key-place number key = elim (find cards number) [
     | There place card there is ↦ (place, ap number_of there ∙ ap Some is)
-    | Nowhere none ↦ absurd (true≢false (sym (subst IsTrue (ap is_some ((each_answer nodes image mark cards laid number).none none)) key)))
+    | Nowhere none ↦ absurd (true≢false (sym (subst IsTrue (ap is_some ((answers number).none none)) key)))
   ]
 
   linked-tree : IsOneTree cards → IsLinked tree
   linked-tree one = record {
     rooted = (let at_root = numbered cards one.rooted.0 root one.rooted.1 in subst (λ n. IsTrue (is_key n tree)) at_root.1.1 (is-key one.rooted.0 at_root.0 at_root.1.0));
-    linked = λ number. (let link = each_link nodes image mark cards laid number in link.to ∙ (one.linked number ∙ sym link.owed));
+    linked = λ number. (let link = known_link nodes mark cards known image number in link.to ∙ (one.linked number ∙ sym link.owed));
     reached = λ number key. (let there = key-place number key in from-walk number (one.reached there.0 number there.1));
   }
 
   tree-linked : IsLinked tree → IsOneTree cards
   tree-linked linked = record {
     rooted = key-place root linked.rooted;
-    linked = λ number. (let link = each_link nodes image mark cards laid number in sym link.to ∙ (linked.linked number ∙ link.owed));
+    linked = λ number. (let link = known_link nodes mark cards known image number in sym link.to ∙ (linked.linked number ∙ link.owed));
     reached = λ place number there. (let at_place = numbered cards place number there in to-walk number (linked.reached number (subst (λ n. IsTrue (is_key n tree)) at_place.1.1 (is-key place at_place.0 at_place.1.0))));
   }
 
   -- Stamps
 
-  stamped-card : (stamp : ℕ) (kind : NodeKind) (card : Card) → HoldsContent image kind card → one_if (is_key stamp (names_of (content_of image kind card))) ≡ times stamp (stamps_of card.names)
-  stamped-card stamp kind card holds =
-      ap (λ (found : Option DirEntry). one_if (is_some found)) (node-names kind card holds stamp) ∙ key-times stamp card.names (stamped-content kind card holds)
+  stamped-card : (stamp : ℕ) (kind : NodeKind) (card : Card) → HasContent kind card → one_if (is_key stamp (names_of (content_of image kind card))) ≡ times stamp (stamps_of card.names)
+  stamped-card stamp kind card has =
+      ap (λ (found : Option DirEntry). one_if (is_some found)) (node-names kind card has stamp) ∙ key-times stamp card.names (stamped-content kind card has)
 
-  stamped-node : (stamp : ℕ) (card : Card) → IsHeld image card → is_stamped stamp (node_of image card) ≡ times stamp (stamps_of card.names)
+  stamped-node : (stamp : ℕ) (card : Card) → IsCard card → is_stamped stamp (node_of image card) ≡ times stamp (stamps_of card.names)
   unfolding node_of
-  stamped-node stamp card it = stamped-card stamp card.fields.kind card it.holds.content
+  stamped-node stamp card is = stamped-card stamp card.fields.kind card is.content
 
   stamps-sum : (stamp : ℕ) → stamped_in tree stamp ≡ times stamp (entry_stamps cards)
-  stamps-sum stamp = (each_sum nodes image mark cards laid).any (is_stamped stamp) ∙ from cards held
+  stamps-sum stamp = (known_sum nodes mark cards known image).any (is_stamped stamp) ∙ from cards is_card
     where
-      from : (cards : List (Option Card)) → ((place : ℕ) (card : Card) → get_or cards place None ≡ Some card → IsHeld image card)
-          → sum_over (λ card. is_stamped stamp (node_of image card)) cards ≡ times stamp (entry_stamps cards)
-      from [] held = refl
-      from (None ∷ cards) held = from cards (λ place card e. held (suc place) card e)
-      from (Some card ∷ cards) held =
+      from : (cards : List (Option Card)) → AreEach cards → sum_over (λ card. is_stamped stamp (node_of image card)) cards ≡ times stamp (entry_stamps cards)
+      from [] each = refl
+      from (None ∷ cards) each = from cards (λ place card e. each (suc place) card e)
+      from (Some card ∷ cards) each =
           omega (
             arith,
-            stamped-node stamp card (held 0 card refl),
+            stamped-node stamp card (each 0 card refl),
             times-append stamp (stamps_of card.names) (entry_stamps cards),
-            from cards (λ place card e. held (suc place) card e),
+            from cards (λ place card e. each (suc place) card e),
           )
 
+  pub known_walk : IsOneTree cards ↔ IsLinked tree
+  known_walk = (linked-tree, tree-linked)
+
+  pub known_stamp : AreStampsApart cards ↔ ((stamp : ℕ) → stamped_in tree stamp ≤ 1)
+  known_stamp = (λ apart stamp. omega (arith, stamps-sum stamp, apart stamp), λ few stamp. omega (arith, stamps-sum stamp, few stamp))
+
 pub each_walk : EachWalk
-each_walk nodes image mark cards laid = (linked-tree nodes image mark cards laid, tree-linked nodes image mark cards laid)
+each_walk nodes image mark cards laid = known_walk nodes image mark cards (laid_are_cards nodes image mark cards laid)
 
 pub each_stamp : EachStamp
-each_stamp nodes image mark cards laid =
-    (λ apart stamp. omega (arith, stamps-sum nodes image mark cards laid stamp, apart stamp), λ few stamp. omega (arith, stamps-sum nodes image mark cards laid stamp, few stamp))
+each_stamp nodes image mark cards laid = known_stamp nodes image mark cards (laid_are_cards nodes image mark cards laid)

@@ -1,5 +1,5 @@
--- What is decided of laid cards, said of the tree that they are.
-use Rattle.std.specs.Prelude.{◌≡◌, ◌≤◌, ◌↔◌, ◌<◌, ◌&&◌, nat_le, ℕ, List, Option, Some, All, IsTrue}
+-- What is decided of cards, said of the tree that they are.
+use Rattle.std.specs.Prelude.{◌≡◌, ◌≤◌, ◌↔◌, ◌<◌, ◌&&◌, nat_le, ℕ, List, [], Option, Some, All, IsTrue}
 use Rattle.disk.specs.Moments.{Image}
 use Rattle.cards.specs.Tables.{charge_of_all, count_of_all}
 use Rattle.model.specs.declared.limits.Limits.{Limits}
@@ -8,6 +8,7 @@ use Rattle.model.specs.Keyed.{at, is_key}
 use Rattle.model.specs.Tree.{Tree, Node, root, is_directory_at}
 use Rattle.model.specs.WellFormed.{links_to, links_owed, stamped_in, IsBefore, IsFrom, IsNode, IsWellFormed}
 use Rattle.layout.specs.Cards.{Card, tree_of}
+use Rattle.layout.specs.Known.{AreCards}
 use Rattle.layout.specs.Laid.{AreLaid}
 use Rattle.shape.specs.Ages.{AreBefore}
 use Rattle.shape.specs.Nodes.{AreNodesAllowed}
@@ -62,3 +63,11 @@ EachTree = (nodes : ℕ) (image : Image) (mark : ℕ → ℕ) (cards : List (Opt
     → (limits : Limits) → 1024 ≤ limits.names → (stamp : ℕ)
     → AreWellFormed limits stamp cards
     ↔ (IsWellFormed limits (tree_of image cards) × IsBefore stamp (tree_of image cards))
+
+-- And it decides it of cards that are known whatever the sectors hold: then it is the tree with zeros for the bytes of files, as
+-- sectors without content are
+abbrev pub EachKnownTree : Type 0
+EachKnownTree = (nodes : ℕ) (mark : ℕ → ℕ) (cards : List (Option Card)) → AreCards nodes mark cards
+    → (limits : Limits) → 1024 ≤ limits.names → (stamp : ℕ)
+    → AreWellFormed limits stamp cards
+    ↔ (IsWellFormed limits (tree_of (λ n. []) cards) × IsBefore stamp (tree_of (λ n. []) cards))

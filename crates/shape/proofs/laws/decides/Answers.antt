@@ -2,7 +2,7 @@ use Rattle.shape.proofs.AgeLaws.{each_age}
 use Rattle.shape.proofs.AllowedLaws.{each_node}
 use Rattle.shape.proofs.FitLaws.{each_fit}
 use Rattle.shape.proofs.TreeLaws.{each_stamp, each_walk}
-use Rattle.shape.proofs.WholeLaws.{each_tree}
+use Rattle.shape.proofs.WholeLaws.{each_known_tree, each_tree}
 use Rattle.shape.proofs.laws.decides.Goals as goal
 
 pub returns-clause-walk : goal.returns-clause-walk
@@ -22,3 +22,6 @@ returns-clause-nodes c = each_node
 
 pub returns-clause-tree : goal.returns-clause-tree
 returns-clause-tree c = each_tree
+
+pub returns-clause-known : goal.returns-clause-known
+returns-clause-known c = each_known_tree
