@@ -1,8 +1,13 @@
 pub mod BlankLaws
+pub mod ChangeLaws
 pub mod DoableLaws
 pub mod DoingLaws
 pub mod FileLaws
+pub mod FitLaws
+pub mod FrontLaws
 pub mod ListLaws
 pub mod NamedLaws
+pub mod OutcomeLaws
 pub mod PlaceLaws
 pub mod RoomLaws
+pub mod SizeLaws

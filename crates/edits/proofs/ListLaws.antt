@@ -125,7 +125,7 @@ module _ (word : Type 0) (base : Image) (size : ℕ) (old mid : Draft) (edit : E
 pub overfills_first : (draft : Draft) (edit : Edit) (edits : List Edit) → Overfills draft (edit ∷ []) → Overfills draft (edit ∷ edits)
 overfills_first draft edit edits over = by_count over.count over.within over.full
   where
-    by_count : (count : ℕ) → count ≤ 1 → (HasRoom draft (edited (take count (edit_of edit ∷ [])) (outline_of (cards_of draft))) → ⊥) → Overfills draft (edit ∷ edits)
+    by_count : (count : ℕ) → count ≤ 1 → (HasRoom (length draft.places) draft.nodes (edited (take count (edit_of edit ∷ [])) (outline_of (cards_of draft))) → ⊥) → Overfills draft (edit ∷ edits)
     by_count zero within full = record { count = 0; within = omega arith; full = full }
     by_count (suc zero) within full = record { count = 1; within = omega arith; full = full }
     by_count (suc (suc count)) within full = absurd (omega (arith, within))

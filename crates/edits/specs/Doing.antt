@@ -65,13 +65,14 @@ pub record Does (word : Type 0) (base : Image) (size : ℕ) (old new : Draft) (e
 abbrev pub DoesAnywhere : (old new : Draft) → Edit → Type 0
 DoesAnywhere old new edit = (base : Image) (size : ℕ) → Does ⊤ base size old new (edit ∷ [])
 
--- the charges come to the data region at most, and the nodes to their places
-pub record HasRoom (draft : Draft) (tree : Tree) : Type 0 where
-  pub charge : total charge tree ≤ length draft.places
-  pub nodes : length tree ≤ draft.nodes
+-- the charges come to so many sectors at most, and the nodes to so many places
+pub record HasRoom (sectors places : ℕ) (tree : Tree) : Type 0 where
+  pub charge : total charge tree ≤ sectors
+  pub nodes : length tree ≤ places
 
 -- for the tree behind so many of the edits there is no room
 pub record Overfills (draft : Draft) (edits : List Edit) : Type 0 where
   pub count : ℕ
   pub within : count ≤ length edits
-  pub full : HasRoom draft (edited (take count (edits_of edits)) (outline_of (cards_of draft))) → ⊥
+  pub full : HasRoom (length draft.places) draft.nodes
+      (edited (take count (edits_of edits)) (outline_of (cards_of draft))) → ⊥

@@ -1,3 +1,6 @@
 pub mod Doing
 pub mod Edits
+pub mod Outcomes
 pub mod Outlines
+pub mod Parts
+pub mod Sizes

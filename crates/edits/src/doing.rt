@@ -1,6 +1,6 @@
 //! Edits that are done on a draft.
 
-ghost use Rattle.std.specs.Prelude.{◌≡◌, ◌≤◌, ◌+◌, [], ◌∷◌, Some, None, length, slice_index_or};
+ghost use Rattle.std.specs.Prelude.{◌≡◌, ◌≤◌, ◌<◌, ◌+◌, [], ◌∷◌, Some, None, All, length, slice_index_or};
 ghost use Rattle.std.specs.Prelude.{IsTrue, OnOk, IsErrOf};
 ghost use Rattle.cards.specs.Tables.{number_at};
 ghost use Rattle.draft.specs.Drafts.{cards_of, end_of, IsKnown};
@@ -10,6 +10,7 @@ ghost use Rattle.edits.specs.Doing.{Does, DoesAnywhere, Overfills};
 ghost use Rattle.edits.specs.Edits.{IsNewNode, IsShown, IsNewName, IsName, IsFileTo};
 ghost use Rattle.edits.specs.Edits.{CanDo, AreDoable, StayFew, edit_of, fresh_node, fresh_fields};
 ghost use Rattle.edits.specs.Outlines.{outline_of};
+ghost use Rattle.edits.specs.Parts.{PutsBytes, PartsAreBytes};
 ghost use Rattle.inode.specs.declared.node.Form.TheVariants.{One};
 ghost use Rattle.layout.specs.Cards.{Card as LaidCard};
 ghost use Rattle.layout.specs.Health.{Reads};
@@ -167,6 +168,7 @@ fn put_bytes<S: Sectors>(
         × (draft.new.cards.table ≡ draft.old.cards.table) }
     ensures health { Reads (S.health base.old) (S.health base.new)
         (IsErrOf result DraftFault.Device) }
+    ensures bytes { All (λ byte. byte < 256) bytes.entry.now }
 {
     let place = place_of(draft, file);
     draft.write(base, place, offset, bytes)
@@ -213,6 +215,7 @@ fn edit_one<S: Sectors>(
         × (draft.new.cards.table ≡ draft.old.cards.table) }
     ensures health { Reads (S.health base.old) (S.health base.new)
         (IsErrOf result DraftFault.Device) }
+    ensures parts { OnOk result (PutsBytes edit.entry) }
 {
     match edit {
         Edit::PutNode {
@@ -266,6 +269,7 @@ pub fn edit_all<S: Sectors>(
         × (draft.new.cards.table ≡ draft.old.cards.table) }
     ensures health { Reads (S.health base.old) (S.health base.new)
         (IsErrOf result DraftFault.Device) }
+    ensures parts { OnOk result (PartsAreBytes edits.entry.items) }
 {
     for edit in edits {
         edit_one(draft, base, edit)?;

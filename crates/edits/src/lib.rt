@@ -4,7 +4,11 @@
 mod doing;
 mod edit;
 mod laws;
+mod outcome;
+mod room;
 
 pub use doing::edit_all;
 pub use edit::Edit;
 pub use laws::outlines;
+pub use outcome::outcome_of;
+pub use room::fits;

@@ -10,6 +10,7 @@ use Rattle.edits.specs.declared.edit.Edit.{Edit}
 use Rattle.edits.specs.Doing.{Does, Overfills}
 use Rattle.edits.specs.Edits.{AreDoable, StayFew}
 use Rattle.edits.specs.Outlines.{outline_of}
+use Rattle.edits.specs.Parts.{PartsAreBytes}
 use Rattle.edits.proofs.ListLaws.{does_nothing, goes_on, still_doable, still_few, overfills_later, overfills_first}
 use Rattle.edits.proofs.doing.edit_all.Goals as goal
 
@@ -35,6 +36,7 @@ loop-edit-preserved g c =
       full = λ over. so_far.full (subst (Overfills old) (sym next) (overfills_later S.keeps_word (S.image kept) (S.size kept) old mid edit first rest over));
       kept = c.edit_one.ensures.kept.0 ∙ so_far.kept;
       table = c.edit_one.ensures.kept.1 ∙ so_far.table;
+      parts = λ are. so_far.parts (subst PartsAreBytes (sym next) (c.in_ok-edit_one.ensures.parts, are));
       healthy = (let it = c.in_ok-edit_one.ensures.health in it.stays (λ faulted. cc)) ∙ so_far.healthy;
     }
 
@@ -55,3 +57,7 @@ returns-clause-done g c =
     so_far.does c.loop-edit.draft (subst (λ (l : List Edit). Does S.keeps_word (S.image kept) (S.size kept) c.loop-edit.draft c.loop-edit.draft l)
     (sym (nil_from_length c.loop-edit.edit-iterator.rest.items (sym c.loop-edit.edit-iterator.rest.ok.0 ∙ c.in-None.ensures.steps.0)))
     (does_nothing S.keeps_word (S.image kept) (S.size kept) c.loop-edit.draft so_far.known))
+
+pub returns-clause-parts : goal.returns-clause-parts
+returns-clause-parts g c = c.loop-edit.invariant.parts (subst PartsAreBytes
+    (sym (nil_from_length c.loop-edit.edit-iterator.rest.items (sym c.loop-edit.edit-iterator.rest.ok.0 ∙ c.in-None.ensures.steps.0))) tt)

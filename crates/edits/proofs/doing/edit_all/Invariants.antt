@@ -4,6 +4,7 @@ use Rattle.draft.specs.Drafts.{cards_of, end_of, IsKnown}
 use Rattle.edits.specs.Doing.{Does, Overfills}
 use Rattle.edits.specs.Edits.{AreDoable, StayFew}
 use Rattle.edits.specs.Outlines.{outline_of}
+use Rattle.edits.specs.Parts.{PartsAreBytes}
 use Rattle.edits.proofs.doing.edit_all.Given as goal
 
 abbrev pub invariant-loop-edit : goal.invariant-loop-edit
@@ -17,5 +18,6 @@ invariant-loop-edit g l = record {
   full : Overfills l.draft l.edit-iterator.rest.items → Overfills l.fn.draft l.fn.edits.items;
   kept : g.S.Sectors.kept l.base ≡ g.S.Sectors.kept l.fn.base;
   table : l.draft.cards.table ≡ l.fn.draft.cards.table;
+  parts : PartsAreBytes l.edit-iterator.rest.items → PartsAreBytes l.fn.edits.items;
   healthy : g.S.Sectors.health l.base ≡ g.S.Sectors.health l.fn.base;
 }

@@ -1,5 +1,6 @@
 use Rattle.edits.proofs.BlankLaws.{each_outline, edits_blanked}
 use Rattle.edits.proofs.DoableLaws.{doable_alike, few_alike}
+use Rattle.edits.proofs.FitLaws.{fits_alike}
 use Rattle.edits.proofs.laws.outlines.Goals as goal
 
 pub returns-clause-each : goal.returns-clause-each
@@ -13,3 +14,6 @@ returns-clause-doable c = doable_alike
 
 pub returns-clause-few : goal.returns-clause-few
 returns-clause-few c = few_alike
+
+pub returns-clause-fits : goal.returns-clause-fits
+returns-clause-fits c = fits_alike
