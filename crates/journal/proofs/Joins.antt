@@ -74,19 +74,29 @@ whole_of_joined list (us ∷ joined) j image n =
     ∙ ap (λ (f : Image). f n) (sym (applied_all-append (take j.0 list) (drop j.0 list) image))
     ∙ ap (λ (xs : List (List Update)). applied_all xs image n) (take-append-drop j.0 list)
 
+-- a front after a call that moved the list's first transactions into the base gives what one of the list's does
+pub front_moved : (all : List (List Update)) (old mid : Log) → Moved all old mid → (count : ℕ) → count ≤ length mid.list
+    → (before : ℕ) × (before ≤ length all) × AreSame old.size (applied_all (take before all) old.base) (applied_all (take count mid.list) mid.base)
+front_moved all old mid moved count few =
+    let there = front_of_joined (drop moved.count all) mid.list moved.list count few in (
+      moved.count + there.0,
+      omega (arith, moved.within, there.1, length-drop moved.count all),
+      (λ n k. ap (λ (f : Image). f n) (sym (applied_all-front all moved.count there.0 old.base))
+          ∙ all_keeps old.size (take there.0 (drop moved.count all)) (applied_all (take moved.count all) old.base) mid.base moved.base n k
+          ∙ sym (there.2 mid.base n)),
+    )
+
 -- a front after a call is a front from before it
 pub fronts_from : (all : List (List Update)) (old mid : Log) (image : Image) → mid.size ≡ old.size → Moved all old mid → StandsForFront mid.size mid.base mid.list image
     → StandsForFront old.size old.base all image
 fronts_from all old mid image e moved front =
-    let there = front_of_joined (drop moved.count all) mid.list moved.list front.count front.within in
+    let there = front_moved all old mid moved front.count front.within in
     let P : ℕ → Type 0 = λ size. Settles size image (applied_all (take front.count mid.list) mid.base) in
     record {
-      count = moved.count + there.0;
-      within = omega (arith, moved.within, there.1, length-drop moved.count all);
-      settles = settles_same old.size image (applied_all (take front.count mid.list) mid.base) (applied_all (take (moved.count + there.0) all) old.base)
-          (λ n k. there.2 mid.base n
-          ∙ sym (all_keeps old.size (take there.0 (drop moved.count all)) (applied_all (take moved.count all) old.base) mid.base moved.base n k)
-          ∙ ap (λ (f : Image). f n) (applied_all-front all moved.count there.0 old.base))
+      count = there.0;
+      within = there.1;
+      settles = settles_same old.size image (applied_all (take front.count mid.list) mid.base) (applied_all (take there.0 all) old.base)
+          (λ n k. sym (there.2 n k))
           (subst P e front.settles);
     }
 
