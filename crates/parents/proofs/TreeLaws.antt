@@ -1,27 +1,22 @@
 -- What is told by place is told of the tree, whatever the sectors hold.
-use Rattle.std.proofs.Common.{◌≡◌, ◌<◌, ℕ, suc, Bool, true, false, List, [], ◌∷◌, Option, Some, None, length, get_or, refl, sym, ap, subst, ◌∙◌, arith, inl, inr, eqb, eq-eqb, ne_eqb, lt-ltb, le-ltb}
+use Rattle.std.proofs.Common.{◌≡◌, ◌<◌, ℕ, Bool, true, false, List, [], ◌∷◌, Option, Some, length, get_or, refl, sym, ap, subst, ◌∙◌, arith, inl, inr, lt-ltb, le-ltb}
 use Rattle.std.specs.Prelude.{if◌then◌else◌}
 use Rattle.std.proofs.lemmas.Bool.{cases_eq, cases_lt}
-use Rattle.std.proofs.lemmas.List.{get_or_past}
 use Rattle.disk.specs.Moments.{Image}
-use Rattle.model.specs.declared.node.NodeKind.{NodeKind}
-use Rattle.model.specs.declared.node.NodeKind.TheVariants as kind
 use Rattle.model.specs.Ancestors.{parent_of}
-use Rattle.model.specs.Keyed.{at, total, IsAbove}
-use Rattle.model.specs.Tree.{Tree, Node, DirEntry, root, names_of}
-use Rattle.model.specs.WellFormed.{one_if, links_in, links_from}
-use Rattle.model.proofs.KeyedLaws.{at-first, at-rest, at-above, total-with}
-use Rattle.directory.specs.Records.{Record}
+use Rattle.model.specs.Keyed.{at, IsAbove}
+use Rattle.model.specs.Tree.{Tree, Node, root}
+use Rattle.model.specs.WellFormed.{links_from}
+use Rattle.model.proofs.KeyedLaws.{at-first, at-rest, at-above}
 use Rattle.cards.specs.Tables.{number_at, number_of, HasNot, count_of_all}
-use Rattle.layout.specs.Cards.{Card, tree_of, node_of, content_of}
-use Rattle.layout.specs.Known.{HasContent, IsPlace, IsCard, AreCards}
-use Rattle.layout.specs.Laid.{AreNumbered}
-use Rattle.layout.specs.Marks.{once_if, times}
+use Rattle.layout.specs.Cards.{Card, tree_of, node_of}
+use Rattle.layout.specs.Known.{AreCards}
+use Rattle.layout.specs.Marks.{times}
 use Rattle.layout.specs.SumLaws.{numbers_of}
 use Rattle.layout.proofs.Answering.{tree-has}
 use Rattle.layout.proofs.Changing.{tree-above, tree-lacks}
-use Rattle.layout.proofs.ChargeLaws.{total-ones, none_worth}
-use Rattle.layout.proofs.Summing.{names_total}
+use Rattle.layout.proofs.Knowing.{AreEach, each_above, each_card}
+use Rattle.layout.proofs.Summing.{known_sum, links-card}
 use Rattle.shape.specs.Trees.{led_at, led_by, IsOneTree}
 use Rattle.shape.proofs.TreeLaws.{find, There, Nowhere}
 use Rattle.parents.specs.ParentLaws.{EachParent}
@@ -76,39 +71,16 @@ parent_none (entry ∷ rest) least number above never =
     if_false _ entry.0 (parent_of rest number) (le-ltb 0 (links_from number entry.1) (omega arith))
     ∙ parent_none rest entry.0 number above.1 (λ key node is. let low = at-above rest entry.0 key node above.1 is in never key node (at-rest entry.0 key entry.1 rest (omega arith) ∙ is))
 
--- The names of a card
-
-one_once : (x n : ℕ) → one_if (eqb x n) ≡ once_if (eqb n x)
-one_once x n = elim (cases_eq x n) [
-  | inl e ↦ ap one_if (eq-eqb x n e) ∙ sym (ap once_if (eq-eqb n x (sym e)))
-  | inr off ↦ ap one_if (ne_eqb x n off) ∙ sym (ap once_if (ne_eqb n x (λ e. off (sym e))))
-]
-
-links-names : (n : ℕ) (names : List Record) → total (λ (entry : DirEntry). one_if (eqb entry.number n)) names ≡ times n (numbers_of names)
-links-names n [] = refl
-links-names n (entry ∷ names) = omega (arith, one_once entry.1.number n, links-names n names)
-
-links-content : (n : ℕ) (image : Image) (kind : NodeKind) (card : Card) → HasContent kind card → links_in n (names_of (content_of image kind card)) ≡ times n (numbers_of card.names)
-links-content n image kind.File card has = ap (λ (names : List Record). times n (numbers_of names)) (sym has)
-links-content n image kind.Directory card has = names_total (λ entry. one_if (eqb entry.number n)) card.names has.stamped ∙ links-names n card.names
-
-links-card : (n : ℕ) (image : Image) (card : Card) → IsCard card → links_from n (node_of image card) ≡ times n (numbers_of card.names)
-unfolding node_of
-links-card n image card is = links-content n image card.fields.kind card is.content
-
 module _ (nodes : ℕ) (mark : ℕ → ℕ) (cards : List (Option Card)) (known : AreCards nodes mark cards) where
-  is_card : (p : ℕ) (card : Card) → get_or cards p None ≡ Some card → IsCard card
-  is_card p card there = elim (cases_lt p nodes) [
-    | inl low ↦ subst IsPlace there (known.each p low)
-    | inr high ↦ absurd (some_none card (sym there ∙ get_or_past cards p None (omega (arith, known.count))))
-  ]
+  is_card : AreEach cards
+  is_card = each_card nodes mark cards known
 
   above : (image : Image) → IsAbove 0 (tree_of image cards)
-  above image = tree-above image cards (λ p card there. let is = is_card p card there in is.number)
+  above image = tree-above image cards (each_above cards is_card)
 
   module _ (image : Image) (number : ℕ) where
     -- a name in the tree is one of the cards
-    name_of_card : (key : ℕ) (node : Node) → at key (tree_of image cards) ≡ Some node → 0 < links_from number node → HasName cards key number
+    pub name_of_card : (key : ℕ) (node : Node) → at key (tree_of image cards) ≡ Some node → 0 < links_from number node → HasName cards key number
     name_of_card key node is leads = elim (find cards key) [
       | There p card there same ↦
           let node_is : node_of image card ≡ node = some_is (node_of image card) node (sym (tree-has image cards p card known.apart there) ∙ ap (λ n. at n (tree_of image cards)) same ∙ is) in
@@ -119,7 +91,7 @@ module _ (nodes : ℕ) (mark : ℕ → ℕ) (cards : List (Option Card)) (known 
     ]
 
     -- and the other way
-    card_of_name : (directory : ℕ) → HasName cards directory number → (node : Node) × ((at directory (tree_of image cards) ≡ Some node) × (0 < links_from number node))
+    pub card_of_name : (directory : ℕ) → HasName cards directory number → (node : Node) × ((at directory (tree_of image cards) ≡ Some node) × (0 < links_from number node))
     card_of_name directory has =
         let found = numbered cards has.place directory has.there in
         let card = found.0 in
@@ -161,24 +133,5 @@ each_parent nodes mark cards parents known tree are image place number there = p
 
 -- How many nodes the tree has
 
-tree-count : (image : Image) (cards : List (Option Card)) → ((i : ℕ) (card : Card) → get_or cards i None ≡ Some card → 0 < card.fields.number) → AreNumbered cards
-    → length (tree_of image cards) ≡ count_of_all cards
-tree-count image [] some apart = refl
-tree-count image (None ∷ cards) some apart = tree-count image cards (λ i card e. some (suc i) card e) (λ i j x y off. apart (suc i) (suc j) x y (omega arith))
-tree-count image (Some one ∷ cards) some apart =
-    let rest = tree-count image cards (λ i card e. some (suc i) card e) (λ i j x y off. apart (suc i) (suc j) x y (omega arith)) in
-    let above = tree-above image cards (λ i card e. some (suc i) card e) in
-    let fresh : at one.fields.number (tree_of image cards) ≡ None = tree-lacks image cards one.fields.number (λ i card e. apart (suc i) 0 card one (omega arith) e refl) in
-    let worth : Node → ℕ = λ node. 1 in
-    omega (
-      arith,
-      rest,
-      total-with worth (tree_of image cards) one.fields.number 0 (node_of image one) above,
-      none_worth worth (at one.fields.number (tree_of image cards)) fresh,
-      total-ones (tree_of image (Some one ∷ cards)),
-      total-ones (tree_of image cards),
-    )
-
 pub known-count : (nodes : ℕ) (mark : ℕ → ℕ) (cards : List (Option Card)) → AreCards nodes mark cards → (image : Image) → length (tree_of image cards) ≡ count_of_all cards
-known-count nodes mark cards known image =
-    tree-count image cards (λ p card there. let is = is_card nodes mark cards known p card there in is.number) known.apart
+known-count nodes mark cards known image = (known_sum nodes mark cards known image).nodes

@@ -16,9 +16,9 @@ const ROOT: u64 = 1;
 
 /// The number of the directory that has a node's name: 0 of the root, and of what is no node's
 /// number.
-fn parent_of(table: &Table, parents: &Parents, number: u64) -> u64
+pub fn parent_of(table: &Table, parents: &Parents, number: u64) -> u64
     requires cards { (nodes : ℕ) × (mark : ℕ → ℕ) × AreCards nodes mark table.now }
-    requires tree { IsOneTree table.now }
+    requires tree { ∥ IsOneTree table.now ∥₁ }
     requires parents { AreParents table.now parents.now }
     ensures { (image : Image) → result ≡ parent_of (tree_of image table.now) number }
 {
@@ -32,7 +32,7 @@ fn parent_of(table: &Table, parents: &Parents, number: u64) -> u64
 /// below itself. At most as many steps up as there are nodes, with a search by number for each.
 pub fn is_below(table: &Table, parents: &Parents, upper: u64, number: u64) -> bool
     requires cards { (nodes : ℕ) × (mark : ℕ → ℕ) × AreCards nodes mark table.now }
-    requires tree { IsOneTree table.now }
+    requires tree { ∥ IsOneTree table.now ∥₁ }
     requires parents { AreParents table.now parents.now }
     ensures { (image : Image) → result ≡ is_below (tree_of image table.now) upper number }
 {

@@ -5,6 +5,6 @@ mod ancestors;
 mod laws;
 mod places;
 
-pub use ancestors::is_below;
+pub use ancestors::{is_below, parent_of};
 pub use laws::{changes, tells};
 pub use places::Parents;

@@ -16,10 +16,10 @@ use Rattle.model.specs.Tree.{Tree}
 use Rattle.volume.specs.Held.{Held, StandsForOne, IsRecent, MayAdd, AddsTrees, fronts_from}
 use Rattle.volume.specs.Stands.{Stands}
 
-among_rest : {A : Type 0} (first : A) (rest : List A) (one : A) → IsAmong rest one → IsAmong (first ∷ rest) one
+pub among_rest : {A : Type 0} (first : A) (rest : List A) (one : A) → IsAmong rest one → IsAmong (first ∷ rest) one
 among_rest first rest one among = (suc among.0, (omega (arith, among.1.0), among.1.1))
 
-among_more : {A : Type 0} (first : A) (rest : List A) (one : A) → IsAmong (first ∷ rest) one → (one ≡ first) ⊎ IsAmong rest one
+pub among_more : {A : Type 0} (first : A) (rest : List A) (one : A) → IsAmong (first ∷ rest) one → (one ≡ first) ⊎ IsAmong rest one
 among_more {A = A} first rest one among = by_place among.0 among.1.0 among.1.1
   where
     by_place : (place : ℕ) → place < length (first ∷ rest) → one ≡ get_or (first ∷ rest) place one → (one ≡ first) ⊎ IsAmong rest one

@@ -51,6 +51,12 @@ module _ (nodes run : ℕ) (cards : List (Option Card)) (old new : Log) (same : 
     settled = settled;
   })
 
+-- a flush keeps the tree
+pub flush_keeps : (keeps_word : Type 0) (nodes run : ℕ) (cards : List (Option Card)) (old new : Log) → HasFlushed keeps_word old new → (keeps_word → ∥ IsServing old nodes run cards ∥₁)
+    → keeps_word → tree_of (contents new) cards ≡ tree_of (contents old) cards
+flush_keeps keeps_word nodes run cards old new flushed serves k =
+    ∥∥₁_elim (serves k) (Tree-set (tree_of (contents new) cards) (tree_of (contents old) cards)) (tree_same nodes run cards old new (flushed.contents k))
+
 -- what a flush adds to what a stop may leave are trees that it may leave already
 pub flush_adds : (limits : Limits) (run : ℕ) (cards : List (Option Card)) (old new : Log) (after : Tree) → AddsFronts old new
     → AddsTrees (held_by limits run cards old) after new.history
@@ -131,7 +137,7 @@ module _ (keeps_word : Type 0) (limits : Limits) (run : ℕ) (cards : List (Opti
     }
       where
         kept : keeps_word → is.tree ≡ was.tree
-        kept k = ∥∥₁_elim (serves k) (Tree-set is.tree was.tree) (tree_same limits.nodes run cards old new (flushed.contents k))
+        kept = flush_keeps keeps_word limits.nodes run cards old new flushed serves
 
         holds : keeps_word → Holds is
         holds k = holds_base limits run cards new flushed.emptied

@@ -5,7 +5,9 @@ use Rattle.disk.specs.declared.update.Update.{Update}
 use Rattle.disk.specs.Moments.{History, Image, Left, AddsOnly, applied}
 use Rattle.model.specs.declared.limits.Limits.{Limits}
 use Rattle.model.specs.Limits.{limits_of}
+use Rattle.model.specs.Stamp.{stamp}
 use Rattle.model.specs.Tree.{Tree}
+use Rattle.volume.specs.Formed.{IsFormed}
 use Rattle.volume.specs.Stands.{Stands, StandsFor}
 
 -- an image, and what it is behind each transaction
@@ -28,6 +30,7 @@ pub record IsNew (sectors : ℕ) (held : Held) : Type 0 where
   pub is_up : held.is_down ≡ false
   pub on_device : held.sectors ≡ sectors
   pub limits : held.limits ≡ limits_of sectors held.limits.nodes
+  pub formed : IsFormed held.limits (stamp held.run 0) held.tree
 
 -- the same volume, in the same run
 pub record IsSameVolume (old new : Held) : Type 0 where

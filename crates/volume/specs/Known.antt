@@ -6,7 +6,6 @@ use Rattle.layout.specs.Known.{AreCards}
 use Rattle.layout.specs.Marks.{mark_by}
 use Rattle.layout.specs.Stands.{version_1, HaveForms}
 use Rattle.model.specs.declared.limits.Limits.{Limits}
-use Rattle.scan.specs.Volumes.{AreFew}
 use Rattle.volume.specs.Stands.{Stands}
 
 -- on any device: cards, and the set of places that they name, which are those of the whole data
@@ -15,7 +14,6 @@ pub record IsKnown (sectors nodes : ℕ) (cards : List (Option Card)) (places : 
     : Type 0 where
   pub are_cards : AreCards nodes (mark_by (148 + nodes) places) cards
   pub forms : HaveForms version_1 cards
-  pub few : AreFew cards
   pub whole : sectors ≡ 148 + nodes + length places
 
 -- on a device that keeps its word, as long as it did not fail: the cards are those of the sectors,

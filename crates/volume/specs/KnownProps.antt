@@ -4,8 +4,15 @@ use Rattle.std.proofs.Props.{props}
 use Rattle.layout.specs.Cards.{Card}
 use Rattle.layout.specs.KnownProps.{AreCards-prop}
 use Rattle.layout.specs.LaidProps.{HaveForms-prop}
+use Rattle.model.specs.declared.limits.Limits.{Limits}
+use Rattle.model.specs.Tree.{Tree}
+use Rattle.volume.specs.Formed.{IsFormed}
 use Rattle.volume.specs.Known.{IsKnown}
 
 pub IsKnown-prop : (sectors nodes : ℕ) (cards : List (Option Card)) (places : List Bool)
     → IsProp (IsKnown sectors nodes cards places)
 IsKnown-prop sectors nodes cards places = Prim.hlevel (props, AreCards-prop, HaveForms-prop)
+
+pub IsFormed-prop : (limits : Limits) (before_stamp : ℕ) (tree : Tree)
+    → IsProp (IsFormed limits before_stamp tree)
+IsFormed-prop limits before_stamp tree = Prim.hlevel props

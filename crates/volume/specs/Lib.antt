@@ -1,5 +1,7 @@
 pub mod Changes
+pub mod Edits
 pub mod Formats
+pub mod Formed
 pub mod Fronts
 pub mod Held
 pub mod Known
@@ -8,6 +10,7 @@ pub mod Loads
 pub mod MountAnswers
 pub mod Mounts
 pub mod Nodes
+pub mod Parents
 pub mod Reading
 pub mod Refusals
 pub mod Remounts

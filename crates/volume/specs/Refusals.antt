@@ -1,6 +1,8 @@
 -- How a refusal of a layer below is answered.
 use Rattle.cards.specs.declared.fault.TableFault.{TableFault}
 use Rattle.cards.specs.declared.fault.TableFault.TheVariants as tables
+use Rattle.draft.specs.declared.fault.DraftFault.{DraftFault}
+use Rattle.draft.specs.declared.fault.DraftFault.TheVariants as drafts
 use Rattle.journal.specs.declared.fault.JournalFault.{JournalFault}
 use Rattle.journal.specs.declared.fault.JournalFault.TheVariants as journals
 use Rattle.scan.specs.declared.fault.ScanFault.{ScanFault}
@@ -34,3 +36,9 @@ gate_fault journals.Down = mounts.Device
 abbrev pub table_fault : TableFault → MountFault
 table_fault tables.SameNumber = mounts.Damaged
 table_fault tables.Memory = mounts.Memory
+
+-- Full never comes where each front of a change has room
+abbrev pub draft_fault : DraftFault → VolumeFault
+draft_fault drafts.Device = faults.Device
+draft_fault drafts.Memory = faults.Memory
+draft_fault drafts.Full = faults.NoSpace

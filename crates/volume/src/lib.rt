@@ -2,6 +2,8 @@
 //! whole.
 #![tactic(auto)]
 
+mod ancestry;
+mod change;
 mod fault;
 mod file_bytes;
 mod formatting;

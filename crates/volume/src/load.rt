@@ -3,6 +3,7 @@
 ghost use Rattle.std.specs.Prelude.{◌≡◌, ◌⊎◌, IfOk, IfErr, IsErrOf, OnOk, false, is_err};
 ghost use Rattle.journal.specs.Journal.{log_of, failures_of};
 ghost use Rattle.model.specs.Tree.{Tree as NumberedTree};
+ghost use Rattle.parents.specs.Parents.{AreParents};
 ghost use Rattle.volume.specs.Loads.{HoldsBase, IsLoaded, Loads};
 ghost use Rattle.volume.specs.Mounts.{IsVolumeOf, IsAtRest, StandsOn};
 ghost use Rattle.volume.specs.Superblock.{superblock};
@@ -14,15 +15,17 @@ use cards::Table;
 use disk::Device;
 use freemap::Bitmap;
 use model::limits::Limits;
+use parents::Parents;
 use scan::read_volume;
 use shape::are_well_formed;
 use std::alloc::Global;
 
-/// The nodes of a volume, and the places of its data region that they name.
+/// The nodes of a volume, the places of its data region that they name, and their parents.
 #[derive(Drop)]
 pub(crate) struct Loaded {
     pub(crate) table: Table,
     pub(crate) places: Bitmap,
+    pub(crate) parents: Parents,
 }
 
 /// Reads the nodes of a volume that was found: Damaged exactly where no tree stands.
@@ -36,6 +39,7 @@ pub(crate) fn load<D: Device>(
     requires base { D.keeps_word → HoldsBase found (log_of store.old.journal) }
     ensures loaded { IfOk result (λ loaded. IsLoaded D.keeps_word found
         (log_of store.old.journal) loaded.table loaded.places) }
+    ensures parents { IfOk result (λ loaded. AreParents loaded.table loaded.parents) }
     // It only reads
     ensures loads { Loads (log_of store.old.journal) (log_of store.new.journal)
         (failures_of store.old.journal) (failures_of store.new.journal)
@@ -53,8 +57,10 @@ pub(crate) fn load<D: Device>(
     if !are_well_formed(alloc, &table, &limits, stamp)? {
         return Err(MountFault::Damaged);
     }
+    let parents = Parents::from_table(alloc, &table)?;
     Ok(Loaded {
         table,
         places: contents.places,
+        parents,
     })
 }

@@ -1,11 +1,16 @@
 //! A mounted volume: its nodes in memory, and its journal.
 
-ghost use Rattle.std.specs.Prelude.{◌≡◌, ◌<◌, ◌^◌, false, IsTrue};
+ghost use Rattle.std.specs.Prelude.{◌≡◌, ◌<◌, ◌+◌, ◌^◌, false, IsTrue};
 ghost use Rattle.journal.specs.Journal.{log_of};
 ghost use Rattle.layout.specs.Superblock.{is_size};
 ghost use Rattle.model.specs.Limits.{limits_of};
+ghost use Rattle.model.specs.Stamp.{stamp};
+ghost use Rattle.edits.specs.Outlines.{outline_of};
+ghost use Rattle.parents.specs.Parents.{AreParents};
+ghost use Rattle.parents.specs.ParentProps.{AreParents-prop};
+ghost use Rattle.volume.specs.Formed.{IsFormed};
 ghost use Rattle.volume.specs.Known.{IsKnown, IsServing};
-ghost use Rattle.volume.specs.KnownProps.{IsKnown-prop};
+ghost use Rattle.volume.specs.KnownProps.{IsKnown-prop, IsFormed-prop};
 
 use crate::fault::{MountFault, VolumeFault};
 use crate::load::load;
@@ -16,6 +21,7 @@ use disk::Device;
 use freemap::Bitmap;
 use journal::Journal;
 use model::limits::Limits;
+use parents::Parents;
 use std::alloc::Global;
 
 /// A mounted volume.
@@ -24,16 +30,19 @@ use std::alloc::Global;
 /// device.
 #[derive(Drop)]
 pub struct Volume<D: Device> {
-    alloc: Global,
+    pub(crate) alloc: Global,
     pub(crate) store: Store<D>,
-    limits: Limits,
+    pub(crate) limits: Limits,
     run: u32,
     pub(crate) table: Table,
-    places: Bitmap,
+    pub(crate) places: Bitmap,
+    pub(crate) parents: Parents,
     ghost bounded: { run < 2 ^ 32 },
     ghost sized: { IsTrue (is_size (log_of store.journal).size limits.nodes) },
     ghost limited: { limits ≡ limits_of (log_of store.journal).size limits.nodes },
+    ghost formed: { IsFormed limits (stamp (run + 1) 0) (outline_of table) } by { IsFormed-prop limits (stamp (run + 1) 0) (outline_of table) },
     ghost known: { IsKnown (log_of store.journal).size limits.nodes table places } by { IsKnown-prop (log_of store.journal).size limits.nodes table places },
+    ghost named: { AreParents table parents } by { AreParents-prop table parents },
     ghost serves: { D.keeps_word → (log_of store.journal).is_down ≡ false
         → ∥ IsServing (log_of store.journal) limits.nodes run table ∥₁ },
 }
@@ -49,10 +58,12 @@ pub struct Unmounted<D: Device> {
 #[tactic(auto, unfolding(crate::specs::Volumes::held_of, crate::specs::Volumes::volume_failures))]
 impl<D: Device> Volume<D> {
     ghost use Rattle.std.specs.Prelude.{◌≡◌, ◌≤◌, ◌↔◌, ◌⊎◌, true, Some, None};
-    ghost use Rattle.std.specs.Prelude.{IfSome, IfNone, IfOk, IfErr, IsErrOf};
+    ghost use Rattle.std.specs.Prelude.{IfSome, IfNone, IfOk, IfErr, OnOk, IsErrOf};
     ghost use Rattle.journal.specs.Journal.{log_of, failures_of};
+    ghost use Rattle.layout.specs.Known.{IsCard};
     ghost use Rattle.model.specs.Keyed.{at};
     ghost use Rattle.volume.specs.Changes.{IsTree, ending_of};
+    ghost use Rattle.volume.specs.Formed.{Shows};
     ghost use Rattle.volume.specs.Held.{IsNew};
     ghost use Rattle.volume.specs.Loads.{HoldsBase};
     ghost use Rattle.volume.specs.MountAnswers.{HasMounted, IsRefused, ComesBack};
@@ -136,6 +147,7 @@ impl<D: Device> Volume<D> {
             run: found.run + 1,
             table: loaded.table,
             places: loaded.places,
+            parents: loaded.parents,
         })
     }
 
@@ -155,10 +167,27 @@ impl<D: Device> Volume<D> {
         self.store.journal.into_device()
     }
 
+    /// The limits of the volume.
+    pub fn limits(&self) -> &Limits
+        ensures limits { result.now ≡ (held_of self.now).limits }
+        ensures sized { result.now
+            ≡ limits_of (held_of self.now).sectors (held_of self.now).limits.nodes }
+    {
+        &self.limits
+    }
+
+    /// Whether the device failed: the volume is neither read nor changed from then on.
+    pub fn is_down(&self) -> bool
+        ensures { result ≡ (held_of self.now).is_down }
+    {
+        self.store.journal.is_down()
+    }
+
     /// The node of this number: all of it but the bytes of a file.
     pub fn node(&self, number: u64) -> Option<&Card>
         ensures some { IfSome result (λ card. IsNodeOf (held_of self.now).tree number card.now) }
         ensures none { IfNone result (at number (held_of self.now).tree ≡ None) }
+        ensures fit { IfSome result (λ card. IsCard card.now) }
     {
         let place = self.table.find(number)?;
         self.table.card(place)
@@ -173,6 +202,9 @@ impl<D: Device> Volume<D> {
     pub fn flush(&mut self) -> Result<(), VolumeFault>
         ensures volume { Alters self.old self.new
             (IsTree (held_of self.old).tree) (ending_of result) }
+        ensures shows { OnOk result (Shows D.keeps_word (held_of self.old).tree
+            (held_of self.new).tree) }
+        // Refused
         ensures down { IsErrOf result VolumeFault.Down ↔ ((held_of self.old).is_down ≡ true) }
         ensures refuses { IfErr result (λ fault.
             (fault ≡ VolumeFault.Device) ⊎ (fault ≡ VolumeFault.Down)) }

@@ -60,7 +60,6 @@ returns-clause-loaded g c =
       known = record {
         are_cards = c.in_ok-contents.ensures.found.known;
         forms = c.in_ok-contents.ensures.found.forms;
-        few = c.in_ok-contents.ensures.found.few;
         whole = c.in_ok-contents.ensures.found.size_is;
       };
       well_formed = ∣ well_formed ∣₁;

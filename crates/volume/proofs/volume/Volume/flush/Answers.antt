@@ -1,13 +1,14 @@
-use Rattle.std.proofs.Common.{◌≡◌, ◌∙◌, ℕ, Result, Ok, Err, Bool, true, false, refl, sym, ap, subst, arith}
+use Rattle.std.proofs.Common.{◌∙◌, ℕ, sym, ap, subst, arith}
 use Rattle.std.specs.Prelude.{IsTrue}
 use Rattle.journal.specs.Journal.{log_of}
-use Rattle.journal.specs.Log.{Log}
+use Rattle.journal.specs.Log.{Log, contents}
 use Rattle.layout.specs.Superblock.{is_size}
 use Rattle.model.specs.Limits.{limits_of}
 use Rattle.volume.specs.Known.{IsKnown}
 use Rattle.volume.specs.Refusals.{fault_of}
 use Rattle.volume.specs.Volumes.{held_of, volume_failures}
-use Rattle.volume.proofs.ServeLaws.{flush_done, flush_serves, flush_refused, found_up, up_flushed, told_err}
+use Rattle.volume.proofs.FormedLaws.{shows_same}
+use Rattle.volume.proofs.ServeLaws.{flush_done, flush_keeps, flush_serves, flush_refused, found_up, up_flushed, told_err}
 use Rattle.volume.proofs.volume.Volume.flush.Goals as goal
 
 pub invariant_of-self : goal.invariant_of-self
@@ -21,7 +22,9 @@ invariant_of-self g c =
       bounded = volume.bounded;
       sized = subst (λ (n : ℕ). IsTrue (is_size n nodes)) size volume.sized;
       limited = volume.limited ∙ ap (λ (n : ℕ). limits_of n nodes) size;
+      formed = volume.formed;
       known = subst (λ (n : ℕ). IsKnown n nodes volume.table volume.places) size volume.known;
+      named = c.args.self.now.named;
       serves = λ k up.
           let flushed = up_flushed g.D.Device.keeps_word old new _ _ c.flush.result c.flush.ensures.ok c.flush.ensures.answers c.flush.ensures.refuses up in
           flush_serves g.D.Device.keeps_word volume.limits volume.run volume.table old new 0 0 c.flush.ensures.safe (omega arith) k up (flushed.0.contents k)
@@ -49,3 +52,13 @@ returns-clause-volume g c =
     let up = found_up old new _ _ c.in_ok-flush.field-0 answers in
     flush_done g.D.Device.keeps_word volume.limits volume.run volume.table old new _ _ c.in_ok-flush.ensures.safe answers.later up.1 c.in_ok-flush.ensures.ok
     (λ word. volume.serves word up.0)
+
+pub returns-clause-shows : goal.returns-clause-shows
+unfolding held_of
+returns-clause-shows g c =
+    let volume = c.args.self.now in
+    let old : Log = log_of volume.store.journal in
+    let new : Log = log_of c.flush.new.self in
+    let up = found_up old new _ _ c.in_ok-flush.field-0 c.in_ok-flush.ensures.answers in
+    shows_same g.D.Device.keeps_word (contents old) (contents new) volume.table
+    (flush_keeps g.D.Device.keeps_word volume.limits.nodes volume.run volume.table old new c.in_ok-flush.ensures.ok (λ word. volume.serves word up.0))

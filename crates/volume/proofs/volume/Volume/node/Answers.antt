@@ -1,7 +1,9 @@
-use Rattle.std.proofs.Common.{◌≡◌, ℕ, Some, None}
+use Rattle.std.proofs.Common.{◌≡◌, ◌+◌, ℕ, Some, None}
 use Rattle.std.specs.Prelude.{IfSome, IfNone}
 use Rattle.journal.specs.Journal.{log_of}
 use Rattle.journal.specs.Log.{contents}
+use Rattle.draft.proofs.KnownLaws.{card_at}
+use Rattle.layout.specs.Marks.{mark_by}
 use Rattle.volume.specs.Volumes.{held_of}
 use Rattle.volume.proofs.NodeLaws.{node_there, none_there}
 use Rattle.volume.proofs.ServeLaws.{if_some_so}
@@ -19,4 +21,12 @@ returns-clause-some g c =
     let volume = c.args.self.now in
     if_some_so c.card.result _ _
     (λ card there. node_there (contents (log_of volume.store.journal)) volume.table c.in_ok-place.place c.args.number card.now volume.known.are_cards.apart there c.in_ok-place.ensures.some)
+    c.card.ensures.some
+
+pub returns-clause-fit : goal.returns-clause-fit
+returns-clause-fit g c =
+    let volume = c.args.self.now in
+    let nodes = volume.limits.nodes in
+    if_some_so c.card.result _ _
+    (λ card there. card_at nodes (mark_by (148 + nodes) volume.places) volume.table c.in_ok-place.place card.now volume.known.are_cards there)
     c.card.ensures.some

@@ -1,0 +1,200 @@
+-- A volume that serves, over a transaction that goes into its journal.
+use Rattle.std.proofs.Common.{◌≡◌, ◌≤◌, ◌<◌, ◌+◌, ◌⊎◌, ℕ, Bool, true, false, zero, suc, List, [], ◌∷◌, ◌++◌, Option, length, take, inl, inr, ⊎_elim, refl, sym, ap, ◌∙◌, subst, arith, true≢false}
+use Rattle.std.proofs.Math.Logic.{∥∥₁_map, ∥∥₁_elim, ∥∥₁_prop}
+use Rattle.std.specs.List.{IsAmong}
+use Rattle.std.specs.Prelude.{Result, Err}
+use Rattle.disk.specs.Cause.{IsCounted}
+use Rattle.disk.specs.declared.update.Update.{Update}
+use Rattle.disk.specs.Moments.{Image, Left, applied}
+use Rattle.journal.specs.Calls.{IsSafe, HasApplied, list_with}
+use Rattle.journal.specs.Log.{Log, IsSettled, Moved, contents, applied_all, Answers}
+use Rattle.journal.specs.Settled.{AreSame}
+use Rattle.journal.specs.declared.fault.JournalFault.{JournalFault}
+use Rattle.journal.specs.declared.fault.JournalFault.TheVariants as faults
+use Rattle.journal.proofs.Fronts.{applied_all-push}
+use Rattle.journal.proofs.Joins.{front_moved, moved_contents}
+use Rattle.layout.specs.Cards.{Card, tree_of, cards_in}
+use Rattle.model.specs.declared.limits.Limits.{Limits}
+use Rattle.model.specs.Tree.{Tree}
+use Rattle.volume.specs.Changes.{Given, Done, Nothing, Broken, Changes, ending_of}
+use Rattle.volume.specs.Held.{Held, IsSameVolume, IsRecent, MayAdd, AddsTrees, fronts_from}
+use Rattle.volume.specs.Known.{IsServing}
+use Rattle.volume.specs.Refusals.{fault_of}
+use Rattle.volume.specs.Stands.{Stands}
+use Rattle.volume.specs.Volumes.{held_by}
+use Rattle.volume.proofs.FrontLaws.{among_rest, among_more, applied_recent, front_among}
+use Rattle.volume.proofs.ServeLaws.{flush_adds, still_serving, tree_same}
+use Rattle.volume.proofs.OneTree.{Tree-set}
+use Rattle.volume.proofs.StandLaws.{stands_same}
+
+-- each of the fronts is one of the list's
+front_is : (base : Image) (list : List (List Update)) (front : Image) → IsAmong (fronts_from base list) front
+    → (count : ℕ) × (count ≤ length list) × (front ≡ applied_all (take count list) base)
+front_is base [] front among = ⊎_elim
+    (λ (is : front ≡ base). (0, omega arith, is))
+    (λ (none : IsAmong [] front). absurd (omega (arith, none.1.0)))
+    (among_more base [] front among)
+front_is base (updates ∷ list) front among = ⊎_elim
+    (λ (is : front ≡ base). (0, omega arith, is))
+    (λ (rest : IsAmong (fronts_from (applied updates base) list) front).
+    let it = front_is (applied updates base) list front rest in (suc it.0, omega (arith, it.1), it.2))
+    (among_more base (fronts_from (applied updates base) list) front among)
+
+-- a call moved the list's first transactions into the base: each front is one from before
+module _ (limits : Limits) (run : ℕ) (cards : List (Option Card)) (old new : Log) (size : new.size ≡ old.size) (moved : Moved old.list old new)
+    (settled : IsSettled new) (serving : ∥ IsServing old limits.nodes run cards ∥₁) where
+  same : AreSame old.size (contents old) (contents new)
+  same = moved_contents old.list old new moved
+
+  pub moved_serves : ∥ IsServing new limits.nodes run cards ∥₁
+  moved_serves = ∥∥₁_elim serving ∥∥₁_prop (still_serving limits.nodes run cards old new same size settled)
+
+  pub moved_tree : tree_of (contents new) cards ≡ tree_of (contents old) cards
+  moved_tree = ∥∥₁_elim serving (Tree-set (tree_of (contents new) cards) (tree_of (contents old) cards)) (tree_same limits.nodes run cards old new same)
+
+  covered : (recent : List Tree) → IsRecent (held_by limits run cards old) recent → (count : ℕ) → count ≤ length new.list
+      → (tree : Tree) × IsAmong recent tree × ∥ Stands new.size limits.nodes (applied_all (take count new.list) new.base) run tree ∥₁
+  covered recent is count few =
+      let before = front_moved old.list old new moved count few in
+      let one = is.covers (applied_all (take before.0 old.list) old.base) (front_among old.base old.list before.0 before.1) in (
+        one.0,
+        one.1,
+        ∥∥₁_map one.2 (λ stands. subst (λ (s : ℕ). Stands s limits.nodes (applied_all (take count new.list) new.base) run one.0) (sym size)
+            (stands_same old.size limits.nodes (applied_all (take before.0 old.list) old.base) (applied_all (take count new.list) new.base) run one.0 before.2 stands)),
+      )
+
+  pub moved_recent : (recent : List Tree) → IsRecent (held_by limits run cards old) recent → IsRecent (held_by limits run cards new) recent
+  moved_recent recent is = record {
+    leaves = λ image left.
+        let one = covered recent is 0 (omega arith) in (
+          one.0,
+          one.1,
+          ∥∥₁_map one.2 (λ stands. record { base = new.base; settles = settled image left; stands = stands }),
+        );
+    covers = λ front among.
+        let there = front_is new.base new.list front among in
+        let one = covered recent is there.0 there.1 in (
+          one.0,
+          one.1,
+          subst (λ (i : Image). ∥ Stands new.size limits.nodes i run one.0 ∥₁) (sym there.2) one.2,
+        );
+    newest = subst (IsAmong recent) (sym moved_tree) is.newest;
+  }
+
+-- with one transaction more behind the list
+abbrev pub listed_with : Log → List Update → Log
+listed_with log updates = record log { list = list_with log updates }
+
+-- what stands behind a transaction in the journal: these cards, and a tree
+pub record StandsWith (nodes run : ℕ) (old : Log) (updates : List Update) (is : List (Option Card)) (after : Tree) : Type 0 where
+  pub read : is ≡ cards_in nodes (applied updates (contents old))
+  pub tree : tree_of (applied updates (contents old)) is ≡ after
+  pub stands : ∥ Stands old.size nodes (applied updates (contents old)) run after ∥₁
+
+-- A transaction makes other cards of those that stand, and the tree is another one.
+module _ (limits : Limits) (run : ℕ) (cards is : List (Option Card)) (old : Log) (updates : List Update) (after : Tree)
+    (behind : StandsWith limits.nodes run old updates is after) (serving : ∥ IsServing old limits.nodes run cards ∥₁) where
+  abbrev mid : Log
+  mid = listed_with old updates
+
+  pushed : contents mid ≡ applied updates (contents old)
+  pushed = applied_all-push old.list updates old.base
+
+  pub pushed_tree : tree_of (contents mid) is ≡ after
+  pushed_tree = ap (λ (image : Image). tree_of image is) pushed ∙ behind.tree
+
+  pub pushed_serves : ∥ IsServing mid limits.nodes run is ∥₁
+  pushed_serves = ∥∥₁_map serving (λ served. record {
+    read = behind.read ∙ ap (cards_in limits.nodes) (sym pushed);
+    stands = subst (λ (t : Tree). ∥ Stands old.size limits.nodes (contents mid) run t ∥₁) (sym pushed_tree)
+        (subst (λ (image : Image). ∥ Stands old.size limits.nodes image run after ∥₁) (sym pushed) behind.stands);
+    settled = served.settled;
+  })
+
+  pub pushed_recent : (recent : List Tree) → IsRecent (held_by limits run cards old) recent → IsRecent (held_by limits run is mid) (after ∷ recent)
+  pushed_recent recent ready = subst (λ (t : Tree). IsRecent (record (held_by limits run cards old) { tree = t; fronts = fronts_from old.base (list_with old updates) }) (after ∷ recent))
+      (sym pushed_tree)
+      (applied_recent (held_by limits run cards old) old refl refl refl updates after behind.stands recent ready)
+
+-- The journal takes a transaction
+module _ (keeps_word : Type 0) (limits : Limits) (run : ℕ) (cards is : List (Option Card)) (old new : Log) (updates : List Update) (after : Tree) (failed_before failed_after : ℕ)
+    (safe : IsSafe keeps_word old new) (later : failed_before ≤ failed_after) where
+  abbrev was : Held
+  was = held_by limits run cards old
+
+  abbrev now : Held
+  now = held_by limits run is new
+
+  -- the tree behind it, which may be lost
+  abbrev given : Given
+  given tree lasts = (tree ≡ after) × (lasts ≡ false)
+
+  moments : keeps_word → (tree : Tree) (lasts : Bool) → given tree lasts → AddsTrees was tree new.history
+  moments k tree lasts is_given = flush_adds limits run cards old new tree (safe.moments k)
+
+  module _ (up : new.is_down ≡ false) (has : HasApplied keeps_word updates old new) (serves : keeps_word → ∥ IsServing old limits.nodes run cards ∥₁)
+      (behind : keeps_word → StandsWith limits.nodes run old updates is after) where
+    abbrev between : Log
+    between = listed_with old updates
+
+    -- the first of all went into the base, whichever are said to be listed
+    goes : keeps_word → Moved between.list between new
+    goes k = let moved = has.moved k in record { count = moved.count; within = moved.within; base = moved.base; list = moved.list }
+
+    middle : keeps_word → ∥ IsServing between limits.nodes run is ∥₁
+    middle k = pushed_serves limits run cards is old updates after (behind k) (serves k)
+
+    pub applied_serves : keeps_word → ∥ IsServing new limits.nodes run is ∥₁
+    applied_serves k = moved_serves limits run is between new safe.size (goes k) (safe.settled k up) (middle k)
+
+    pub applied_tree : keeps_word → now.tree ≡ after
+    applied_tree k = moved_tree limits run is between new safe.size (goes k) (safe.settled k up) (middle k)
+        ∙ pushed_tree limits run cards is old updates after (behind k) (serves k)
+
+    pub apply_done : Changes keeps_word given was now failed_before failed_after Done
+    apply_done = record {
+      same = record { sectors = safe.size; limits = refl; run = refl };
+      later = later;
+      moments = moments;
+      ends = record {
+        still_up = up;
+        leaves = λ k tree lasts is_given recent ready. (
+          after ∷ recent,
+          record {
+            ready = moved_recent limits run is between new safe.size (goes k) (safe.settled k up) (middle k) (after ∷ recent)
+                (pushed_recent limits run cards is old updates after (behind k) (serves k) recent ready);
+            no_others = λ one among. ⊎_elim
+                (λ (first : one ≡ after). inr (first ∙ sym is_given.0))
+                (λ (rest : IsAmong recent one). inl rest)
+                (among_more after recent one among);
+            durable = λ durable. absurd (true≢false (sym durable ∙ is_given.1));
+          },
+        );
+      };
+    }
+
+  pub apply_broken : new.is_down ≡ true → IsCounted failed_before failed_after → Changes keeps_word given was (held_by limits run cards new) failed_before failed_after Broken
+  apply_broken down counted = record {
+    same = record { sectors = safe.size; limits = refl; run = refl };
+    later = later;
+    moments = moments;
+    ends = record { down = down; cause = counted };
+  }
+
+-- The journal refuses it
+pub apply_refused : (keeps_word : Type 0) (limits : Limits) (run : ℕ) (cards : List (Option Card)) (old new : Log) (after : Tree) (failed_before failed_after : ℕ) (fault : JournalFault)
+    → IsSafe keeps_word old new → old.is_down ≡ false → (fault ≡ faults.TooMany → ⊥) → Answers {T = Unit {0}} old new failed_before failed_after (Err fault)
+    → (fault ≡ faults.TooMany) ⊎ ((fault ≡ faults.Fault) ⊎ (fault ≡ faults.Down))
+    → Changes keeps_word (λ tree lasts. (tree ≡ after) × (lasts ≡ false)) (held_by limits run cards old) (held_by limits run cards new) failed_before failed_after
+    (ending_of {T = Unit {0}} (Err (fault_of fault)))
+apply_refused keeps_word limits run cards old new after failed_before failed_after faults.Fault safe up few answers refuses =
+    apply_broken keeps_word limits run cards cards old new [] after failed_before failed_after safe answers.later (answers.goes_down refl) (answers.counted refl)
+apply_refused keeps_word limits run cards old new after failed_before failed_after faults.Down safe up few answers refuses =
+    absurd (true≢false (sym (answers.down.0 refl) ∙ up))
+apply_refused keeps_word limits run cards old new after failed_before failed_after faults.TooMany safe up few answers refuses = absurd (few refl)
+apply_refused keeps_word limits run cards old new after failed_before failed_after faults.Memory safe up few answers refuses = absurd (⊎_elim
+    (λ (is : faults.Memory ≡ faults.TooMany). cc)
+    (λ (rest : (faults.Memory ≡ faults.Fault) ⊎ (faults.Memory ≡ faults.Down)). ⊎_elim (λ (is : faults.Memory ≡ faults.Fault). cc) (λ (is : faults.Memory ≡ faults.Down). cc) rest) refuses)
+apply_refused keeps_word limits run cards old new after failed_before failed_after faults.Damaged safe up few answers refuses = absurd (⊎_elim
+    (λ (is : faults.Damaged ≡ faults.TooMany). cc)
+    (λ (rest : (faults.Damaged ≡ faults.Fault) ⊎ (faults.Damaged ≡ faults.Down)). ⊎_elim (λ (is : faults.Damaged ≡ faults.Fault). cc) (λ (is : faults.Damaged ≡ faults.Down). cc) rest) refuses)

@@ -1,0 +1,184 @@
+-- What a change leaves of a volume's sectors.
+use Rattle.std.proofs.Common.{◌≡◌, ◌≢◌, ◌≤◌, ◌<◌, ◌+◌, ℕ, zero, suc, Bool, false, List, [], ◌∷◌, Option, length, get_or, refl, sym, ap, ap₂, ◌∙◌, subst, arith, inl, inr}
+use Rattle.std.proofs.Math.Logic.{∥∥₁_elim, ∥∥₁_map, ∥∥₁_prop}
+use Rattle.std.proofs.lemmas.Bool.{cases_eq}
+use Rattle.std.proofs.Props.{props}
+use Rattle.std.specs.Prelude.{IsTrue}
+use Rattle.cards.specs.Overlays.{CanBecome}
+use Rattle.cards.specs.Tables.{HaveOwnPlaces}
+use Rattle.disk.specs.Moments.{Image, applied}
+use Rattle.disk.specs.declared.update.Update.{Update}
+use Rattle.draft.specs.Updates.{target_of, AreApart, HasNot, AreTargets}
+use Rattle.draft.specs.declared.draft.Outcome.{Outcome}
+use Rattle.draft.proofs.UpdateLaws.{applied-other}
+use Rattle.edits.specs.declared.edit.Edit.{Edit}
+use Rattle.edits.specs.Edits.{edits_of}
+use Rattle.edits.specs.Outcomes.{ComesTo, LaysEdited, cards_after}
+use Rattle.edits.specs.Outlines.{blanked, outline_of}
+use Rattle.edits.proofs.BlankLaws.{each_outline}
+use Rattle.edits.proofs.PlaceLaws.{there_at}
+use Rattle.journal.specs.Layout as journal
+use Rattle.journal.specs.Layout.{targets}
+use Rattle.journal.specs.Log.{Log, contents}
+use Rattle.journal.proofs.Images.{length-targets}
+use Rattle.layout.specs.Cards.{Card, tree_of, cards_in}
+use Rattle.layout.specs.Known.{AreCards}
+use Rattle.layout.specs.Laid.{AreNumbered}
+use Rattle.layout.specs.Marks.{mark_by}
+use Rattle.layout.specs.Stands.{version_1, IsLaid}
+use Rattle.layout.proofs.CardLaws.{cards-back, only_cards}
+use Rattle.model.specs.declared.limits.Limits.{Limits}
+use Rattle.model.specs.Charge.{fits}
+use Rattle.model.specs.Edit.{edited}
+use Rattle.model.specs.Limits.{limits_of}
+use Rattle.model.specs.Stamp.{stamp}
+use Rattle.model.specs.Tree.{Tree}
+use Rattle.model.specs.WellFormed.{IsWellFormed, IsBefore}
+use Rattle.volume.specs.Edits.{IsChange, edited_by, put_by}
+use Rattle.volume.specs.Parents.{PutsParent}
+use Rattle.parents.specs.Parents.{AreParents}
+use Rattle.volume.proofs.FormedLaws.{names_most}
+use Rattle.volume.proofs.ParentLaws.{parents_after}
+use Rattle.volume.specs.Formed.{IsFormed}
+use Rattle.volume.specs.Held.{Held}
+use Rattle.volume.specs.Known.{IsKnown, IsServing}
+use Rattle.volume.specs.Stands.{Stands}
+use Rattle.volume.specs.Volumes.{held_by}
+use Rattle.volume.proofs.ApplyLaws.{StandsWith}
+use Rattle.volume.proofs.EditLaws.{can_settle, edited_alike, outline_alike}
+use Rattle.volume.proofs.SoundLaws.{edited_bytes, formed_sound, well_formed_bytes}
+
+-- The targets of a transaction
+
+target_at : (updates : List Update) (i other : ℕ) → i < length updates → get_or (targets updates) i other ≡ target_of updates i
+target_at [] i other within = absurd (omega (arith, within))
+target_at (update ∷ updates) zero other within = refl
+target_at (update ∷ updates) (suc i) other within = target_at updates i other (omega (arith, within))
+
+apart_at : (updates : List Update) → AreApart updates → (i j : ℕ) → i < j → j < length updates → target_of updates i ≢ target_of updates j
+apart_at [] apart i j less within = absurd (omega (arith, within))
+apart_at (update ∷ updates) apart i zero less within = absurd (omega (arith, less))
+apart_at (update ∷ updates) apart zero (suc j) less within = λ same. apart.0 j (omega (arith, within)) (sym same)
+apart_at (update ∷ updates) apart (suc i) (suc j) less within = apart_at updates apart.1 i j (omega (arith, less)) (omega (arith, within))
+
+pub journal_targets : (size : ℕ) (updates : List Update) → AreTargets size updates → journal.AreTargets size (targets updates)
+journal_targets size updates are =
+    let there : (i other : ℕ) → i < length (targets updates) → get_or (targets updates) i other ≡ target_of updates i =
+    λ i other within. target_at updates i other (omega (arith, within, length-targets updates)) in
+    let between : (i : ℕ) → i < length (targets updates) → (98 ≤ target_of updates i) × (target_of updates i < size) =
+    λ i within. are.between i (omega (arith, within, length-targets updates)) in
+    record {
+      from_98 = λ i other within. omega (arith, there i other within, (between i within).0);
+      on_device = λ i other within. omega (arith, there i other within, (between i within).1);
+      apart = λ i j other less within same.
+          apart_at updates are.apart i j less (omega (arith, within, length-targets updates))
+          (sym (there i other (omega (arith, less, within))) ∙ same ∙ there j other within);
+    }
+
+-- sector 0 is none of them
+not_first : (size : ℕ) (updates : List Update) → AreTargets size updates → HasNot 0 updates
+not_first size updates are = λ i within same. (let above = (are.between i within).0 in omega (arith, above, same))
+
+-- The tree behind the edits stands
+
+StandsWith-prop : (nodes run : ℕ) (old : Log) (updates : List Update) (is : List (Option Card)) (after : Tree) → IsProp (StandsWith nodes run old updates is after)
+StandsWith-prop nodes run old updates is after = Prim.hlevel (props, ∥∥₁_prop)
+
+module _ (word : Type 0) (k : word) (nodes run : ℕ) (log : Log) (cards : List (Option Card)) (places : List Bool) (edits : List Edit) (outcome : Outcome)
+    (count : length cards ≡ nodes) (comes : ComesTo word (contents log) log.size cards places edits outcome)
+    (formed : IsFormed (limits_of log.size nodes) (stamp (run + 1) 0) (edited (edits_of edits) (tree_of (contents log) cards))) where
+  abbrev image : Image
+  image = contents log
+
+  abbrev now : Image
+  now = applied outcome.updates.items image
+
+  abbrev is : List (Option Card)
+  is = cards_after cards outcome
+
+  abbrev after : Tree
+  after = edited (edits_of edits) (tree_of image cards)
+
+  behind_stands : cards ≡ cards_in nodes image → Stands log.size nodes image run (tree_of image cards) → StandsWith nodes run log outcome.updates.items is after
+  behind_stands read stands =
+      let here : IsLaid version_1 log.size (length cards) image cards = subst (λ (n : ℕ). IsLaid version_1 log.size n image cards) (sym count)
+      (subst (IsLaid version_1 log.size nodes image) (sym read) stands.laid) in
+      let lays : LaysEdited image log.size cards edits outcome = comes.lays k here in
+      let laid : IsLaid version_1 log.size nodes now is = subst (λ (n : ℕ). IsLaid version_1 log.size n now is) count lays.laid in
+      let back : cards_in nodes now ≡ is = cards-back now nodes is laid.laid.count laid.laid.held in
+      record {
+        read = sym back;
+        tree = lays.tree_is;
+        stands = ∥∥₁_elim stands.well_formed ∥∥₁_prop (λ well.
+            let both = formed_sound (limits_of log.size nodes) (stamp (run + 1) 0) after formed
+            (edited_bytes edits comes.bytes (tree_of image cards) (well_formed_bytes (limits_of log.size nodes) (tree_of image cards) well)) in
+            ∣ record {
+              sized = stands.sized;
+              counted = stands.counted;
+              first = applied-other outcome.updates.items image 0 (not_first log.size outcome.updates.items comes.targets) ∙ stands.first;
+              laid = only_cards version_1 log.size nodes now is laid;
+              tree_is = sym lays.tree_is ∙ ap (tree_of now) (sym back);
+              well_formed = both.0;
+              before = both.1;
+            } ∣₁);
+      }
+
+  pub behind_serving : ∥ IsServing log nodes run cards ∥₁ → StandsWith nodes run log outcome.updates.items is after
+  behind_serving serving = ∥∥₁_elim serving (StandsWith-prop nodes run log outcome.updates.items is after) (λ served.
+      ∥∥₁_elim served.stands (StandsWith-prop nodes run log outcome.updates.items is after) (behind_stands served.read))
+
+-- What memory keeps behind it
+
+own_places : (cards : List (Option Card)) → AreNumbered cards → HaveOwnPlaces cards
+own_places cards apart place other number here there = elim (cases_eq place other) [
+  | inl same ↦ same
+  | inr off ↦
+      let one = there_at cards place number here in
+      let two = there_at cards other number there in
+      absurd (apart place other one.card two.card off one.there two.there (one.number_is ∙ sym two.number_is))
+]
+
+-- what reads left of a journal, where they did not fail
+pub log_same : (old mid : Log) → (let up : Log → Log = λ log. record log { is_down = false } in up mid ≡ up old) → mid.is_down ≡ old.is_down → mid ≡ old
+log_same old mid kept down = ap₂ (λ (log : Log) (is_down : Bool). record log { is_down = is_down }) kept down
+
+pub formed_alike : (limits : Limits) (at : ℕ) (tree other : Tree) → blanked other ≡ blanked tree → IsFormed limits at tree → IsFormed limits at other
+formed_alike limits at tree other alike formed = record {
+  well_formed = ∥∥₁_map formed.well_formed (subst (IsWellFormed limits) (sym alike));
+  before = subst (IsBefore at) (sym alike) formed.before;
+}
+
+module _ (word : Type 0) (limits : Limits) (run : ℕ) (log : Log) (cards : List (Option Card)) (places : List Bool) (edits : List Edit) (outcome : Outcome)
+    (change : IsChange (held_by limits run cards log) edits) (known : IsKnown log.size limits.nodes cards places)
+    (comes : ComesTo word (contents log) log.size cards places edits outcome) where
+  abbrev held : Held
+  held = held_by limits run cards log
+
+  abbrev new : List (Option Card)
+  new = cards_after cards outcome
+
+  -- all of the tree behind the edits but the bytes of files
+  pub outline_after : (image : Image) → blanked (tree_of image new) ≡ blanked (edited_by held edits)
+  outline_after image = each_outline image new ∙ comes.outline
+      ∙ edited_alike (edits_of edits) held.tree (outline_of cards) (outline_alike (contents log) cards)
+
+  pub formed_after : IsTrue (fits limits (edited_by held edits)) → IsFormed limits (stamp (run + 1) 0) (outline_of new)
+  formed_after fit = formed_alike limits (stamp (run + 1) 0) (edited_by held edits) (outline_of new) (outline_after (λ n. [])) (change.formed fit)
+
+  pub known_after : IsKnown log.size limits.nodes new outcome.places
+  known_after = record {
+    are_cards = subst (λ (n : ℕ). AreCards n (mark_by (148 + n) outcome.places) new) known.are_cards.count comes.cards;
+    forms = comes.forms;
+    whole = omega (arith, known.whole, comes.as_many);
+  }
+
+  pub may_settle : CanBecome cards new
+  may_settle = can_settle held edits change (contents log) cards new refl comes.made limits.nodes (mark_by (148 + limits.nodes) places)
+      (mark_by (148 + limits.nodes) outcome.places) known.are_cards known_after.are_cards (own_places new comes.cards.apart)
+
+  -- the parents in memory are those of the cards behind it
+  pub parents_behind : limits ≡ limits_of log.size limits.nodes → IsTrue (fits limits (edited_by held edits)) → (parents behind : List ℕ)
+      → AreParents cards parents → PutsParent new parents behind (put_by edits) → AreParents new behind
+  parents_behind limited fit parents behind are puts =
+      parents_after held edits change (contents log) limits.nodes (mark_by (148 + limits.nodes) places) (mark_by (148 + limits.nodes) outcome.places) cards new refl
+      known.are_cards known_after.are_cards comes.made comes.outline limits (names_most log.size limits.nodes limits limited) (stamp (run + 1) 0) (formed_after fit) parents are behind puts

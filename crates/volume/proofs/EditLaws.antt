@@ -1,0 +1,159 @@
+-- What a change's edits make of a volume's cards: they can be done there, there is room for each, and the table may become what they leave.
+use Rattle.std.proofs.Common.{◌≡◌, ◌+◌, ◌≤◌, ◌<◌, ◌&&◌, ℕ, zero, suc, List, [], ◌∷◌, Option, Some, length, take, get_or, sym, ap, ◌∙◌, arith, ⊎_elim, subst}
+use Rattle.std.specs.Prelude.{is_some, nat_le, IsTrue}
+use Rattle.std.specs.List.{IsAmong}
+use Rattle.std.proofs.lemmas.Bool.{and_parts, leb-true}
+use Rattle.cards.specs.Overlays.{IsMade, CanBecome}
+use Rattle.cards.specs.Tables.{number_at, HaveOwnPlaces}
+use Rattle.disk.specs.Moments.{Image}
+use Rattle.draft.specs.declared.draft.Draft.{Draft}
+use Rattle.draft.specs.Drafts.{cards_of}
+use Rattle.edits.specs.declared.edit.Edit.{Edit}
+use Rattle.edits.specs.Doing.{made_by, AreMade, Overfills}
+use Rattle.edits.specs.Edits.{edit_of, edits_of, AreDoable, StayFew}
+use Rattle.edits.specs.Outlines.{blanked, outline_of}
+use Rattle.edits.proofs.BlankLaws.{each_outline, edits_blanked}
+use Rattle.edits.proofs.DoableLaws.{doable_alike, few_alike}
+use Rattle.edits.proofs.DoingLaws.{outline_fixed}
+use Rattle.edits.proofs.PlaceLaws.{there_at}
+use Rattle.draft.proofs.KnownLaws.{card_at}
+use Rattle.layout.specs.Cards.{Card, tree_of}
+use Rattle.layout.specs.Known.{AreCards}
+use Rattle.layout.specs.Laid.{AreNumbered}
+use Rattle.layout.proofs.Answering.{tree-has}
+use Rattle.model.specs.declared.limits.Limits.{Limits}
+use Rattle.model.specs.Charge.{charge, few_names, fits}
+use Rattle.model.specs.Edit.{done, edited}
+use Rattle.model.specs.Edit as model
+use Rattle.model.specs.Keyed.{at, total}
+use Rattle.model.specs.Limits.{limits_of}
+use Rattle.model.specs.Tree.{Tree}
+use Rattle.volume.specs.Edits.{edited_by, front_of, named_by, IsChange}
+use Rattle.volume.specs.Held.{Held}
+use Rattle.volume.proofs.SoundLaws.{fits_blanked}
+
+-- Trees that are blanked alike are edited alike and fit alike
+
+pub edited_alike : (edits : List model.Edit) (tree other : Tree) → blanked other ≡ blanked tree → blanked (edited edits other) ≡ blanked (edited edits tree)
+edited_alike edits tree other alike = sym (edits_blanked edits other) ∙ ap (λ (t : Tree). blanked (edited edits t)) alike ∙ edits_blanked edits tree
+
+pub fits_alike : (limits : Limits) (tree other : Tree) → blanked other ≡ blanked tree → fits limits other ≡ fits limits tree
+fits_alike limits tree other alike = sym (fits_blanked limits other) ∙ ap (fits limits) alike ∙ fits_blanked limits tree
+
+-- all trees of these cards are blanked alike
+pub outline_alike : (image : Image) (cards : List (Option Card)) → blanked (outline_of cards) ≡ blanked (tree_of image cards)
+outline_alike image cards = outline_fixed cards ∙ sym (each_outline image cards)
+
+-- whether the tree behind edits fits is told by the cards
+pub fits_outline : (limits : Limits) (edits : List model.Edit) (image : Image) (cards : List (Option Card))
+    → fits limits (edited edits (outline_of cards)) ≡ fits limits (edited edits (tree_of image cards))
+fits_outline limits edits image cards = fits_alike limits (edited edits (tree_of image cards)) (edited edits (outline_of cards))
+    (edited_alike edits (tree_of image cards) (outline_of cards) (outline_alike image cards))
+
+-- What a tree that fits has
+
+pub record DoesFit (limits : Limits) (tree : Tree) : Type 0 where
+  pub charge : total charge tree ≤ limits.data_sectors
+  pub nodes : length tree ≤ limits.nodes
+  pub few : IsTrue (few_names limits.names tree)
+
+pub fit_parts : (limits : Limits) (tree : Tree) → IsTrue (fits limits tree) → DoesFit limits tree
+unfolding fits
+fit_parts limits tree fit =
+    let all = and_parts (nat_le (total charge tree) limits.data_sectors) (nat_le (length tree) limits.nodes && few_names limits.names tree) fit in
+    let both = and_parts (nat_le (length tree) limits.nodes) (few_names limits.names tree) all.1 in
+    record {
+      charge = leb-true (total charge tree) limits.data_sectors all.0;
+      nodes = leb-true (length tree) limits.nodes both.0;
+      few = both.1;
+    }
+
+few_fronts : (limits : Limits) → limits.names ≡ 1024 → (edits : List Edit) (tree : Tree)
+    → ((count : ℕ) → IsTrue (fits limits (edited (take count (edits_of edits)) tree))) → StayFew tree edits
+few_fronts limits names [] tree fronts = tt
+few_fronts limits names (edit ∷ edits) tree fronts = (
+  subst (λ (most : ℕ). IsTrue (few_names most (done (edit_of edit) tree))) names (first (edits_of edits) (fronts 1)),
+  few_fronts limits names edits (done (edit_of edit) tree) (λ count. fronts (suc count)),
+)
+  where
+    first : (rest : List model.Edit) → IsTrue (fits limits (edited (take 1 (edit_of edit ∷ rest)) tree)) → IsTrue (few_names limits.names (done (edit_of edit) tree))
+    first rest fit = (let is = fit_parts limits (done (edit_of edit) tree) fit in is.few)
+
+-- A change over the cards of a volume
+
+module _ (held : Held) (edits : List Edit) (change : IsChange held edits) (image : Image) (cards : List (Option Card)) (tree_is : held.tree ≡ tree_of image cards) where
+  pub outline_held : blanked (outline_of cards) ≡ blanked held.tree
+  outline_held = outline_alike image cards ∙ ap blanked (sym tree_is)
+
+  -- its edits can be done there
+  pub outline_doable : AreDoable (outline_of cards) edits
+  outline_doable = doable_alike held.tree (outline_of cards) edits outline_held change.doable
+
+  module _ (sectors nodes places : ℕ) (limits_are : held.limits ≡ limits_of sectors nodes) (whole : sectors ≡ 148 + nodes + places)
+      (fit : IsTrue (fits held.limits (edited_by held edits))) where
+    -- with few names
+    pub outline_few : StayFew (outline_of cards) edits
+    outline_few = few_alike held.tree (outline_of cards) edits outline_held
+        (few_fronts held.limits (ap (λ (limits : Limits). limits.names) limits_are) edits held.tree (λ count. change.fronts count fit))
+
+    -- and there is room behind each of them
+    front_fits : (count : ℕ) → DoesFit (limits_of sectors nodes) (edited (take count (edits_of edits)) (outline_of cards))
+    front_fits count = fit_parts (limits_of sectors nodes) (edited (take count (edits_of edits)) (outline_of cards))
+        (subst (λ (limits : Limits). IsTrue (fits limits (edited (take count (edits_of edits)) (outline_of cards)))) limits_are
+        (fits_alike held.limits (front_of held edits count) (edited (take count (edits_of edits)) (outline_of cards))
+        (edited_alike (take count (edits_of edits)) held.tree (outline_of cards) outline_held) ∙ change.fronts count fit))
+
+    pub front_room : (count : ℕ) → (total charge (edited (take count (edits_of edits)) (outline_of cards)) ≤ places)
+        × (length (edited (take count (edits_of edits)) (outline_of cards)) ≤ nodes)
+    front_room count =
+        let is = front_fits count in
+        let few = is.charge in
+        (omega (arith, few, whole), is.nodes)
+
+    -- so a draft of these cards is overfilled by none
+    pub never_overfills : (draft : Draft) → cards_of draft ≡ cards → draft.nodes ≡ nodes → length draft.places ≡ places → Overfills draft edits → ⊥
+    never_overfills draft cards_are nodes_are places_are over =
+        let room = front_room over.count in
+        over.full (record {
+          charge = subst (λ (now : List (Option Card)). total charge (edited (take over.count (edits_of edits)) (outline_of now)) ≤ length draft.places) (sym cards_are) (omega (arith, room.0, places_are));
+          nodes = subst (λ (now : List (Option Card)). length (edited (take over.count (edits_of edits)) (outline_of now)) ≤ draft.nodes) (sym cards_are) (omega (arith, room.1, nodes_are));
+        })
+
+-- What the table may become
+
+only_one : (first : ℕ) (rest : List ℕ) → length (first ∷ rest) ≤ 1 → (number i : ℕ) → i < length (first ∷ rest) → number ≡ get_or (first ∷ rest) i number → number ≡ first
+only_one first rest one number zero less is = is
+only_one first rest one number (suc i) less is = absurd (omega (arith, one, less))
+
+pub one_number : (numbers : List ℕ) → length numbers ≤ 1 → (number other : ℕ) → IsAmong numbers number → IsAmong numbers other → number ≡ other
+one_number [] one number other among too = absurd (omega (arith, among.1.0))
+one_number (first ∷ rest) one number other among too =
+    only_one first rest one number among.0 among.1.0 among.1.1 ∙ sym (only_one first rest one other too.0 too.1.0 too.1.1)
+
+module _ (held : Held) (edits : List Edit) (change : IsChange held edits) (image : Image) (old new : List (Option Card)) (tree_is : held.tree ≡ tree_of image old)
+    (made : AreMade old new (made_by edits)) where
+  -- one node is made at most
+  few_made : length (made_by edits) ≤ 1
+  few_made = ⊎_elim (λ (none : made_by edits ≡ []). (let count : length (made_by edits) ≡ 0 = ap (λ (numbers : List ℕ). length numbers) none in omega (arith, count)))
+      (λ (named : made_by edits ≡ named_by edits). (let count : length (made_by edits) ≡ length (named_by edits) = ap (λ (numbers : List ℕ). length numbers) named in omega (arith, count, change.named)))
+      change.made
+
+  made_among : (place number : ℕ) → IsMade old new place number → IsAmong (made_by edits) number
+  made_among place number is = ⊎_elim (λ (stood : number_at old place ≡ Some number). absurd (is.before stood)) (λ (among : IsAmong (made_by edits) number). among)
+      (made place number is.now)
+
+  -- of a number above those of all nodes
+  made_above : AreNumbered old → (number : ℕ) → IsAmong (made_by edits) number → (place other : ℕ) → number_at old place ≡ Some other → other < number
+  made_above apart number among place other stands =
+      let it = there_at old place other stands in
+      change.fresh number among other (ap is_some (ap (at other) tree_is ∙ ap (λ (n : ℕ). at n (tree_of image old)) (sym it.number_is) ∙ tree-has image old place it.card apart it.there))
+
+  pub can_settle : (nodes : ℕ) (mark marked : ℕ → ℕ) → AreCards nodes mark old → AreCards nodes marked new → HaveOwnPlaces new → CanBecome old new
+  can_settle nodes mark marked known new_known own = record {
+    fresh = λ place number is. (let it = there_at new place number is.now in let card = card_at nodes marked new place it.card new_known it.there in let some = card.number in record {
+      some = omega (arith, some, it.number_is);
+      above = made_above known.apart number (made_among place number is);
+    });
+    one = λ place number other another is too.
+        own place other number is.now (too.now ∙ ap (λ (n : ℕ). Some n) (one_number (made_by edits) few_made another number (made_among other another too) (made_among place number is)));
+  }

@@ -1,0 +1,23 @@
+use Rattle.std.proofs.Common.{◌∙◌, []}
+use Rattle.edits.specs.Edits.{edits_of}
+use Rattle.edits.proofs.DoableLaws.{doable_alike}
+use Rattle.journal.specs.Journal.{log_of}
+use Rattle.journal.specs.Log.{Log, contents}
+use Rattle.layout.specs.Cards.{tree_of}
+use Rattle.volume.specs.Volumes.{held_of}
+use Rattle.volume.proofs.EditLaws.{fits_outline, outline_alike}
+use Rattle.volume.proofs.volume.Volume.fits.Goals as goal
+
+pub fits-requires-clause-can : goal.fits-requires-clause-can
+unfolding held_of
+fits-requires-clause-can g c =
+    let volume = c.args.self.now in
+    let log : Log = log_of volume.store.journal in
+    doable_alike (tree_of (contents log) volume.table) (tree_of (λ n. []) volume.table) c.args.edits.now (outline_alike (contents log) volume.table) c.requires
+
+pub returns : goal.returns
+unfolding held_of
+returns g c =
+    let volume = c.args.self.now in
+    let log : Log = log_of volume.store.journal in
+    c.fits.ensures ∙ fits_outline volume.limits (edits_of c.args.edits.now) (contents log) volume.table

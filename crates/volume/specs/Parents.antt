@@ -1,0 +1,11 @@
+-- The parents of a volume's nodes, by place, behind a change.
+use Rattle.std.specs.Prelude.{◌≡◌, ℕ, List, Option, Some, None, set}
+use Rattle.cards.specs.Tables.{number_at}
+use Rattle.layout.specs.Cards.{Card}
+
+-- the directory of a name that was put stands at the place of the name's number
+pub record PutsParent (cards : List (Option Card)) (old new : List ℕ) (put : Option (ℕ × ℕ))
+    : Type 0 where
+  pub none : put ≡ None → new ≡ old
+  pub some : (number directory place : ℕ) → put ≡ Some (number, directory)
+      → number_at cards place ≡ Some number → new ≡ set old place directory

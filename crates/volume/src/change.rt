@@ -1,0 +1,112 @@
+//! Changes of the tree.
+
+ghost use Rattle.std.specs.Prelude.{◌≡◌};
+ghost use Rattle.volume.specs.Refusals.{draft_fault};
+
+use crate::ancestry::{put_by, put_parent};
+use crate::fault::VolumeFault;
+use crate::volume::Volume;
+use disk::Device;
+use draft::{DraftFault, Outcome};
+use edits::{Edit, fits, outcome_of};
+
+impl From<DraftFault> for VolumeFault {
+    ghost from_gives = { λ refusal fault. fault ≡ draft_fault refusal };
+
+    fn from(fault: DraftFault) -> Self {
+        match fault {
+            DraftFault::Device => VolumeFault::Device,
+            DraftFault::Memory => VolumeFault::Memory,
+            DraftFault::Full => VolumeFault::NoSpace,
+        }
+    }
+}
+
+#[tactic(auto, unfolding(crate::specs::Volumes::held_of, crate::specs::Volumes::volume_failures))]
+impl<D: Device> Volume<D> {
+    ghost use Rattle.std.specs.Prelude.{◌≡◌, ◌↔◌, true, false, OnOk, IsErrOf};
+    ghost use Rattle.edits.specs.Edits.{AreDoable};
+    ghost use Rattle.model.specs.Charge.{fits};
+    ghost use Rattle.volume.specs.Changes.{IsTree, ending_of};
+    ghost use Rattle.volume.specs.Edits.{IsChange, IsEdited, edited_by};
+    ghost use Rattle.volume.specs.Formed.{Shows};
+    ghost use Rattle.volume.specs.Volumes.{held_of, Alters};
+
+    /// Whether the tree behind edits has room: what [`Volume::change`] asks first. Each must be one
+    /// that can be done in the tree that those before it give.
+    pub fn fits(&self, edits: &[Edit<'_>]) -> bool
+        requires { AreDoable (held_of self.now).tree edits.now }
+        ensures { result ≡ fits (held_of self.now).limits
+            (edited_by (held_of self.now) edits.now) }
+    {
+        fits(&self.table, &self.limits, edits)
+    }
+
+    /// Changes the tree by edits, one after the other, as one transaction: a stop leaves all of
+    /// them or none. It may be lost until the next flush.
+    ///
+    /// # Errors
+    ///
+    /// [`VolumeFault::Down`], then [`VolumeFault::NoSpace`] exactly where the tree behind all of
+    /// the edits would not fit; [`VolumeFault::Memory`]; [`VolumeFault::Device`] where the device
+    /// failed.
+    pub fn change(&mut self, edits: Vec<Edit<'_>>) -> Result<(), VolumeFault>
+        requires { IsChange (held_of self.old) edits.items }
+        ensures volume { Alters self.old self.new
+            (IsEdited (held_of self.old) edits.entry.items) (ending_of result) }
+        ensures shows { OnOk result (Shows D.keeps_word
+            (edited_by (held_of self.old) edits.entry.items) (held_of self.new).tree) }
+        // Refused
+        ensures down { IsErrOf result VolumeFault.Down ↔ ((held_of self.old).is_down ≡ true) }
+        ensures no_space { (held_of self.old).is_down ≡ false
+            → IsErrOf result VolumeFault.NoSpace ↔ (fits (held_of self.old).limits
+            (edited_by (held_of self.old) edits.entry.items) ≡ false) }
+    {
+        if self.store.journal.is_down() {
+            return Err(VolumeFault::Down);
+        }
+        if !self.fits(&edits) {
+            return Err(VolumeFault::NoSpace);
+        }
+        let put = put_by(&edits);
+        let outcome = outcome_of(
+            self.alloc,
+            &mut self.store,
+            &self.table,
+            &self.places,
+            edits,
+        )?;
+        let Outcome {
+            updates,
+            places,
+            changes,
+        } = outcome;
+        self.store.journal.apply(updates)?;
+        self.table.settle(changes);
+        self.places = places;
+        put_parent(&mut self.parents, &self.table, put);
+        Ok(())
+    }
+
+    /// Changes the tree by edits as [`Volume::change`] does, and keeps it: after `Ok` no stop loses
+    /// it, nor any change before it.
+    ///
+    /// # Errors
+    ///
+    /// Those of [`Volume::change`].
+    pub fn keep(&mut self, edits: Vec<Edit<'_>>) -> Result<(), VolumeFault>
+        requires { IsChange (held_of self.old) edits.items }
+        ensures volume { Alters self.old self.new
+            (IsTree (edited_by (held_of self.old) edits.entry.items)) (ending_of result) }
+        ensures shows { OnOk result (Shows D.keeps_word
+            (edited_by (held_of self.old) edits.entry.items) (held_of self.new).tree) }
+        // Refused
+        ensures down { IsErrOf result VolumeFault.Down ↔ ((held_of self.old).is_down ≡ true) }
+        ensures no_space { (held_of self.old).is_down ≡ false
+            → IsErrOf result VolumeFault.NoSpace ↔ (fits (held_of self.old).limits
+            (edited_by (held_of self.old) edits.entry.items) ≡ false) }
+    {
+        self.change(edits)?;
+        self.flush()
+    }
+}
