@@ -74,18 +74,18 @@ room≢device is = cc
 
 module _ (now : ℕ) (fs : FileSystem) (table : Table) (opens : Opens) (request : InProgress) (name : List ℕ) (given : Attributes) where
   pub made_runs : (new : FileSystem) (made : Created)
-      → ((state : State) → IsHere fs request state → does fs.limits state now (new_directory name given) ≡ created new state given made)
+      → ((state : State) → IsHere fs request state → does fs.volume.limits state now (new_directory name given) ≡ created new.volume.tree new.changes state given made)
       → RunsTo now (shared fs table opens) (shared new table opens) request (record request { context = at_node request.context made.number }) (new_directory name given) (Done (made_answer made.before made.number (trimmed given.bitmap)))
   unfolding run
   made_runs new made does_so = λ world rest on.
       let left = with_rest (record request { context = at_node request.context made.number }) rest in
       ap (λ (limits : Limits). stepped world (with_rest request rest) (does limits (state_of world (with_rest request rest)) now (new_directory name given))) on.volume
       ∙ (ap (stepped world (with_rest request rest)) (does_so (state_of world (with_rest request rest)) (here world fs table opens request rest on))
-      ∙ (ap (λ (known : Table). Gives (Done (made_answer made.before made.number (trimmed given.bitmap))) (record world { tree = new.tree; changes = new.changes; table = known }) left) on.table_is
-      ∙ ap (λ (held : Opens). Gives (Done (made_answer made.before made.number (trimmed given.bitmap))) (record world { tree = new.tree; changes = new.changes; table = table; opens = held }) left) on.opens))
+      ∙ (ap (λ (known : Table). Gives (Done (made_answer made.before made.number (trimmed given.bitmap))) (record world { tree = new.volume.tree; changes = new.changes; table = known }) left) on.table_is
+      ∙ ap (λ (held : Opens). Gives (Done (made_answer made.before made.number (trimmed given.bitmap))) (record world { tree = new.volume.tree; changes = new.changes; table = table; opens = held }) left) on.opens))
 
   pub create_err : (reason : Status)
-      → ((state : State) → IsHere fs request state → does fs.limits state now (new_directory name given) ≡ refused state (new_directory name given) reason)
+      → ((state : State) → IsHere fs request state → does fs.volume.limits state now (new_directory name given) ≡ refused state (new_directory name given) reason)
       → RunsTo now (shared fs table opens) (shared fs table opens) request request (new_directory name given) (Refused 6 reason)
   unfolding run
   create_err reason does_so = tree_runs now fs table opens request request.context (new_directory name given) (Refused 6 reason) (λ world rest. refl)
@@ -119,14 +119,14 @@ module _ (now : ℕ) (fs : FileSystem) (table : Table) (opens : Opens) (request 
   full_by (Some reason) before after made world rest on is done = absurd (cc)
 
   pub full : false ≡ nat_le (length (reply_with request (Done (made_answer 0 0 (trimmed given.bitmap))))) 16368
-      → ((state : State) → IsHere fs request state → is_done (does fs.limits state now (new_directory name given)).outcome ≡ true)
+      → ((state : State) → IsHere fs request state → is_done (does fs.volume.limits state now (new_directory name given)).outcome ≡ true)
       → GivesIn now (shared fs table opens) (shared fs table opens) request request (new_directory name given) (Refused 6 status.RepTooBig)
   unfolding run does effect
   full is done = λ world rest on.
       let state = state_of world (with_rest request rest) in
       let kind = new_directory name given in
       ap (λ (limits : Limits). in_room world (with_rest request rest) 6 (stepped world (with_rest request rest) (does limits state now kind))) on.volume
-      ∙ (full_by (first_refusal (refusals fs.limits state kind ++ change_refusals fs.limits state kind (effect fs.limits state now kind).state.tree)) _ _ _ world rest on is
+      ∙ (full_by (first_refusal (refusals fs.volume.limits state kind ++ change_refusals fs.volume.limits state kind (effect fs.volume.limits state now kind).state.tree)) _ _ _ world rest on is
       (done state (here world fs table opens request rest on))
       ∙ ap (λ (after : World). refuses after (with_rest request rest) 6 status.RepTooBig) (sym (state_same world (shared fs table opens) on)))
 
@@ -140,10 +140,10 @@ module _ (now : ℕ) (fs : FileSystem) (table : Table) (opens : Opens) (request 
 
   pub tree_made : (world : World) (rest : List ℕ) → HasState world (shared fs table opens)
       → true ≡ nat_le (length (reply_with request (Done (made_answer 0 0 (trimmed given.bitmap))))) 16368
-      → tree_by world (run_in_room world (with_rest request rest) now (new_directory name given)) ≡ (does fs.limits (state_of world (with_rest request rest)) now (new_directory name given)).state.tree
+      → tree_by world (run_in_room world (with_rest request rest) now (new_directory name given)) ≡ (does fs.volume.limits (state_of world (with_rest request rest)) now (new_directory name given)).state.tree
   unfolding run does effect
   tree_made world rest on is =
       let state = state_of world (with_rest request rest) in
       let kind = new_directory name given in
       ap (λ (limits : Limits). tree_by world (in_room world (with_rest request rest) 6 (stepped world (with_rest request rest) (does limits state now kind)))) on.volume
-      ∙ tree_by_first (first_refusal (refusals fs.limits state kind ++ change_refusals fs.limits state kind (effect fs.limits state now kind).state.tree)) _ _ _ world rest on is
+      ∙ tree_by_first (first_refusal (refusals fs.volume.limits state kind ++ change_refusals fs.volume.limits state kind (effect fs.volume.limits state now kind).state.tree)) _ _ _ world rest on is

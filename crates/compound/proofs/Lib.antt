@@ -1,6 +1,7 @@
 pub mod Creating
 pub mod Current
 pub mod Firsts
+pub mod QuietLaws
 pub mod Refusals
 pub mod Replies
 pub mod Resuming

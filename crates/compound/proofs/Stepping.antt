@@ -1,5 +1,5 @@
 -- A step of a request is the turn of the definition.
-use Rattle.std.proofs.Common.{◌≡◌, ℕ, List, refl, ap, subst, ◌∙◌}
+use Rattle.std.proofs.Common.{◌≡◌, ◌+◌, ℕ, List, refl, ap, subst, ◌∙◌}
 use Rattle.model.specs.Answer as model
 use Rattle.model.specs.Session.{Table}
 use Rattle.model.specs.World.{InProgress, Turned}
@@ -7,17 +7,28 @@ use Rattle.compound.specs.Operates.{left_by}
 use Rattle.compound.specs.Runs.{with_rest}
 use Rattle.compound.specs.Views.{Asked}
 use Rattle.compound.specs.States.{SharedState, with_state}
-use Rattle.compound.specs.Steps.{Steps}
+use Rattle.compound.specs.Steps.{Steps, GoesFurther}
 use Rattle.compound.specs.Turns.{TurnsTo, StandsBehind}
 use Rattle.compound.specs.declared.operated.Effect.{Effect}
 use Rattle.compound.specs.declared.operated.Effect.TheVariants as effect
 use Rattle.compound.specs.declared.step.Stepped.{Stepped}
+use Rattle.compound.specs.declared.step.Stepped.TheVariants as stepped
 
 -- what an operation leaves does not touch the bytes behind it
 pub left_rest : (left : Effect) (request : InProgress) (rest : List ℕ) → left_by left (with_rest request rest) ≡ with_rest (left_by left request) rest
 left_rest effect.Stays request rest = refl
 left_rest (effect.Moves number) request rest = refl
 left_rest (effect.Joins slot client) request rest = refl
+
+-- nor the results before it
+pub left_answered : (left : Effect) (request : InProgress) → (left_by left request).answered ≡ request.answered
+left_answered effect.Stays request = refl
+left_answered (effect.Moves number) request = refl
+left_answered (effect.Joins slot client) request = refl
+
+pub further_from : (before request : InProgress) (done : Stepped) → before.answered ≡ request.answered → GoesFurther before done → GoesFurther request done
+further_from before request (stepped.Ran progress) same further = further ∙ ap (λ (n : ℕ). n + 1) same
+further_from before request (stepped.Answered reply) same further = tt
 
 pub steps_to : (now : ℕ) (old middle : SharedState) (new : Table) (asked before : Asked) (request left after : InProgress) (outcome : model.Outcome) (done : Stepped)
     → TurnsTo now old middle request left outcome → before ≡ asked → after ≡ left → StandsBehind middle.table new before after outcome done

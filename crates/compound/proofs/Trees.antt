@@ -39,7 +39,7 @@ pub here : (world : World) (fs : FileSystem) (table : Table) (opens : Opens) (re
     → IsHere fs request (state_of world (with_rest request rest))
 here world fs table opens request rest on = record { tree_is = on.tree; changes_is = on.changes; context_is = refl }
 
-pub is_on : (fs : FileSystem) (request : InProgress) (number : ℕ) (state : State) → request.context.run ≡ fs.run
+pub is_on : (fs : FileSystem) (request : InProgress) (number : ℕ) (state : State) → request.context.run ≡ fs.volume.run
     → has_current request.context ≡ true → current_number request.context ≡ number → IsHere fs request state
     → IsOn fs request.context.cred number state
 is_on fs request number state in_run has is there = record {
@@ -55,7 +55,7 @@ is_on fs request number state in_run has is there = record {
 
 -- some state is one
 abbrev pub of_request : FileSystem → InProgress → State
-of_request fs request = record { tree = fs.tree; changes = fs.changes; opens = no_opens; context = request.context }
+of_request fs request = record { tree = fs.volume.tree; changes = fs.changes; opens = no_opens; context = request.context }
 
 pub is_there : (fs : FileSystem) (request : InProgress) → IsHere fs request (of_request fs request)
 is_there fs request = record { tree_is = refl; changes_is = refl; context_is = refl }
@@ -65,37 +65,37 @@ is_there fs request = record { tree_is = refl; changes_is = refl; context_is = r
 down : {A : Type 0} (is_down : Bool) → is_down ≡ false → is_down ≡ true → A
 down is_down up is = absurd (cc)
 
-pub looks_status : (fs : FileSystem) (state : State) (now : ℕ) (name : List ℕ) (why : FsFault) → fs.is_down ≡ false
+pub looks_status : (fs : FileSystem) (state : State) (now : ℕ) (name : List ℕ) (why : FsFault) → fs.volume.is_down ≡ false
     → LooksUp fs state now name (Err why) → IsStatus why
 looks_status fs state now name (fault.Status reason) up is = tt
 looks_status fs state now name fault.NoRoom up is = is
 looks_status fs state now name fault.Memory up is = is
 looks_status fs state now name fault.Device up is = is
-looks_status fs state now name fault.Down up is = down fs.is_down up is
+looks_status fs state now name fault.Down up is = down fs.volume.is_down up is
 
-pub puts_status : (fs : FileSystem) (state : State) (now : ℕ) (handle : List ℕ) (why : FsFault) → fs.is_down ≡ false
+pub puts_status : (fs : FileSystem) (state : State) (now : ℕ) (handle : List ℕ) (why : FsFault) → fs.volume.is_down ≡ false
     → PutsHandle fs state now handle (Err why) → IsStatus why
 puts_status fs state now handle (fault.Status reason) up is = tt
 puts_status fs state now handle fault.NoRoom up is = is
 puts_status fs state now handle fault.Memory up is = is
 puts_status fs state now handle fault.Device up is = is
-puts_status fs state now handle fault.Down up is = down fs.is_down up is
+puts_status fs state now handle fault.Down up is = down fs.volume.is_down up is
 
-pub gets_status : (fs : FileSystem) (state : State) (now : ℕ) (why : FsFault) → fs.is_down ≡ false
+pub gets_status : (fs : FileSystem) (state : State) (now : ℕ) (why : FsFault) → fs.volume.is_down ≡ false
     → GetsHandle fs state now (Err why) → IsStatus why
 gets_status fs state now (fault.Status reason) up is = tt
 gets_status fs state now fault.NoRoom up is = is
 gets_status fs state now fault.Memory up is = is
 gets_status fs state now fault.Device up is = is
-gets_status fs state now fault.Down up is = down fs.is_down up is
+gets_status fs state now fault.Down up is = down fs.volume.is_down up is
 
-pub tests_status : (fs : FileSystem) (state : State) (why : FsFault) → fs.is_down ≡ false
+pub tests_status : (fs : FileSystem) (state : State) (why : FsFault) → fs.volume.is_down ≡ false
     → TestsCurrent fs state (Err why) → IsStatus why
 tests_status fs state (fault.Status reason) up is = tt
 tests_status fs state fault.NoRoom up is = is
 tests_status fs state fault.Memory up is = is
 tests_status fs state fault.Device up is = is
-tests_status fs state fault.Down up is = down fs.is_down up is
+tests_status fs state fault.Down up is = down fs.volume.is_down up is
 
 -- Every refusal has a status that is not OK
 
@@ -214,7 +214,7 @@ module _ (now : ℕ) (fs : FileSystem) (table : Table) (opens : Opens) (request 
   pub tree_runs : (left : Context) (kind : Argument) (outcome : Outcome)
       → ((world : World) (rest : List ℕ) → run world (with_rest request rest) now kind
       ≡ stepped world (with_rest request rest) (does world.limits.volume (state_of world (with_rest request rest)) now kind))
-      → ((world : World) (rest : List ℕ) → HasState world (shared fs table opens) → does fs.limits (state_of world (with_rest request rest)) now kind
+      → ((world : World) (rest : List ℕ) → HasState world (shared fs table opens) → does fs.volume.limits (state_of world (with_rest request rest)) now kind
       ≡ record { outcome = outcome; state = record (state_of world (with_rest request rest)) { context = left } })
       → RunsTo now (shared fs table opens) (shared fs table opens) request (record request { context = left }) kind outcome
   tree_runs left kind outcome on_tree does_so = λ world rest on.
@@ -290,13 +290,13 @@ module _ (now : ℕ) (fs : FileSystem) (table : Table) (opens : Opens) (request 
 
   other_does : (state : State) (type_number : ℕ) (reason : Status)
       → refused_or (not (has_current state.context)) status.NoFileHandle (refused_or (not (is_key (current state) state.tree)) status.Stale (Some status.BadType)) ≡ Some reason
-      → does fs.limits state now (Argument.Create (OtherType type_number)) ≡ refused state (Argument.Create (OtherType type_number)) reason
+      → does fs.volume.limits state now (Argument.Create (OtherType type_number)) ≡ refused state (Argument.Create (OtherType type_number)) reason
   unfolding does refusals
   other_does state type_number reason is =
-      ap (λ (first : Option Status). unless_refused state (Argument.Create (OtherType type_number)) first (effect fs.limits state now (Argument.Create (OtherType type_number)))) is
+      ap (λ (first : Option Status). unless_refused state (Argument.Create (OtherType type_number)) first (effect fs.volume.limits state now (Argument.Create (OtherType type_number)))) is
 
   other_runs : (type_number : ℕ) (reason : Status)
-      → ((state : State) → IsHere fs request state → does fs.limits state now (Argument.Create (OtherType type_number)) ≡ refused state (Argument.Create (OtherType type_number)) reason)
+      → ((state : State) → IsHere fs request state → does fs.volume.limits state now (Argument.Create (OtherType type_number)) ≡ refused state (Argument.Create (OtherType type_number)) reason)
       → RunsTo now (shared fs table opens) (shared fs table opens) request request (Argument.Create (OtherType type_number)) (Refused 6 reason)
   unfolding run
   other_runs type_number reason does_so = tree_runs request.context (Argument.Create (OtherType type_number)) (Refused 6 reason) (λ world rest. refl)

@@ -1,8 +1,8 @@
 -- What operations and turns do to a file system, by the definition.
 use Rattle.std.proofs.Common.{◌≡◌, ◌≤◌, ℕ, Bool, true, false, ◌&&◌, ◌||◌, if◌then◌else◌, List, length, nat_le, Option, Some, None, Result, Ok, Err, refl, ap, ◌∙◌, arith}
-use Rattle.fs.specs.Changes.{Done, Changes}
+use Rattle.volume.specs.Changes.{Done}
+use Rattle.fs.specs.Changes.{Changes}
 use Rattle.fs.specs.FileSystem.{FileSystem}
-use Rattle.fs.proofs.ChangeLaws.{changes_nothing, answers_quietly}
 use Rattle.model.specs.Answer as model
 use Rattle.model.specs.Attribute.{trimmed}
 use Rattle.model.specs.Context.{has_current, current_number}
@@ -26,6 +26,7 @@ use Rattle.compound.specs.declared.fault.Fault.{Fault}
 use Rattle.compound.specs.declared.fault.Fault.TheVariants as fault
 use Rattle.compound.specs.Trees.{made_answer}
 use Rattle.compound.proofs.Creating.{tree_made}
+use Rattle.compound.proofs.QuietLaws.{leaves_all, answers_quietly}
 use Rattle.compound.proofs.Trees.{here, is_on}
 use Rattle.compound.proofs.Turning.{read_turn, run_tree}
 
@@ -88,7 +89,7 @@ refused_gives state request now operation number reason refuses after lasting gi
 
 -- one that comes to this refusal, and leaves the file system as it is
 pub refusal_changes : (keeps_word : Type 0) (fs new : FileSystem) (table : Table) (opens : Opens) (before after : ℕ) (request : InProgress) (now : ℕ) (operation : Argument) (number : ℕ) (reason : Status)
-    → new ≡ fs → before ≤ after → fs.is_down ≡ false → GivesIn now (shared fs table opens) (shared new table opens) request request operation (model.Refused number reason)
+    → new ≡ fs → before ≤ after → fs.volume.is_down ≡ false → GivesIn now (shared fs table opens) (shared new table opens) request request operation (model.Refused number reason)
     → Changes keeps_word (OperationGives (shared fs table opens) request now operation) fs new before after Done
 refusal_changes keeps_word fs new table opens before after request now operation number reason same later up gives =
     answers_quietly keeps_word (OperationGives (shared fs table opens) request now operation) fs new before after same later up
@@ -106,14 +107,14 @@ other_quiet world request now kind = by_refusal _
     by_refusal None = refl
     by_refusal (Some reason) = refl
 
-pub other_changes : (keeps_word : Type 0) (state : SharedState) (failed : ℕ) (request : InProgress) (now kind : ℕ) → state.files.is_down ≡ false
+pub other_changes : (keeps_word : Type 0) (state : SharedState) (failed : ℕ) (request : InProgress) (now kind : ℕ) → state.files.volume.is_down ≡ false
     → Changes keeps_word (OperationGives state request now (Argument.Create (OtherType kind))) state.files state.files failed failed Done
 other_changes keeps_word state failed request now kind up =
     answers_quietly keeps_word (OperationGives state request now (Argument.Create (OtherType kind))) state.files state.files failed failed refl (omega arith) up
     (λ after lasting gives. gives.lasting_is ∙ other_quiet gives.world (with_rest request gives.rest) now kind)
 
 -- CREATE of a directory, where the reply has room for its result, is that of the file system
-pub made_gives : (fs : FileSystem) (table : Table) (opens : Opens) (request : InProgress) (now parent : ℕ) (name : List ℕ) (given : Attributes) → request.context.run ≡ fs.run
+pub made_gives : (fs : FileSystem) (table : Table) (opens : Opens) (request : InProgress) (now parent : ℕ) (name : List ℕ) (given : Attributes) → request.context.run ≡ fs.volume.run
     → has_current request.context ≡ true → current_number request.context ≡ parent
     → true ≡ nat_le (length (reply_with request (model.Done (made_answer 0 0 (trimmed given.bitmap))))) 16368
     → (after : Tree) (lasting : Bool) → OperationGives (shared fs table opens) request now (new_directory name given) after lasting
@@ -125,18 +126,18 @@ made_gives fs table opens request now parent name given in_run has is room after
 }
 
 -- an operation that leaves the file system alone
-pub quiet_changes : (keeps_word : Type 0) (state : SharedState) (failed : ℕ) (request : InProgress) (now : ℕ) (operation : Argument) → state.files.is_down ≡ false → is_quiet operation ≡ true
+pub quiet_changes : (keeps_word : Type 0) (state : SharedState) (failed : ℕ) (request : InProgress) (now : ℕ) (operation : Argument) → state.files.volume.is_down ≡ false → is_quiet operation ≡ true
     → Changes keeps_word (OperationGives state request now operation) state.files state.files failed failed Done
 quiet_changes keeps_word state failed request now operation up quiet =
     answers_quietly keeps_word (OperationGives state request now operation) state.files state.files failed failed refl (omega arith) up (quiet_gives state request now operation quiet)
 
 -- or is refused for memory alone
 pub quiet_result : {T : Type 0} (keeps_word : Type 0) (state : SharedState) (failed : ℕ) (request : InProgress) (now : ℕ) (operation : Argument) (result : Result T Fault)
-    → state.files.is_down ≡ false → is_quiet operation ≡ true → ((reason : Fault) → result ≡ Err reason → reason ≡ fault.Memory)
+    → state.files.volume.is_down ≡ false → is_quiet operation ≡ true → ((reason : Fault) → result ≡ Err reason → reason ≡ fault.Memory)
     → Changes keeps_word (OperationGives state request now operation) state.files state.files failed failed (ending result)
 quiet_result keeps_word state failed request now operation (Ok done) up quiet memory = quiet_changes keeps_word state failed request now operation up quiet
 quiet_result keeps_word state failed request now operation (Err fault.Memory) up quiet memory =
-    changes_nothing keeps_word (OperationGives state request now operation) state.files state.files failed failed refl (omega arith)
+    leaves_all keeps_word (OperationGives state request now operation) state.files state.files failed failed refl (omega arith)
 quiet_result keeps_word state failed request now operation (Err fault.Device) up quiet memory =
     let is : fault.Device ≡ fault.Memory = memory fault.Device refl in
     let never : ⊥ = cc in absurd never

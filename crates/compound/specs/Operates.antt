@@ -88,6 +88,13 @@ IsAnswered request (operated.Gives outcome left) = IsSpelled request (outcome_vi
 IsAnswered request (operated.GivesHandle handle) = IsSpelled request (model.Done (model.GetFh handle))
 IsAnswered request (operated.Replays slot) = ⊤
 
+-- what is sent again is there
+abbrev pub IsKept : Table → Operated → Type 0
+IsKept table (operated.Gives outcome left) = Unit {0}
+IsKept table (operated.GivesHandle handle) = Unit {0}
+IsKept table (operated.Replays slot) =
+    (reply : List ℕ) × (reply_kept slot.session slot.slot table ≡ Some reply)
+
 -- the operations that come only first in a COMPOUND
 abbrev pub comes_first : Argument → Bool
 comes_first (Argument.ExchangeId arguments) = true

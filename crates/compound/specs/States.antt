@@ -28,16 +28,20 @@ shared_of fs table = without_opens (fs_of fs) (table_of table)
 
 -- a world that has it
 pub record HasState (world : World) (state : SharedState) : Type 0 where
-  pub volume : world.limits.volume ≡ state.files.limits
+  pub volume : world.limits.volume ≡ state.files.volume.limits
   pub sessions : world.limits.sessions ≡ served
   pub reply_bytes : world.limits.reply_bytes ≡ 16368
-  pub run : world.run ≡ state.files.run
-  pub tree : world.tree ≡ state.files.tree
+  pub run : world.run ≡ state.files.volume.run
+  pub tree : world.tree ≡ state.files.volume.tree
   pub changes : world.changes ≡ state.files.changes
   pub opens : world.opens ≡ state.opens
   pub table_is : world.table ≡ state.table
 
 -- the world with what it is now
 abbrev pub with_state : World → SharedState → World
-with_state world state =
-    record world { tree = state.files.tree; changes = state.files.changes; table = state.table; opens = state.opens }
+with_state world state = record world {
+  tree = state.files.volume.tree;
+  changes = state.files.changes;
+  table = state.table;
+  opens = state.opens;
+}

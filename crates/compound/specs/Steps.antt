@@ -1,5 +1,5 @@
 -- One operation of a COMPOUND, by the definition.
-use Rattle.std.specs.Prelude.{◌≡◌, ℕ, Bool, true}
+use Rattle.std.specs.Prelude.{◌≡◌, ◌+◌, ℕ, Bool, true}
 use Rattle.model.specs.World as world
 use Rattle.model.specs.World.{World, Connection, Busy, Replied, Turn, Turned, InProgress, next_operation, operates, with_connection}
 use Rattle.compound.specs.States.{SharedState, HasState, with_state}
@@ -31,6 +31,11 @@ Steps now old new asked request done =
 abbrev pub StaysInRun : (run : ℕ) → Stepped → Type 0
 StaysInRun run (stepped.Ran progress) = progress.run ≡ run
 StaysInRun run (stepped.Answered reply) = Unit {0}
+
+-- a request that goes on has one result more
+abbrev pub GoesFurther : InProgress → Stepped → Type 0
+GoesFurther request (stepped.Ran progress) = progress.answered ≡ request.answered + 1
+GoesFurther request (stepped.Answered reply) = Unit {0}
 
 -- the COMPOUND can be resumed behind a step
 abbrev pub still_fits : Asked → Stepped → Bool

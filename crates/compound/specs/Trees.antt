@@ -17,7 +17,7 @@ IsStatus _ = ⊥
 
 -- a state of the request on this file system
 pub record IsHere (fs : FileSystem) (request : InProgress) (state : State) : Type 0 where
-  pub tree_is : state.tree ≡ fs.tree
+  pub tree_is : state.tree ≡ fs.volume.tree
   pub changes_is : state.changes ≡ fs.changes
   pub context_is : state.context ≡ request.context
 

@@ -1,11 +1,11 @@
 -- What the operations of a COMPOUND do to the file system below it, by the definition.
 use Rattle.std.specs.Prelude.{ℕ, Bool, false, List, Option, Some, None, Result, Ok, Err, ◌≡◌}
-use Rattle.fs.specs.Changes.{Ending, Done, Nothing, Broken}
 use Rattle.model.specs.Operation.{Argument}
 use Rattle.model.specs.Runs.{is_durable}
 use Rattle.model.specs.Tree.{Tree}
 use Rattle.model.specs.World as turns
 use Rattle.model.specs.World.{World, InProgress, HasRun, Entry, Turned, entry_of}
+use Rattle.volume.specs.Changes.{Ending, Done, Nothing, Broken}
 use Rattle.compound.specs.Operates.{run_in_room, tree_by}
 use Rattle.compound.specs.Runs.{with_rest}
 use Rattle.compound.specs.States.{SharedState, HasState}

@@ -39,7 +39,7 @@ impl Running<'_> {
 
     /// PUTFH (section 18.19): the node that the filehandle names is the current one.
     pub(crate) fn put_handle<D: Device>(&self, fs: &Fs<D>, handle: &[u8]) -> Operated
-        requires { (fs_of fs.now).is_down ≡ false }
+        requires { (fs_of fs.now).volume.is_down ≡ false }
         ensures gives { OnlyReads (fs_of fs.now) (in_progress_of self.now)
             (operations.Argument.PutFh handle.now) result }
         ensures answered { IsAnswered (in_progress_of self.now) result }
@@ -52,8 +52,8 @@ impl Running<'_> {
 
     /// GETFH (section 18.8).
     pub(crate) fn get_handle<D: Device>(&self, fs: &Fs<D>) -> Operated
-        requires up { (fs_of fs.now).is_down ≡ false }
-        requires run { (in_progress_of self.now).context.run ≡ (fs_of fs.now).run }
+        requires up { (fs_of fs.now).volume.is_down ≡ false }
+        requires run { (in_progress_of self.now).context.run ≡ (fs_of fs.now).volume.run }
         ensures gives { OnlyReads (fs_of fs.now) (in_progress_of self.now)
             operations.Argument.GetFh result }
         ensures answered { IsAnswered (in_progress_of self.now) result }

@@ -15,7 +15,7 @@ impl Running<'_> {
     ghost use Rattle.model.specs.Served.{is_served};
     ghost use Rattle.session.specs.Views.{table_of};
     ghost use Rattle.wire.specs.ArgumentView.{argument_view};
-    ghost use Rattle.compound.specs.Operates.{Operates, IsAnswered, comes_first};
+    ghost use Rattle.compound.specs.Operates.{Operates, IsAnswered, IsKept, comes_first};
     ghost use Rattle.compound.specs.States.{shared_of};
     ghost use Rattle.compound.specs.Views.{in_progress_of};
     ghost use Rattle.compound.specs.Volumes.{OperationGives, ending};
@@ -31,14 +31,15 @@ impl Running<'_> {
         now: u64,
         argument: &Argument<'_>,
     ) -> Result<Operated, Fault>
-        requires up { (fs_of fs.old).is_down ≡ false }
-        requires run { (in_progress_of self.now).context.run ≡ (fs_of fs.old).run }
+        requires up { (fs_of fs.old).volume.is_down ≡ false }
+        requires run { (in_progress_of self.now).context.run ≡ (fs_of fs.old).volume.run }
         requires served { is_served (operation_of (argument_view argument.now)) ≡ true }
         requires first { comes_first (argument_view argument.now) ≡ true
             → (in_progress_of self.now).answered ≡ 0 }
-        ensures gives { IfOk result (Operates now (shared_of fs.old table.old)
+        ensures gives { D.keeps_word → IfOk result (Operates now (shared_of fs.old table.old)
             (shared_of fs.new table.new) (in_progress_of self.now) (argument_view argument.now)) }
         ensures answered { IfOk result (IsAnswered (in_progress_of self.now)) }
+        ensures kept { IfOk result (IsKept (table_of table.new)) }
         ensures table { OnErr result (table_of table.new ≡ table_of table.old) }
         ensures volume { Alters fs.old fs.new (OperationGives (shared_of fs.old table.old)
             (in_progress_of self.now) now (argument_view argument.now)) (ending result) }

@@ -21,12 +21,13 @@ impl Running<'_> {
     ghost use Rattle.std.specs.Prelude.{◌≡◌, ◌+◌, ◌<◌, ◌≤◌, ◌^◌, ℕ, nat_le, length};
     ghost use Rattle.model.specs.Answer.{Done, Refused};
     ghost use Rattle.model.specs.Operation.{Argument as Kind, operation_of};
+    ghost use Rattle.model.specs.Session.{Table as Sessions};
     ghost use Rattle.model.specs.World.{reply_with, outcome_text};
     ghost use Rattle.model.specs.WireAnswers as answers;
     ghost use Rattle.wire.specs.OutcomeView.{answer_view, outcome_view};
     ghost use Rattle.wire.specs.Numbers.{number_of};
     ghost use Rattle.wire.specs.Short.{IsRefusal, IsShortAnswer};
-    ghost use Rattle.compound.specs.Operates.{Operates, RunsTo, GivesIn, IsAnswered, left_by};
+    ghost use Rattle.compound.specs.Operates.{Operates, RunsTo, GivesIn, IsAnswered, IsKept, left_by};
     ghost use Rattle.compound.specs.States.{SharedState};
     ghost use Rattle.compound.specs.Views.{in_progress_of};
 
@@ -72,6 +73,7 @@ impl Running<'_> {
             (Refused (number_of operation) status)
             → Operates now old new (in_progress_of self.now) kind result }
         ensures answered { IsAnswered (in_progress_of self.now) result }
+        ensures kept { (table : Sessions) → IsKept table result }
     {
         let outcome = Outcome::Refused {
             operation: operation.number(),

@@ -49,8 +49,8 @@ impl Running<'_> {
 
     /// RECLAIM_COMPLETE.
     pub(crate) fn reclaim<D: Device>(&self, fs: &Fs<D>, table: &mut Table, one_fs: bool) -> Operated
-        requires up { (fs_of fs.now).is_down ≡ false }
-        requires run { (in_progress_of self.now).context.run ≡ (fs_of fs.now).run }
+        requires up { (fs_of fs.now).volume.is_down ≡ false }
+        requires run { (in_progress_of self.now).context.run ≡ (fs_of fs.now).volume.run }
         ensures gives { (now : ℕ)
             → Operates now (shared_of fs.now table.old) (shared_of fs.now table.new)
             (in_progress_of self.now) (operations.Argument.ReclaimComplete one_fs) result }
@@ -109,8 +109,8 @@ impl Running<'_> {
 
     /// RECLAIM_COMPLETE for the file system of the current filehandle: it is answered each time.
     fn reclaim_one<D: Device>(&self, fs: &Fs<D>) -> Operated
-        requires up { (fs_of fs.now).is_down ≡ false }
-        requires run { (in_progress_of self.now).context.run ≡ (fs_of fs.now).run }
+        requires up { (fs_of fs.now).volume.is_down ≡ false }
+        requires run { (in_progress_of self.now).context.run ≡ (fs_of fs.now).volume.run }
         ensures gives { OnlyReads (fs_of fs.now) (in_progress_of self.now)
             (operations.Argument.ReclaimComplete true) result }
         ensures answered { IsAnswered (in_progress_of self.now) result }

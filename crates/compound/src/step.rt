@@ -38,9 +38,9 @@ impl Running<'_> {
     ghost use Rattle.fs.specs.FileSystems.{fs_of, Alters};
     ghost use Rattle.session.specs.Views.{table_of};
     ghost use Rattle.wire.specs.OutcomeView.{outcome_view};
-    ghost use Rattle.compound.specs.Operates.{IsAnswered, IsSpelled, left_by};
+    ghost use Rattle.compound.specs.Operates.{IsAnswered, IsKept, IsSpelled, left_by};
     ghost use Rattle.compound.specs.States.{shared_of};
-    ghost use Rattle.compound.specs.Steps.{Steps, StaysInRun, still_fits, stepped_on};
+    ghost use Rattle.compound.specs.Steps.{Steps, StaysInRun, GoesFurther, still_fits, stepped_on};
     ghost use Rattle.compound.specs.Turns.{Turns, StandsBehind};
     ghost use Rattle.compound.specs.Views.{in_progress_of, asked_of};
     ghost use Rattle.compound.specs.Volumes.{TurnGives, ending, undone_ending};
@@ -56,12 +56,13 @@ impl Running<'_> {
         table: &mut Table,
         now: u64,
     ) -> Result<Stepped, Undone>
-        requires up { (fs_of fs.old).is_down ≡ false }
-        requires run { (in_progress_of self).context.run ≡ (fs_of fs.old).run }
+        requires up { (fs_of fs.old).volume.is_down ≡ false }
+        requires run { (in_progress_of self).context.run ≡ (fs_of fs.old).volume.run }
         // Done
-        ensures step { IfOk result (Steps now (shared_of fs.old table.old)
+        ensures step { D.keeps_word → IfOk result (Steps now (shared_of fs.old table.old)
             (shared_of fs.new table.new) (asked_of self.entry) (in_progress_of self.entry)) }
-        ensures stays { IfOk result (StaysInRun (fs_of fs.old).run) }
+        ensures stays { IfOk result (StaysInRun (fs_of fs.old).volume.run) }
+        ensures further { IfOk result (GoesFurther (in_progress_of self.entry)) }
         ensures fits { IfOk result (λ done. still_fits (asked_of self.entry) done ≡ true) }
         // Not done
         ensures back { IfErr result (λ undone. undone.progress ≡ self.entry.progress) }
@@ -95,14 +96,15 @@ impl Running<'_> {
 
     /// Reads the next operation, tests it and runs it. The COMPOUND itself is not changed yet.
     fn run_next<D: Device>(&self, fs: &mut Fs<D>, table: &mut Table, now: u64) -> Result<Ran, Fault>
-        requires up { (fs_of fs.old).is_down ≡ false }
-        requires run { (in_progress_of self.now).context.run ≡ (fs_of fs.old).run }
-        ensures turns { IfOk result (λ ran. Turns now (shared_of fs.old table.old)
+        requires up { (fs_of fs.old).volume.is_down ≡ false }
+        requires run { (in_progress_of self.now).context.run ≡ (fs_of fs.old).volume.run }
+        ensures turns { D.keeps_word → IfOk result (λ ran. Turns now (shared_of fs.old table.old)
             (shared_of fs.new table.new) (in_progress_of self.now)
             (drop ran.position self.now.compound.operations.now) ran.done) }
         ensures within { IfOk result (λ ran.
             ran.position ≤ length self.now.compound.operations.now) }
         ensures answered { IfOk result (λ ran. IsAnswered (in_progress_of self.now) ran.done) }
+        ensures kept { IfOk result (λ ran. IsKept (table_of table.new) ran.done) }
         ensures table { OnErr result (table_of table.new ≡ table_of table.old) }
         ensures volume { Alters fs.old fs.new (TurnGives (shared_of fs.old table.old)
             (λ world number. stepped_on world number now (in_progress_of self.now)))
@@ -142,6 +144,7 @@ impl Running<'_> {
         ensures stands { StandsBehind (table_of table.old) (table_of table.new)
             (asked_of self.entry) (in_progress_of self.entry) (outcome_view outcome.now) result }
         ensures stays { StaysInRun (in_progress_of self.entry).context.run result }
+        ensures further { GoesFurther (in_progress_of self.entry) result }
         ensures fits { still_fits (asked_of self.entry) result ≡ true }
     {
         match outcome {

@@ -27,7 +27,7 @@ impl Running<'_> {
     ghost use Rattle.wire.specs.ArgumentViews.{create_view};
     ghost use Rattle.wire.specs.SmallViews.{attributes_view};
     ghost use Rattle.wire.specs.Short.{IsRefusal};
-    ghost use Rattle.compound.specs.Operates.{OnlyReads, ChangesFiles, IsAnswered};
+    ghost use Rattle.compound.specs.Operates.{OnlyReads, ChangesFiles, IsAnswered, IsKept};
     ghost use Rattle.compound.specs.States.{shared};
     ghost use Rattle.compound.specs.Trees.{TestsCurrent, made_answer};
     ghost use Rattle.compound.specs.Views.{in_progress_of};
@@ -35,8 +35,8 @@ impl Running<'_> {
 
     /// The tests of the current filehandle: NOFILEHANDLE where there is none, STALE where its node is gone.
     pub(crate) fn check_current<D: Device>(&self, fs: &Fs<D>) -> Result<(), Status>
-        requires up { (fs_of fs.now).is_down ≡ false }
-        requires run { (in_progress_of self.now).context.run ≡ (fs_of fs.now).run }
+        requires up { (fs_of fs.now).volume.is_down ≡ false }
+        requires run { (in_progress_of self.now).context.run ≡ (fs_of fs.now).volume.run }
         ensures tests { TestsCurrent (fs_of fs.now) (in_progress_of self.now) result }
         ensures refused { IfErr result IsRefusal }
     {
@@ -52,8 +52,8 @@ impl Running<'_> {
 
     /// LOOKUP (section 18.13): the node that the name leads to is the current one.
     pub(crate) fn look_up<D: Device>(&self, fs: &Fs<D>, name: &[u8]) -> Operated
-        requires up { (fs_of fs.now).is_down ≡ false }
-        requires run { (in_progress_of self.now).context.run ≡ (fs_of fs.now).run }
+        requires up { (fs_of fs.now).volume.is_down ≡ false }
+        requires run { (in_progress_of self.now).context.run ≡ (fs_of fs.now).volume.run }
         ensures gives { OnlyReads (fs_of fs.now) (in_progress_of self.now)
             (operations.Argument.Lookup name.now) result }
         ensures answered { IsAnswered (in_progress_of self.now) result }
@@ -75,11 +75,13 @@ impl Running<'_> {
         now: u64,
         arguments: &CreateArguments<'_>,
     ) -> Result<Operated, Fault>
-        requires up { (fs_of fs.old).is_down ≡ false }
-        requires run { (in_progress_of self.now).context.run ≡ (fs_of fs.old).run }
-        ensures gives { IfOk result (ChangesFiles (fs_of fs.old) (fs_of fs.new) now
-            (in_progress_of self.now) (operations.Argument.Create (create_view arguments.now))) }
+        requires up { (fs_of fs.old).volume.is_down ≡ false }
+        requires run { (in_progress_of self.now).context.run ≡ (fs_of fs.old).volume.run }
+        ensures gives { D.keeps_word → IfOk result (ChangesFiles (fs_of fs.old) (fs_of fs.new)
+            now (in_progress_of self.now)
+            (operations.Argument.Create (create_view arguments.now))) }
         ensures answered { IfOk result (IsAnswered (in_progress_of self.now)) }
+        ensures kept { (table : Table) → IfOk result (IsKept table) }
         ensures volume { (table : Table) (opens : Opens) → Alters fs.old fs.new
             (OperationGives (shared (fs_of fs.old) table opens) (in_progress_of self.now) now
             (operations.Argument.Create (create_view arguments.now))) (ending result) }
@@ -94,11 +96,12 @@ impl Running<'_> {
 
     /// CREATE of another type than a directory: nothing else is made by it.
     pub(crate) fn create_other<D: Device>(&self, fs: &Fs<D>, kind: u32) -> Operated
-        requires up { (fs_of fs.now).is_down ≡ false }
-        requires run { (in_progress_of self.now).context.run ≡ (fs_of fs.now).run }
+        requires up { (fs_of fs.now).volume.is_down ≡ false }
+        requires run { (in_progress_of self.now).context.run ≡ (fs_of fs.now).volume.run }
         ensures gives { OnlyReads (fs_of fs.now) (in_progress_of self.now)
             (operations.Argument.Create (operations.OtherType kind)) result }
         ensures answered { IsAnswered (in_progress_of self.now) result }
+        ensures kept { (table : Table) → IsKept table result }
     {
         match self.check_current(fs) {
             Ok(()) => self.refuse(Operation::Create, Status::BadType),
@@ -114,11 +117,13 @@ impl Running<'_> {
         name: &[u8],
         attributes: &Attributes<'_>,
     ) -> Result<Operated, Fault>
-        requires up { (fs_of fs.old).is_down ≡ false }
-        requires run { (in_progress_of self.now).context.run ≡ (fs_of fs.old).run }
-        ensures gives { IfOk result (ChangesFiles (fs_of fs.old) (fs_of fs.new) now
-            (in_progress_of self.now) (new_directory name.now (attributes_view attributes.now))) }
+        requires up { (fs_of fs.old).volume.is_down ≡ false }
+        requires run { (in_progress_of self.now).context.run ≡ (fs_of fs.old).volume.run }
+        ensures gives { D.keeps_word → IfOk result (ChangesFiles (fs_of fs.old) (fs_of fs.new)
+            now (in_progress_of self.now)
+            (new_directory name.now (attributes_view attributes.now))) }
         ensures answered { IfOk result (IsAnswered (in_progress_of self.now)) }
+        ensures kept { (table : Table) → IfOk result (IsKept table) }
         ensures volume { (table : Table) (opens : Opens) → Alters fs.old fs.new
             (OperationGives (shared (fs_of fs.old) table opens) (in_progress_of self.now) now
             (new_directory name.now (attributes_view attributes.now))) (ending result) }

@@ -1,107 +1,137 @@
--- A journal that holds changes which are not flushed: what a stop may leave within a call.
-use Rattle.std.proofs.Common.{◌≡◌, ◌≤◌, ◌<◌, ◌+◌, ◌⊎◌, ℕ, zero, suc, List, [], ◌∷◌, ◌++◌, length, take, refl, sym, ap, ◌∙◌, subst, inl, inr, ⊎_elim, arith}
-use Rattle.std.proofs.lemmas.Bool.{cases_lt}
-use Rattle.std.proofs.lemmas.List.{take-append-le, length-append}
-use Rattle.std.proofs.Math.Seq.{take-length}
-use Rattle.std.proofs.Math.Logic.{∥∥₁_map}
-use Rattle.std.specs.List.{IsAmong}
-use Rattle.std.specs.Prelude.{get_or}
-use Rattle.disk.specs.declared.update.Update.{Update}
-use Rattle.disk.specs.Moments.{Image, History, AddsOnly, applied}
-use Rattle.journal.specs.Log.{Log, StandsForFront, applied_all}
-use Rattle.journal.specs.Settled.{Settles}
-use Rattle.journal.proofs.Fronts.{applied_all-push}
-use Rattle.journal.proofs.Moments.{AddsOnly-weaken}
-use Rattle.model.specs.Tree.{Tree}
-use Rattle.fs.specs.FileSystem.{FileSystem, StandsForOne, IsRecent, MayAdd, AddsTrees, fronts_from}
-use Rattle.fs.specs.Stands.{Stands}
+-- A tree that is well formed, a node and its name more: what fits behind all of it fits behind each part.
+use Rattle.std.proofs.Common.{◌≡◌, ◌≢◌, ◌<◌, ◌&&◌, ℕ, zero, suc, Bool, List, [], ◌∷◌, Option, Some, None, length, take, refl, sym, ap, ap₂, ◌∙◌, arith, inl, inr}
+use Rattle.std.specs.Prelude.{IsTrue}
+use Rattle.std.proofs.lemmas.Bool.{cases_eq, le-leb}
+use Rattle.edits.proofs.NamedLaws.{few-at}
+use Rattle.layout.proofs.ChargeLaws.{total-ones}
+use Rattle.model.specs.declared.limits.Limits.{Limits}
+use Rattle.model.specs.Charge.{charge, fits}
+use Rattle.model.specs.Edit.{Edit, Shown, PutNode, PutName, Show, edited, showing, name_put, altered, altered_at}
+use Rattle.model.specs.Keyed.{at, with, total, worth_at, IsAbove}
+use Rattle.model.specs.Tree.{Tree, Node, Content, Directory, DirEntry, names_of, names_at, names_of_node}
+use Rattle.model.proofs.KeyedLaws.{at-with_same, at-with_other, IsAbove-with, total-with}
+use Rattle.shape.proofs.FitLaws.{few-from}
+use Rattle.volume.proofs.EditLaws.{DoesFit, fit_parts}
 
-among_rest : {A : Type 0} (first : A) (rest : List A) (one : A) → IsAmong rest one → IsAmong (first ∷ rest) one
-among_rest first rest one among = (suc among.0, (omega (arith, among.1.0), among.1.1))
+abbrev pub made_by : (stamp number : ℕ) → (child : Node) → DirEntry → Shown → List Edit
+made_by stamp number child entry shown = PutNode stamp child ∷ PutName number stamp entry ∷ Show number shown ∷ []
 
-among_more : {A : Type 0} (first : A) (rest : List A) (one : A) → IsAmong (first ∷ rest) one → (one ≡ first) ⊎ IsAmong rest one
-among_more {A = A} first rest one among = by_place among.0 among.1.0 among.1.1
-  where
-    by_place : (place : ℕ) → place < length (first ∷ rest) → one ≡ get_or (first ∷ rest) place one → (one ≡ first) ⊎ IsAmong rest one
-    by_place zero less e = inl e
-    by_place (suc place) less e = inr (place, (omega (arith, less), e))
+fit_of : (limits : Limits) (tree : Tree) → DoesFit limits tree → IsTrue (fits limits tree)
+unfolding fits
+fit_of limits tree is =
+    ap₂ (λ (a b : Bool). a && b) (le-leb (total charge tree) limits.data_sectors is.charge)
+    (ap₂ (λ (a b : Bool). a && b) (le-leb (length tree) limits.nodes is.nodes) is.few)
 
--- a front of the list is among the fronts
-pub front_among : (base : Image) (list : List (List Update)) (count : ℕ) → count ≤ length list → IsAmong (fronts_from base list) (applied_all (take count list) base)
-front_among base [] zero few = (0, (omega arith, refl))
-front_among base [] (suc count) few = absurd (omega (arith, few))
-front_among base (updates ∷ list) zero few = (0, (omega arith, refl))
-front_among base (updates ∷ list) (suc count) few =
-    among_rest base (fronts_from (applied updates base) list) _ (front_among (applied updates base) list count (omega (arith, few)))
+-- a node in place of another one adds none
+length-again : (tree : Tree) (number : ℕ) (node old : Node) → IsAbove 0 tree → at number tree ≡ Some old → length (with tree number node) ≡ length tree
+length-again tree number node old above there =
+    let worth : Node → ℕ = λ n. 1 in
+    omega (arith, total-with worth tree number 0 node above, ap (worth_at worth) there, total-ones (with tree number node), total-ones tree)
 
--- with one more transaction there is one more front
-pub front_more : (base : Image) (list : List (List Update)) (updates : List Update) (front : Image) → IsAmong (fronts_from base (list ++ updates ∷ [])) front
-    → IsAmong (fronts_from base list) front ⊎ (front ≡ applied updates (applied_all list base))
-front_more base [] updates front among = ⊎_elim
-    (λ (first : front ≡ base). inl (0, (omega arith, first)))
-    (λ (rest : IsAmong (applied updates base ∷ []) front). ⊎_elim
-    (λ (is : front ≡ applied updates base). inr is)
-    (λ (never : IsAmong [] front). absurd (omega (arith, never.1.0)))
-    (among_more (applied updates base) [] front rest))
-    (among_more base (applied updates base ∷ []) front among)
-front_more base (first ∷ list) updates front among = ⊎_elim
-    (λ (is : front ≡ base). inl (0, (omega arith, is)))
-    (λ (rest : IsAmong (fronts_from (applied first base) (list ++ updates ∷ [])) front). ⊎_elim
-    (λ (old : IsAmong (fronts_from (applied first base) list) front). inl (among_rest base _ front old))
-    (λ (new : front ≡ applied updates (applied_all list (applied first base))). inr new)
-    (front_more (applied first base) list updates front rest))
-    (among_more base (fronts_from (applied first base) (list ++ updates ∷ [])) front among)
+some_is : (x y : Node) → Some x ≡ Some y → x ≡ y
+some_is x y same = cc
 
-module _ (fs : FileSystem) (log : Log) (size : fs.sectors ≡ log.size) (history : fs.history ≡ log.history) (fronts : fs.fronts ≡ fronts_from log.base log.list)
-    (updates : List Update) (after : Tree) (behind : ∥ Stands fs.sectors fs.limits.nodes (applied updates (applied_all log.list log.base)) fs.run after ∥₁) where
-  one_front : (recent : List Tree) → IsRecent fs recent → (image : Image) → StandsForFront log.size log.base (log.list ++ updates ∷ []) image → StandsForOne fs (MayAdd recent after) image
-  one_front recent is image front = elim (cases_lt (length log.list) front.count) [
-    | inl last ↦
-        let many : length (log.list ++ updates ∷ []) ≡ length log.list + 1 = length-append log.list (updates ∷ []) in
-        let all : front.count ≡ length (log.list ++ updates ∷ []) = omega (arith, last, many, front.within) in
-        let whole : take front.count (log.list ++ updates ∷ []) ≡ log.list ++ updates ∷ [] = ap (λ (n : ℕ). take n (log.list ++ updates ∷ [])) all ∙ take-length (log.list ++ updates ∷ []) in
-        let base : applied_all (take front.count (log.list ++ updates ∷ [])) log.base ≡ applied updates (applied_all log.list log.base)
-        = ap (λ (l : List (List Update)). applied_all l log.base) whole ∙ applied_all-push log.list updates log.base in (
-          after,
-          inr refl,
-          ∥∥₁_map behind (λ stands. record {
-            base = applied updates (applied_all log.list log.base);
-            settles = subst (λ (i : Image). Settles fs.sectors image i) base (subst (λ (s : ℕ). Settles s image (applied_all (take front.count (log.list ++ updates ∷ [])) log.base)) (sym size) front.settles);
-            stands = stands;
-          }),
-        )
-    | inr earlier ↦
-        let same : take front.count (log.list ++ updates ∷ []) ≡ take front.count log.list = take-append-le front.count log.list (updates ∷ []) earlier in
-        let covered = is.covers (applied_all (take front.count log.list) log.base)
-        (subst (λ (l : List Image). IsAmong l (applied_all (take front.count log.list) log.base)) (sym fronts) (front_among log.base log.list front.count earlier)) in (
-          covered.0,
-          inl covered.1,
-          ∥∥₁_map covered.2 (λ stands. record {
-            base = applied_all (take front.count log.list) log.base;
-            settles = subst (λ (i : Image). Settles fs.sectors image i) (ap (λ (l : List (List Update)). applied_all l log.base) same)
-                (subst (λ (s : ℕ). Settles s image (applied_all (take front.count (log.list ++ updates ∷ [])) log.base)) (sym size) front.settles);
-            stands = stands;
-          }),
-        )
-  ]
+module _ (tree : Tree) (stamp number : ℕ) (child parent : Node) (entry : DirEntry) (shown : Shown) (apart : number ≢ stamp) (there : at number tree ≡ Some parent) where
+  abbrev pub with_child : Tree
+  with_child = with tree stamp child
 
-  -- a flush of the whole list and one more: what `durable::keep` adds is what the file system says
-  pub keeps_fronts : (new : History) → AddsOnly (StandsForFront log.size log.base (log.list ++ updates ∷ [])) log.history new → AddsTrees fs after new
-  keeps_fronts new adds recent is =
-      subst (λ (h : History). AddsOnly (StandsForOne fs (MayAdd recent after)) h new) (sym history)
-      (AddsOnly-weaken (StandsForFront log.size log.base (log.list ++ updates ∷ [])) (StandsForOne fs (MayAdd recent after)) log.history new (one_front recent is) adds)
+  abbrev pub named : Node
+  named = name_put stamp entry parent
 
-  -- a change that is not flushed: the trees that a stop may leave from now on, and the device is as it was
-  pub applied_recent : (recent : List Tree) → IsRecent fs recent
-      → IsRecent (record fs { tree = after; fronts = fronts_from log.base (log.list ++ updates ∷ []) }) (after ∷ recent)
-  applied_recent recent is = record {
-    leaves = λ image left. (let one = is.leaves image left in (one.0, among_rest after recent one.0 one.1, one.2));
-    covers = λ front among. elim (front_more log.base log.list updates front among) [
-      | inl old ↦
-          let one = is.covers front (subst (λ (l : List Image). IsAmong l front) (sym fronts) old) in
-          (one.0, among_rest after recent one.0 one.1, one.2)
-      | inr new ↦
-          (after, (0, (omega arith, refl)), subst (λ (i : Image). ∥ Stands fs.sectors fs.limits.nodes i fs.run after ∥₁) (sym new) behind)
-    ];
-    newest = (0, (omega arith, refl));
-  }
+  abbrev pub with_name : Tree
+  with_name = with with_child number named
+
+  abbrev pub last : Node
+  last = showing shown named
+
+  abbrev pub after : Tree
+  after = with with_name number last
+
+  pub parent_there : at number with_child ≡ Some parent
+  parent_there = at-with_other tree stamp number child apart ∙ there
+
+  pub named_there : at number with_name ≡ Some named
+  named_there = at-with_same with_child number named
+
+  -- so the edits come to these trees
+  pub second_is : altered (name_put stamp entry) with_child number ≡ with_name
+  second_is = ap (altered_at (name_put stamp entry) with_child number) parent_there
+
+  pub after_is : edited (made_by stamp number child entry shown) tree ≡ after
+  after_is = ap (λ (t : Tree). altered (showing shown) t number) second_is ∙ ap (altered_at (showing shown) with_name number) named_there
+
+  -- and the name is there
+  pub name_is_there : at stamp (names_at (edited (made_by stamp number child entry shown) tree) number) ≡ Some entry
+  name_is_there = ap (λ (t : Tree). at stamp (names_at t number)) after_is
+      ∙ ap (λ (node : Option Node). at stamp (names_of_node node)) (at-with_same with_name number last) ∙ at-with_same (names_of parent.content) stamp entry
+
+  module _ (limits : Limits) (above : IsAbove 0 tree) (fit : IsTrue (fits limits tree)) (high : 0 < stamp) (low : 0 < number) (fresh : at stamp tree ≡ None) (empty : child.content ≡ Directory []) where
+    above_child : IsAbove 0 with_child
+    above_child = IsAbove-with tree stamp 0 child above high
+
+    above_name : IsAbove 0 with_name
+    above_name = IsAbove-with with_child number 0 named above_child low
+
+    charge_child : charge child ≡ 0
+    charge_child = ap (λ (content : Content). charge (record child { content = content })) empty
+
+    total_child : total charge with_child ≡ total charge tree
+    total_child = omega (arith, total-with charge tree stamp 0 child above, ap (worth_at charge) fresh, charge_child)
+
+    total_last : total charge after ≡ total charge with_name
+    total_last =
+        let same : charge last ≡ charge named = refl in
+        omega (arith, total-with charge with_name number 0 last above_name, ap (worth_at charge) named_there, same)
+
+    length_name : length with_name ≡ length with_child
+    length_name = length-again with_child number named parent above_child parent_there
+
+    length_last : length after ≡ length with_name
+    length_last = length-again with_name number last named above_name named_there
+
+    module _ (all : DoesFit limits after) where
+      child_fits : DoesFit limits with_child
+      child_fits =
+          let was = fit_parts limits tree fit in
+          let charged = was.charge in
+          let few = was.few in
+          let nodes = all.nodes in
+          record {
+            charge = omega (arith, charged, total_child);
+            nodes = omega (arith, nodes, length_last, length_name);
+            few = few-from limits.names 0 with_child above_child (λ n node is. elim (cases_eq n stamp) [
+              | inl same ↦
+                  let it : child ≡ node = some_is child node (sym (at-with_same tree stamp child) ∙ ap (λ (k : ℕ). at k with_child) (sym same) ∙ is) in
+                  let none : length (names_of node.content) ≡ 0 = ap (λ (n : Node). length (names_of n.content)) (sym it) ∙ ap (λ (content : Content). length (names_of content)) empty in
+                  omega (arith, none)
+              | inr other ↦ few-at limits.names tree n node few (sym (at-with_other tree stamp n child other) ∙ is)
+            ]);
+          }
+
+      name_fits : DoesFit limits with_name
+      name_fits =
+          let charged = all.charge in
+          let nodes = all.nodes in
+          let few = all.few in
+          record {
+            charge = omega (arith, charged, total_last);
+            nodes = omega (arith, nodes, length_last);
+            few = few-from limits.names 0 with_name above_name (λ n node is. elim (cases_eq n number) [
+              | inl same ↦
+                  let it : named ≡ node = some_is named node (sym named_there ∙ ap (λ (k : ℕ). at k with_name) (sym same) ∙ is) in
+                  let here = few-at limits.names after number last few (at-with_same with_name number last) in
+                  let count : length (names_of node.content) ≡ length (names_of last.content) = ap (λ (n : Node). length (names_of n.content)) (sym it) in
+                  omega (arith, count, here)
+              | inr other ↦ few-at limits.names after n node few (at-with_other with_name number n last other ∙ is)
+            ]);
+          }
+
+    -- each front of the edits
+    pub fronts_fit : (count : ℕ) → IsTrue (fits limits (edited (made_by stamp number child entry shown) tree))
+        → IsTrue (fits limits (edited (take count (made_by stamp number child entry shown)) tree))
+    fronts_fit zero all = fit
+    fronts_fit (suc zero) all = fit_of limits with_child (child_fits (fit_parts limits after (ap (fits limits) (sym after_is) ∙ all)))
+    fronts_fit (suc (suc zero)) all =
+        ap (fits limits) second_is ∙ fit_of limits with_name (name_fits (fit_parts limits after (ap (fits limits) (sym after_is) ∙ all)))
+    fronts_fit (suc (suc (suc zero))) all = all
+    fronts_fit (suc (suc (suc (suc count)))) all = all

@@ -1,18 +1,13 @@
--- What a call does to a file system: said once, for each call of this crate and of those above it that may change the tree.
-use Rattle.std.specs.Prelude.{ℕ, Bool, true, false, List, Result, Ok, Err, ◌≡◌, ◌≤◌}
-use Rattle.std.specs.List.{IsAmong}
-use Rattle.disk.specs.Cause.{IsCounted}
-use Rattle.model.specs.Tree.{Tree}
+-- What a call does to a file system: said once, for each call of this crate and of those above it
+-- that may change the tree.
+use Rattle.std.specs.Prelude.{ℕ, Result, Ok, Err, ◌≡◌}
 use Rattle.fs.specs.declared.fault.FsFault.{FsFault}
 use Rattle.fs.specs.declared.fault.FsFault.TheVariants as fault
-use Rattle.fs.specs.FileSystem.{FileSystem, IsSameVolume, IsRecent, MayAdd, AddsTrees}
+use Rattle.fs.specs.FileSystem.{FileSystem}
+use Rattle.volume.specs.Changes as volume
+use Rattle.volume.specs.Changes.{Given, Ending, Done, Nothing, Broken}
 
--- how a call ends: it answered, it left all as it was, or the device failed in it
-pub data Ending : Type 0 where
-  Done : Ending
-  Nothing : Ending
-  Broken : Ending
-
+-- how a call ends
 abbrev pub fs_ending : {T : Type 0} → Result T FsFault → Ending
 fs_ending (Ok done) = Done
 fs_ending (Err (fault.Status reason)) = Nothing
@@ -21,42 +16,9 @@ fs_ending (Err fault.Memory) = Nothing
 fs_ending (Err fault.Device) = Broken
 fs_ending (Err fault.Down) = Nothing
 
--- What the definition says of a call: that the tree behind it is this one, and whether what it did has to last. A change that may
--- be lost until a later one, as an unstable write, is one that does not.
-abbrev pub Given : Type 1
-Given = (after : Tree) → (lasts : Bool) → Type 0
-
--- that it is this tree
-abbrev pub IsTree : Tree → Given
-IsTree tree after lasts = after ≡ tree
-
--- a stop behind the call leaves these trees: of those before and the one behind it, and of what has to last that one alone
-pub record Leaves (new : FileSystem) (after : Tree) (lasts : Bool) (recent left : List Tree) : Type 0 where
-  pub ready : IsRecent new left
-  pub no_others : (tree : Tree) → IsAmong left tree → MayAdd recent after tree
-  pub durable : lasts ≡ true → (tree : Tree) → IsAmong left tree → tree ≡ after
-
--- whichever trees a stop may leave before it
-abbrev pub LeavesTrees : (old new : FileSystem) → (after : Tree) → (lasts : Bool) → Type 0
-LeavesTrees old new after lasts = (recent : List Tree) → IsRecent old recent → (left : List Tree) × Leaves new after lasts recent left
-
-pub record HasAnswered (keeps_word : Type 0) (given : Given) (old new : FileSystem) : Type 0 where
-  pub still_up : new.is_down ≡ false
-  pub leaves : keeps_word → (after : Tree) (lasts : Bool) → given after lasts → LeavesTrees old new after lasts
-
--- it is down, with the tree that it had; and the device counted a failure
-pub record HasBroken (old new : FileSystem) (failed_before failed_after : ℕ) : Type 0 where
-  pub only : new ≡ record old { is_down = true; history = new.history; fronts = new.fronts }
-  pub cause : IsCounted failed_before failed_after
-
-abbrev pub EndsAs : (keeps_word : Type 0) → Given → (old new : FileSystem) → (failed_before failed_after : ℕ) → Ending → Type 0
-EndsAs keeps_word given old new failed_before failed_after Done = HasAnswered keeps_word given old new
-EndsAs keeps_word given old new failed_before failed_after Nothing = new ≡ old
-EndsAs keeps_word given old new failed_before failed_after Broken = HasBroken old new failed_before failed_after
-
-pub record Changes (keeps_word : Type 0) (given : Given) (old new : FileSystem) (failed_before failed_after : ℕ) (ending : Ending) : Type 0 where
-  pub same : IsSameVolume old new
-  pub later : failed_before ≤ failed_after
-  -- at each moment of it a stop leaves a tree from before, or the one behind it
-  pub moments : keeps_word → (after : Tree) (lasts : Bool) → given after lasts → AddsTrees old after new.history
-  pub ends : EndsAs keeps_word given old new failed_before failed_after ending
+-- what it does to the volume; and where it does not answer it counts no change
+pub record Changes (keeps_word : Type 0) (given : Given) (old new : FileSystem)
+    (failed_before failed_after : ℕ) (ending : Ending) : Type 0 where
+  pub volume_changes :
+      volume.Changes keeps_word given old.volume new.volume failed_before failed_after ending
+  pub no_count : (ending ≡ Done → ⊥) → new.changes ≡ old.changes

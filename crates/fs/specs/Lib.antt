@@ -1,12 +1,8 @@
 pub mod Changes
+pub mod Entries
 pub mod FileSystem
 pub mod FileSystems
-pub mod Formats
-pub mod Fronts
-pub mod MountAnswers
-pub mod Mounts
 pub mod Operations
+pub mod Planned
+pub mod Ready
 pub mod Refusals
-pub mod Remounts
-pub mod Stands
-pub mod Superblock

@@ -16,39 +16,45 @@ use Rattle.fs.specs.declared.fault.FsFault.TheVariants as fault
 use Rattle.fs.specs.declared.created.Created.{Created}
 use Rattle.fs.specs.FileSystem.{FileSystem}
 
--- a COMPOUND's state on this file system, by this caller, with the node of this number as the current one
+-- a COMPOUND's state on this file system, by this caller, with the node of this number as the
+-- current one
 pub record IsOn (fs : FileSystem) (cred : Cred) (number : ℕ) (state : State) : Type 0 where
-  pub is_state : IsState fs.tree cred number state
-  pub run : state.context.run ≡ fs.run
+  pub is_state : IsState fs.volume.tree cred number state
+  pub run : state.context.run ≡ fs.volume.run
   pub changes : state.changes ≡ fs.changes
+
+-- what an operation comes to by the definition, on this volume
+abbrev pub does_on : FileSystem → State → (now : ℕ) → Argument → Stepped
+does_on fs state now operation = does fs.volume.limits state now operation
+
+-- a call that changes nothing is refused as the definition refuses it, or since the device failed
+abbrev pub IsRefused : FileSystem → State → (now : ℕ) → Argument → FsFault → Type 0
+IsRefused fs state now operation (fault.Status reason) =
+    does_on fs state now operation ≡ refused state operation reason
+IsRefused fs state now operation fault.NoRoom = ⊥
+IsRefused fs state now operation fault.Memory = ⊥
+IsRefused fs state now operation fault.Device = ⊥
+IsRefused fs state now operation fault.Down = fs.volume.is_down ≡ true
 
 -- LOOKUP
 
 abbrev pub LooksUp : FileSystem → State → (now : ℕ) → (name : List ℕ) → Result ℕ FsFault → Type 0
-LooksUp fs state now name (Ok number) = does fs.limits state now (Argument.Lookup name) ≡ looked_up state name (Ok number)
-LooksUp fs state now name (Err (fault.Status reason)) = does fs.limits state now (Argument.Lookup name) ≡ looked_up state name (Err reason)
-LooksUp fs state now name (Err fault.NoRoom) = ⊥
-LooksUp fs state now name (Err fault.Memory) = ⊥
-LooksUp fs state now name (Err fault.Device) = ⊥
-LooksUp fs state now name (Err fault.Down) = fs.is_down ≡ true
+LooksUp fs state now name (Ok number) =
+    does_on fs state now (Argument.Lookup name) ≡ looked_up state name (Ok number)
+LooksUp fs state now name (Err reason) = IsRefused fs state now (Argument.Lookup name) reason
 
 -- PUTFH and GETFH
 
-abbrev pub PutsHandle : FileSystem → State → (now : ℕ) → (handle : List ℕ) → Result ℕ FsFault → Type 0
-PutsHandle fs state now handle (Ok number) = does fs.limits state now (Argument.PutFh handle) ≡ put_handle state handle (Ok number)
-PutsHandle fs state now handle (Err (fault.Status reason)) = does fs.limits state now (Argument.PutFh handle) ≡ put_handle state handle (Err reason)
-PutsHandle fs state now handle (Err fault.NoRoom) = ⊥
-PutsHandle fs state now handle (Err fault.Memory) = ⊥
-PutsHandle fs state now handle (Err fault.Device) = ⊥
-PutsHandle fs state now handle (Err fault.Down) = fs.is_down ≡ true
+abbrev pub PutsHandle : FileSystem → State → (now : ℕ) → (handle : List ℕ) → Result ℕ FsFault
+    → Type 0
+PutsHandle fs state now handle (Ok number) =
+    does_on fs state now (Argument.PutFh handle) ≡ put_handle state handle (Ok number)
+PutsHandle fs state now handle (Err reason) = IsRefused fs state now (Argument.PutFh handle) reason
 
 abbrev pub GetsHandle : FileSystem → State → (now : ℕ) → Result (List ℕ) FsFault → Type 0
-GetsHandle fs state now (Ok handle) = does fs.limits state now Argument.GetFh ≡ got_handle state (Ok handle)
-GetsHandle fs state now (Err (fault.Status reason)) = does fs.limits state now Argument.GetFh ≡ got_handle state (Err reason)
-GetsHandle fs state now (Err fault.NoRoom) = ⊥
-GetsHandle fs state now (Err fault.Memory) = ⊥
-GetsHandle fs state now (Err fault.Device) = ⊥
-GetsHandle fs state now (Err fault.Down) = fs.is_down ≡ true
+GetsHandle fs state now (Ok handle) =
+    does_on fs state now Argument.GetFh ≡ got_handle state (Ok handle)
+GetsHandle fs state now (Err reason) = IsRefused fs state now Argument.GetFh reason
 
 -- The tests of the current filehandle, which stand before all others
 
@@ -61,34 +67,53 @@ TestsCurrent fs state (Err (fault.Status reason)) = current_refusal state ≡ So
 TestsCurrent fs state (Err fault.NoRoom) = ⊥
 TestsCurrent fs state (Err fault.Memory) = ⊥
 TestsCurrent fs state (Err fault.Device) = ⊥
-TestsCurrent fs state (Err fault.Down) = fs.is_down ≡ true
+TestsCurrent fs state (Err fault.Down) = fs.volume.is_down ≡ true
+
+-- Changes
+
+-- what an operation of this caller, with the node of this number as the current one, leaves by the
+-- definition
+pub record MakesTree (fs : FileSystem) (cred : Cred) (number now : ℕ) (operation : Argument)
+    (after : Tree) (lasts : Bool) : Type 0 where
+  pub state : State
+  pub on : IsOn fs cred number state
+  pub tree : after ≡ (does_on fs state now operation).state.tree
+
+-- a call that was not done: refused as the definition refuses it, done but for the room that its
+-- reply lacks, or not known to be done
+abbrev pub IsNotDone : FileSystem → State → (now : ℕ) → Argument → FsFault → Type 0
+IsNotDone fs state now operation (fault.Status reason) =
+    does_on fs state now operation ≡ refused state operation reason
+IsNotDone fs state now operation fault.NoRoom =
+    is_done (does_on fs state now operation).outcome ≡ true
+IsNotDone fs state now operation fault.Memory = Unit {0}
+IsNotDone fs state now operation fault.Device = Unit {0}
+IsNotDone fs state now operation fault.Down = fs.volume.is_down ≡ true
 
 -- CREATE of a directory
 
 abbrev pub new_directory : (name : List ℕ) → Attributes → Argument
 new_directory name given = Argument.Create (NewDirectory name given)
 
--- the file system has the new tree, and the new directory is the current one
-abbrev pub created : FileSystem → State → Attributes → Created → Stepped
-created new state given made = answered
-    (record { tree = new.tree; changes = new.changes; opens = state.opens; context = at_node state.context made.number })
+-- the tree and the count of changes behind it, and the new directory is the current one
+abbrev pub created : Tree → (changes : ℕ) → State → Attributes → Created → Stepped
+created tree changes state given made = answered
+    (record {
+      tree = tree;
+      changes = changes;
+      opens = state.opens;
+      context = at_node state.context made.number;
+    })
     (Answer.Create (record {
       change = record { is_atomic = true; before = made.before; after = made.number };
       was_set = trimmed given.bitmap;
     }))
 
--- what an operation of this caller, with the node of this number as the current one, leaves by the definition
-pub record MakesTree (fs : FileSystem) (cred : Cred) (number now : ℕ) (operation : Argument) (after : Tree) (lasts : Bool) : Type 0 where
-  pub state : State
-  pub on : IsOn fs cred number state
-  pub tree : after ≡ (does fs.limits state now operation).state.tree
-
--- done, refused with a status, or done but for the room that its reply lacks
-abbrev pub MakesDir : (old new : FileSystem) → State → (now : ℕ) → (name : List ℕ) → Attributes → Result Created FsFault → Type 0
-MakesDir old new state now name given (Ok made) = does old.limits state now (new_directory name given) ≡ created new state given made
-MakesDir old new state now name given (Err (fault.Status reason)) =
-    does old.limits state now (new_directory name given) ≡ refused state (new_directory name given) reason
-MakesDir old new state now name given (Err fault.NoRoom) = is_done (does old.limits state now (new_directory name given)).outcome ≡ true
-MakesDir old new state now name given (Err fault.Memory) = Unit {0}
-MakesDir old new state now name given (Err fault.Device) = Unit {0}
-MakesDir old new state now name given (Err fault.Down) = old.is_down ≡ true
+-- where the device keeps its word it is made as the definition makes it
+abbrev pub MakesDir : (keeps_word : Type 0) → (old new : FileSystem) → State → (now : ℕ)
+    → (name : List ℕ) → Attributes → Result Created FsFault → Type 0
+MakesDir keeps_word old new state now name given (Ok made) = keeps_word
+    → does_on old state now (new_directory name given)
+    ≡ created new.volume.tree new.changes state given made
+MakesDir keeps_word old new state now name given (Err reason) =
+    IsNotDone old state now (new_directory name given) reason

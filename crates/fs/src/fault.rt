@@ -2,46 +2,11 @@
 
 ghost use Rattle.std.specs.Prelude.{◌≡◌};
 
-use image::ImageFault;
-use journal::JournalFault;
 use model::status::Status;
 use plain::refusal::Refusal;
 use std::alloc::AllocError;
 use thiserror::Error;
-
-/// Why a device was not formatted.
-#[derive(Clone, Copy, Debug, PartialEq, Eq, Error)]
-pub enum FormatFault {
-    /// The device failed; a stop within the format may leave the same.
-    #[error("Device")]
-    Device,
-    /// No memory. Nothing was written.
-    #[error("Memory")]
-    Memory,
-    /// No volume has this many sectors and nodes. Nothing was written.
-    #[error("Size")]
-    Size,
-}
-
-/// Why a volume was not mounted.
-#[derive(Clone, Copy, Debug, PartialEq, Eq, Error)]
-pub enum MountFault {
-    /// The device failed; the restart count may be raised.
-    #[error("Device")]
-    Device,
-    /// A volume, but no tree stands there.
-    #[error("Damaged")]
-    Damaged,
-    /// No volume of this version and of the device's size.
-    #[error("NotVolume")]
-    NotVolume,
-    /// The restart count is full.
-    #[error("Worn")]
-    Worn,
-    /// No memory.
-    #[error("Memory")]
-    Memory,
-}
+use volume::VolumeFault;
 
 /// Why an operation was not done.
 #[derive(Clone, Copy, Debug, PartialEq, Eq, Error)]
@@ -55,7 +20,8 @@ pub enum FsFault {
     /// No memory. Nothing changed.
     #[error("Memory")]
     Memory,
-    /// The device failed: it is not known whether the change was kept. The file system is down from then on.
+    /// The device failed: it is not known whether the change was kept. The file system is down from
+    /// then on.
     #[error("Device")]
     Device,
     /// Down since the device failed.
@@ -96,49 +62,17 @@ impl From<Status> for FsFault {
     }
 }
 
-impl From<AllocError> for MountFault {
-    ghost use Rattle.fs.specs.declared.fault.MountFault.TheVariants.{Memory};
+impl From<VolumeFault> for FsFault {
+    ghost use Rattle.fs.specs.Refusals.{volume_fault};
 
-    ghost from_gives = { λ _ fault. fault ≡ Memory };
+    ghost from_gives = { λ refusal fault. fault ≡ volume_fault refusal };
 
-    fn from(_: AllocError) -> Self {
-        MountFault::Memory
-    }
-}
-
-impl From<JournalFault> for MountFault {
-    ghost use Rattle.fs.specs.Refusals.{mount_fault};
-
-    ghost from_gives = { λ refusal fault. fault ≡ mount_fault refusal };
-
-    fn from(fault: JournalFault) -> Self {
+    fn from(fault: VolumeFault) -> Self {
         match fault {
-            JournalFault::Memory => MountFault::Memory,
-            JournalFault::Damaged => MountFault::Damaged,
-            JournalFault::Fault | JournalFault::TooMany | JournalFault::Down => MountFault::Device,
+            VolumeFault::NoSpace => FsFault::Status(Status::NoSpc),
+            VolumeFault::Memory => FsFault::Memory,
+            VolumeFault::Device => FsFault::Device,
+            VolumeFault::Down => FsFault::Down,
         }
-    }
-}
-
-impl From<ImageFault> for MountFault {
-    ghost use Rattle.fs.specs.Refusals.{image_fault};
-
-    ghost from_gives = { λ refusal fault. fault ≡ image_fault refusal };
-
-    fn from(fault: ImageFault) -> Self {
-        match fault {
-            ImageFault::NotImage => MountFault::Damaged,
-            ImageFault::Memory => MountFault::Memory,
-        }
-    }
-}
-
-impl From<AllocError> for FormatFault {
-    ghost use Rattle.fs.specs.declared.fault.FormatFault.TheVariants.{Memory};
-
-    ghost from_gives = { λ _ fault. fault ≡ Memory };
-
-    fn from(_: AllocError) -> Self {
-        FormatFault::Memory
     }
 }

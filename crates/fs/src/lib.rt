@@ -1,16 +1,20 @@
-//! A file system on a device: a tree of directories that survives a stop at any moment.
+//! A file system on a volume: the operations of a COMPOUND on its tree, which survives a stop at any
+//! moment.
 #![tactic(auto)]
 
+mod changing;
 mod created;
+mod entries;
 mod fault;
-mod formatting;
 mod fs;
-mod laws;
-mod mount;
-mod reading;
-pub mod superblock;
+mod handles;
+mod lookup;
+mod making;
+mod nodes;
+mod rights;
 
 pub use created::Created;
-pub use fault::{FormatFault, FsFault, MountFault};
-pub use fs::{Fs, Unmounted};
-pub use laws::{one_tree_stands, superblock_tells};
+pub use fault::FsFault;
+pub use fs::Fs;
+pub use volume::superblock::is_volume_size;
+pub use volume::{FormatFault, MountFault, Unmounted};

@@ -1,19 +1,17 @@
 -- The turns of a hang-up.
-use Rattle.std.proofs.Common.{◌≡◌, ◌≤◌, ◌<◌, ◌-◌, ℕ, true, suc, Option, Some, None, refl, sym, ap, ◌∙◌, subst, inl, inr, arith}
+use Rattle.std.proofs.Common.{◌≡◌, ◌≤◌, ◌<◌, ◌-◌, ℕ, true, suc, Option, Some, None, refl, sym, ◌∙◌, inl, inr, arith}
 use Rattle.std.proofs.lemmas.Bool.{cases_lt}
 use Rattle.slab.specs.Slab.{Slab}
 use Rattle.disk.specs.Cause.{IsCounted}
-use Rattle.model.specs.Keyed.{Keyed, at}
-use Rattle.model.specs.RuledOut.{IsOneFurther, request_at}
+use Rattle.model.specs.Keyed.{at}
 use Rattle.model.specs.Runs.{Turns}
 use Rattle.model.specs.World as world
-use Rattle.model.specs.World.{World, InProgress, Busy, one, is_busy}
-use Rattle.model.proofs.RuledOutLaws.{one_a_turn}
+use Rattle.model.specs.World.{InProgress, Busy, is_busy}
 use Rattle.rpc.specs.Assembly.{Assembly, Gathers, Holds, Refuses}
 use Rattle.server.specs.declared.connection.Connection.{Connection}
 use Rattle.server.specs.declared.stage.Stage.{Stage}
 use Rattle.server.specs.declared.stage.Stage.TheVariants as stage
-use Rattle.server.specs.Connections.{connection_view, connections_of}
+use Rattle.server.specs.Connections.{connection_view, connections_of, HasGoneOn}
 use Rattle.server.specs.Stages.{stage_view, asked_held, is_ready}
 use Rattle.server.proofs.Resumptions.{no_more}
 use Rattle.server.specs.Seen.{Seen, Said, Does, IsTurned, Stays, Goes_on}
@@ -44,30 +42,25 @@ has_more slab n request is =
     let found = stands_some slab n (Busy request) is in
     more_in found.0.assembler found.0.stage request found.0.ready found.2
 
-fewer : (slab : Slab Connection) (n : ℕ) (request : InProgress) (turned : world.Turned) (left : Option world.Connection) → at n (connections_of slab) ≡ left → IsOneFurther request turned left
+fewer : (slab : Slab Connection) (n : ℕ) (request : InProgress) (left : Option world.Connection) → at n (connections_of slab) ≡ left → HasGoneOn (Some (Busy request)) left
     → turns_left left < suc (request.count - request.answered)
-fewer slab n request turned None is further = absurd further
-fewer slab n request turned (Some (world.Quiet bytes)) is further = absurd further
-fewer slab n request turned (Some (world.Waiting bytes)) is further = absurd further
-fewer slab n request turned (Some (Busy after)) is further =
+fewer slab n request None is further = absurd further
+fewer slab n request (Some (world.Quiet bytes)) is further = absurd further
+fewer slab n request (Some (world.Waiting bytes)) is further = absurd further
+fewer slab n request (Some (Busy after)) is further =
     let bound = has_more slab n after is in
     omega (arith, bound, further.0, further.1)
-fewer slab n request turned (Some (world.Replied reply)) is further = omega arith
-fewer slab n request turned (Some world.Closed) is further = absurd further
+fewer slab n request (Some (world.Replied reply)) is further = omega arith
+fewer slab n request (Some world.Closed) is further = absurd further
 
-pub fewer_left : (old : World) (slab : Slab Connection) (n now : ℕ) → is_busy (at n old.connections) ≡ true
-    → connections_of slab ≡ (one old n now).world.connections → turns_left (at n (connections_of slab)) < turns_left (at n old.connections)
-fewer_left old slab n now busy is = by_connection (at n old.connections) refl busy
-  where
-    by_connection : (before : Option world.Connection) → at n old.connections ≡ before → is_busy before ≡ true → turns_left (at n (connections_of slab)) < turns_left before
-    by_connection None e busy = let never : ⊥ = cc in absurd never
-    by_connection (Some (world.Quiet bytes)) e busy = let never : ⊥ = cc in absurd never
-    by_connection (Some (world.Waiting bytes)) e busy = let never : ⊥ = cc in absurd never
-    by_connection (Some (Busy request)) e busy =
-        fewer slab n request (one old n now) (at n (connections_of slab)) refl
-        (subst (λ (connections : Keyed world.Connection). IsOneFurther request (one old n now) (at n connections)) (sym is) (one_a_turn old n now request (ap (request_at old) e)))
-    by_connection (Some (world.Replied reply)) e busy = let never : ⊥ = cc in absurd never
-    by_connection (Some world.Closed) e busy = let never : ⊥ = cc in absurd never
+pub fewer_left : (slab : Slab Connection) (n : ℕ) (before : Option world.Connection) → is_busy before ≡ true → HasGoneOn before (at n (connections_of slab))
+    → turns_left (at n (connections_of slab)) < turns_left before
+fewer_left slab n None busy further = let never : ⊥ = cc in absurd never
+fewer_left slab n (Some (world.Quiet bytes)) busy further = let never : ⊥ = cc in absurd never
+fewer_left slab n (Some (world.Waiting bytes)) busy further = let never : ⊥ = cc in absurd never
+fewer_left slab n (Some (Busy request)) busy further = fewer slab n request (at n (connections_of slab)) refl further
+fewer_left slab n (Some (world.Replied reply)) busy further = let never : ⊥ = cc in absurd never
+fewer_left slab n (Some world.Closed) busy further = let never : ⊥ = cc in absurd never
 
 -- A failure in a later call
 pub counted_since : (first before after : ℕ) → first ≤ before → IsCounted before after → IsCounted first after

@@ -8,7 +8,7 @@ use Rattle.compound.specs.declared.fault.Fault.TheVariants as turns
 use Rattle.server.specs.declared.fault.ServerFault.{ServerFault}
 use Rattle.server.specs.declared.fault.ServerFault.TheVariants as faults
 use Rattle.server.specs.Faults.{turn_fault}
-use Rattle.server.specs.Refused.{View, HasCause, RefusesTurn, RefusesHangUp, connection_at}
+use Rattle.server.specs.Refused.{View, IsUntouched, KeepsWorld, HasCause, RefusesTurn, RefusesHangUp, connection_at}
 use Rattle.server.proofs.HangUps.{counted_since}
 
 -- what a `?` hands on
@@ -25,10 +25,10 @@ told_err (Ok done) fault is = absurd is
 told_err (Err told) fault is = ap Err is
 
 -- a turn that a connection does not do
-pub turn_refused : (old new : View) (number : ℕ) (fault : Fault) → new.world ≡ old.world → (fault ≡ turns.Memory → new.volume ≡ old.volume)
-    → (fault ≡ turns.Device → HasCause old new) → RefusesTurn old new number (turn_fault fault)
-turn_refused old new number turns.Memory world volume cause = (world, volume refl)
-turn_refused old new number turns.Device world volume cause = (world, cause refl)
+pub turn_refused : (old new : View) (number : ℕ) (fault : Fault) → (fault ≡ turns.Memory → IsUntouched old new)
+    → (fault ≡ turns.Device → KeepsWorld old new × HasCause old new) → RefusesTurn old new number (turn_fault fault)
+turn_refused old new number turns.Memory untouched broken = untouched refl
+turn_refused old new number turns.Device untouched broken = broken refl
 
 -- a turn of a hang-up: the request has begun, so it has a connection, and one that is not closed
 pub hang_up_refused : (first old new : View) (number : ℕ) (fault : ServerFault) → old.volume.is_down ≡ false → first.failures ≤ old.failures

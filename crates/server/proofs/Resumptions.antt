@@ -1,13 +1,17 @@
 -- The COMPOUND that a record asks for, between its turns.
-use Rattle.std.proofs.Common.{◌≡◌, ℕ, true, List, Option, Some, None, ◌≤◌, refl, subst, arith}
-use Rattle.compound.specs.Views.{Asked, resumed}
+use Rattle.std.proofs.Common.{◌≡◌, ℕ, true, List, Option, Some, None, ◌≤◌, refl, sym, subst, arith}
+use Rattle.compound.specs.Steps.{GoesFurther}
+use Rattle.compound.specs.Views.{Asked, resumed, asked_of, in_progress_of}
 use Rattle.compound.specs.declared.progress.Progress.{Progress}
+use Rattle.compound.specs.declared.running.Running.{Running}
+use Rattle.compound.specs.declared.step.Stepped.{Stepped}
+use Rattle.compound.specs.declared.step.Stepped.TheVariants as stepped
 use Rattle.compound.proofs.Resuming.{fits_more}
 use Rattle.model.specs.Rpc.{Call, NoCall, OtherVersion, Calls, Compound, Reply, Answers, Runs, read_call, request_of}
 use Rattle.model.specs.World.{InProgress, Busy}
 use Rattle.model.specs.declared.acl.Cred.{Cred}
-use Rattle.server.specs.Connections.{IsOfRun}
-use Rattle.server.specs.Stages.{asked_in, begun, can_go_on}
+use Rattle.server.specs.Connections.{IsOfRun, HasGoneOn}
+use Rattle.server.specs.Stages.{asked_in, begun, left_by, can_go_on}
 
 pub asked_is : (request : List ℕ) (call : Call) (cred : Cred) (compound : Compound) → read_call request ≡ Calls call → request_of call ≡ Runs cred compound
     → asked_in request ≡ Some (record { xid = call.xid; cred = cred; compound = compound })
@@ -42,3 +46,14 @@ no_more (Some asked) progress request can is =
     let same : resumed asked progress ≡ request = cc in
     let more : progress.answered ≤ asked.compound.count = omega (arith, fits_more asked progress can) in
     subst (λ (r : InProgress). r.answered ≤ r.count) same more
+
+-- behind a step of it
+stepped_on : (running : Running) (done : Stepped) → GoesFurther (in_progress_of running) done → HasGoneOn (Some (Busy (in_progress_of running))) (Some (left_by (Some (asked_of running)) done))
+unfolding in_progress_of
+stepped_on running (stepped.Ran progress) further = (further, refl)
+stepped_on running (stepped.Answered reply) further = tt
+
+pub gone_on : (asked : Option Asked) (running : Running) (done : Stepped) → asked ≡ Some (asked_of running) → GoesFurther (in_progress_of running) done
+    → HasGoneOn (Some (Busy (in_progress_of running))) (Some (left_by asked done))
+gone_on asked running done is further =
+    subst (λ (a : Option Asked). HasGoneOn (Some (Busy (in_progress_of running))) (Some (left_by a done))) (sym is) (stepped_on running done further)

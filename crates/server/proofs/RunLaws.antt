@@ -1,6 +1,6 @@
 use Rattle.std.proofs.Common.{◌≡◌, ℕ, List, ◌∷◌, Option, Some, None, Bool, true, false, cond, refl, ap, subst, arith}
 use Rattle.std.specs.List.{IsAmong}
-use Rattle.fs.proofs.RemountLaws.{seen_left}
+use Rattle.volume.proofs.RemountLaws.{seen_left}
 use Rattle.model.specs.Answer.{Answer, Outcome}
 use Rattle.model.specs.declared.status.Status.TheVariants as status
 use Rattle.model.specs.Keyed.{at}

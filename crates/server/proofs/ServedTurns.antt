@@ -1,21 +1,22 @@
 -- A turn of a connection, as the turn of its server.
-use Rattle.std.proofs.Common.{◌≡◌, ℕ, List, subst, true, false, Some, refl, sym, ap, ◌∙◌, inl, inr}
+use Rattle.std.proofs.Common.{◌≡◌, ℕ, List, subst, true, false, Option, Some, refl, sym, ap, ◌∙◌, inl, inr}
 use Rattle.disk.specs.Moments.{History, AddsOnly}
 use Rattle.server.proofs.Moments.{adds_weaker}
 use Rattle.compound.specs.States.{SharedState, HasState, with_state}
 use Rattle.compound.specs.Volumes.{TurnGives, lasts}
-use Rattle.compound.specs.declared.fault.Fault.{Fault}
-use Rattle.compound.specs.declared.fault.Fault.TheVariants as fault
-use Rattle.fs.specs.FileSystem.{FileSystem, AddsTrees, StandsForOne, IsRecent, MayAdd}
+use Rattle.fs.specs.FileSystem.{FileSystem}
+use Rattle.volume.specs.Held.{IsSameVolume, AddsTrees, StandsForOne, IsRecent, MayAdd}
+use Rattle.model.specs.declared.limits.Limits.{Limits}
 use Rattle.model.specs.Tree.{Tree}
 use Rattle.model.specs.Keyed.{Keyed, at, with}
+use Rattle.model.proofs.KeyedLaws.{at-with_same}
 use Rattle.model.specs.Runs as runs
 use Rattle.model.specs.Runs.{MayLeave}
 use Rattle.model.specs.World as world
 use Rattle.model.specs.World.{one, with_connection}
 use Rattle.server.specs.declared.turn.Turn.{Turn}
-use Rattle.server.specs.Connections.{Turns, IsRising, turn_view}
-use Rattle.server.specs.Servers.{world_by}
+use Rattle.server.specs.Connections.{Turns, IsRising, HasGoneOn, turn_view}
+use Rattle.server.specs.Servers.{world_by, server_limits}
 use Rattle.server.proofs.Turning.{one_is}
 use Rattle.server.proofs.Worlds.{may_leave_from}
 
@@ -35,23 +36,38 @@ module _ (state left : SharedState) (old new : Keyed world.Connection) (number n
     (written : new ≡ with old number after) where
   -- the turn, and the world behind it
   pub turned : (done : Turn) → Turns now state left before after done → IsRising old → at number old ≡ Some before
-      → left.files ≡ record state.files { tree = left.files.tree; changes = left.files.changes; is_down = left.files.is_down; history = left.files.history; fronts = left.files.fronts }
+      → IsSameVolume state.files.volume left.files.volume
       → (turn_view done ≡ (one (world_by state old) number now).turn) × (world_by left new ≡ (one (world_by state old) number now).world)
   turned done turns rises is same =
       let made = turns (world_by state old) number (has_state state old) rises is in
       let here : world_by left new ≡ with_connection (with_state (world_by state old) left) number after
-      = ap (λ (f : FileSystem). world_by (record left { files = f }) new) same
-      ∙ ap (λ (connections : Keyed world.Connection). record (with_state (world_by state old) left) { connections = connections }) written in
+      = ap (λ (l : Limits). record (world_by left new) { limits = server_limits l }) same.limits
+      ∙ (ap (λ (r : ℕ). record (world_by left new) { limits = server_limits state.files.volume.limits; run = r }) same.run
+      ∙ ap (λ (connections : Keyed world.Connection). record (with_state (world_by state old) left) { connections = connections }) written) in
       (sym made.0, here ∙ sym made.1)
 
 -- a turn that was not done leaves the world
-pub undone : (state left : SharedState) (old new : Keyed world.Connection) (refusal : Fault)
-    → (refusal ≡ fault.Memory → left.files ≡ state.files) → (refusal ≡ fault.Device → left.files ≡ record state.files { is_down = true; history = left.files.history; fronts = left.files.fronts })
+pub undone : (state left : SharedState) (old new : Keyed world.Connection) → left.files ≡ state.files
     → left ≡ record state { files = left.files } → new ≡ old → world_by left new ≡ world_by state old
-undone state left old new fault.Memory memory device stays connections =
-    ap (λ (s : SharedState). world_by s new) (stays ∙ ap (λ (f : FileSystem). record state { files = f }) (memory refl)) ∙ ap (world_by state) connections
-undone state left old new fault.Device memory device stays connections =
-    ap (λ (s : SharedState). world_by s new) (stays ∙ ap (λ (f : FileSystem). record state { files = f }) (device refl)) ∙ ap (world_by state) connections
+undone state left old new files stays connections =
+    ap (λ (s : SharedState). world_by s new) (stays ∙ ap (λ (f : FileSystem). record state { files = f }) files) ∙ ap (world_by state) connections
+
+-- and where the device failed all of it but the tree
+pub broken : (state left : SharedState) (old new : Keyed world.Connection) → IsSameVolume state.files.volume left.files.volume → left.files.changes ≡ state.files.changes
+    → left ≡ record state { files = left.files } → new ≡ old → (tree : Tree) → record (world_by left new) { tree = tree } ≡ record (world_by state old) { tree = tree }
+broken state left old new same changes stays connections tree =
+    ap (λ (s : SharedState). record (world_by s new) { tree = tree }) stays
+    ∙ (ap (λ (l : Limits). record (world_by (record state { files = left.files }) new) { tree = tree; limits = server_limits l }) same.limits
+    ∙ (ap (λ (r : ℕ). record (world_by (record state { files = left.files }) new) { tree = tree; limits = server_limits state.files.volume.limits; run = r }) same.run
+    ∙ (ap (λ (n : ℕ). record (world_by state new) { tree = tree; changes = n }) changes
+    ∙ ap (λ (kept : Keyed world.Connection). record (world_by state kept) { tree = tree }) connections)))
+
+-- a request that has begun goes on where it stands
+pub gone_on_at : (old new : Keyed world.Connection) (number : ℕ) (before after : world.Connection) → at number old ≡ Some before → new ≡ with old number after
+    → HasGoneOn (Some before) (Some after) → HasGoneOn (at number old) (at number new)
+gone_on_at old new number before after there written further =
+    subst (λ (b : Option world.Connection). HasGoneOn b (at number new)) (sym there)
+    (subst (λ (a : Option world.Connection). HasGoneOn (Some before) a) (sym (ap (at number) written ∙ at-with_same old number after)) further)
 
 -- what the turn of a connection gives in the server's world
 pub gives_one : (state : SharedState) (connections : Keyed world.Connection) (number now : ℕ) (before : world.Connection) → at number connections ≡ Some before
@@ -67,15 +83,15 @@ gives_one state connections number now before is =
     }
 
 -- what a stop within it may leave
-pub turning_moments : (state : SharedState) (old : Keyed world.Connection) (number now : ℕ) (recent : List Tree) (new : History) → IsRecent state.files recent → state.files.is_down ≡ false
-    → AddsTrees state.files (one (world_by state old) number now).world.tree new
-    → AddsOnly (StandsForOne state.files (MayLeave (record { world = world_by state old; recent = recent; is_down = state.files.is_down }) (runs.Turns number now))) state.files.history new
+pub turning_moments : (state : SharedState) (old : Keyed world.Connection) (number now : ℕ) (recent : List Tree) (new : History) → IsRecent state.files.volume recent → state.files.volume.is_down ≡ false
+    → AddsTrees state.files.volume (one (world_by state old) number now).world.tree new
+    → AddsOnly (StandsForOne state.files.volume (MayLeave (record { world = world_by state old; recent = recent; is_down = state.files.volume.is_down }) (runs.Turns number now))) state.files.volume.history new
 turning_moments state old number now recent new is up moments =
-    adds_weaker _ (StandsForOne state.files (MayLeave (record { world = world_by state old; recent = recent; is_down = state.files.is_down }) (runs.Turns number now))) state.files.history new
+    adds_weaker _ (StandsForOne state.files.volume (MayLeave (record { world = world_by state old; recent = recent; is_down = state.files.volume.is_down }) (runs.Turns number now))) state.files.volume.history new
     (λ image found. (found.0, either found.0 found.1, found.2)) (moments recent is)
   where
     either : (tree : Tree) → MayAdd recent (one (world_by state old) number now).world.tree tree
-        → MayLeave (record { world = world_by state old; recent = recent; is_down = state.files.is_down }) (runs.Turns number now) tree
+        → MayLeave (record { world = world_by state old; recent = recent; is_down = state.files.volume.is_down }) (runs.Turns number now) tree
     either tree (inl stays) = inl stays
-    either tree (inr goes) = subst (MayLeave (record { world = world_by state old; recent = recent; is_down = state.files.is_down }) (runs.Turns number now)) (sym goes)
-        (may_leave_from (world_by state old) recent state.files.is_down (runs.Turns number now) is.newest up)
+    either tree (inr goes) = subst (MayLeave (record { world = world_by state old; recent = recent; is_down = state.files.volume.is_down }) (runs.Turns number now)) (sym goes)
+        (may_leave_from (world_by state old) recent state.files.volume.is_down (runs.Turns number now) is.newest up)

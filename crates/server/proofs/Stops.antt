@@ -1,17 +1,17 @@
 -- The calls of a server are a run of the machine, and what a stop within one leaves stands for what the machine may leave.
 use Rattle.std.proofs.Common.{◌≡◌, ◌<◌, ℕ, List, refl, sym, ap, ◌∙◌, subst, inl, ⊎_elim, arith}
 use Rattle.disk.specs.Moments.{Image, LeftSince, moment}
-use Rattle.fs.specs.FileSystem.{FileSystem, IsSameVolume}
-use Rattle.fs.specs.Stands.{StandsFor}
-use Rattle.fs.proofs.OneTree.{one_tree_stands}
+use Rattle.volume.specs.Held.{Held, IsSameVolume}
+use Rattle.volume.specs.Stands.{StandsFor}
+use Rattle.volume.proofs.OneTree.{one_tree_stands}
 use Rattle.model.proofs.Headline.{every_run}
 use Rattle.model.proofs.StampLaws.{every_stamp}
 use Rattle.model.specs.Runs as runs
 use Rattle.model.specs.Runs.{Serving, Event, Takes, Happens, Fails, StaysDown, MayLeave, History, IsRun, IsGoodPrefix, AreStamped, no_history, history_after, history_failing, effect_of, mounted, executed, done_with}
 use Rattle.model.specs.World.{World}
-use Rattle.fs.proofs.RemountLaws.{every_remount}
+use Rattle.volume.proofs.RemountLaws.{every_remount}
 use Rattle.server.specs.Headline.{IsGoodTree, EveryStop, EveryRun, EveryTrace, Stopped, executed_in, Follows, IsLater, Next, Then, EveryLife, EveryStamping}
-use Rattle.fs.specs.FileSystem.{StandsForOne}
+use Rattle.volume.specs.Held.{StandsForOne}
 use Rattle.server.specs.Seen.{Seen, LeavesNow, Moves, Call, IsServed, Begins, Goes_on, Fails_at, Stays_down, world_after, history_of, AreTold, told}
 use Rattle.server.specs.Servers.{server_limits}
 use Rattle.server.proofs.Moves.{left_now}
@@ -34,7 +34,7 @@ pub record IsJoined (first : Seen) (calls : List Call) (last : Seen) : Type 0 wh
   pub leaves : LeavesNow last
   pub same : IsSameVolume first.volume last.volume
 
-same_on : (a b c : FileSystem) → IsSameVolume a b → IsSameVolume b c → IsSameVolume a c
+same_on : (a b c : Held) → IsSameVolume a b → IsSameVolume b c → IsSameVolume a c
 same_on a b c ab bc = record {
   sectors = bc.sectors ∙ ab.sectors;
   limits = bc.limits ∙ ab.limits;
@@ -94,14 +94,16 @@ every_stop stopped =
       good = every_run (server_limits first.volume.limits) stopped.run stopped.start old.serving history
           (subst (λ (s : Serving). IsRun s old.serving history) stopped.mounted.serves all.run) stopped.event found.0 found.1;
       stands = stands;
-      no_other = λ nodes run other others. one_tree_stands _ _ _ _ _ other found.0 stopped.image others stands;
+      no_other = λ nodes run other others.
+          let one = one_tree_stands _ _ _ _ _ other found.0 stopped.image others stands in
+          (one.tree_is, (one.nodes_are, one.run_is));
     }
 
 pub every_run_again : EveryRun
 every_run_again stopped device again remounts found =
     let is = every_stop stopped in
     let same = every_remount stopped.first.volume.sectors stopped.first.volume.limits.nodes stopped.run is.tree stopped.image device again is.stands remounts found in
-    record { good = subst (IsGoodTree stopped) (sym same.0) is.good; nodes = same.1.0; counted = same.1.1 }
+    record { good = subst (IsGoodTree stopped) (sym same.tree_is) is.good; nodes = same.nodes_are; counted = same.greater }
 
 follows_run : (old new : Stopped) → Follows old new → IsGoodTree old new.start × (old.run < new.run)
 follows_run old new follows =

@@ -1,20 +1,22 @@
 -- What a turn of a connection is, by what the connection does.
-use Rattle.std.proofs.Common.{◌≡◌, ℕ, false, List, [], ◌∷◌, Some, None, Result, Ok, Err, IfOk, inl, inr, refl, ap, ap₂, sym, subst, ◌∙◌, arith, eq-eqb, ne_eqb, le-ltb}
+use Rattle.std.proofs.Common.{◌≡◌, ℕ, false, List, [], ◌∷◌, Option, Some, None, Result, Ok, Err, IfOk, inl, inr, refl, ap, ap₂, sym, subst, ◌∙◌, arith, eq-eqb, ne_eqb, le-ltb}
 use Rattle.std.proofs.lemmas.Bool.{cases_order}
 use Rattle.compound.specs.States.{SharedState, HasState, with_state}
 use Rattle.compound.specs.declared.fault.Fault.{Fault}
 use Rattle.compound.specs.Volumes.{TurnGives}
 use Rattle.compound.proofs.VolumeLaws.{same_turns, idle_turns}
-use Rattle.fs.specs.Changes.{Ending, Done, Changes}
+use Rattle.fs.specs.Changes.{Changes}
+use Rattle.volume.specs.Changes.{Ending, Done}
 use Rattle.fs.specs.FileSystem.{FileSystem}
-use Rattle.fs.proofs.ChangeLaws.{answers_quietly, changes_by}
+use Rattle.fs.proofs.ChangeLaws.{changes_by}
+use Rattle.compound.proofs.QuietLaws.{answers_quietly}
 use Rattle.model.proofs.KeyedLaws.{at-below, at-first, at-rest, some≢none}
 use Rattle.model.specs.Keyed.{Keyed, at, with, IsAbove}
 use Rattle.model.specs.Rpc.{read_call}
 use Rattle.model.specs.World as world
-use Rattle.model.specs.World.{World, Connection, InProgress, Turned, Waiting, Busy, Replied, one, called, turned, idle, with_connection}
+use Rattle.model.specs.World.{World, Connection, InProgress, Turned, Waiting, Busy, Replied, one, called, turned, idle, is_busy, with_connection}
 use Rattle.rpc.specs.Assembly.{Assembly, Gathers, Holds, Refuses, connection_of}
-use Rattle.server.specs.Connections.{IsRising, Leads, Turns, turn_view}
+use Rattle.server.specs.Connections.{IsRising, Leads, Turns, HasGoneOn, turn_view}
 use Rattle.server.specs.declared.turn.Turn.{Turn}
 use Rattle.server.specs.declared.turn.Turn.TheVariants as turn
 
@@ -116,6 +118,15 @@ pub waiting_comes : (now : ℕ) (before : Connection) (request : List ℕ) → b
     → (world : World) (number : ℕ) → turned world number now (Some before) ≡ called world number now (read_call request)
 waiting_comes now before request is world number = rw is refl
 
+-- A connection whose request has not begun may become anything
+
+pub not_begun : (before : Connection) (after : Option Connection) → is_busy (Some before) ≡ false → HasGoneOn (Some before) after
+not_begun (world.Quiet bytes) after none = tt
+not_begun (Waiting request) after none = tt
+not_begun (Busy request) after none = let never : ⊥ = cc in absurd never
+not_begun (Replied reply) after none = tt
+not_begun world.Closed after none = tt
+
 -- What it does to the file system
 
 module _ (keeps_word : Type 0) (state : SharedState) (fs new : FileSystem) (before after : ℕ) where
@@ -126,7 +137,7 @@ module _ (keeps_word : Type 0) (state : SharedState) (fs new : FileSystem) (befo
       changes_by keeps_word (TurnGives state turn) (TurnGives state other) (same_turns state turn other same) fs new before after ending changes
 
 -- one that does nothing
-pub idle_changes : (keeps_word : Type 0) (state : SharedState) (failed : ℕ) (turn : World → ℕ → Turned) → state.files.is_down ≡ false
+pub idle_changes : (keeps_word : Type 0) (state : SharedState) (failed : ℕ) (turn : World → ℕ → Turned) → state.files.volume.is_down ≡ false
     → ((world : World) (number : ℕ) → HasState world state → (turn world number).executed ≡ None) → Changes keeps_word (TurnGives state turn) state.files state.files failed failed Done
 idle_changes keeps_word state failed turn up idle =
     answers_quietly keeps_word (TurnGives state turn) state.files state.files failed failed refl (omega arith) up (idle_turns state turn idle)

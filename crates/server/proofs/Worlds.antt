@@ -2,7 +2,6 @@
 use Rattle.std.proofs.Common.{◌≡◌, ◌⊎◌, ◌+◌, ◌<◌, ◌≤◌, ℕ, zero, suc, Bool, true, false, List, [], ◌∷◌, ◌++◌, length, get_or, None, Some, Result, Ok, Err, IfOk, OnOk, OnErr, refl, sym, ap, ◌∙◌, subst, inl, inr, cond, arith, lt-ltb}
 use Rattle.std.specs.List.{IsAmong}
 use Rattle.std.proofs.lemmas.Bool.{cases_eq}
-use Rattle.fs.specs.FileSystem.{FileSystem}
 use Rattle.model.specs.Keyed.{Keyed, at, with, without}
 use Rattle.model.specs.Record.{RecordLimits, Front, Partial, Refused, Whole, front}
 use Rattle.model.specs.Rpc.{is_call_read, read_call}
@@ -13,7 +12,8 @@ use Rattle.model.specs.World.{World, Quiet, Closed, arrives, arrives_at, arrived
 use Rattle.model.proofs.KeyedLaws.{at-with_same, at-with_other, at-without_same, at-without_other}
 use Rattle.compound.specs.States.{SharedState}
 use Rattle.compound.specs.Volumes.{lasts}
-use Rattle.fs.specs.Changes.{Leaves}
+use Rattle.volume.specs.Changes.{Leaves}
+use Rattle.volume.specs.Held.{Held}
 use Rattle.model.proofs.RuledOutLaws.{each_event_happens}
 use Rattle.model.proofs.RunLaws.{EntryFits, event_fits}
 use Rattle.rpc.specs.Assembly.{record_limits}
@@ -76,10 +76,10 @@ may_leave_from old recent down event newest up =
     subst (MayLeave (record { world = old; recent = recent; is_down = false }) event) (ap (λ (w : World). w.tree) made.1.world) (made.1.no_others made.0.world.tree made.2))
 
 -- an event that leaves a stop some of the trees before and the one behind it, and behind what has to last that one alone
-pub happened_leaving : (fs : FileSystem) (old new : World) (recent left : List Tree) (old_down new_down : Bool) (event : Event) → IsAmong recent old.tree → old_down ≡ false → new_down ≡ false
-    → new ≡ effect_of old event → Leaves fs (effect_of old event).tree (lasts (executed_of old event)) recent left
+pub happened_leaving : (held : Held) (old new : World) (recent left : List Tree) (old_down new_down : Bool) (event : Event) → IsAmong recent old.tree → old_down ≡ false → new_down ≡ false
+    → new ≡ effect_of old event → Leaves held (effect_of old event).tree (lasts (executed_of old event)) recent left
     → Happens (record { world = old; recent = recent; is_down = old_down }) event (record { world = new; recent = left; is_down = new_down })
-happened_leaving fs old new recent left old_down new_down event newest up still is leaves = record {
+happened_leaving held old new recent left old_down new_down event newest up still is leaves = record {
   up = up;
   world = is;
   still_up = still;

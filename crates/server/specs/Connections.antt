@@ -1,5 +1,5 @@
 -- What a connection stands for, and a turn of it by the definition.
-use Rattle.std.specs.Prelude.{◌≡◌, ℕ, List, [], ◌∷◌, map, Some, None}
+use Rattle.std.specs.Prelude.{◌≡◌, ◌+◌, ℕ, List, [], ◌∷◌, map, Option, Some, None}
 use Rattle.slab.specs.Slab.{Slab, entries}
 use Rattle.compound.specs.States.{SharedState, HasState, with_state}
 use Rattle.compound.specs.Steps.{stepped_on}
@@ -52,6 +52,14 @@ Turns now old new before after done =
 -- a request that has begun goes on in this run of the server
 abbrev pub IsOfRun : (run : ℕ) → world.Connection → Type 0
 IsOfRun run connection = (request : InProgress) → connection ≡ Busy request → request.context.run ≡ run
+
+-- behind a turn a request that had begun has one result more, or its reply is there
+abbrev pub HasGoneOn : (before after : Option world.Connection) → Type 0
+HasGoneOn (Some (Busy request)) (Some (Busy left)) =
+    (left.answered ≡ request.answered + 1) × (left.count ≡ request.count)
+HasGoneOn (Some (Busy request)) (Some (Replied reply)) = Unit {0}
+HasGoneOn (Some (Busy request)) _ = ⊥
+HasGoneOn _ _ = Unit {0}
 
 -- a turn that gives this reply without an operation
 abbrev pub replied : World → (number : ℕ) → (reply : List ℕ) → Turned

@@ -1,12 +1,12 @@
 -- What users of the server can rely on, from the bytes that come to the sectors that a stop leaves.
 use Rattle.std.specs.Prelude.{ℕ, List, [], ◌∷◌, slice_get, Some, ◌≡◌, ◌≢◌, ◌<◌}
 use Rattle.disk.specs.Moments.{Image, History, LeftSince, moment}
-use Rattle.fs.specs.FileSystem.{FileSystem, IsRecent}
-use Rattle.fs.specs.Remounts.{Remounts, IsFound}
-use Rattle.fs.specs.Stands.{StandsFor}
 use Rattle.model.specs.Runs.{Event, IsGoodPrefix, AreStamped, mounted, executed, done_with, before, stamp_in}
 use Rattle.model.specs.Tree.{Tree}
 use Rattle.model.specs.World.{Entry}
+use Rattle.volume.specs.Held.{Held, IsRecent}
+use Rattle.volume.specs.Remounts.{Remounts, IsFound}
+use Rattle.volume.specs.Stands.{StandsFor}
 use Rattle.server.specs.Seen.{Seen, Call, Moves, IsServed, world_after, history_of, AreTold}
 use Rattle.server.specs.Servers.{server_limits, volume_of, seen_with}
 use Rattle.server.specs.declared.server.Server.{Server}
@@ -61,14 +61,14 @@ abbrev pub EveryStop : Type 0
 EveryStop = (stopped : Stopped) → IsKept stopped
 
 -- a later mount has such a tree, on a volume of as many nodes, under a greater restart count
-pub record HasGoodTree (stopped : Stopped) (again : FileSystem) : Type 0 where
+pub record HasGoodTree (stopped : Stopped) (again : Held) : Type 0 where
   pub good : IsGoodTree stopped again.tree
   pub nodes : again.limits.nodes ≡ stopped.first.volume.limits.nodes
   pub counted : stopped.run < again.run
 
 -- The headline: however often the volume was mounted since, and those mounts stopped, the next one that serves has such a tree.
 abbrev pub EveryRun : Type 0
-EveryRun = (stopped : Stopped) (device : History) (again : FileSystem) → Remounts stopped.first.volume.sectors stopped.image device
+EveryRun = (stopped : Stopped) (device : History) (again : Held) → Remounts stopped.first.volume.sectors stopped.image device
     → IsFound stopped.first.volume.sectors device again → HasGoodTree stopped again
 
 -- The runs of a volume: one follows behind the stop of another, and however many mounts that did not serve.

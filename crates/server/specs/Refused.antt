@@ -4,7 +4,8 @@ use Rattle.disk.specs.Cause.{IsCounted}
 use Rattle.disk.specs.declared.device.Device.{Ghosts}
 use Rattle.model.specs.Keyed.{at}
 use Rattle.model.specs.World.{World, Connection, Closed, one}
-use Rattle.fs.specs.FileSystem.{FileSystem}
+use Rattle.volume.specs.Held.{Held, IsSameVolume}
+use Rattle.server.specs.Connections.{HasGoneOn}
 use Rattle.server.specs.declared.fault.ServerFault.{ServerFault}
 use Rattle.server.specs.declared.fault.ServerFault.TheVariants as faults
 use Rattle.server.specs.declared.server.Server.{Server}
@@ -13,7 +14,7 @@ use Rattle.server.specs.Servers.{world_of, volume_of, failures_of}
 -- what a caller can tell of a server between two calls
 pub record View : Type 0 where
   pub world : World
-  pub volume : FileSystem
+  pub volume : Held
   pub failures : ℕ
 
 abbrev pub view : {D : Type 0} {g : Ghosts D} → Server D g → View
@@ -29,12 +30,16 @@ connection_at server number = at number server.world.connections
 abbrev pub HasCause : (old new : View) → Type 0
 HasCause old new = (old.volume.is_down ≡ true) ⊎ IsCounted old.failures new.failures
 
+-- all but the tree of a volume that failed, of which nothing is known
+abbrev pub KeepsWorld : (old new : View) → Type 0
+KeepsWorld old new = new.world ≡ record old.world { tree = new.world.tree }
+
 -- a turn, by why it is refused: it leaves the world in any case
 abbrev pub RefusesTurn : (old new : View) → (number : ℕ) → ServerFault → Type 0
 RefusesTurn old new number faults.NoConnection = (connection_at old number ≡ None) × IsUntouched old new
 RefusesTurn old new number faults.Closed = (connection_at old number ≡ Some Closed) × IsUntouched old new
 RefusesTurn old new number faults.Memory = IsUntouched old new
-RefusesTurn old new number faults.Device = (new.world ≡ old.world) × HasCause old new
+RefusesTurn old new number faults.Device = KeepsWorld old new × HasCause old new
 RefusesTurn old new number faults.Full = ⊥
 
 -- a hang-up; for want of memory it leaves what was run
@@ -45,8 +50,14 @@ RefusesHangUp old new number faults.Device = HasCause old new
 RefusesHangUp old new number faults.Closed = ⊥
 RefusesHangUp old new number faults.Full = ⊥
 
--- a turn that was done, whether the device keeps its word or not
-pub record HasTurned (old new : View) (number now : ℕ) : Type 0 where
+-- A turn that was done. On any device the server was up and is so, on the same volume; the other
+-- connections are as they were, and a request that has begun has gone on. Where the device keeps its
+-- word the world is that of the definition.
+pub record HasTurned (keeps_word : Type 0) (old new : View) (number now : ℕ) : Type 0 where
   pub up : old.volume.is_down ≡ false
   pub still_up : new.volume.is_down ≡ false
-  pub world : new.world ≡ (one old.world number now).world
+  pub same : IsSameVolume old.volume new.volume
+  pub others : (other : ℕ) → (other ≡ number → ⊥)
+      → connection_at new other ≡ connection_at old other
+  pub further : HasGoneOn (connection_at old number) (connection_at new number)
+  pub world : keeps_word → new.world ≡ (one old.world number now).world

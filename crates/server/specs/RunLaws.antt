@@ -1,10 +1,10 @@
 -- What follows of every run.
 use Rattle.std.specs.Prelude.{ℕ, List, [], Option, Some, ◌≡◌, ◌↔◌}
-use Rattle.fs.specs.FileSystem.{IsRecent}
 use Rattle.model.specs.Keyed.{at}
 use Rattle.model.specs.Rpc.{NoCall, read_call}
 use Rattle.model.specs.Tree.{Tree}
 use Rattle.model.specs.World.{World, Connection, Waiting, Busy, Idle, one}
+use Rattle.volume.specs.Held.{IsRecent}
 use Rattle.server.specs.Headline.{IsMounted}
 use Rattle.server.specs.Seen.{Seen, Call, IsServed, IsTurned}
 

@@ -1,7 +1,7 @@
 -- A server as its caller sees it from call to call: the machine of the headline, and the volume below it.
 use Rattle.std.specs.Prelude.{ℕ, true, List, [], ◌∷◌, Option, Some, None, ◌≡◌}
 use Rattle.disk.specs.Moments.{AddsOnly}
-use Rattle.fs.specs.FileSystem.{FileSystem, IsSameVolume, StandsForOne, LeavesOne, IsRecent}
+use Rattle.volume.specs.Held.{Held, IsSameVolume, StandsForOne, LeavesOne, IsRecent}
 use Rattle.model.specs.Keyed.{at}
 use Rattle.model.specs.Runs.{Serving, Event, Arrives, Turns, HangsUp, Connects, Takes, Happens, Fails, StaysDown, MayLeave, History, no_history, history_after, history_failing, effect_of}
 use Rattle.model.specs.World as world
@@ -9,7 +9,7 @@ use Rattle.model.specs.World.{World, Turn, one, taken_at, reply_at, is_busy}
 
 pub record Seen : Type 0 where
   pub serving : Serving
-  pub volume : FileSystem
+  pub volume : Held
 
 abbrev pub LeavesNow : Seen → Type 0
 LeavesNow seen = LeavesOne seen.volume seen.serving.recent

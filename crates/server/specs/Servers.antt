@@ -4,7 +4,7 @@ use Rattle.std.specs.Global.{Vec}
 use Rattle.std.specs.Option.{option_map}
 use Rattle.compound.specs.States.{SharedState, shared_of}
 use Rattle.disk.specs.declared.device.Device.{Ghosts}
-use Rattle.fs.specs.FileSystem.{FileSystem, IsRecent, LeavesOne}
+use Rattle.fs.specs.FileSystem.{FileSystem}
 use Rattle.fs.specs.FileSystems.{fs_of, fs_failures}
 use Rattle.model.specs.declared.limits.Limits.{Limits}
 use Rattle.model.specs.Runs.{Serving, Event}
@@ -13,6 +13,7 @@ use Rattle.model.specs.World as world
 use Rattle.model.specs.World.{World, ServerLimits, mounted_world}
 use Rattle.rpc.specs.Assembly.{record_limits}
 use Rattle.session.specs.Limits.{served}
+use Rattle.volume.specs.Held.{Held, IsRecent, LeavesOne}
 use Rattle.server.specs.Connections.{connections_of}
 use Rattle.server.specs.declared.server.Server.{Server}
 use Rattle.server.specs.Seen.{Seen, Said, Gave, Does, Breaks, GivesDown, IsTurned}
@@ -23,9 +24,9 @@ server_limits volume = record { volume = volume; sessions = served; records = re
 
 abbrev pub world_by : SharedState → (connections : List (ℕ × world.Connection)) → World
 world_by state connections = record {
-  limits = server_limits state.files.limits;
-  run = state.files.run;
-  tree = state.files.tree;
+  limits = server_limits state.files.volume.limits;
+  run = state.files.volume.run;
+  tree = state.files.volume.tree;
   changes = state.files.changes;
   opens = state.opens;
   table = state.table;
@@ -35,9 +36,13 @@ world_by state connections = record {
 unfoldable pub world_of : {D : Type 0} {g : Ghosts D} → Server D g → World
 world_of server = world_by (shared_of server.fs server.table) (connections_of server.connections)
 
--- the file system that it serves: whether that is down, and what a stop may leave
-unfoldable pub volume_of : {D : Type 0} {g : Ghosts D} → Server D g → FileSystem
-volume_of server = fs_of server.fs
+-- the file system that it serves
+unfoldable pub files_of : {D : Type 0} {g : Ghosts D} → Server D g → FileSystem
+files_of server = fs_of server.fs
+
+-- and the volume below it: whether that is down, and what a stop may leave
+unfoldable pub volume_of : {D : Type 0} {g : Ghosts D} → Server D g → Held
+volume_of server = (fs_of server.fs).volume
 
 -- it has the tree of its volume, and neither a client nor a connection
 abbrev pub BeginsEmpty : {D : Type 0} {g : Ghosts D} → Server D g → Type 0
@@ -56,6 +61,18 @@ serving server recent = record { world = world_of server; recent = recent; is_do
 abbrev pub seen_with : {D : Type 0} {g : Ghosts D} → Server D g → List Tree → Seen
 seen_with server recent = record { serving = serving server recent; volume = volume_of server }
 
+-- and one that is down: what its volume shows since it failed is left open, and its world has the
+-- tree that it had
+abbrev pub seen_down : {D : Type 0} {g : Ghosts D} → Server D g → Tree → List Tree → Seen
+seen_down server tree recent = record {
+  serving = record {
+    world = record (world_of server) { tree = tree };
+    recent = recent;
+    is_down = (volume_of server).is_down;
+  };
+  volume = volume_of server;
+}
+
 -- what is said by a reply's record, or by none
 abbrev pub gave : Option (Vec ℕ) → Said
 gave output = Gave (option_map (λ reply. reply.items) output)
@@ -68,12 +85,14 @@ Serves old new event said = (recent : List Tree) → IsRecent (volume_of old) re
 -- the device fails in it
 abbrev pub Fails : {D : Type 0} {g : Ghosts D} → (old new : Server D g) → Event → Type 0
 Fails old new event = (recent : List Tree) → IsRecent (volume_of old) recent
-    → (after : List Tree) × Breaks (seen_with old recent) event (seen_with new after)
+    → (after : List Tree)
+    × Breaks (seen_with old recent) event (seen_down new (volume_of old).tree after)
 
--- a server that is down gives a reply
+-- a server that is down gives a reply, whichever tree it had
 abbrev pub Gives : {D : Type 0} {g : Ghosts D} → (old new : Server D g) → (connection : ℕ) → Said → Type 0
-Gives old new connection said = (recent : List Tree) → LeavesOne (volume_of old) recent
-    → GivesDown (seen_with old recent) connection said (seen_with new recent)
+Gives old new connection said = (tree : Tree) (recent : List Tree)
+    → LeavesOne (volume_of old) recent
+    → GivesDown (seen_down old tree recent) connection said (seen_down new tree recent)
 
 -- so many turns of a connection, and then what comes
 abbrev pub Turning : {D : Type 0} {g : Ghosts D} → (old : Server D g) → (connection now : ℕ) → (Seen → Type 0) → Type 0

@@ -4,17 +4,16 @@
 mod connection;
 mod fault;
 pub mod laws;
+mod mounting;
 mod receiving;
 mod request;
 mod server;
 mod stage;
 mod turn;
 mod turns;
-mod volume;
 
 pub use fault::ServerFault;
-pub use fs::superblock::is_volume_size;
-pub use fs::{FormatFault, MountFault, Unmounted};
+pub use fs::{FormatFault, MountFault, Unmounted, is_volume_size};
 pub use laws::every_run;
 pub use server::Server;
 pub use turn::Turn;

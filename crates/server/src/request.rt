@@ -44,13 +44,13 @@ pub fn first_turn<D: Device>(
     table: &mut Table,
     now: u64,
 ) -> Result<Stepped, Fault>
-    requires up { (fs_of fs.old).is_down ≡ false }
+    requires up { (fs_of fs.old).volume.is_down ≡ false }
     requires call { is_call_read (rpc.read_call request.now) ≡ true }
-    ensures turn { IfOk result (λ done. Leads (λ world number.
+    ensures turn { D.keeps_word → IfOk result (λ done. Leads (λ world number.
         called world number now (rpc.read_call request.now))
         (shared_of fs.old table.old) (shared_of fs.new table.new)
         (left_by (asked_in request.now) done) (turn_by done)) }
-    ensures stays { IfOk result (StaysInRun (fs_of fs.old).run) }
+    ensures stays { IfOk result (StaysInRun (fs_of fs.old).volume.run) }
     ensures follows { IfOk result (λ done. can_follow (asked_in request.now) done ≡ true) }
     ensures table { OnErr result (table_of table.new ≡ table_of table.old) }
     ensures volume { Alters fs.old fs.new (TurnGives (shared_of fs.old table.old)

@@ -28,10 +28,11 @@ pub struct Server<D: Device> {
     pub(crate) connections: Slab<Connection>,
     ghost few: { slab_len connections ≤ 16 },
     ghost of_run: { (n : ℕ) (connection : world.Connection)
-        → at n (connections_of connections) ≡ Some connection → IsOfRun (fs_of fs).run connection },
+        → at n (connections_of connections) ≡ Some connection
+        → IsOfRun (fs_of fs).volume.run connection },
 }
 
-#[tactic(auto, unfolding(crate::specs::Servers::world_of, crate::specs::Servers::volume_of, crate::specs::Servers::failures_of))]
+#[tactic(auto, unfolding(crate::specs::Servers::world_of, crate::specs::Servers::files_of, crate::specs::Servers::volume_of, crate::specs::Servers::failures_of))]
 impl<D: Device> Server<D> {
     ghost use Rattle.std.specs.Prelude.{◌≡◌, ◌≤◌, ◌↔◌, List, true, false, Some, None, length, OnOk, OnErr, IfOk, IfErr, IsErrOf};
     ghost use Rattle.model.specs.Runs as runs;
@@ -40,7 +41,7 @@ impl<D: Device> Server<D> {
     ghost use Rattle.server.specs.Connections.{turn_view};
     ghost use Rattle.server.specs.Refused.{view, IsUntouched, connection_at, HasTurned, RefusesTurn, RefusesHangUp};
     ghost use Rattle.server.specs.Seen.{Does, Breaks, Took, Turned, Done};
-    ghost use Rattle.server.specs.Servers.{world_of, volume_of, failures_of, seen_with, gave, Serves, Fails, Gives, Turning};
+    ghost use Rattle.server.specs.Servers.{world_of, files_of, volume_of, failures_of, seen_with, seen_down, gave, Serves, Fails, Gives, Turning};
 
     /// The run of this mount: the restart count that it wrote.
     pub fn restart_count(&self) -> u32
@@ -75,7 +76,7 @@ impl<D: Device> Server<D> {
         ensures only { IfErr result (λ fault.
             (fault ≡ ServerFault.NoConnection → ⊥) × (fault ≡ ServerFault.Closed → ⊥)) }
         ensures err { OnErr result (world_of self.new ≡ world_of self.old) }
-        ensures volume { volume_of self.new ≡ volume_of self.old }
+        ensures volume { files_of self.new ≡ files_of self.old }
     {
         if self.fs.is_down() {
             return Err(ServerFault::Device);
@@ -108,7 +109,7 @@ impl<D: Device> Server<D> {
             (fault ≡ ServerFault.Full → ⊥) × (fault ≡ ServerFault.Memory → ⊥)) }
         ensures err { IfErr result (λ fault.
             (fault ≡ ServerFault.Closed → ⊥) → world_of self.new ≡ world_of self.old) }
-        ensures volume { volume_of self.new ≡ volume_of self.old }
+        ensures volume { files_of self.new ≡ files_of self.old }
     {
         if self.fs.is_down() {
             return Err(ServerFault::Device);
@@ -129,7 +130,8 @@ impl<D: Device> Server<D> {
         // Done
         ensures ok { D.keeps_word → IfOk result (λ turn.
             Serves self.old self.new (runs.Turns conn now) (Turned (turn_view turn))) }
-        ensures turned { OnOk result (HasTurned (view self.old) (view self.new) conn now) }
+        ensures turned { OnOk result
+            (HasTurned D.keeps_word (view self.old) (view self.new) conn now) }
         // The device fails in it
         ensures fails { D.keeps_word → (volume_of self.old).is_down ≡ false
             → IsErrOf result ServerFault.Device → Fails self.old self.new (runs.Turns conn now) }
@@ -171,7 +173,8 @@ impl<D: Device> Server<D> {
             (after : List Tree) × (between ≡ seen_with self.new after)) }
         ensures fails { D.keeps_word → (volume_of self.old).is_down ≡ false
             → IsErrOf result ServerFault.Device → Turning self.old conn now (λ between.
-            (after : List Tree) × Breaks between (runs.Turns conn now) (seen_with self.new after)) }
+            (after : List Tree) × Breaks between (runs.Turns conn now)
+            (seen_down self.new between.serving.world.tree after)) }
         // Refused
         ensures refused { IfErr result (RefusesHangUp (view self.old) (view self.new) conn) }
         ensures is_down { (volume_of self.old).is_down ≡ true
@@ -217,7 +220,7 @@ impl<D: Device> Server<D> {
             ↔ (connection_at (view self.old) conn ≡ None) }
         ensures only { IfErr result (λ fault. fault ≡ ServerFault.NoConnection) }
         ensures err { OnErr result (world_of self.new ≡ world_of self.old) }
-        ensures volume { volume_of self.new ≡ volume_of self.old }
+        ensures volume { files_of self.new ≡ files_of self.old }
     {
         match self.connections.get_mut(conn) {
             Some(connection) => Ok(connection.take_output()),

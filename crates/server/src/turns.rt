@@ -14,7 +14,7 @@ use std::mem;
 
 #[tactic(auto, unfolding(crate::specs::Connections::connection_view))]
 impl Connection {
-    ghost use Rattle.std.specs.Prelude.{◌≡◌, ℕ, List, Some, true, false, IfOk, OnErr};
+    ghost use Rattle.std.specs.Prelude.{◌≡◌, ℕ, List, Some, true, false, OnOk, IfOk, OnErr};
     ghost use Rattle.fs.specs.FileSystems.{fs_of, Alters};
     ghost use Rattle.model.specs.World.{turned};
     ghost use Rattle.session.specs.Views.{table_of};
@@ -22,7 +22,7 @@ impl Connection {
     ghost use Rattle.compound.specs.States.{shared_of};
     ghost use Rattle.compound.specs.Steps.{turn_by};
     ghost use Rattle.compound.specs.Volumes.{TurnGives, ending};
-    ghost use Rattle.server.specs.Connections.{connection_view, turn_view, Turns, Leads, IsOfRun};
+    ghost use Rattle.server.specs.Connections.{connection_view, turn_view, Turns, Leads, IsOfRun, HasGoneOn};
     ghost use Rattle.server.specs.Stages.{asked_held, begun, left_by, can_go_on, can_follow};
 
     /// Runs one operation of the request that waits or has begun, at this moment in nanoseconds since 1970.
@@ -32,11 +32,13 @@ impl Connection {
         table: &mut Table,
         now: u64,
     ) -> Result<Turn, Fault>
-        requires up { (fs_of fs.old).is_down ≡ false }
-        requires run { IsOfRun (fs_of fs.old).run (connection_view self.old) }
-        ensures turn { IfOk result (Turns now (shared_of fs.old table.old)
+        requires up { (fs_of fs.old).volume.is_down ≡ false }
+        requires run { IsOfRun (fs_of fs.old).volume.run (connection_view self.old) }
+        ensures turn { D.keeps_word → IfOk result (Turns now (shared_of fs.old table.old)
             (shared_of fs.new table.new) (connection_view self.old) (connection_view self.new)) }
-        ensures run { IsOfRun (fs_of fs.old).run (connection_view self.new) }
+        ensures further { OnOk result
+            (HasGoneOn (Some (connection_view self.old)) (Some (connection_view self.new))) }
+        ensures run { IsOfRun (fs_of fs.old).volume.run (connection_view self.new) }
         ensures back { OnErr result ((connection_view self.new ≡ connection_view self.old)
             × (table_of table.new ≡ table_of table.old)) }
         ensures volume { Alters fs.old fs.new (TurnGives (shared_of fs.old table.old)
@@ -68,13 +70,16 @@ impl Connection {
         now: u64,
     ) -> Result<Turn, Fault>
         requires held { can_go_on (asked_held self.old.assembler) progress ≡ true }
-        requires up { (fs_of fs.old).is_down ≡ false }
-        requires run { progress.run ≡ (fs_of fs.old).run }
-        ensures turn { IfOk result (λ done. Leads (λ world number. turned world number now
-            (Some (begun (asked_held self.old.assembler) progress)))
+        requires up { (fs_of fs.old).volume.is_down ≡ false }
+        requires run { progress.run ≡ (fs_of fs.old).volume.run }
+        ensures turn { D.keeps_word → IfOk result (λ done. Leads (λ world number.
+            turned world number now (Some (begun (asked_held self.old.assembler) progress)))
             (shared_of fs.old table.old) (shared_of fs.new table.new)
             (connection_view self.new) (turn_view done)) }
-        ensures run { IsOfRun (fs_of fs.old).run (connection_view self.new) }
+        ensures further { OnOk result (HasGoneOn
+            (Some (begun (asked_held self.old.assembler) progress))
+            (Some (connection_view self.new))) }
+        ensures run { IsOfRun (fs_of fs.old).volume.run (connection_view self.new) }
         ensures back { OnErr result
             ((connection_view self.new ≡ begun (asked_held self.old.assembler) progress)
             × (table_of table.new ≡ table_of table.old)) }

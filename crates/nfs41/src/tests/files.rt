@@ -85,18 +85,18 @@ fn a_script_that_is_no_text_is_told(rt: HostRuntime) -> Result<(), Fail> {
     Ok(())
 }
 
-/// The place of a byte, what is put there, and the refusal. Sector 0 has the superblock, 1 the gate, 98 the bitmap, 100 the
-/// image's first records.
+/// The place of a byte, what is put there, and the refusal. Sector 0 has the superblock, 1 the gate, 98 the bitmap, 100 is spare,
+/// and 148 has the root.
 const FAULTS: [(usize, u8, &str); 9] = [
     (0, 0, "refused: NotVolume\n"),
-    (11, 1, "refused: NotVolume\n"),
+    (11, 0, "refused: NotVolume\n"),
     (14, 2, "refused: NotVolume\n"),
     (19, 1, "refused: NotVolume\n"),
     (4095, 1, "refused: Damaged\n"),
     (4099, 2, "refused: Damaged\n"),
-    (409_607, 2, "refused: Damaged\n"),
+    (401_408, 255, "refused: Damaged\n"),
     (409_608, 255, "refused: Damaged\n"),
-    (410_111, 1, "refused: Damaged\n"),
+    (606_208, 0, "refused: Damaged\n"),
 ];
 
 #[test]

@@ -4,9 +4,10 @@ use Rattle.compound.specs.Steps.{stepped_on}
 use Rattle.compound.specs.Views.{in_progress_of}
 use Rattle.compound.specs.Volumes.{ending_of}
 use Rattle.compound.specs.declared.fault.Fault.TheVariants as fault
-use Rattle.fs.specs.Changes.{Done}
+use Rattle.volume.specs.Changes.{Done}
 use Rattle.fs.specs.FileSystems.{fs_of, fs_failures}
-use Rattle.fs.proofs.ChangeLaws.{changes_nothing, told_err}
+use Rattle.volume.proofs.ServeLaws.{told_err}
+use Rattle.compound.proofs.QuietLaws.{leaves_all}
 use Rattle.model.specs.Rpc.{read_call}
 use Rattle.model.specs.World.{Turned, called}
 use Rattle.server.proofs.Turning.{same_changes, idle_changes}
@@ -17,7 +18,7 @@ returns-in_err-reply-clause-volume g c =
     let reason = c.in_err-reply.field-0.0 in
     let told = told_err c.from_residual.result reason c.from_residual.ensures.1 in
     let memory : reason ≡ fault.Memory = rw c.in_err-reply.was at c.open.ensures.err in
-    rw (told, memory) (changes_nothing g.D.Device.keeps_word _ _ _ _ _ refl (omega arith))
+    rw (told, memory) (leaves_all g.D.Device.keeps_word _ _ _ _ _ refl (omega arith))
 
 pub returns-in-Answers-clause-volume : goal.returns-in-Answers-clause-volume
 returns-in-Answers-clause-volume g c =

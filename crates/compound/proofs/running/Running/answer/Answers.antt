@@ -34,6 +34,10 @@ pub returns-in-Done-clause-stays : goal.returns-in-Done-clause-stays
 unfolding in_progress_of
 returns-in-Done-clause-stays c = ap (λ (r : InProgress). r.context.run) (c.push_result.ensures.request (asked_of c.args.self))
 
+pub returns-in-Done-clause-further : goal.returns-in-Done-clause-further
+unfolding in_progress_of
+returns-in-Done-clause-further c = ap (λ (r : InProgress). r.answered) (c.push_result.ensures.request (asked_of c.args.self))
+
 pub returns-in-Done-clause-fits : goal.returns-in-Done-clause-fits
 unfolding in_progress_of
 returns-in-Done-clause-fits c =

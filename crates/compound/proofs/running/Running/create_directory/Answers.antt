@@ -11,14 +11,15 @@ use Rattle.compound.specs.Operates.{GivesIn, RunsTo, HasRoom}
 use Rattle.compound.specs.States.{shared}
 use Rattle.compound.specs.Views.{in_progress_of}
 use Rattle.compound.proofs.Creating.{made_runs, made_room, create_err, full, made_short, up_or_down}
-use Rattle.fs.proofs.ChangeLaws.{changes_nothing, changes_by}
+use Rattle.fs.proofs.ChangeLaws.{changes_by}
+use Rattle.compound.proofs.QuietLaws.{leaves_all, left_all}
 use Rattle.compound.proofs.VolumeLaws.{refusal_changes, made_gives}
 use Rattle.compound.proofs.Rooms.{gives_in_room, gives_refusal}
 use Rattle.compound.proofs.Trees.{is_on, is_there, of_request, create_bad, wants}
 use Rattle.compound.proofs.running.Running.create_directory.Goals as goal
 
 pub returns-in-Err-clause-gives : goal.returns-in-Err-clause-gives
-returns-in-Err-clause-gives g c = λ table opens.
+returns-in-Err-clause-gives g c = λ keeps table opens.
     let fs = fs_of c.args.fs.now in
     let request = in_progress_of c.args.self.now in
     let kind = new_directory c.args.name.now (attributes_view c.args.attributes.now) in
@@ -32,7 +33,7 @@ refuse-requires-in-Err-Status g c =
     let fs = fs_of c.args.fs.now in
     let request = in_progress_of c.args.self.now in
     let step = rw (c.in-Err-Status.field-0-is, c.as_slice.ensures.numbers) at c.in-Err-Status.ensures.step in
-    create_bad fs.limits (of_request fs request) c.args.now c.args.name.now (attributes_view c.args.attributes.now) c.in-Err-Status.status
+    create_bad fs.volume.limits (of_request fs request) c.args.now c.args.name.now (attributes_view c.args.attributes.now) c.in-Err-Status.status
     (step (of_request fs request) (is_on fs request _ _ c.requires.run c.in-Ok.ensures.ok.0 c.in-Ok.ensures.ok.1 (is_there fs request)))
 
 pub unreachable-requires : goal.unreachable-requires
@@ -41,12 +42,12 @@ unreachable-requires g c =
     let fs = fs_of c.args.fs.now in
     let request = in_progress_of c.args.self.now in
     let step = rw c.in-Err-Down.field-0-is at c.in-Err-Down.ensures.step in
-    let down : fs.is_down ≡ true = step (of_request fs request) (is_on fs request _ _ c.requires.run c.in-Ok.ensures.ok.0 c.in-Ok.ensures.ok.1 (is_there fs request)) in
-    up_or_down fs.is_down c.requires.up down
+    let down : fs.volume.is_down ≡ true = step (of_request fs request) (is_on fs request _ _ c.requires.run c.in-Ok.ensures.ok.0 c.in-Ok.ensures.ok.1 (is_there fs request)) in
+    up_or_down fs.volume.is_down c.requires.up down
 
 pub returns-in-Ok-make_dir-clause-gives : goal.returns-in-Ok-make_dir-clause-gives
 unfolding in_progress_of
-returns-in-Ok-make_dir-clause-gives g c = λ table opens.
+returns-in-Ok-make_dir-clause-gives g c = λ keeps table opens.
     let fs = fs_of c.args.fs.now in
     let new = fs_of c.make_dir.new.self in
     let request = in_progress_of c.args.self.now in
@@ -58,7 +59,7 @@ returns-in-Ok-make_dir-clause-gives g c = λ table opens.
     (gives_in_room c.args.now (shared fs table opens) (shared new table opens) request (record request { context = at_node request.context made.number }) kind _
     (made_room request made.before made.number _ (sym c.in-Ok-make_dir.ensures.room ∙ c.has_created_room-has_room.ensures))
     (made_runs c.args.now fs table opens request c.args.name.now given new made
-    (λ state there. step state (is_on fs request _ _ c.requires.run c.in-Ok.ensures.ok.0 c.in-Ok.ensures.ok.1 there))))
+    (λ state there. step state (is_on fs request _ _ c.requires.run c.in-Ok.ensures.ok.0 c.in-Ok.ensures.ok.1 there) keeps)))
 
 pub returns-in-Ok-make_dir-clause-answered : goal.returns-in-Ok-make_dir-clause-answered
 unfolding in_progress_of
@@ -74,14 +75,14 @@ returns-in-Ok-make_dir-clause-answered g c =
 
 pub returns-in-Err-Status-clause-gives : goal.returns-in-Err-Status-clause-gives
 unfolding in_progress_of
-returns-in-Err-Status-clause-gives g c = λ table opens.
+returns-in-Err-Status-clause-gives g c = λ keeps table opens.
     let fs = fs_of c.args.fs.now in
     let new = fs_of c.make_dir.new.self in
     let request = in_progress_of c.args.self.now in
     let given = attributes_view c.args.attributes.now in
     let kind = new_directory c.args.name.now given in
     let step = rw (c.in-Err-Status.field-0-is, c.as_slice.ensures.numbers) at c.in-Err-Status.ensures.step in
-    let same = (rw c.in-Err-Status.field-0-is at c.in-Err-Status.ensures.volume).ends in
+    let same = left_all _ _ _ _ _ _ (rw c.in-Err-Status.field-0-is at c.in-Err-Status.ensures.volume) in
     c.refuse-in-Err-Status.ensures.gives c.args.now (shared fs table opens) (shared new table opens) kind
     (gives_refusal c.args.now (shared fs table opens) (shared new table opens) request kind 6 c.in-Err-Status.status
     (subst (λ (after : FileSystem). RunsTo c.args.now (shared fs table opens) (shared after table opens) request request kind (Refused 6 c.in-Err-Status.status)) (sym same)
@@ -90,14 +91,14 @@ returns-in-Err-Status-clause-gives g c = λ table opens.
 
 pub returns-in-Err-NoRoom-clause-gives : goal.returns-in-Err-NoRoom-clause-gives
 unfolding in_progress_of
-returns-in-Err-NoRoom-clause-gives g c = λ table opens.
+returns-in-Err-NoRoom-clause-gives g c = λ keeps table opens.
     let fs = fs_of c.args.fs.now in
     let new = fs_of c.make_dir.new.self in
     let request = in_progress_of c.args.self.now in
     let given = attributes_view c.args.attributes.now in
     let kind = new_directory c.args.name.now given in
     let step = rw (c.in-Err-NoRoom.field-0-is, c.as_slice.ensures.numbers) at c.in-Err-NoRoom.ensures.step in
-    let same = (rw c.in-Err-NoRoom.field-0-is at c.in-Err-NoRoom.ensures.volume).ends in
+    let same = left_all _ _ _ _ _ _ (rw c.in-Err-NoRoom.field-0-is at c.in-Err-NoRoom.ensures.volume) in
     let no_room = rw c.in-Err-NoRoom.field-0-is at c.in-Err-NoRoom.ensures.no_room in
     c.refuse-in-Err-NoRoom.ensures.gives c.args.now (shared fs table opens) (shared new table opens) kind
     (subst (λ (after : FileSystem). GivesIn c.args.now (shared fs table opens) (shared after table opens) request request kind (Refused 6 status.RepTooBig)) (sym same)
@@ -134,8 +135,8 @@ returns-in-Err-Status-clause-volume g c = λ table opens.
     let kind = new_directory c.args.name.now given in
     let step = rw (c.in-Err-Status.field-0-is, c.as_slice.ensures.numbers) at c.in-Err-Status.ensures.step in
     let volume = rw c.in-Err-Status.field-0-is at c.in-Err-Status.ensures.volume in
-    let same = volume.ends in
-    refusal_changes g.D.Device.keeps_word fs new table opens _ _ request c.args.now kind 6 c.in-Err-Status.status same volume.later c.requires.up
+    let same = left_all _ _ _ _ _ _ volume in
+    refusal_changes g.D.Device.keeps_word fs new table opens _ _ request c.args.now kind 6 c.in-Err-Status.status same volume.volume_changes.later c.requires.up
     (gives_refusal c.args.now (shared fs table opens) (shared new table opens) request kind 6 c.in-Err-Status.status
     (subst (λ (after : FileSystem). RunsTo c.args.now (shared fs table opens) (shared after table opens) request request kind (Refused 6 c.in-Err-Status.status)) (sym same)
     (create_err c.args.now fs table opens request c.args.name.now given c.in-Err-Status.status
@@ -151,9 +152,9 @@ returns-in-Err-NoRoom-clause-volume g c = λ table opens.
     let kind = new_directory c.args.name.now given in
     let step = rw (c.in-Err-NoRoom.field-0-is, c.as_slice.ensures.numbers) at c.in-Err-NoRoom.ensures.step in
     let volume = rw c.in-Err-NoRoom.field-0-is at c.in-Err-NoRoom.ensures.volume in
-    let same = volume.ends in
+    let same = left_all _ _ _ _ _ _ volume in
     let no_room = rw c.in-Err-NoRoom.field-0-is at c.in-Err-NoRoom.ensures.no_room in
-    refusal_changes g.D.Device.keeps_word fs new table opens _ _ request c.args.now kind 6 status.RepTooBig same volume.later c.requires.up
+    refusal_changes g.D.Device.keeps_word fs new table opens _ _ request c.args.now kind 6 status.RepTooBig same volume.volume_changes.later c.requires.up
     (subst (λ (after : FileSystem). GivesIn c.args.now (shared fs table opens) (shared after table opens) request request kind (Refused 6 status.RepTooBig)) (sym same)
     (full c.args.now fs table opens request c.args.name.now given (sym (no_room refl) ∙ c.has_created_room-has_room.ensures)
     (λ state there. step state (is_on fs request _ _ c.requires.run c.in-Ok.ensures.ok.0 c.in-Ok.ensures.ok.1 there))))
@@ -161,7 +162,7 @@ returns-in-Err-NoRoom-clause-volume g c = λ table opens.
 pub returns-in-Err-Memory-clause-volume : goal.returns-in-Err-Memory-clause-volume
 returns-in-Err-Memory-clause-volume g c = λ table opens.
     let volume = rw c.in-Err-Memory.field-0-is at c.in-Err-Memory.ensures.volume in
-    changes_nothing g.D.Device.keeps_word _ _ _ _ _ volume.ends volume.later
+    leaves_all g.D.Device.keeps_word _ _ _ _ _ (left_all _ _ _ _ _ _ volume) volume.volume_changes.later
 
 pub returns-in-Err-Device-clause-volume : goal.returns-in-Err-Device-clause-volume
 unfolding in_progress_of

@@ -33,7 +33,7 @@ refuse-requires-in-Err-handle g c =
     let fs = fs_of c.args.fs.now in
     let request = in_progress_of c.args.self.now in
     let state = of_request fs request in
-    get_bad fs.limits state 0 c.status_of.result
+    get_bad fs.volume.limits state 0 c.status_of.result
     (subst (λ (why : FsFault). GetsHandle fs state 0 (Err why)) c.status_of.ensures
     (c.in-Err-handle.ensures.step request.context.cred state 0 (is_on fs request _ _ c.requires.run c.in-Ok.ensures.ok.0 c.in-Ok.ensures.ok.1 (is_there fs request))))
 

@@ -36,7 +36,7 @@ refuse-requires-in-Err-lookup g c =
     let fs = fs_of c.args.fs.now in
     let request = in_progress_of c.args.self.now in
     let state = of_request fs request in
-    lookup_bad fs.limits state 0 c.args.name.now c.status_of.result
+    lookup_bad fs.volume.limits state 0 c.args.name.now c.status_of.result
     (subst (λ (why : FsFault). LooksUp fs state 0 c.args.name.now (Err why)) c.status_of.ensures
     (c.in-Err-lookup.ensures.step state 0 (is_on fs request _ _ c.requires.run c.in-Ok.ensures.ok.0 c.in-Ok.ensures.ok.1 (is_there fs request))))
 

@@ -1,9 +1,17 @@
-use Rattle.std.proofs.Common.{refl}
+use Rattle.std.proofs.Common.{◌≡◌, ℕ, Result, Ok, Err, IfOk, refl, ap, ◌∙◌}
 use Rattle.fs.specs.FileSystems.{fs_of, fs_failures}
 use Rattle.model.specs.Opens.{no_opens}
-use Rattle.session.specs.Views.{table_of}
+use Rattle.model.specs.Operation.{Argument}
+use Rattle.model.specs.Session.{Table}
+use Rattle.model.specs.World.{InProgress}
+use Rattle.session.specs.Views.{table_of, reply_kept}
 use Rattle.wire.specs.ArgumentView.{argument_view}
-use Rattle.compound.specs.States.{shared_of}
+use Rattle.fs.specs.FileSystem.{FileSystem}
+use Rattle.compound.specs.Operates.{Operates, ChangesTable, IsKept}
+use Rattle.compound.specs.States.{SharedState, shared, without_opens, shared_of}
+use Rattle.compound.specs.declared.fault.Fault.{Fault}
+use Rattle.compound.specs.declared.operated.Operated.{Operated}
+use Rattle.compound.specs.declared.operated.Operated.TheVariants as operated
 use Rattle.compound.specs.Views.{in_progress_of}
 use Rattle.compound.proofs.VolumeLaws.{quiet_changes, quiet_result}
 use Rattle.compound.proofs.running.Running.operate.Goals as goal
@@ -62,25 +70,88 @@ returns-in-CreateSession-clause-volume g c =
     c.requires.up (rw c.in-CreateSession.is refl) (λ reason is. (rw is at c.create_session.ensures.err).0)
 
 pub returns-in-GetFh-clause-gives : goal.returns-in-GetFh-clause-gives
-returns-in-GetFh-clause-gives g c = rw c.in-GetFh.is (c.get_handle.ensures.gives c.args.now (table_of c.args.table.now) no_opens)
+returns-in-GetFh-clause-gives g c = λ keeps. rw c.in-GetFh.is (c.get_handle.ensures.gives c.args.now (table_of c.args.table.now) no_opens)
 
 pub returns-in-Lookup-clause-gives : goal.returns-in-Lookup-clause-gives
-returns-in-Lookup-clause-gives g c = rw c.in-Lookup.is (c.look_up.ensures.gives c.args.now (table_of c.args.table.now) no_opens)
+returns-in-Lookup-clause-gives g c = λ keeps. rw c.in-Lookup.is (c.look_up.ensures.gives c.args.now (table_of c.args.table.now) no_opens)
 
 pub returns-in-PutFh-clause-gives : goal.returns-in-PutFh-clause-gives
-returns-in-PutFh-clause-gives g c = rw c.in-PutFh.is (c.put_handle.ensures.gives c.args.now (table_of c.args.table.now) no_opens)
+returns-in-PutFh-clause-gives g c = λ keeps. rw c.in-PutFh.is (c.put_handle.ensures.gives c.args.now (table_of c.args.table.now) no_opens)
 
 pub returns-in-PutRootFh-clause-gives : goal.returns-in-PutRootFh-clause-gives
-returns-in-PutRootFh-clause-gives g c = rw c.in-PutRootFh.is (c.put_root.ensures.gives (fs_of c.args.fs.now) c.args.now (table_of c.args.table.now) no_opens)
+returns-in-PutRootFh-clause-gives g c = λ keeps. rw c.in-PutRootFh.is (c.put_root.ensures.gives (fs_of c.args.fs.now) c.args.now (table_of c.args.table.now) no_opens)
 
 pub returns-in-DestroySession-clause-gives : goal.returns-in-DestroySession-clause-gives
-returns-in-DestroySession-clause-gives g c = rw c.in-DestroySession.is (c.destroy_session.ensures.gives c.args.now (fs_of c.args.fs.now))
+returns-in-DestroySession-clause-gives g c = λ keeps. rw c.in-DestroySession.is (c.destroy_session.ensures.gives c.args.now (fs_of c.args.fs.now))
 
 pub returns-in-DestroyClientId-clause-gives : goal.returns-in-DestroyClientId-clause-gives
-returns-in-DestroyClientId-clause-gives g c = rw c.in-DestroyClientId.is (c.destroy_clientid.ensures.gives c.args.now (fs_of c.args.fs.now))
+returns-in-DestroyClientId-clause-gives g c = λ keeps. rw c.in-DestroyClientId.is (c.destroy_clientid.ensures.gives c.args.now (fs_of c.args.fs.now))
 
 pub returns-in-Sequence-clause-gives : goal.returns-in-Sequence-clause-gives
-returns-in-Sequence-clause-gives g c = rw c.in-Sequence.is (c.sequence.ensures.gives c.args.now (fs_of c.args.fs.now))
+returns-in-Sequence-clause-gives g c = λ keeps. rw c.in-Sequence.is (c.sequence.ensures.gives c.args.now (fs_of c.args.fs.now))
 
 pub returns-in-ReclaimComplete-clause-gives : goal.returns-in-ReclaimComplete-clause-gives
-returns-in-ReclaimComplete-clause-gives g c = rw c.in-ReclaimComplete.is (c.reclaim.ensures.gives c.args.now)
+returns-in-ReclaimComplete-clause-gives g c = λ keeps. rw c.in-ReclaimComplete.is (c.reclaim.ensures.gives c.args.now)
+
+-- A reply that is sent again is there
+
+kept_of : (now : ℕ) (old new : SharedState) (request : InProgress) (operation : Argument) (done : Operated) → Operates now old new request operation done → IsKept new.table done
+kept_of now old new request operation (operated.Gives outcome left) runs = tt
+kept_of now old new request operation (operated.GivesHandle handle) runs = tt
+kept_of now old new request operation (operated.Replays slot) runs = (runs.0, ap (λ (s : SharedState). reply_kept slot.session slot.slot s.table) runs.1 ∙ runs.2)
+
+kept_if : (now : ℕ) (files : FileSystem) (old new : Table) (request : InProgress) (operation : Argument) (result : Result Operated Fault)
+    → IfOk result (ChangesTable old new request operation) → IfOk result (IsKept new)
+kept_if now files old new request operation (Ok done) runs = kept_of now (without_opens files old) (without_opens files new) request operation done (runs now files)
+kept_if now files old new request operation (Err fault) runs = tt
+
+pub returns-in-Create-clause-kept : goal.returns-in-Create-clause-kept
+returns-in-Create-clause-kept g c = c.create.ensures.kept (table_of c.args.table.now)
+
+pub returns-in-GetFh-clause-kept : goal.returns-in-GetFh-clause-kept
+returns-in-GetFh-clause-kept g c =
+    kept_of c.args.now (shared_of c.args.fs.now c.args.table.now) (shared_of c.args.fs.now c.args.table.now) (in_progress_of c.args.self.now) _ c.get_handle.result
+    (c.get_handle.ensures.gives c.args.now (table_of c.args.table.now) no_opens)
+
+pub returns-in-Lookup-clause-kept : goal.returns-in-Lookup-clause-kept
+returns-in-Lookup-clause-kept g c =
+    kept_of c.args.now (shared_of c.args.fs.now c.args.table.now) (shared_of c.args.fs.now c.args.table.now) (in_progress_of c.args.self.now) _ c.look_up.result
+    (c.look_up.ensures.gives c.args.now (table_of c.args.table.now) no_opens)
+
+pub returns-in-PutFh-clause-kept : goal.returns-in-PutFh-clause-kept
+returns-in-PutFh-clause-kept g c =
+    kept_of c.args.now (shared_of c.args.fs.now c.args.table.now) (shared_of c.args.fs.now c.args.table.now) (in_progress_of c.args.self.now) _ c.put_handle.result
+    (c.put_handle.ensures.gives c.args.now (table_of c.args.table.now) no_opens)
+
+pub returns-in-PutRootFh-clause-kept : goal.returns-in-PutRootFh-clause-kept
+returns-in-PutRootFh-clause-kept g c =
+    kept_of c.args.now (shared_of c.args.fs.now c.args.table.now) (shared_of c.args.fs.now c.args.table.now) (in_progress_of c.args.self.now) _ c.put_root.result
+    (c.put_root.ensures.gives (fs_of c.args.fs.now) c.args.now (table_of c.args.table.now) no_opens)
+
+pub returns-in-DestroySession-clause-kept : goal.returns-in-DestroySession-clause-kept
+returns-in-DestroySession-clause-kept g c =
+    kept_of c.args.now (shared_of c.args.fs.now c.args.table.now) (shared_of c.args.fs.now c.destroy_session.new.table) (in_progress_of c.args.self.now) _ c.destroy_session.result
+    (c.destroy_session.ensures.gives c.args.now (fs_of c.args.fs.now))
+
+pub returns-in-DestroyClientId-clause-kept : goal.returns-in-DestroyClientId-clause-kept
+returns-in-DestroyClientId-clause-kept g c =
+    kept_of c.args.now (shared_of c.args.fs.now c.args.table.now) (shared_of c.args.fs.now c.destroy_clientid.new.table) (in_progress_of c.args.self.now) _ c.destroy_clientid.result
+    (c.destroy_clientid.ensures.gives c.args.now (fs_of c.args.fs.now))
+
+pub returns-in-Sequence-clause-kept : goal.returns-in-Sequence-clause-kept
+returns-in-Sequence-clause-kept g c =
+    kept_of c.args.now (shared_of c.args.fs.now c.args.table.now) (shared_of c.args.fs.now c.sequence.new.table) (in_progress_of c.args.self.now) _ c.sequence.result
+    (c.sequence.ensures.gives c.args.now (fs_of c.args.fs.now))
+
+pub returns-in-ReclaimComplete-clause-kept : goal.returns-in-ReclaimComplete-clause-kept
+returns-in-ReclaimComplete-clause-kept g c =
+    kept_of c.args.now (shared_of c.args.fs.now c.args.table.now) (shared_of c.args.fs.now c.reclaim.new.table) (in_progress_of c.args.self.now) _ c.reclaim.result
+    (c.reclaim.ensures.gives c.args.now)
+
+pub returns-in-ExchangeId-clause-kept : goal.returns-in-ExchangeId-clause-kept
+returns-in-ExchangeId-clause-kept g c =
+    kept_if c.args.now (fs_of c.args.fs.now) (table_of c.args.table.now) (table_of c.exchange_id.new.table) (in_progress_of c.args.self.now) _ c.exchange_id.result c.exchange_id.ensures.gives
+
+pub returns-in-CreateSession-clause-kept : goal.returns-in-CreateSession-clause-kept
+returns-in-CreateSession-clause-kept g c =
+    kept_if c.args.now (fs_of c.args.fs.now) (table_of c.args.table.now) (table_of c.create_session.new.table) (in_progress_of c.args.self.now) _ c.create_session.result c.create_session.ensures.gives

@@ -19,7 +19,7 @@ pub refuse-requires : goal.refuse-requires
 refuse-requires g c =
     let fs = fs_of c.args.fs.now in
     let state = of_request fs (in_progress_of c.args.self.now) in
-    put_bad fs.limits state 0 c.args.handle.now c.status_of.result
+    put_bad fs.volume.limits state 0 c.args.handle.now c.status_of.result
     (subst (λ (why : FsFault). PutsHandle fs state 0 c.args.handle.now (Err why)) c.status_of.ensures (c.in-Err.ensures.step state 0 refl))
 
 pub returns-in-Ok-clause-gives : goal.returns-in-Ok-clause-gives

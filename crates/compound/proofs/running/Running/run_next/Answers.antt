@@ -1,7 +1,8 @@
 use Rattle.std.proofs.Common.{◌≡◌, refl, sym, subst, arith}
 use Rattle.std.specs.Prelude.{drop}
+use Rattle.session.specs.Views.{table_of}
 use Rattle.wire.specs.ArgumentView.{argument_view}
-use Rattle.compound.specs.Operates.{IsAnswered}
+use Rattle.compound.specs.Operates.{IsAnswered, IsKept}
 use Rattle.compound.specs.States.{shared_of}
 use Rattle.compound.specs.Views.{in_progress_of}
 use Rattle.model.proofs.ReadOperations.{is_served_next}
@@ -10,15 +11,17 @@ use Rattle.compound.proofs.Refusals.{refused_spelled}
 use Rattle.compound.proofs.Turning.{turns_read}
 use Rattle.compound.proofs.VolumeLaws.{read_gives, refused_turn}
 use Rattle.compound.specs.declared.fault.Fault.TheVariants as fault
-use Rattle.fs.proofs.ChangeLaws.{told_err, changes_nothing, answers_quietly, changes_by}
+use Rattle.fs.proofs.ChangeLaws.{changes_by}
+use Rattle.volume.proofs.ServeLaws.{told_err}
+use Rattle.compound.proofs.QuietLaws.{leaves_all, answers_quietly}
 use Rattle.compound.proofs.running.Running.run_next.Goals as goal
 
 pub returns-in_ok-done-in-Reads-clause-turns : goal.returns-in_ok-done-in-Reads-clause-turns
-returns-in_ok-done-in-Reads-clause-turns g c =
+returns-in_ok-done-in-Reads-clause-turns g c = λ keeps.
     let next = rw c.in-Reads.is at c.in_ok-operation.ensures.ok in
     turns_read c.args.now (shared_of c.args.fs.now c.args.table.now) (shared_of c.operate.new.fs c.operate.new.table) (in_progress_of c.args.self.now)
     (argument_view c.in-Reads.argument) (drop c.in-Reads.position c.args.self.now.compound.operations.now) c.in_ok-done-in-Reads.done next
-    c.in_ok-done-in-Reads.ensures.gives
+    (c.in_ok-done-in-Reads.ensures.gives keeps)
 
 pub returns-in-Refuses-clause-answered : goal.returns-in-Refuses-clause-answered
 returns-in-Refuses-clause-answered g c =
@@ -41,7 +44,7 @@ returns-in_err-operation-clause-volume g c =
     let reason = c.in_err-operation.field-0.0 in
     let told = told_err c.from_residual.result reason c.from_residual.ensures.1 in
     let memory : reason ≡ fault.Memory = rw c.in_err-operation.was at c.next_operation.ensures.err in
-    rw (told, memory) (changes_nothing g.D.Device.keeps_word _ _ _ _ _ refl (omega arith))
+    rw (told, memory) (leaves_all g.D.Device.keeps_word _ _ _ _ _ refl (omega arith))
 
 pub returns-in_err-done-in-Reads-clause-volume : goal.returns-in_err-done-in-Reads-clause-volume
 returns-in_err-done-in-Reads-clause-volume g c =
@@ -66,3 +69,6 @@ returns-in-Refuses-clause-volume g c =
     let next = rw c.in-Refuses.is at c.in_ok-operation.ensures.ok in
     answers_quietly g.D.Device.keeps_word _ _ _ _ _ refl (omega arith) c.requires.up
     (refused_turn (shared_of c.args.fs.now c.args.table.now) (in_progress_of c.args.self.now) c.args.now c.in-Refuses.operation c.in-Refuses.status next)
+
+pub returns-in-Refuses-clause-kept : goal.returns-in-Refuses-clause-kept
+returns-in-Refuses-clause-kept g c = subst (IsKept (table_of c.args.table.now)) (sym c.refused.ensures.gives) tt

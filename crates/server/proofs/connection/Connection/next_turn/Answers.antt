@@ -1,13 +1,15 @@
-use Rattle.std.proofs.Common.{◌≡◌, Some, ap, ◌∙◌}
+use Rattle.std.proofs.Common.{◌≡◌, Some, ap, sym, subst, ◌∙◌}
 use Rattle.compound.specs.States.{shared_of}
 use Rattle.compound.specs.Steps.{stepped_on}
 use Rattle.compound.specs.Views.{in_progress_of}
 use Rattle.compound.specs.Volumes.{ending_of}
-use Rattle.fs.specs.Changes.{Done}
+use Rattle.volume.specs.Changes.{Done}
 use Rattle.fs.specs.FileSystems.{fs_of}
 use Rattle.model.specs.World.{Connection, Busy, turned}
 use Rattle.rpc.specs.Assembly.{Assembly}
-use Rattle.server.specs.Stages.{asked_held, begun}
+use Rattle.server.specs.Connections.{HasGoneOn, connection_view}
+use Rattle.server.specs.Stages.{asked_held, begun, left_by}
+use Rattle.server.proofs.Resumptions.{gone_on}
 use Rattle.server.proofs.Turning.{same_changes}
 use Rattle.server.proofs.connection.Connection.next_turn.Goals as goal
 
@@ -28,3 +30,12 @@ returns-in-Err-clause-volume g c =
     (λ world number. stepped_on world number c.args.now (in_progress_of c.resume.result))
     (λ world number. turned world number c.args.now (Some (begun (asked_held c.args.self.now.assembler) c.args.progress)))
     (λ world number served. ap (λ (b : Connection). turned world number c.args.now (Some b)) same) (ending_of c.in-Err.undone.fault) c.in-Err.ensures.volume
+
+pub returns-in-Ok-clause-further : goal.returns-in-Ok-clause-further
+returns-in-Ok-clause-further g c =
+    let asked = asked_held c.args.self.now.assembler in
+    let same : begun asked c.args.progress ≡ Busy (in_progress_of c.resume.result) =
+    ap (λ (a : Assembly). begun (asked_held a) c.args.progress) c.in-Some.ensures.waits ∙ c.resume.ensures.request in
+    subst (λ (before : Connection). HasGoneOn (Some before) (Some (connection_view c.settle.new.self))) (sym same)
+    (subst (λ (after : Connection). HasGoneOn (Some (Busy (in_progress_of c.resume.result))) (Some after)) (sym c.settle.ensures.state)
+    (gone_on asked c.resume.result c.in-Ok.done (ap asked_held c.in-Some.ensures.waits ∙ c.resume.ensures.asked) c.in-Ok.ensures.further))

@@ -1,17 +1,17 @@
-use Rattle.std.proofs.Common.{◌≡◌, ℕ, true, List, Some, ap, sym, subst, ◌∙◌}
+use Rattle.std.proofs.Common.{◌≡◌, ℕ, true, false, List, Option, Some, OnOk, refl, ap, sym, subst, ◌∙◌}
 use Rattle.compound.specs.States.{shared_of}
 use Rattle.compound.specs.Steps.{turn_by}
 use Rattle.compound.specs.Volumes.{ending, ending_of}
-use Rattle.fs.specs.Changes.{Done}
+use Rattle.volume.specs.Changes.{Done}
 use Rattle.fs.specs.FileSystems.{fs_of, fs_failures}
 use Rattle.model.specs.Rpc.{read_call}
-use Rattle.model.specs.World.{Connection, Waiting, Replied, Turned, called, turned}
-use Rattle.rpc.specs.Assembly.{Assembly, Holds, connection_of}
-use Rattle.server.specs.Connections.{connection_view, IsOfRun}
+use Rattle.model.specs.World.{Connection, is_busy, Waiting, Replied, Turned, called, turned}
+use Rattle.rpc.specs.Assembly.{Assembly, Gathers, Holds, Refuses, connection_of}
+use Rattle.server.specs.Connections.{connection_view, HasGoneOn, IsOfRun}
 use Rattle.server.specs.Stages.{stage_view, asked_in, asked_held, begun, left_by, is_ready}
 use Rattle.server.specs.declared.stage.Stage.{Stage}
 use Rattle.server.specs.declared.stage.Stage.TheVariants as stages
-use Rattle.server.proofs.Turning.{turns_by, turns_if, same_changes, idle_changes, idle_turn_to, replied_comes, no_record_comes, waiting_comes}
+use Rattle.server.proofs.Turning.{not_begun, turns_by, turns_if, same_changes, idle_changes, idle_turn_to, replied_comes, no_record_comes, waiting_comes}
 use Rattle.server.proofs.Resumptions.{run_of}
 use Rattle.server.proofs.connection.Connection.turn.Goals as goal
 
@@ -26,23 +26,23 @@ pub next_turn-requires-clause-run : goal.next_turn-requires-clause-run
 unfolding connection_view
 next_turn-requires-clause-run g c =
     let assembly = c.args.self.now.assembler in
-    run_of (fs_of c.args.fs.now).run (asked_held assembly) c.in-Running.progress
+    run_of (fs_of c.args.fs.now).volume.run (asked_held assembly) c.in-Running.progress
     (subst (λ (s : Stage). is_ready s assembly ≡ true) (sym c.in-Running.ensures.value) c.args.self.now.ready)
-    (subst (IsOfRun (fs_of c.args.fs.now).run) (ap (stage_view assembly) (sym c.in-Running.ensures.value)) c.requires.run)
+    (subst (IsOfRun (fs_of c.args.fs.now).volume.run) (ap (stage_view assembly) (sym c.in-Running.ensures.value)) c.requires.run)
 
 pub returns-in-Ok-clause-turn : goal.returns-in-Ok-clause-turn
 unfolding connection_view
-returns-in-Ok-clause-turn g c =
+returns-in-Ok-clause-turn g c = λ keeps.
     turns_by c.args.now (connection_view c.args.self.now) (λ world number. called world number c.args.now (read_call c.in-Some.record.now))
     (waiting_comes c.args.now (connection_view c.args.self.now) c.in-Some.record.now
     (waits c.args.self.now.assembler c.args.self.now.stage c.in-Some.record.now c.in-Receiving.ensures.value c.in-Some.ensures.waits))
     (shared_of c.args.fs.now c.args.table.now) (shared_of c.first_turn.new.fs c.first_turn.new.table)
     (connection_view c.settle.new.self) (left_by (asked_in c.in-Some.record.now) c.in-Ok.done) c.settle.result (turn_by c.in-Ok.done)
-    c.settle.ensures.turn (c.settle.ensures.state ∙ ap (λ (a : Assembly). left_by (asked_held a) c.in-Ok.done) c.in-Some.ensures.waits) c.in-Ok.ensures.turn
+    c.settle.ensures.turn (c.settle.ensures.state ∙ ap (λ (a : Assembly). left_by (asked_held a) c.in-Ok.done) c.in-Some.ensures.waits) (c.in-Ok.ensures.turn keeps)
 
 pub returns-in-None-clause-turn : goal.returns-in-None-clause-turn
 unfolding connection_view
-returns-in-None-clause-turn g c =
+returns-in-None-clause-turn g c = λ keeps.
     let assembly = c.args.self.now.assembler in
     let before = receiving_before assembly c.args.self.now.stage c.in-Receiving.ensures.value in
     idle_turn_to c.args.now (connection_view c.args.self.now) (stage_view assembly c.replace.new.dest) (shared_of c.args.fs.now c.args.table.now)
@@ -51,17 +51,17 @@ returns-in-None-clause-turn g c =
 
 pub returns-in-Running-clause-turn : goal.returns-in-Running-clause-turn
 unfolding connection_view
-returns-in-Running-clause-turn g c =
+returns-in-Running-clause-turn g c = λ keeps.
     let assembly = c.args.self.now.assembler in
     let before = ap (stage_view assembly) (sym c.in-Running.ensures.value) in
     turns_if c.args.now (connection_view c.args.self.now) (λ world number. turned world number c.args.now (Some (begun (asked_held assembly) c.in-Running.progress)))
     (λ world number. ap (λ (b : Connection). turned world number c.args.now (Some b)) before)
     (shared_of c.args.fs.now c.args.table.now) (shared_of c.next_turn.new.fs c.next_turn.new.table)
-    (connection_view c.next_turn.new.self) c.next_turn.result c.next_turn.ensures.turn
+    (connection_view c.next_turn.new.self) c.next_turn.result (c.next_turn.ensures.turn keeps)
 
 pub returns-in-Replied-clause-turn : goal.returns-in-Replied-clause-turn
 unfolding connection_view
-returns-in-Replied-clause-turn g c =
+returns-in-Replied-clause-turn g c = λ keeps.
     let before = ap (stage_view c.args.self.now.assembler) (sym c.in-Replied.ensures.value) in
     idle_turn_to c.args.now (connection_view c.args.self.now) (Replied c.in-Replied.reply.items) (shared_of c.args.fs.now c.args.table.now)
     before (replied_comes c.args.now (connection_view c.args.self.now) c.in-Replied.reply.items before)
@@ -112,3 +112,34 @@ returns-in-Replied-clause-volume g c =
     idle_changes g.D.Device.keeps_word (shared_of c.args.fs.now c.args.table.now) (fs_failures c.args.fs.now) (λ world number. turned world number c.args.now (Some (connection_view c.args.self.now))) c.requires.up
     (λ world number served. ap (λ (t : Turned). t.executed)
     (replied_comes c.args.now (connection_view c.args.self.now) c.in-Replied.reply.items before world number))
+
+-- One more of the request that has begun
+
+not_busy_of : (assembly : Assembly) → is_busy (Some (connection_of assembly)) ≡ false
+not_busy_of (Gathers bytes) = refl
+not_busy_of (Holds request) = refl
+not_busy_of (Refuses fault) = refl
+
+pub returns-in-Ok-clause-further : goal.returns-in-Ok-clause-further
+unfolding connection_view
+returns-in-Ok-clause-further g c =
+    not_begun (connection_view c.args.self.now) (Some (connection_view c.settle.new.self))
+    (ap (λ (b : Connection). is_busy (Some b)) (receiving_before c.args.self.now.assembler c.args.self.now.stage c.in-Receiving.ensures.value) ∙ not_busy_of c.args.self.now.assembler)
+
+pub returns-in-None-clause-further : goal.returns-in-None-clause-further
+unfolding connection_view
+returns-in-None-clause-further g c =
+    not_begun (connection_view c.args.self.now) (Some (stage_view c.args.self.now.assembler c.replace.new.dest))
+    (ap (λ (b : Connection). is_busy (Some b)) (receiving_before c.args.self.now.assembler c.args.self.now.stage c.in-Receiving.ensures.value) ∙ not_busy_of c.args.self.now.assembler)
+
+pub returns-in-Running-clause-further : goal.returns-in-Running-clause-further
+unfolding connection_view
+returns-in-Running-clause-further g c =
+    let before = ap (stage_view c.args.self.now.assembler) (sym c.in-Running.ensures.value) in
+    subst (λ (b : Connection). OnOk c.next_turn.result (HasGoneOn (Some b) (Some (connection_view c.next_turn.new.self)))) (sym before) c.next_turn.ensures.further
+
+pub returns-in-Replied-clause-further : goal.returns-in-Replied-clause-further
+unfolding connection_view
+returns-in-Replied-clause-further g c =
+    not_begun (connection_view c.args.self.now) (Some (Replied c.in-Replied.reply.items))
+    (ap (λ (b : Connection). is_busy (Some b)) (ap (stage_view c.args.self.now.assembler) (sym c.in-Replied.ensures.value)))

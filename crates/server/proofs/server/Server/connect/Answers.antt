@@ -19,7 +19,7 @@ returns-then-len-ge-MOST_CONNECTIONS-clause-full g c = λ is. omega (arith, coun
 pub invariant_of-self : goal.invariant_of-self
 invariant_of-self g c =
     let s = c.args.self.now in
-    let run = (fs_of s.fs).run in
+    let run = (fs_of s.fs).volume.run in
     record {
       few = omega (arith, inserted_count s.connections c.insert.new.self c.insert.result c.insert.ensures.len c.insert.ensures.err);
       of_run = inserted_of_run run s.connections c.insert.new.self c.in_ok-connection.connection c.insert.result c.insert.ensures.updates c.insert.ensures.err
@@ -59,7 +59,7 @@ returns-clause-ok g c =
     let can = can_connect_by (world_by (shared_of s.fs s.table) (connections_of s.connections)) conn (stands_none s.connections conn (sym vacant))
     (omega (arith, count_of s.connections)) in
     let up = sym c.if-is_down.ensures in
-    λ keeps. does_quietly (fs_of s.fs) _ _ _ (runs.Connects conn) _ refl up
+    λ keeps. does_quietly (fs_of s.fs).volume _ _ _ (runs.Connects conn) _ refl up
     (connected (shared_of s.fs s.table) (connections_of s.connections) _ conn (connection_view c.in_ok-connection.connection) can
     (with_slot s.connections c.insert.new.self conn c.in_ok-connection.connection updates) c.in_ok-connection.ensures)
     refl

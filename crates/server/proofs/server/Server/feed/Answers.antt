@@ -19,7 +19,7 @@ invariant_of-self-2 g c =
     let s = c.args.self.now in
     let before = c.in-Some.connection.now in
     let after = c.feed.new.self in
-    let run = (fs_of s.fs).run in
+    let run = (fs_of s.fs).volume.run in
     record {
       few = omega (arith, wrote_count s.connections c.args.conn before after c.in-Some.ensures.value, s.few);
       of_run = subst (AllOfRun run) (sym (wrote s.connections c.args.conn before after c.in-Some.ensures.value))
@@ -37,7 +37,7 @@ returns-in_err-feed-clause-closed g c =
     let there = stands s.connections c.args.conn before c.in-Some.ensures.value in
     let all = rw c.in_err-feed.was at c.feed.ensures.closed in
     let up = sym c.if-is_down.ensures in
-    λ keeps is. does_quietly (fs_of s.fs) _ _ _ (runs.Arrives c.args.conn c.args.piece.now) _ refl up
+    λ keeps is. does_quietly (fs_of s.fs).volume _ _ _ (runs.Arrives c.args.conn c.args.piece.now) _ refl up
     (fed (shared_of s.fs s.table) (connections_of s.connections) _ c.args.conn c.args.piece.now (connection_view before) (connection_view after)
     there (wrote s.connections c.args.conn before after c.in-Some.ensures.value) (all.0 ∙ sym all.1))
     (ap Took (sym (ap (taken_on (world_by (shared_of s.fs s.table) (connections_of s.connections)) c.args.piece.now) there ∙ all.2)))
@@ -57,7 +57,7 @@ returns-clause-ok g c =
     let there = stands s.connections c.args.conn before c.in-Some.ensures.value in
     let e = rw c.in_ok-feed.was at c.feed.ensures.arrived in
     let up = sym c.if-is_down.ensures in
-    λ keeps. does_quietly (fs_of s.fs) _ _ _ (runs.Arrives c.args.conn c.args.piece.now) _ refl up
+    λ keeps. does_quietly (fs_of s.fs).volume _ _ _ (runs.Arrives c.args.conn c.args.piece.now) _ refl up
     (fed (shared_of s.fs s.table) (connections_of s.connections) _ c.args.conn c.args.piece.now (connection_view before) (connection_view after)
     there (wrote s.connections c.args.conn before after c.in-Some.ensures.value) e.0)
     (ap Took (sym (ap (taken_on (world_by (shared_of s.fs s.table) (connections_of s.connections)) c.args.piece.now) there ∙ e.1)))

@@ -2,7 +2,7 @@ use Rattle.std.proofs.Common.{◌≡◌, Err, inl, refl, sym, ap, ◌∙◌, sub
 use Rattle.compound.specs.States.{shared_of}
 use Rattle.fs.specs.FileSystems.{fs_of}
 use Rattle.model.specs.Runs as runs
-use Rattle.model.specs.World.{World}
+use Rattle.model.specs.Keyed.{at}
 use Rattle.server.specs.Connections.{connections_of}
 use Rattle.server.specs.declared.fault.ServerFault.TheVariants as faults
 use Rattle.server.specs.Refused.{view, IsUntouched, RefusesTurn}
@@ -41,8 +41,8 @@ pub loop-self-smaller : goal.loop-self-smaller
 unfolding world_of
 loop-self-smaller g c =
     let mid = c.loop-self.self in
-    fewer_left (world_of mid) c.turn.new.self.connections c.args.conn c.args.now (sym c.is_busy.ensures ∙ c.loop-self-test.true)
-    (ap (λ (w : World). w.connections) (rw c.in_ok-turn.was at c.turn.ensures.turned).world)
+    fewer_left c.turn.new.self.connections c.args.conn (at c.args.conn (connections_of mid.connections)) (sym c.is_busy.ensures ∙ c.loop-self-test.true)
+    (rw c.in_ok-turn.was at c.turn.ensures.turned).further
 
 pub loop-self-preserved : goal.loop-self-preserved
 loop-self-preserved g c =
@@ -71,8 +71,8 @@ invariant_of-self g c =
     let mid = c.loop-self.self in
     record {
       few = omega (arith, removed_count mid.connections c.try_remove.new.self c.try_remove.result c.try_remove.ensures.len c.try_remove.ensures.absent, mid.few);
-      of_run = subst (AllOfRun (fs_of mid.fs).run) (sym (without_slot mid.connections c.try_remove.new.self c.args.conn c.try_remove.ensures.updates))
-          (all_of_run_without (fs_of mid.fs).run (connections_of mid.connections) c.args.conn mid.of_run);
+      of_run = subst (AllOfRun (fs_of mid.fs).volume.run) (sym (without_slot mid.connections c.try_remove.new.self c.args.conn c.try_remove.ensures.updates))
+          (all_of_run_without (fs_of mid.fs).volume.run (connections_of mid.connections) c.args.conn mid.of_run);
     }
 
 pub returns-clause-ok : goal.returns-clause-ok
@@ -84,7 +84,7 @@ returns-clause-ok g c =
     let was = inv.turned keeps recent ready in (
       seen_with mid was.0,
       was.1,
-      does_quietly (fs_of mid.fs) _ _ _ (runs.HangsUp c.args.conn) _ refl inv.is_up
+      does_quietly (fs_of mid.fs).volume _ _ _ (runs.HangsUp c.args.conn) _ refl inv.is_up
           (hung_up (shared_of mid.fs mid.table) (connections_of mid.connections) _ c.args.conn (sym c.is_busy.ensures ∙ c.loop-self-test.false)
           (without_slot mid.connections c.try_remove.new.self c.args.conn c.try_remove.ensures.updates)) refl was.0 was.2,
     )
@@ -117,6 +117,7 @@ returns-in_err-turn-clause-memory g c =
     )
 
 pub returns-in_err-turn-clause-fails : goal.returns-in_err-turn-clause-fails
+unfolding world_of volume_of
 returns-in_err-turn-clause-fails g c =
     let mid = c.loop-self.self in
     let fault = c.in_err-turn.field-0.0 in

@@ -1,11 +1,11 @@
 use Rattle.std.proofs.Common.{refl, ap, ◌∙◌}
 use Rattle.fs.specs.FileSystems.{fs_of}
-use Rattle.fs.specs.declared.fault.MountFault.TheVariants as mounts
-use Rattle.fs.proofs.MountedLaws.{refused_untouched}
+use Rattle.volume.specs.declared.fault.MountFault.TheVariants as mounts
+use Rattle.volume.proofs.MountedLaws.{refused_untouched}
 use Rattle.model.specs.Session.{empty_table}
 use Rattle.session.specs.Views.{table_of}
 use Rattle.server.specs.Connections.{connections_of}
-use Rattle.server.specs.Servers.{world_of, volume_of, failures_of}
+use Rattle.server.specs.Servers.{world_of, files_of, volume_of, failures_of}
 use Rattle.server.proofs.Moves.{mounted_by, world_mounted}
 use Rattle.server.proofs.Refusals.{told_err}
 use Rattle.server.proofs.server.Server.mount.Goals as goal
@@ -15,7 +15,7 @@ unfolding world_of volume_of connections_of
 returns-clause-begins g c =
     let new = c.in_ok-fs.ensures.new in
     λ keeps. mounted_by (fs_of c.in_ok-fs.fs) (table_of c.new-table.result) (connections_of c.in-Ok.connections)
-    (c.new-table.ensures ∙ ap empty_table c.restart_count.ensures) (rw c.in-Ok.ensures.empty refl) new.no_change new.is_up (c.in_ok-fs.ensures.mounted keeps).holds
+    (c.new-table.ensures ∙ ap empty_table c.restart_count.ensures) (rw c.in-Ok.ensures.empty refl) new.no_change new.volume_new.is_up (c.in_ok-fs.ensures.mounted keeps).holds
 
 pub returns-clause-world : goal.returns-clause-world
 unfolding world_of volume_of connections_of
@@ -24,7 +24,7 @@ returns-clause-world g c =
     (c.new-table.ensures ∙ ap empty_table c.restart_count.ensures) (rw c.in-Ok.ensures.empty refl) c.in_ok-fs.ensures.new.no_change
 
 pub returns-clause-new : goal.returns-clause-new
-unfolding volume_of
+unfolding files_of
 returns-clause-new g c = c.in_ok-fs.ensures.new
 
 pub returns-clause-later : goal.returns-clause-later

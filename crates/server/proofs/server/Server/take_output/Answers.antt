@@ -1,8 +1,10 @@
 use Rattle.std.proofs.Common.{sym, refl, ap, ◌∙◌, subst, arith}
-use Rattle.compound.specs.States.{shared_of}
+use Rattle.compound.specs.States.{shared_of, without_opens}
+use Rattle.fs.specs.FileSystem.{FileSystem}
 use Rattle.fs.specs.FileSystems.{fs_of}
 use Rattle.model.specs.Runs as runs
 use Rattle.model.specs.World.{reply_in}
+use Rattle.session.specs.Views.{table_of}
 use Rattle.server.specs.Connections.{connections_of, connection_view, IsOfRun}
 use Rattle.server.specs.Seen.{Gave}
 use Rattle.server.specs.Servers.{world_of, volume_of}
@@ -16,7 +18,7 @@ invariant_of-self g c =
     let s = c.args.self.now in
     let before = c.in-Some.connection.now in
     let after = c.take_output.new.self in
-    let run = (fs_of s.fs).run in
+    let run = (fs_of s.fs).volume.run in
     record {
       few = omega (arith, wrote_count s.connections c.args.conn before after c.in-Some.ensures.value, s.few);
       of_run = subst (AllOfRun run) (sym (wrote s.connections c.args.conn before after c.in-Some.ensures.value))
@@ -32,7 +34,7 @@ returns-in-Some-clause-ok g c =
     let before = c.in-Some.connection.now in
     let after = c.take_output.new.self in
     let there = stands s.connections c.args.conn before c.in-Some.ensures.value in
-    λ keeps up. does_quietly (fs_of s.fs) _ _ _ (runs.Takes c.args.conn) _ refl up
+    λ keeps up. does_quietly (fs_of s.fs).volume _ _ _ (runs.Takes c.args.conn) _ refl up
     (took (shared_of s.fs s.table) (connections_of s.connections) _ c.args.conn (connection_view before) (connection_view after)
     there (wrote s.connections c.args.conn before after c.in-Some.ensures.value) c.take_output.ensures.left)
     (ap Gave (c.take_output.ensures.given ∙ ap reply_in (sym there)))
@@ -44,12 +46,14 @@ returns-in-Some-clause-down g c =
     let before = c.in-Some.connection.now in
     let after = c.take_output.new.self in
     let there = stands s.connections c.args.conn before c.in-Some.ensures.value in
-    λ keeps down recent leaves. record {
+    λ keeps down tree recent leaves.
+    let files : FileSystem = record (fs_of s.fs) { volume = record (fs_of s.fs).volume { tree = tree } } in
+    record {
       stays = stays_down _ _ _ _ recent c.args.conn down down
-          (took (shared_of s.fs s.table) (connections_of s.connections) _ c.args.conn (connection_view before) (connection_view after)
+          (took (without_opens files (table_of s.table)) (connections_of s.connections) _ c.args.conn (connection_view before) (connection_view after)
           there (wrote s.connections c.args.conn before after c.in-Some.ensures.value) c.take_output.ensures.left);
       says = ap Gave (c.take_output.ensures.given ∙ ap reply_in (sym there));
-      moves = moves_none _ _ (runs.Takes c.args.conn) (fs_of s.fs) leaves;
+      moves = moves_none _ _ (runs.Takes c.args.conn) (fs_of s.fs).volume leaves;
     }
 
 pub returns-in-Some-clause-no_connection : goal.returns-in-Some-clause-no_connection

@@ -11,11 +11,13 @@ use Rattle.server.specs.Faults.{turn_fault}
 use Rattle.server.specs.declared.fault.ServerFault.TheVariants as faults
 use Rattle.server.specs.Seen.{Turned}
 use Rattle.server.specs.Servers.{world_of, volume_of, failures_of, world_by}
-use Rattle.fs.proofs.ChangeLaws.{volume_is}
+use Rattle.compound.proofs.QuietLaws.{left_all, broken≢done}
+use Rattle.model.proofs.KeyedLaws.{at-with_other}
+use Rattle.model.specs.Keyed.{at}
 use Rattle.server.proofs.Moves.{broken_leaves}
 use Rattle.server.proofs.Refusals.{told_by, device_told, turn_refused}
 use Rattle.server.proofs.SlabLaws.{stands, stands_none, wrote, wrote_count, rewrote, numbers_rise}
-use Rattle.server.proofs.ServedTurns.{turned, undone, gives_one, turning_moments}
+use Rattle.server.proofs.ServedTurns.{turned, undone, broken, gone_on_at, gives_one, turning_moments}
 use Rattle.server.proofs.Worlds.{AllOfRun, all_of_run_with, happened_leaving, failed_from}
 use Rattle.server.proofs.server.Server.turn.Goals as goal
 
@@ -39,7 +41,7 @@ invariant_of-self-then-is_closed g c =
     let before = c.in-Some.connection.now in
     record {
       few = omega (arith, wrote_count s.connections c.args.conn before before c.in-Some.ensures.value, s.few);
-      of_run = subst (AllOfRun (fs_of s.fs).run) (sym (rewrote s.connections c.args.conn before before c.in-Some.ensures.value refl)) s.of_run;
+      of_run = subst (AllOfRun (fs_of s.fs).volume.run) (sym (rewrote s.connections c.args.conn before before c.in-Some.ensures.value refl)) s.of_run;
     }
 
 pub returns-then-is_closed-clause-is_none : goal.returns-then-is_closed-clause-is_none
@@ -68,8 +70,8 @@ invariant_of-self-2 g c =
     let s = c.args.self.now in
     let before = c.in-Some.connection.now in
     let after = c.turn.new.self in
-    let run = (fs_of s.fs).run in
-    let same_run : (fs_of c.turn.new.fs).run ≡ run = c.turn.ensures.volume.same.run in
+    let run = (fs_of s.fs).volume.run in
+    let same_run : (fs_of c.turn.new.fs).volume.run ≡ run = c.turn.ensures.volume.volume_changes.same.run in
     record {
       few = omega (arith, wrote_count s.connections c.args.conn before after c.in-Some.ensures.value, s.few);
       of_run = subst (λ (r : ℕ). AllOfRun r (connections_of (with_value s.connections c.args.conn after))) (sym same_run)
@@ -88,21 +90,20 @@ returns-in_err-turn-clause-fails g c =
     let back = rw c.in_err-turn.was at c.turn.ensures.back in
     λ keeps up is.
     let device : refusal ≡ turns.Device = device_told refusal (let told_is : turn_fault refusal ≡ faults.Device = cc in told_is) in
-    let adds = c.turn.ensures.volume.moments keeps _ _ (gives_one (shared_of s.fs s.table) (connections_of s.connections) c.args.conn c.args.now (connection_view before)
+    let volume = c.turn.ensures.volume.volume_changes in
+    let failed = rw (c.in_err-turn.was, device) at c.turn.ensures.volume in
+    let adds = volume.moments keeps _ _ (gives_one (shared_of s.fs s.table) (connections_of s.connections) c.args.conn c.args.now (connection_view before)
     (stands s.connections c.args.conn before c.in-Some.ensures.value)) in
-    let same = c.turn.ensures.volume.same in
     λ recent ready. (
       _,
       record {
-        fails = failed_from _ _ recent _ _ (runs.Turns c.args.conn c.args.now) ready.newest up
-            (ap (λ (f : FileSystem). f.is_down) (rw (c.in_err-turn.was, device) at c.turn.ensures.volume).ends.only)
-            (undone (shared_of s.fs s.table) (shared_of c.turn.new.fs c.turn.new.table) (connections_of s.connections) _ refusal
-            (λ memory. (rw (c.in_err-turn.was, memory) at c.turn.ensures.volume).ends) (λ device. (rw (c.in_err-turn.was, device) at c.turn.ensures.volume).ends.only) (ap (without_opens (fs_of c.turn.new.fs)) back.1)
-            (rewrote s.connections c.args.conn before after c.in-Some.ensures.value back.0));
+        fails = failed_from _ _ recent _ _ (runs.Turns c.args.conn c.args.now) ready.newest up failed.volume_changes.ends.down
+            (broken (shared_of s.fs s.table) (shared_of c.turn.new.fs c.turn.new.table) (connections_of s.connections) _ volume.same (failed.no_count broken≢done)
+            (ap (without_opens (fs_of c.turn.new.fs)) back.1) (rewrote s.connections c.args.conn before after c.in-Some.ensures.value back.0) (fs_of s.fs).volume.tree);
         moves = record {
           moments = turning_moments (shared_of s.fs s.table) (connections_of s.connections) c.args.conn c.args.now recent _ ready up adds;
-          leaves = broken_leaves (fs_of s.fs) (fs_of c.turn.new.fs) _ recent ready adds same;
-          same = same;
+          leaves = broken_leaves (fs_of s.fs).volume (fs_of c.turn.new.fs).volume _ recent ready adds volume.same;
+          same = volume.same;
         };
       },
     )
@@ -131,11 +132,18 @@ returns-in_err-turn-clause-refused g c =
     let refusal = c.in_err-turn.field-0.0 in
     let told = told_by c.from_residual.result (turn_fault refusal) c.from_residual.ensures.1 in
     let back = rw c.in_err-turn.was at c.turn.ensures.back in
-    let same = undone (shared_of s.fs s.table) (shared_of c.turn.new.fs c.turn.new.table) (connections_of s.connections) _ refusal
-    (λ memory. (rw (c.in_err-turn.was, memory) at c.turn.ensures.volume).ends) (λ device. (rw (c.in_err-turn.was, device) at c.turn.ensures.volume).ends.only) (ap (without_opens (fs_of c.turn.new.fs)) back.1)
-    (rewrote s.connections c.args.conn before after c.in-Some.ensures.value back.0) in
-    rw told (turn_refused _ _ c.args.conn refusal same (λ memory. (rw (c.in_err-turn.was, memory) at c.turn.ensures.volume).ends)
-    (λ device. inr (rw (c.in_err-turn.was, device) at c.turn.ensures.volume).ends.cause))
+    let here = rewrote s.connections c.args.conn before after c.in-Some.ensures.value back.0 in
+    let stays = ap (without_opens (fs_of c.turn.new.fs)) back.1 in
+    rw told (turn_refused _ _ c.args.conn refusal
+    (λ memory.
+    let files = left_all _ _ _ _ _ _ (rw (c.in_err-turn.was, memory) at c.turn.ensures.volume) in
+    (undone (shared_of s.fs s.table) (shared_of c.turn.new.fs c.turn.new.table) (connections_of s.connections) _ files stays here, ap (λ (f : FileSystem). f.volume) files))
+    (λ device.
+    let failed = rw (c.in_err-turn.was, device) at c.turn.ensures.volume in (
+      broken (shared_of s.fs s.table) (shared_of c.turn.new.fs c.turn.new.table) (connections_of s.connections) _ failed.volume_changes.same (failed.no_count broken≢done)
+          stays here (fs_of c.turn.new.fs).volume.tree,
+      inr failed.volume_changes.ends.cause,
+    )))
 
 pub returns-clause-ok : goal.returns-clause-ok
 unfolding world_of volume_of
@@ -144,17 +152,17 @@ returns-clause-ok g c =
     let before = c.in-Some.connection.now in
     let after = c.turn.new.self in
     let there = stands s.connections c.args.conn before c.in-Some.ensures.value in
-    let volume = rw c.in_ok-turn.was at c.turn.ensures.volume in
+    let volume = (rw c.in_ok-turn.was at c.turn.ensures.volume).volume_changes in
     let gives = gives_one (shared_of s.fs s.table) (connections_of s.connections) c.args.conn c.args.now (connection_view before) there in
-    let made = turned (shared_of s.fs s.table) (shared_of c.turn.new.fs c.turn.new.table) (connections_of s.connections) _ c.args.conn c.args.now
-    (connection_view before) (connection_view after) (wrote s.connections c.args.conn before after c.in-Some.ensures.value) c.in_ok-turn.field-0
-    (rw c.in_ok-turn.was at c.turn.ensures.turn) (numbers_rise s.connections) there (volume_is (fs_of s.fs) (fs_of c.turn.new.fs) volume.same) in
     let up = sym c.if-is_down.ensures in
     λ keeps recent ready.
+    let made = turned (shared_of s.fs s.table) (shared_of c.turn.new.fs c.turn.new.table) (connections_of s.connections) _ c.args.conn c.args.now
+    (connection_view before) (connection_view after) (wrote s.connections c.args.conn before after c.in-Some.ensures.value) c.in_ok-turn.field-0
+    ((rw c.in_ok-turn.was at c.turn.ensures.turn) keeps) (numbers_rise s.connections) there volume.same in
     let left = volume.ends.leaves keeps _ _ gives recent ready in (
       left.0,
       record {
-        happens = happened_leaving (fs_of c.turn.new.fs) _ _ recent left.0 _ _ (runs.Turns c.args.conn c.args.now) ready.newest up volume.ends.still_up made.1 left.1;
+        happens = happened_leaving (fs_of c.turn.new.fs).volume _ _ recent left.0 _ _ (runs.Turns c.args.conn c.args.now) ready.newest up volume.ends.still_up made.1 left.1;
         says = ap Turned made.0;
         moves = record {
           moments = turning_moments (shared_of s.fs s.table) (connections_of s.connections) c.args.conn c.args.now recent _ ready up (volume.moments keeps _ _ gives);
@@ -186,9 +194,17 @@ returns-clause-turned g c =
     let s = c.args.self.now in
     let before = c.in-Some.connection.now in
     let after = c.turn.new.self in
-    let volume = rw c.in_ok-turn.was at c.turn.ensures.volume in
-    let made = turned (shared_of s.fs s.table) (shared_of c.turn.new.fs c.turn.new.table) (connections_of s.connections) _ c.args.conn c.args.now
-    (connection_view before) (connection_view after) (wrote s.connections c.args.conn before after c.in-Some.ensures.value) c.in_ok-turn.field-0
-    (rw c.in_ok-turn.was at c.turn.ensures.turn) (numbers_rise s.connections) (stands s.connections c.args.conn before c.in-Some.ensures.value)
-    (volume_is (fs_of s.fs) (fs_of c.turn.new.fs) volume.same) in
-    record { up = sym c.if-is_down.ensures; still_up = volume.ends.still_up; world = made.1 }
+    let there = stands s.connections c.args.conn before c.in-Some.ensures.value in
+    let written = wrote s.connections c.args.conn before after c.in-Some.ensures.value in
+    let volume = (rw c.in_ok-turn.was at c.turn.ensures.volume).volume_changes in
+    record {
+      up = sym c.if-is_down.ensures;
+      still_up = volume.ends.still_up;
+      same = volume.same;
+      others = λ other apart. ap (at other) written ∙ at-with_other (connections_of s.connections) c.args.conn other (connection_view after) apart;
+      further = gone_on_at (connections_of s.connections) _ c.args.conn (connection_view before) (connection_view after) there written
+          (rw c.in_ok-turn.was at c.turn.ensures.further);
+      world = λ keeps. (turned (shared_of s.fs s.table) (shared_of c.turn.new.fs c.turn.new.table) (connections_of s.connections) _ c.args.conn c.args.now
+          (connection_view before) (connection_view after) written c.in_ok-turn.field-0
+          ((rw c.in_ok-turn.was at c.turn.ensures.turn) keeps) (numbers_rise s.connections) there volume.same).1;
+    }

@@ -1,9 +1,0 @@
-use Rattle.fs.specs.Superblock.{superblock, fields}
-use Rattle.fs.proofs.SuperblockLaws.{behind_fields}
-use Rattle.fs.proofs.superblock.superblock_of.Goals as goal
-
-pub returns : goal.returns
-unfolding superblock
-returns c =
-    behind_fields c.put_fields.new.sector c.put_zeros.new.sector (fields c.args.sectors c.args.nodes c.args.run)
-    c.put_zeros.ensures.len c.put_fields.ensures.front c.put_zeros.ensures.front

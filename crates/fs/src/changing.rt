@@ -1,0 +1,100 @@
+//! Changes of the tree: the edits that they are made of, and keeping them.
+
+ghost use Rattle.std.specs.Prelude.{◌≡◌, ◌⊎◌, ◌+◌, ◌∷◌, [], false, IfOk, IfErr, OnOk, IfSome};
+ghost use Rattle.draft.specs.Nodes.{shown_of};
+ghost use Rattle.edits.specs.declared.edit.Edit.TheVariants as edit;
+ghost use Rattle.fs.specs.Planned.{shown_by};
+
+use crate::fault::FsFault;
+use crate::fs::Fs;
+use acl_eval::{Acl, NodeKind};
+use cards::Card;
+use disk::Device;
+use draft::Shown;
+use edits::Edit;
+use std::alloc::{AllocError, Global};
+
+/// A node whose content a change alters: what it shows then.
+pub(crate) fn touched(alloc: Global, card: &Card, stamp: u64, now: u64) -> Result<Shown, AllocError>
+    ensures { IfOk result (λ shown. shown_of shown ≡ shown_by card.now.fields stamp now) }
+{
+    let inode = &card.inode;
+    Ok(Shown {
+        owner: inode.owner,
+        group: inode.group,
+        acl: Acl::from_slice(alloc, inode.acl.as_slice())?,
+        change: stamp,
+        time_modify: now,
+    })
+}
+
+/// A new node of the change's number, its name, and what its directory shows then.
+pub(crate) fn made_edits<'a>(
+    alloc: Global,
+    kind: NodeKind,
+    shown: Shown,
+    stamp: u64,
+    directory: u64,
+    directory_shown: Shown,
+    name: &'a [u8],
+) -> Result<Vec<Edit<'a>>, AllocError>
+    ensures { IfOk result (λ edits. edits.items ≡ edit.PutNode stamp kind shown
+        ∷ edit.PutName directory stamp name.entry stamp
+        ∷ edit.Show directory directory_shown ∷ []) }
+{
+    let mut edits = Vec::new(alloc);
+    edits.push(Edit::PutNode {
+        number: stamp,
+        kind,
+        shown,
+    })?;
+    edits.push(Edit::PutName {
+        directory,
+        stamp,
+        name,
+        number: stamp,
+    })?;
+    edits.push(Edit::Show {
+        number: directory,
+        shown: directory_shown,
+    })?;
+    Ok(edits)
+}
+
+#[tactic(auto, unfolding(crate::specs::FileSystems::fs_of, crate::specs::FileSystems::fs_failures))]
+impl<D: Device> Fs<D> {
+    ghost use Rattle.fs.specs.Changes.{fs_ending};
+    ghost use Rattle.fs.specs.FileSystems.{fs_of, Alters};
+    ghost use Rattle.fs.specs.Planned.{IsPlanned};
+    ghost use Rattle.model.specs.Stamp.{next_stamp};
+    ghost use Rattle.volume.specs.Changes.{IsTree};
+    ghost use Rattle.volume.specs.Edits.{edited_by};
+    ghost use Rattle.volume.specs.Formed.{Shows};
+
+    /// The stamp of the next change: none where it has more than 64 bits, behind the last change of
+    /// the last run.
+    pub(crate) fn next_stamp(&self) -> Option<u64>
+        ensures { IfSome result (λ stamp.
+            stamp ≡ next_stamp (fs_of self.now).volume.run (fs_of self.now).changes) }
+    {
+        let first = u64::from(self.restart_count()) * 0x1_0000_0000;
+        first.checked_add(u64::from(self.changes) + 1)
+    }
+
+    /// Keeps a change, and counts it.
+    pub(crate) fn keep(&mut self, edits: Vec<Edit<'_>>) -> Result<(), FsFault>
+        requires up { (fs_of self.old).volume.is_down ≡ false }
+        requires planned { IsPlanned (fs_of self.old) edits.items }
+        ensures volume { Alters self.old self.new
+            (IsTree (edited_by (fs_of self.old).volume edits.entry.items)) (fs_ending result) }
+        ensures shows { OnOk result (Shows D.keeps_word
+            (edited_by (fs_of self.old).volume edits.entry.items) (fs_of self.new).volume.tree) }
+        ensures counted { OnOk result ((fs_of self.new).changes ≡ (fs_of self.old).changes + 1) }
+        ensures only { IfErr result (λ fault.
+            (fault ≡ FsFault.Memory) ⊎ (fault ≡ FsFault.Device)) }
+    {
+        self.volume.keep(edits)?;
+        self.changes += 1;
+        Ok(())
+    }
+}

@@ -1,0 +1,217 @@
+//! CREATE of a directory.
+
+use crate::changing::{made_edits, touched};
+use crate::created::Created;
+use crate::entries::tell_entries;
+use crate::fault::FsFault;
+use crate::fs::Fs;
+use crate::nodes::is_directory;
+use crate::rights::grants;
+use acl_eval::{Cred, Mask, NodeKind};
+use acl_set::{Given, at_creation};
+use cards::Card;
+use disk::Device;
+use draft::Shown;
+use edits::Edit;
+use model::status::Status;
+use names::check_name;
+use plain::attributes::{SETTABLE_AT_CREATION, Settings, check_attributes};
+use plain::make_dir::NewDirectory;
+use plain::refusal::Refusal;
+use std::alloc::AllocError;
+
+/// A directory that may be made.
+#[derive(Drop)]
+struct Planned<'a> {
+    /// The change that makes it.
+    edits: Vec<Edit<'a>>,
+    created: Created,
+}
+
+#[tactic(auto, unfolding(crate::specs::FileSystems::fs_of, crate::specs::FileSystems::fs_failures))]
+impl<D: Device> Fs<D> {
+    ghost use Rattle.std.specs.Prelude.{◌≡◌, ◌≤◌, ◌+◌, ◌<◌, true, false, length, OnOk, IfOk, IfErr, IsErrOf};
+    ghost use Rattle.std.specs.Option.{ForSome};
+    ghost use Rattle.draft.specs.Nodes.{shown_of};
+    ghost use Rattle.edits.specs.Edits.{AreEntries};
+    ghost use Rattle.layout.specs.Known.{IsCard};
+    ghost use Rattle.model.specs.Attribute.{is_empty, mode_given};
+    ghost use Rattle.model.specs.Step.{State};
+    ghost use Rattle.plain.specs.Given.{given_of, IsCheckedInMemory};
+    ghost use Rattle.plain.specs.Step.{new_directory_refusals};
+    ghost use Rattle.fs.specs.Changes.{fs_ending};
+    ghost use Rattle.fs.specs.FileSystems.{fs_of, Alters};
+    ghost use Rattle.fs.specs.Operations.{IsOn, MakesDir, MakesTree, IsNotDone, created, does_on, new_directory};
+    ghost use Rattle.fs.specs.Planned.{AreSettings, IsList, IsPlanned, child_shown};
+    ghost use Rattle.fs.specs.Refusals.{fault_of};
+    ghost use Rattle.volume.specs.Edits.{edited_by};
+    ghost use Rattle.volume.specs.Nodes.{IsNodeOf};
+
+    /// CREATE of a directory (RFC 8881, section 18.4), by this caller at this moment, in nanoseconds
+    /// since 1970. It is kept on the device before the answer; `has_room` says whether the reply has
+    /// room for that.
+    ///
+    /// # Errors
+    ///
+    /// Refused by the first of these that holds: STALE, NOTDIR, a name that is none, attributes that
+    /// may not be set, ACCESS without the right to add a directory, EXIST, NOSPC, and SERVERFAULT
+    /// where the run has used up its stamps; then `NoRoom`. Memory may run out before or behind any
+    /// of them.
+    pub fn make_dir(
+        &mut self,
+        cred: &Cred,
+        now: u64,
+        asked: NewDirectory,
+        has_room: bool,
+    ) -> Result<Created, FsFault>
+        requires { length asked.attributes.bitmap.now ≤ 8 }
+        ensures step { (state : State) → IsOn (fs_of self.old) cred.now asked.entry.parent state
+            → MakesDir D.keeps_word (fs_of self.old) (fs_of self.new) state now
+            asked.entry.name.now (given_of asked.entry.attributes) result }
+        ensures volume { Alters self.old self.new
+            (MakesTree (fs_of self.old) cred.now asked.entry.parent now
+            (new_directory asked.entry.name.now (given_of asked.entry.attributes)))
+            (fs_ending result) }
+        ensures room { OnOk result (has_room ≡ true) }
+        ensures no_room { IsErrOf result FsFault.NoRoom → has_room ≡ false }
+        ensures down { (fs_of self.old).volume.is_down ≡ true → IsErrOf result FsFault.Down }
+        ensures device_room { IsErrOf result FsFault.Device → has_room ≡ true }
+    {
+        if self.is_down() {
+            return Err(FsFault::Down);
+        }
+        let planned = self.plan_dir(cred, now, asked)?;
+        if !has_room {
+            return Err(FsFault::NoRoom);
+        }
+        self.keep(planned.edits)?;
+        Ok(planned.created)
+    }
+
+    /// The change that makes a directory, where nothing refuses it but that its reply has no room.
+    fn plan_dir<'a>(
+        &self,
+        cred: &Cred,
+        now: u64,
+        asked: NewDirectory<'a>,
+    ) -> Result<Planned<'a>, Refusal>
+        requires up { (fs_of self.now).volume.is_down ≡ false }
+        requires few { length asked.attributes.bitmap.now ≤ 8 }
+        ensures planned { IfOk result (λ planned.
+            IsPlanned (fs_of self.now) planned.edits.items) }
+        ensures step { (state : State) → IsOn (fs_of self.now) cred.now asked.entry.parent state
+            → IfOk result (λ planned. does_on (fs_of self.now) state now
+            (new_directory asked.entry.name.now (given_of asked.entry.attributes))
+            ≡ created (edited_by (fs_of self.now).volume planned.edits.items)
+            ((fs_of self.now).changes + 1) state (given_of asked.entry.attributes) planned.created) }
+        // Refused
+        ensures refused { (state : State) → IsOn (fs_of self.now) cred.now asked.entry.parent state
+            → IfErr result (λ refusal. IsNotDone (fs_of self.now) state now
+            (new_directory asked.entry.name.now (given_of asked.entry.attributes))
+            (fault_of refusal)) }
+    {
+        let (parent, settings) = self.permit_dir(cred, asked)?;
+        let Some(stamp) = self.next_stamp() else {
+            return Err(Refusal::Memory);
+        };
+        let child = self.new_directory(cred, parent, settings, stamp, now)?;
+        let shown = touched(self.alloc, parent, stamp, now)?;
+        let edits = made_edits(
+            self.alloc,
+            NodeKind::Directory,
+            child,
+            stamp,
+            asked.parent,
+            shown,
+            asked.name,
+        )?;
+        if !self.volume.fits(&edits) {
+            return Err(Refusal::Status(Status::NoSpc));
+        }
+        if self.changes == u32::MAX {
+            return Err(Refusal::Status(Status::ServerFault));
+        }
+        Ok(Planned {
+            edits,
+            created: Created {
+                number: stamp,
+                before: parent.inode.change,
+            },
+        })
+    }
+
+    /// The tests before those of room and stamps: the directory that is to hold the new one, and what
+    /// is set.
+    fn permit_dir(&self, cred: &Cred, asked: NewDirectory) -> Result<(&Card, Settings), Refusal>
+        requires { length asked.attributes.bitmap.now ≤ 8 }
+        ensures tests { IsCheckedInMemory (new_directory_refusals (fs_of self.entry.now).volume.limits
+            (fs_of self.entry.now).volume.tree cred.now asked.entry.parent asked.entry.name.now
+            (given_of asked.entry.attributes)) result }
+        ensures parent { IfOk result (λ permitted.
+            IsNodeOf (fs_of self.entry.now).volume.tree asked.entry.parent permitted.0.now) }
+        ensures fit { IfOk result (λ permitted. IsCard permitted.0.now) }
+        ensures settings { IfOk result (λ permitted.
+            AreSettings permitted.1 (given_of asked.entry.attributes)) }
+    {
+        let Some(parent) = self.volume.node(asked.parent) else {
+            return Err(Refusal::Status(Status::Stale));
+        };
+        if !is_directory(parent) {
+            return Err(Refusal::Status(Status::NotDir));
+        }
+        let limits = self.volume.limits();
+        check_name(asked.name, limits)?;
+        let settings = check_attributes(
+            self.alloc,
+            limits,
+            NodeKind::Directory,
+            &SETTABLE_AT_CREATION,
+            asked.attributes,
+        )?;
+        if !grants(parent, cred, Mask::APPEND_DATA) {
+            return Err(Refusal::Status(Status::Access));
+        }
+        if parent.names.get(asked.name).is_some() {
+            return Err(Refusal::Status(Status::Exist));
+        }
+        Ok((parent, settings))
+    }
+
+    /// What a new directory of this caller shows.
+    fn new_directory(
+        &self,
+        cred: &Cred,
+        parent: &Card,
+        settings: Settings,
+        stamp: u64,
+        now: u64,
+    ) -> Result<Shown, AllocError>
+        requires mode { ForSome settings.mode (λ mode. mode ≤ 511) }
+        requires listed { IsList (fs_of self.now).volume.limits parent.now.fields.acl }
+        ensures shown { IfOk result (λ child. shown_of child
+            ≡ child_shown cred.now parent.now.fields.acl settings stamp now) }
+        ensures entries { IfOk result (λ child. AreEntries (shown_of child).acl) }
+    {
+        let (owner, group) = (cred.uid, cred.gid);
+        let given = Given {
+            empty: settings.is_empty,
+            mode: settings.mode,
+            acl: None,
+        };
+        let acl = at_creation(
+            self.alloc,
+            parent.inode.acl.as_slice(),
+            NodeKind::Directory,
+            &given,
+        )
+        .map_err(|_| AllocError)?;
+        tell_entries(acl.as_slice());
+        Ok(Shown {
+            owner,
+            group,
+            acl,
+            change: stamp,
+            time_modify: now,
+        })
+    }
+}

@@ -1,0 +1,28 @@
+//! Nodes by number, and what their cards tell.
+
+ghost use Rattle.std.specs.Prelude.{◌≡◌, ◌↔◌, IsTrue};
+ghost use Rattle.model.specs.declared.node.NodeKind.TheVariants as kind;
+ghost use Rattle.model.specs.Keyed.{is_key};
+ghost use Rattle.fs.specs.FileSystems.{fs_of};
+
+use crate::fs::Fs;
+use acl_eval::NodeKind;
+use cards::Card;
+use disk::Device;
+
+/// Whether a node is a directory.
+pub(crate) fn is_directory(card: &Card) -> bool
+    ensures { IsTrue result ↔ (card.now.fields.kind ≡ kind.Directory) }
+{
+    matches!(card.inode.kind, NodeKind::Directory)
+}
+
+#[tactic(auto, unfolding(crate::specs::FileSystems::fs_of))]
+impl<D: Device> Fs<D> {
+    /// Whether there is a node of this number.
+    pub(crate) fn has(&self, number: u64) -> bool
+        ensures { result ≡ is_key number (fs_of self.now).volume.tree }
+    {
+        self.volume.node(number).is_some()
+    }
+}

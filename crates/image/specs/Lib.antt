@@ -1,5 +1,0 @@
-pub mod Imaged
-pub mod RecordSpelling
-pub mod RecordViews
-pub mod Stamps
-pub mod TreeRecords

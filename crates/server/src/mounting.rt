@@ -1,0 +1,76 @@
+//! Making a volume, and serving one.
+
+use crate::server::{MOST_CONNECTIONS, Server};
+use disk::Device;
+use fs::{FormatFault, Fs, MountFault, Unmounted};
+use session::Table;
+use slab::Slab;
+use std::alloc::Global;
+
+#[tactic(auto, unfolding(crate::specs::Servers::world_of, crate::specs::Servers::files_of, crate::specs::Servers::volume_of, crate::specs::Servers::failures_of, crate::specs::Connections::connections_of))]
+impl<D: Device> Server<D> {
+    ghost use Rattle.std.specs.Prelude.{◌≡◌, ◌≤◌, ◌⊎◌, ◌↔◌, false, OnOk, IfOk, IfErr, IsErrOf};
+    ghost use Rattle.disk.specs.Cause.{IsCounted};
+    ghost use Rattle.fs.specs.FileSystem.{IsNew};
+    ghost use Rattle.layout.specs.Superblock.{is_size};
+    ghost use Rattle.volume.specs.Formats.{AddsFresh, LeavesFresh};
+    ghost use Rattle.volume.specs.MountAnswers.{HasMounted, IsRefused, ComesBack};
+    ghost use Rattle.server.specs.Headline.{Begins};
+    ghost use Rattle.server.specs.Servers.{BeginsEmpty, files_of, volume_of, failures_of};
+
+    /// Makes the device a new volume of this many nodes, with an empty root: `Fs::format`.
+    pub fn format(alloc: Global, device: &mut D, nodes: u32) -> Result<(), FormatFault>
+        ensures any_moment { D.keeps_word → AddsFresh (D.size device.old) nodes
+            (D.history device.old) (D.history device.new) }
+        ensures ok { D.keeps_word → OnOk result
+            (LeavesFresh (D.size device.old) nodes (D.history device.new)) }
+        // Refused
+        ensures size { IsErrOf result FormatFault.Size
+            ↔ (is_size (D.size device.old) nodes ≡ false) }
+        ensures untouched { (IsErrOf result FormatFault.Size ⊎ IsErrOf result FormatFault.Memory)
+            → D.history device.new ≡ D.history device.old }
+        ensures cause { IsErrOf result FormatFault.Device
+            → IsCounted (D.failed device.old) (D.failed device.new) }
+        ensures later { D.failed device.old ≤ D.failed device.new }
+        ensures same_size { D.size device.new ≡ D.size device.old }
+    {
+        Fs::format(alloc, device, nodes)
+    }
+
+    /// Serves the volume on this device, without a client or a connection yet: `Fs::mount`. Every map that a stop leaves from then
+    /// on has the new restart count.
+    ///
+    /// # Errors
+    /// The device comes back with the reason. NotVolume, then Worn, by the first sector, and then nothing was written; then
+    /// Damaged exactly where no tree stands; Device where the device failed, and Memory.
+    pub fn mount(alloc: Global, device: D) -> Result<Server<D>, Unmounted<D>>
+        ensures world { IfOk result BeginsEmpty }
+        ensures new { IfOk result (λ server. IsNew (D.size device) (files_of server)) }
+        ensures later { IfOk result (λ server. D.failed device ≤ failures_of server) }
+        ensures mounted { D.keeps_word → IfOk result (λ server.
+            HasMounted (D.size device) (D.history device) (volume_of server)) }
+        ensures begins { D.keeps_word → IfOk result Begins }
+        // Refused
+        ensures back { IfErr result (ComesBack D.size D.failed (D.size device) (D.failed device)) }
+        ensures refused { D.keeps_word → IfErr result (λ refused.
+            IsRefused (D.size device) (D.history device) (D.history refused.device) refused.fault) }
+    {
+        let connections = match Slab::with_capacity(alloc, MOST_CONNECTIONS) {
+            Ok(connections) => connections,
+            Err(_) => {
+                return Err(Unmounted {
+                    fault: MountFault::Memory,
+                    device,
+                });
+            }
+        };
+        let fs = Fs::mount(alloc, device)?;
+        let table = Table::new(alloc, fs.restart_count());
+        Ok(Server {
+            alloc,
+            fs,
+            table,
+            connections,
+        })
+    }
+}

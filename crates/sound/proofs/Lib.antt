@@ -1,3 +1,0 @@
-pub mod DecidedLaws
-pub mod LinkLaws
-pub mod MarkLaws
