@@ -467,10 +467,10 @@ struct Runs {
 
 impl Runs {
     fn next_stop(&mut self) -> Stop {
-        let step = self.seed.below(600) as u64;
+        let step = (self.seed.below(150) as u64).saturating_add(20);
         match self.seed.below(3) {
-            0 => Stop::Before(step.saturating_add(100)),
-            _ => Stop::Within(step.saturating_add(100)),
+            0 => Stop::Before(step),
+            _ => Stop::Within(step),
         }
     }
 
