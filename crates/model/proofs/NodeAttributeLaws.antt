@@ -1,5 +1,5 @@
 -- The bitmap that is answered tells the attributes whose values stand beside it.
-use Rattle.std.proofs.Common.{◌≡◌, ◌⊎◌, inl, inr, ℕ, zero, suc, ◌+◌, ◌*◌, ◌<◌, ◌≤◌, Bool, true, false, ◌&&◌, ◌||◌, ◌==◌, cond, min, nat_eq, List, [], ◌∷◌, ◌++◌, map, filter, refl, sym, ap, ◌∙◌, arith, bit_and, eqb-true, eq-eqb, ne_eqb}
+use Rattle.std.proofs.Common.{◌≡◌, ◌⊎◌, inl, inr, ℕ, zero, suc, ◌+◌, ◌*◌, ◌/◌, ◌%◌, ◌<◌, ◌≤◌, Bool, true, false, ◌&&◌, ◌||◌, ◌==◌, cond, min, nat_eq, get_or, List, [], ◌∷◌, ◌++◌, map, filter, refl, sym, ap, ◌∙◌, arith, bit_and, eqb-true, eq-eqb, ne_eqb}
 use Rattle.std.specs.List.{list_any, range_with_len, AllByRecursion}
 use Rattle.std.specs.Int.{bit_at}
 use Rattle.std.proofs.lemmas.Bool.{cases_lt}
@@ -165,6 +165,20 @@ among_from g (word ∷ words) (suc k) b low =
     list_any-append (nat_eq n) (attributes_of_word g word) (attributes_from (g + 32) words)
     ∙ (ap (λ t. t || is_among (attributes_from (g + 32) words) n) (no_word g word n (inr (omega arith)))
     ∙ (ap (is_among (attributes_from (g + 32) words)) place ∙ among_from (g + 32) words k b low))
+
+nth-get : (words : List ℕ) (k : ℕ) → nth words k ≡ get_or words k 0
+unfolding nth
+nth-get [] k = refl
+nth-get (word ∷ words) zero = refl
+nth-get (word ∷ words) (suc k) = nth-get words k
+
+-- an attribute is asked where its bit is set
+pub asked_bit : (words : List ℕ) (n : ℕ) → is_among (attributes_of words) n ≡ (bit_at (get_or words (n / 32) 0) (n % 32) == 1)
+unfolding attributes_of
+asked_bit words n =
+    let place : n ≡ 0 + 32 * (n / 32) + n % 32 = omega arith in
+    ap (is_among (attributes_from 0 words)) place
+    ∙ (among_from 0 words (n / 32) (n % 32) (omega arith) ∙ ap (λ word. has word (n % 32)) (nth-get words (n / 32)))
 
 -- the bits in common
 

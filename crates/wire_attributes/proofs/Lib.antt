@@ -1,6 +1,9 @@
 pub mod Alone
+pub mod AnswerLaws
 pub mod Bits
 pub mod Entries
+pub mod ListedLaws
 pub mod Loops
 pub mod Naming
+pub mod NodeSizes
 pub mod Whole

@@ -1,2 +1,4 @@
-pub mod Views
 pub mod Clauses
+pub mod Listed
+pub mod NodeValues
+pub mod Views

@@ -51,14 +51,14 @@ fn kind_of(number: u32) -> Option<AceKind>
     }
 }
 
-fn number_of_kind(kind: AceKind) -> u32
+pub(crate) fn number_of_kind(kind: AceKind) -> u32
     ensures { result ≡ kind_number kind }
 {
     kind as u32
 }
 
 /// With IDENTIFIER_GROUP where the number is a group's.
-fn wire_flags(flags: AceFlags, name: Who) -> AceFlags
+pub(crate) fn wire_flags(flags: AceFlags, name: Who) -> AceFlags
     ensures { result.0 ≡ entry_flags flags.0 name }
 {
     match name {

@@ -1,9 +1,19 @@
 //! The numbers of the attributes that a bitmap names (RFC 8881, section 3.3.7).
 
 ghost use Rattle.std.specs.Prelude.{◌≡◌, ◌<◌, ◌≤◌, ◌++◌, length, IfOk, OnOk};
-ghost use Rattle.model.specs.Attribute.{attributes_of, attributes_of_word};
+ghost use Rattle.model.specs.Attribute.{attributes_of, attributes_of_word, is_among};
 
 use std::alloc::{AllocError, Global};
+
+/// Whether a bitmap, of any length, names an attribute.
+pub fn is_asked(bitmap: &[u32], attribute: u32) -> bool
+    ensures { result ≡ is_among (attributes_of bitmap.now) attribute }
+{
+    match bitmap.get(attribute as usize / 32) {
+        Some(word) => (*word >> (attribute % 32)) % 2 == 1,
+        None => false,
+    }
+}
 
 /// The numbers, rising: bit m of word n stands for attribute 32 n + m.
 pub fn numbers_of(alloc: Global, bitmap: &[u32]) -> Result<Vec<u32>, AllocError>

@@ -39,7 +39,7 @@ impl<'a> AclEntry<'a> {
     }
 
     #[tactic(auto, using(xdr::proofs::Writing::wrote_on, xdr::proofs::Writing::wrote_exit, xdr::proofs::Writing::wrote_end))]
-    fn write(&self, w: &mut Writer) -> Result<(), Refusal>
+    pub(crate) fn write(&self, w: &mut Writer) -> Result<(), Refusal>
         requires { EntryFits self.now }
         ensures { Wrote w.old w.new result (entry_spelling self.now) }
     {

@@ -4,15 +4,23 @@
 #![tactic(auto)]
 
 mod ace;
+mod answer;
+mod attribute;
 mod bitmap;
 mod entry;
+mod listed;
+mod node;
 mod value;
 mod values;
 mod who;
 
 pub use ace::{ace_of, entry_of};
-pub use bitmap::numbers_of;
+pub use answer::AttributesAnswer;
+pub use attribute::Attribute;
+pub use bitmap::{is_asked, numbers_of};
 pub use entry::AclEntry;
+pub use listed::{ListedAttributes, ListedEntry};
+pub use node::NodeAttributes;
 pub use value::{FileSystemId, Time, Value};
 pub use values::{read_values, values_of, write_values};
 pub use who::{number_of, text_of, who_of};

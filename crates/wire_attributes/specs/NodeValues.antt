@@ -1,0 +1,127 @@
+-- The values of a node's attributes, by what memory keeps of the node.
+use Rattle.std.specs.Prelude.{ℕ, ◌≤◌, Bool, true, false, List, [], ◌∷◌, decimal, map, length}
+use Rattle.std.specs.List.{flat_map}
+use Rattle.model.specs.AclText.{entry_text}
+use Rattle.model.specs.Attribute.{attributes_of, is_among, trimmed}
+use Rattle.model.specs.AttributeValue as spec
+use Rattle.model.specs.AttributeValue.{value_text}
+use Rattle.model.specs.NodeAttributes.{supported_bitmap, time_of, lease_time, acl_support, most_data, asked_values, common}
+use Rattle.model.specs.Operation as operation
+use Rattle.model.specs.Stamp.{filehandle_of}
+use Rattle.wire_attributes.specs.declared.answer.AttributesAnswer.{AttributesAnswer}
+use Rattle.wire_attributes.specs.declared.attribute.Attribute.{Attribute}
+use Rattle.wire_attributes.specs.declared.attribute.Attribute.TheVariants as attribute
+use Rattle.wire_attributes.specs.declared.node.NodeAttributes.{NodeAttributes}
+
+abbrev pub number_of : Attribute → ℕ
+number_of attribute.SupportedAttrs = 0
+number_of attribute.Kind = 1
+number_of attribute.FhExpireType = 2
+number_of attribute.Change = 3
+number_of attribute.Size = 4
+number_of attribute.LinkSupport = 5
+number_of attribute.SymlinkSupport = 6
+number_of attribute.NamedAttr = 7
+number_of attribute.Fsid = 8
+number_of attribute.UniqueHandles = 9
+number_of attribute.LeaseTime = 10
+number_of attribute.RdattrError = 11
+number_of attribute.Acl = 12
+number_of attribute.AclSupport = 13
+number_of attribute.FileHandle = 19
+number_of attribute.FileId = 20
+number_of attribute.MaxFileSize = 27
+number_of attribute.MaxName = 29
+number_of attribute.MaxRead = 30
+number_of attribute.MaxWrite = 31
+number_of attribute.Mode = 33
+number_of attribute.NumLinks = 35
+number_of attribute.Owner = 36
+number_of attribute.OwnerGroup = 37
+number_of attribute.TimeModify = 53
+number_of attribute.SuppattrExclcreat = 75
+
+abbrev pub every_attribute : List Attribute
+every_attribute =
+    attribute.SupportedAttrs
+    ∷ attribute.Kind
+    ∷ attribute.FhExpireType
+    ∷ attribute.Change
+    ∷ attribute.Size
+    ∷ attribute.LinkSupport
+    ∷ attribute.SymlinkSupport
+    ∷ attribute.NamedAttr
+    ∷ attribute.Fsid
+    ∷ attribute.UniqueHandles
+    ∷ attribute.LeaseTime
+    ∷ attribute.RdattrError
+    ∷ attribute.Acl
+    ∷ attribute.AclSupport
+    ∷ attribute.FileHandle
+    ∷ attribute.FileId
+    ∷ attribute.MaxFileSize
+    ∷ attribute.MaxName
+    ∷ attribute.MaxRead
+    ∷ attribute.MaxWrite
+    ∷ attribute.Mode
+    ∷ attribute.NumLinks
+    ∷ attribute.Owner
+    ∷ attribute.OwnerGroup
+    ∷ attribute.TimeModify
+    ∷ attribute.SuppattrExclcreat
+    ∷ []
+
+abbrev pub value_of : NodeAttributes → Attribute → spec.Value
+value_of node attribute.SupportedAttrs = spec.SupportedAttrs supported_bitmap
+value_of node attribute.Kind = spec.Kind node.kind
+value_of node attribute.FhExpireType = spec.FhExpireType 0
+value_of node attribute.Change = spec.Change node.change
+value_of node attribute.Size = spec.Size node.size
+value_of node attribute.LinkSupport = spec.LinkSupport false
+value_of node attribute.SymlinkSupport = spec.SymlinkSupport false
+value_of node attribute.NamedAttr = spec.NamedAttr false
+value_of node attribute.Fsid = spec.Fsid (record { major = 1; minor = 0 })
+value_of node attribute.UniqueHandles = spec.UniqueHandles true
+value_of node attribute.LeaseTime = spec.LeaseTime lease_time
+value_of node attribute.RdattrError = spec.RdattrError 0
+value_of node attribute.Acl = spec.Acl (map entry_text node.acl.now)
+value_of node attribute.AclSupport = spec.AclSupport acl_support
+value_of node attribute.FileHandle = spec.FileHandle (filehandle_of node.number)
+value_of node attribute.FileId = spec.FileId node.number
+value_of node attribute.MaxFileSize = spec.MaxFileSize node.max_file_size
+value_of node attribute.MaxName = spec.MaxName node.max_name
+value_of node attribute.MaxRead = spec.MaxRead most_data
+value_of node attribute.MaxWrite = spec.MaxWrite most_data
+value_of node attribute.Mode = spec.Mode node.mode
+value_of node attribute.NumLinks = spec.NumLinks 1
+value_of node attribute.Owner = spec.Owner (decimal node.owner)
+value_of node attribute.OwnerGroup = spec.OwnerGroup (decimal node.group)
+value_of node attribute.TimeModify = spec.TimeModify (time_of node.time_modify)
+value_of node attribute.SuppattrExclcreat = spec.SuppattrExclcreat []
+
+-- the spelling of an attribute's value, and what is spelled of it where these are asked
+abbrev pub value_spelled : NodeAttributes → Attribute → List ℕ
+value_spelled node attribute = value_text (value_of node attribute)
+
+abbrev pub spelled_if : (asked : Bool) → List ℕ → List ℕ
+spelled_if true text = text
+spelled_if false text = []
+
+unfoldable pub asked_text : NodeAttributes → (bitmap : List ℕ) → Attribute → List ℕ
+asked_text node bitmap attribute =
+    spelled_if (is_among (attributes_of bitmap) (number_of attribute)) (value_spelled node attribute)
+
+-- what is answered of these attributes
+unfoldable pub attributes_answered : NodeAttributes → (bitmap : List ℕ) → operation.Attributes
+attributes_answered node bitmap = record {
+  bitmap = trimmed (common bitmap supported_bitmap);
+  values = flat_map value_text
+      (asked_values (attributes_of bitmap) (map (value_of node) every_attribute));
+}
+
+abbrev pub answer_view : AttributesAnswer → operation.Attributes
+answer_view answer = attributes_answered answer.node answer.asked.now
+
+-- a list that a node may have
+abbrev pub HasFewEntries : NodeAttributes → Type 0
+HasFewEntries node = length node.acl.now ≤ 40
