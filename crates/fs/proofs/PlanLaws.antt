@@ -42,7 +42,7 @@ nothing None told = refl
 nothing (Some x) told = absurd (cc)
 
 -- a name that passes its tests has 1 to 255 bytes
-name_some : (limits : Limits) (name : List ℕ) → first_refusal (name_refusals limits name) ≡ None → 0 < length name
+pub name_some : (limits : Limits) (name : List ℕ) → first_refusal (name_refusals limits name) ≡ None → 0 < length name
 unfolding name_refusals
 name_some limits [] passes = absurd (cc)
 name_some limits (byte ∷ name) passes = omega arith
@@ -50,7 +50,7 @@ name_some limits (byte ∷ name) passes = omega arith
 not_less : (a b : ℕ) → nat_lt a b ≡ false → b ≤ a
 not_less a b is = ltb-false a b is
 
-name_short : (limits : Limits) (name : List ℕ) → first_refusal (name_refusals limits name) ≡ None → length name ≤ limits.name_bytes
+pub name_short : (limits : Limits) (name : List ℕ) → first_refusal (name_refusals limits name) ≡ None → length name ≤ limits.name_bytes
 unfolding name_refusals
 name_short limits name passes =
     let first = none_in_front (length name == 0) status.Inval _ passes in

@@ -61,6 +61,57 @@ pub(crate) fn made_edits<'a>(
     Ok(edits)
 }
 
+/// A name and the node that it leads to are gone, and what its directory shows then.
+pub(crate) fn removed_edits<'a>(
+    alloc: Global,
+    directory: u64,
+    stamp: u64,
+    name: &'a [u8],
+    number: u64,
+    directory_shown: Shown,
+) -> Result<Vec<Edit<'a>>, AllocError>
+    ensures { IfOk result (λ edits. edits.items ≡ edit.DropName directory stamp name.entry
+        ∷ edit.DropNode number
+        ∷ edit.Show directory directory_shown ∷ []) }
+{
+    let mut edits = Vec::new(alloc);
+    edits.push(Edit::DropName {
+        directory,
+        stamp,
+        name,
+    })?;
+    edits.push(Edit::DropNode { number })?;
+    edits.push(Edit::Show {
+        number: directory,
+        shown: directory_shown,
+    })?;
+    Ok(edits)
+}
+
+/// Bytes of a file from a place on, and what the file shows then.
+pub(crate) fn written_edits<'a>(
+    alloc: Global,
+    file: u64,
+    offset: usize,
+    bytes: &'a [u8],
+    shown: Shown,
+) -> Result<Vec<Edit<'a>>, AllocError>
+    ensures { IfOk result (λ edits. edits.items
+        ≡ edit.PutBytes file offset bytes.entry ∷ edit.Show file shown ∷ []) }
+{
+    let mut edits = Vec::new(alloc);
+    edits.push(Edit::PutBytes {
+        file,
+        offset,
+        bytes,
+    })?;
+    edits.push(Edit::Show {
+        number: file,
+        shown,
+    })?;
+    Ok(edits)
+}
+
 #[tactic(auto, unfolding(crate::specs::FileSystems::fs_of, crate::specs::FileSystems::fs_failures))]
 impl<D: Device> Fs<D> {
     ghost use Rattle.fs.specs.Changes.{fs_ending};
@@ -68,7 +119,7 @@ impl<D: Device> Fs<D> {
     ghost use Rattle.fs.specs.Planned.{IsPlanned};
     ghost use Rattle.model.specs.Stamp.{next_stamp};
     ghost use Rattle.volume.specs.Changes.{IsTree};
-    ghost use Rattle.volume.specs.Edits.{edited_by};
+    ghost use Rattle.volume.specs.Edits.{IsEdited, edited_by};
     ghost use Rattle.volume.specs.Formed.{Shows};
 
     /// The stamp of the next change: none where it has more than 64 bits, behind the last change of
@@ -79,6 +130,23 @@ impl<D: Device> Fs<D> {
     {
         let first = u64::from(self.restart_count()) * 0x1_0000_0000;
         first.checked_add(u64::from(self.changes) + 1)
+    }
+
+    /// Makes a change, and counts it. A stop may lose it until the next flush.
+    pub(crate) fn alter(&mut self, edits: Vec<Edit<'_>>) -> Result<(), FsFault>
+        requires up { (fs_of self.old).volume.is_down ≡ false }
+        requires planned { IsPlanned (fs_of self.old) edits.items }
+        ensures volume { Alters self.old self.new
+            (IsEdited (fs_of self.old).volume edits.entry.items) (fs_ending result) }
+        ensures shows { OnOk result (Shows D.keeps_word
+            (edited_by (fs_of self.old).volume edits.entry.items) (fs_of self.new).volume.tree) }
+        ensures counted { OnOk result ((fs_of self.new).changes ≡ (fs_of self.old).changes + 1) }
+        ensures only { IfErr result (λ fault.
+            (fault ≡ FsFault.Memory) ⊎ (fault ≡ FsFault.Device)) }
+    {
+        self.volume.change(edits)?;
+        self.changes += 1;
+        Ok(())
     }
 
     /// Keeps a change, and counts it.

@@ -2,19 +2,31 @@
 //! moment.
 #![tactic(auto)]
 
+mod access;
+mod attributes;
 mod changing;
 mod created;
 mod entries;
 mod fault;
+mod files;
 mod fs;
 mod handles;
 mod lookup;
+mod lookup_parent;
 mod making;
 mod nodes;
+mod read;
+mod removing;
+mod renaming;
 mod rights;
+mod writing;
 
+pub use access::Access;
 pub use created::Created;
 pub use fault::FsFault;
 pub use fs::Fs;
+pub use removing::Removed;
+pub use renaming::{Change, Renamed, Renaming};
 pub use volume::superblock::is_volume_size;
 pub use volume::{FormatFault, MountFault, Unmounted};
+pub use writing::Writing;

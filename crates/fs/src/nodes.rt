@@ -3,6 +3,8 @@
 ghost use Rattle.std.specs.Prelude.{◌≡◌, ◌↔◌, IsTrue};
 ghost use Rattle.model.specs.declared.node.NodeKind.TheVariants as kind;
 ghost use Rattle.model.specs.Keyed.{is_key};
+ghost use Rattle.model.specs.Rename.{has_names};
+ghost use Rattle.model.specs.Tree.{is_directory_at};
 ghost use Rattle.fs.specs.FileSystems.{fs_of};
 
 use crate::fs::Fs;
@@ -24,5 +26,25 @@ impl<D: Device> Fs<D> {
         ensures { result ≡ is_key number (fs_of self.now).volume.tree }
     {
         self.volume.node(number).is_some()
+    }
+
+    /// Whether there is a directory of this number.
+    pub(crate) fn has_directory(&self, number: u64) -> bool
+        ensures { result ≡ is_directory_at (fs_of self.now).volume.tree number }
+    {
+        match self.volume.node(number) {
+            Some(card) => is_directory(card),
+            None => false,
+        }
+    }
+
+    /// Whether there is a directory of this number, with names.
+    pub(crate) fn has_names(&self, number: u64) -> bool
+        ensures { result ≡ has_names (fs_of self.now).volume.tree number }
+    {
+        match self.volume.node(number) {
+            Some(card) => is_directory(card) && card.names.count() > 0,
+            None => false,
+        }
     }
 }

@@ -1,10 +1,15 @@
 //! Whether a node's list grants a caller rights.
 
-ghost use Rattle.std.specs.Prelude.{◌≡◌};
-ghost use Rattle.model.specs.Acl.{granted};
+ghost use Rattle.std.specs.Prelude.{◌≡◌, ◌||◌};
+ghost use Rattle.model.specs.Acl.{granted, delete, delete_child};
+ghost use Rattle.model.specs.Keyed.{at};
+ghost use Rattle.model.specs.Need.{granted_on};
+ghost use Rattle.fs.specs.FileSystems.{fs_of};
 
+use crate::fs::Fs;
 use acl_eval::{Cred, Mask};
 use cards::Card;
+use disk::Device;
 
 /// Whether the list of a node grants a caller these rights.
 pub(crate) fn grants(card: &Card, cred: &Cred, mask: Mask) -> bool
@@ -13,4 +18,21 @@ pub(crate) fn grants(card: &Card, cred: &Cred, mask: Mask) -> bool
 {
     let inode = &card.inode;
     acl_eval::granted(inode.acl.as_slice(), inode.owner, inode.group, cred, mask)
+}
+
+#[tactic(auto, unfolding(crate::specs::FileSystems::fs_of))]
+impl<D: Device> Fs<D> {
+    /// Whether a caller may take away a name that leads to a node: where he may delete the node, or
+    /// any child of its directory.
+    pub(crate) fn may_remove(&self, cred: &Cred, directory: &Card, number: u64) -> bool
+        ensures { result ≡ (granted_on (at number (fs_of self.now).volume.tree) cred.now delete
+            || granted directory.now.fields.acl directory.now.fields.owner
+            directory.now.fields.group cred.now delete_child) }
+    {
+        let own = match self.volume.node(number) {
+            Some(card) => grants(card, cred, Mask::DELETE),
+            None => false,
+        };
+        own || grants(directory, cred, Mask::DELETE_CHILD)
+    }
 }

@@ -1,0 +1,22 @@
+-- What the card of a node says of the rights on it.
+use Rattle.std.proofs.Common.{◌≡◌, ℕ, refl, sym, ap, subst, ◌∙◌}
+use Rattle.std.specs.Prelude.{Some}
+use Rattle.layout.specs.Cards.{Card}
+use Rattle.model.specs.declared.acl.Cred.{Cred}
+use Rattle.model.specs.declared.node.NodeKind.{NodeKind}
+use Rattle.model.specs.declared.node.NodeKind.TheVariants as kind
+use Rattle.model.specs.Access.{access_of}
+use Rattle.model.specs.Tree.{Tree, Node, kind_of}
+use Rattle.fs.specs.AccessRights.{access_on}
+use Rattle.volume.specs.Nodes.{IsNodeOf, ShowsContent}
+
+module _ (tree : Tree) (number : ℕ) (card : Card) (is : IsNodeOf tree number card) where
+  pub kind_is : kind_of is.node.content ≡ card.fields.kind
+  kind_is = by_kind card.fields.kind is.content
+    where
+      by_kind : (of : NodeKind) → ShowsContent of card is.node.content → kind_of is.node.content ≡ of
+      by_kind kind.File file = ap kind_of file.file
+      by_kind kind.Directory names = ap kind_of names
+
+  pub access_is : (cred : Cred) (asked : ℕ) → access_of (Some is.node) cred asked ≡ access_on card cred asked
+  access_is cred asked = rw (kind_is, is.acl, is.owner, is.group) refl

@@ -1,0 +1,86 @@
+-- A tree with zeros for the bytes of its files: what is asked of its names and rights is what the tree itself tells, and edits of names leave the zeros.
+use Rattle.std.proofs.Common.{◌≡◌, ◌≢◌, ℕ, Bool, false, List, Option, Some, None, refl, sym, ap, ap₂, ◌∙◌, is_some, inl, inr}
+use Rattle.std.specs.Prelude.{option_map, ◌||◌}
+use Rattle.std.proofs.lemmas.Bool.{cases_eq}
+use Rattle.edits.specs.Outlines.{blank_node, blanked}
+use Rattle.edits.proofs.BlankLaws.{at-blanked, blanked-with, blanked-without, names-blanked}
+use Rattle.model.specs.declared.acl.Cred.{Cred}
+use Rattle.model.specs.Acl.{delete, delete_child}
+use Rattle.model.specs.Changes.{touched}
+use Rattle.model.specs.Directory.{number_of_entry}
+use Rattle.model.specs.Edit.{Shown, DropNode, Show, PutName, DropName, done, altered, altered_at, showing, with_content, name_put, name_dropped}
+use Rattle.model.specs.Keyed.{Keyed, at, with, without, is_key}
+use Rattle.model.specs.Need.{granted_on}
+use Rattle.model.specs.Tree.{Tree, Node, DirEntry, entry_of, names_at}
+use Rattle.model.proofs.KeyedLaws.{at-with_same, at-with_other, at-without_other}
+use Rattle.fs.specs.Removing.{may_remove}
+
+-- What the tree tells
+
+pub granted-blanked : (tree : Tree) (number : ℕ) (cred : Cred) (mask : ℕ) → granted_on (at number (blanked tree)) cred mask ≡ granted_on (at number tree) cred mask
+granted-blanked tree number cred mask = ap (λ (o : Option Node). granted_on o cred mask) (at-blanked tree number) ∙ mapped (at number tree)
+  where
+    mapped : (o : Option Node) → granted_on (option_map blank_node o) cred mask ≡ granted_on o cred mask
+    mapped None = refl
+    mapped (Some node) = refl
+
+pub touched-blanked : (tree : Tree) (number stamp now : ℕ) → touched (at number (blanked tree)) stamp now ≡ touched (at number tree) stamp now
+touched-blanked tree number stamp now = ap (λ (o : Option Node). touched o stamp now) (at-blanked tree number) ∙ mapped (at number tree)
+  where
+    mapped : (o : Option Node) → touched (option_map blank_node o) stamp now ≡ touched o stamp now
+    mapped None = refl
+    mapped (Some node) = refl
+
+pub removable-blanked : (tree : Tree) (cred : Cred) (directory : ℕ) (name : List ℕ) → may_remove (blanked tree) cred directory name ≡ may_remove tree cred directory name
+removable-blanked tree cred directory name =
+    ap (λ (names : Keyed DirEntry). (granted_on (at (number_of_entry (entry_of name names)) (blanked tree)) cred delete)
+    || (granted_on (at directory (blanked tree)) cred delete_child || false)) (names-blanked tree directory)
+    ∙ ap₂ (λ (a b : Bool). a || (b || false)) (granted-blanked tree (number_of_entry (entry_of name (names_at tree directory))) cred delete)
+    (granted-blanked tree directory cred delete_child)
+
+-- Edits of names
+
+some_node : (x y : Node) → (let one : Option Node = Some x in one ≡ Some y) → x ≡ y
+some_node x y same = cc
+
+-- a node of such a tree has zeros
+node_flat : (tree : Tree) → blanked tree ≡ tree → (number : ℕ) (node : Node) → at number tree ≡ Some node → blank_node node ≡ node
+node_flat tree flat number node is = some_node (blank_node node) node
+    (sym (ap (option_map blank_node) is) ∙ sym (at-blanked tree number) ∙ ap (at number) flat ∙ is)
+
+flat_altered : (change : Node → Node) → ((node : Node) → blank_node node ≡ node → blank_node (change node) ≡ change node)
+    → (tree : Tree) → blanked tree ≡ tree → (number : ℕ) → blanked (altered change tree number) ≡ altered change tree number
+flat_altered change keeps tree flat number = by_node (at number tree) refl
+  where
+    by_node : (o : Option Node) → at number tree ≡ o → blanked (altered_at change tree number o) ≡ altered_at change tree number o
+    by_node None is = flat
+    by_node (Some node) is = blanked-with tree number (change node)
+        ∙ ap₂ (λ (t : Tree) (one : Node). with t number one) flat (keeps node (node_flat tree flat number node is))
+
+pub flat_shown : (tree : Tree) → blanked tree ≡ tree → (number : ℕ) (shown : Shown) → blanked (done (Show number shown) tree) ≡ done (Show number shown) tree
+flat_shown tree flat number shown = flat_altered (showing shown) (λ node same. ap (λ (n : Node). with_content (showing shown node) n.content) same) tree flat number
+
+pub flat_name_dropped : (tree : Tree) → blanked tree ≡ tree → (number stamp : ℕ) → blanked (done (DropName number stamp) tree) ≡ done (DropName number stamp) tree
+flat_name_dropped tree flat number stamp = flat_altered (name_dropped stamp) (λ node same. refl) tree flat number
+
+pub flat_name_put : (tree : Tree) → blanked tree ≡ tree → (number stamp : ℕ) (entry : DirEntry) → blanked (done (PutName number stamp entry) tree) ≡ done (PutName number stamp entry) tree
+flat_name_put tree flat number stamp entry = flat_altered (name_put stamp entry) (λ node same. refl) tree flat number
+
+pub flat_node_dropped : (tree : Tree) → blanked tree ≡ tree → (number : ℕ) → blanked (done (DropNode number) tree) ≡ done (DropNode number) tree
+flat_node_dropped tree flat number = blanked-without tree number ∙ ap (λ (t : Tree). without t number) flat
+
+-- Numbers behind edits
+
+pub key-altered : (change : Node → Node) (tree : Tree) (number other : ℕ) → is_key other (altered change tree number) ≡ is_key other tree
+key-altered change tree number other = by_node (at number tree) refl
+  where
+    by_node : (o : Option Node) → at number tree ≡ o → is_key other (altered_at change tree number o) ≡ is_key other tree
+    by_node None is = refl
+    by_node (Some node) is = elim (cases_eq other number) [
+      | inl same ↦ ap (λ (n : ℕ). is_key n (with tree number (change node))) same ∙ ap is_some (at-with_same tree number (change node))
+          ∙ sym (ap is_some is) ∙ ap (λ (n : ℕ). is_key n tree) (sym same)
+      | inr apart ↦ ap is_some (at-with_other tree number other (change node) apart)
+    ]
+
+pub key-dropped : (tree : Tree) (number other : ℕ) → other ≢ number → is_key other (without tree number) ≡ is_key other tree
+key-dropped tree number other apart = ap is_some (at-without_other tree number other apart)

@@ -1,0 +1,87 @@
+-- What every change asks of its edits, said once for all operations: the tree behind it may stand, and so it may be kept.
+use Rattle.std.proofs.Common.{◌≡◌, ◌≤◌, ◌<◌, ◌+◌, ◌^◌, ◌⊎◌, ℕ, List, [], length, sym, ap, ap₂, ◌∙◌, arith, subst}
+use Rattle.std.proofs.Math.Logic.{∥∥₁_map, ∥∥₁_elim}
+use Rattle.std.proofs.Props.{props}
+use Rattle.std.specs.Prelude.{IsTrue}
+use Rattle.std.specs.List.{IsAmong}
+use Rattle.edits.specs.declared.edit.Edit.{Edit}
+use Rattle.edits.specs.Doing.{made_by, updates_of_all}
+use Rattle.edits.specs.Edits.{AreDoable}
+use Rattle.edits.specs.Outlines.{blanked}
+use Rattle.model.specs.declared.limits.Limits.{Limits}
+use Rattle.model.specs.Charge.{fits}
+use Rattle.model.specs.Limits.{limits_of}
+use Rattle.model.specs.Operation.{Argument}
+use Rattle.model.specs.Stamp.{next_stamp, stamp}
+use Rattle.model.specs.State.{State, Stepped, stamp_of}
+use Rattle.model.specs.Step.{does}
+use Rattle.model.specs.StepLaws.{IsSound, IsLawful}
+use Rattle.model.specs.Tree.{Tree}
+use Rattle.model.specs.WellFormed.{IsWellFormed, IsBefore}
+use Rattle.model.proofs.LimitLaws.{modes_keep_limits, inheritance_keeps_limits}
+use Rattle.model.proofs.StepProofs.{every_step, before_later}
+use Rattle.fs.specs.FileSystem.{FileSystem}
+use Rattle.fs.specs.Planned.{IsPlanned}
+use Rattle.fs.specs.Ready.{MayStand}
+use Rattle.volume.specs.Edits.{IsAboveAll, HasPut, edited_by, front_of, named_by}
+use Rattle.volume.specs.Formed.{IsFormed}
+
+module _ (fs : FileSystem) (formed : MayStand fs.volume fs.changes) (counted : fs.changes < 2 ^ 32) (limited : fs.volume.limits ≡ limits_of fs.volume.sectors fs.volume.limits.nodes) where
+  abbrev limits : Limits
+  limits = fs.volume.limits
+
+  -- a state with zeros for the bytes of files is sound
+  sound : (state : State) → state.tree ≡ blanked fs.volume.tree → state.changes ≡ fs.changes → state.context.run ≡ fs.volume.run
+      → IsWellFormed limits (blanked fs.volume.tree) → IsSound limits state
+  sound state tree changes run well = record {
+    well_formed = subst (IsWellFormed limits) (sym tree) well;
+    before = subst (λ (t : Tree). IsBefore (stamp_of state) t) (sym tree)
+        (subst (λ (n : ℕ). IsBefore n (blanked fs.volume.tree)) (ap₂ next_stamp (sym run) (sym changes)) formed.before);
+    counted = subst (λ (n : ℕ). n < 2 ^ 32) (sym changes) counted;
+    room_for_mode = subst (λ (l : Limits). l.aces_set + 5 ≤ l.aces) (sym limited) (omega arith);
+  }
+
+  -- what a change leaves of such a state may stand behind it, and so may each tree with these zeros for its bytes
+  pub formed_by : (state : State) (now : ℕ) (operation : Argument) (stepped : Stepped) (after : Tree)
+      → state.tree ≡ blanked fs.volume.tree → state.changes ≡ fs.changes → state.context.run ≡ fs.volume.run
+      → does limits state now operation ≡ stepped → stepped.state.changes ≡ fs.changes + 1 → stepped.state.tree ≡ blanked after
+      → IsFormed limits (next_stamp fs.volume.run (fs.changes + 1)) after
+  formed_by state now operation stepped after tree changes run is more seen =
+      let law : IsLawful limits state operation (does limits state now operation) =
+      every_step modes_keep_limits inheritance_keeps_limits limits state now operation in
+      let kept : IsWellFormed limits (blanked fs.volume.tree) → IsSound limits stepped.state = λ well.
+      subst (λ (s : Stepped). IsSound limits s.state) is (law.keeps_soundness (sound state tree changes run well)) in
+      let run_then : stepped.state.context.run ≡ fs.volume.run = ap (λ (s : Stepped). s.state.context.run) (sym is) ∙ law.keeps_caller.2 ∙ run in
+      record {
+        well_formed = ∥∥₁_map formed.well_formed (λ well. subst (IsWellFormed limits) seen (kept well).well_formed);
+        before = ∥∥₁_elim formed.well_formed (Prim.hlevel props) (λ well.
+            subst (λ (t : Tree). IsBefore (next_stamp fs.volume.run (fs.changes + 1)) t) seen
+            (subst (λ (n : ℕ). IsBefore n stepped.state.tree) (ap₂ next_stamp run_then more) (kept well).before));
+      }
+
+  -- edits that are a change, whose tree has room and may stand behind it
+  pub planned_by : (edits : List Edit) → updates_of_all edits ≤ 46 → AreDoable fs.volume.tree edits
+      → length (named_by edits) ≤ 1 → (made_by edits ≡ []) ⊎ (made_by edits ≡ named_by edits)
+      → ((number : ℕ) → IsAmong (made_by edits) number → IsAboveAll fs.volume number)
+      → HasPut (edited_by fs.volume edits) edits
+      → ((count : ℕ) → IsTrue (fits limits (edited_by fs.volume edits)) → IsTrue (fits limits (front_of fs.volume edits count)))
+      → IsTrue (fits limits (edited_by fs.volume edits)) → fs.changes + 1 < 2 ^ 32
+      → IsFormed limits (next_stamp fs.volume.run (fs.changes + 1)) (edited_by fs.volume edits) → IsPlanned fs edits
+  planned_by edits few doable named made fresh put fronts fit left stands = record {
+    change = record {
+      few = few;
+      doable = doable;
+      named = named;
+      made = made;
+      fresh = fresh;
+      put = put;
+      fronts = fronts;
+      formed = λ all. record {
+        well_formed = stands.well_formed;
+        before = before_later (next_stamp fs.volume.run (fs.changes + 1)) (stamp (fs.volume.run + 1) 0) (blanked (edited_by fs.volume edits)) stands.before (omega (arith, left));
+      };
+    };
+    fitting = fit;
+    left = left;
+    formed = stands;
+  }

@@ -1,0 +1,129 @@
+-- The edits that remove a name, as they stand in memory: a change that may be kept, which comes to what the definition says.
+use denote.Ref.{Bor}
+use Rattle.std.proofs.Common.{◌≡◌, ◌<◌, ◌+◌, ◌^◌, ℕ, true, false, List, [], ◌∷◌, Option, Some, None, take, refl, sym, ap, ◌∙◌, arith, subst, inl}
+use Rattle.std.proofs.lemmas.Bool.{lt-ltb}
+use Rattle.std.specs.Prelude.{IsTrue}
+use Rattle.directory.specs.Records.{Record, record_from}
+use Rattle.draft.specs.declared.nodes.Shown.{Shown}
+use Rattle.draft.specs.Nodes.{shown_of}
+use Rattle.edits.specs.declared.edit.Edit.{Edit}
+use Rattle.edits.specs.declared.edit.Edit.TheVariants as edit
+use Rattle.edits.specs.Edits.{AreEntries, AreDoable, edits_of}
+use Rattle.layout.specs.Cards.{Card}
+use Rattle.layout.specs.Known.{IsCard}
+use Rattle.model.specs.declared.acl.Ace.{Ace}
+use Rattle.model.specs.declared.acl.Cred.{Cred}
+use Rattle.model.specs.declared.status.Status.TheVariants as status
+use Rattle.model.specs.Changes.{touched}
+use Rattle.model.specs.Charge.{fits}
+use Rattle.model.specs.Directory.{change_of}
+use Rattle.model.specs.Edit.{DropName, DropNode, Show, edited}
+use Rattle.model.specs.Edit as model
+use Rattle.model.specs.Keyed.{at}
+use Rattle.model.specs.Limits.{limits_of}
+use Rattle.model.specs.Operation.{Argument}
+use Rattle.model.specs.Refusal.{first_refusal}
+use Rattle.model.specs.Stamp.{next_stamp, is_stamp_left}
+use Rattle.model.specs.Step.{State, does, refused}
+use Rattle.model.specs.Tree.{Tree, Node, names_at, entry_of}
+use Rattle.fs.specs.FileSystem.{FileSystem}
+use Rattle.fs.specs.Operations.{IsOn}
+use Rattle.fs.specs.Planned.{IsPlanned, shown_by}
+use Rattle.fs.specs.Ready.{MayStand}
+use Rattle.fs.specs.Removing.{removal_refusals, removed}
+use Rattle.fs.proofs.KeptLaws.{planned_by}
+use Rattle.fs.proofs.RemovedLaws as laws
+use Rattle.volume.specs.Edits.{edited_by, front_of}
+use Rattle.volume.specs.Formed.{IsFormed}
+use Rattle.volume.specs.Nodes.{IsNodeOf}
+
+-- What a card shows is what its node does
+
+abbrev shown_with : (stamp now owner group : ℕ) → List Ace → model.Shown
+shown_with stamp now owner group acl = record { owner = owner; group = group; acl = acl; change = stamp; time_modify = now }
+
+pub shown_touched : (tree : Tree) (number : ℕ) (card : Card) (is : IsNodeOf tree number card) (stamp now : ℕ) → shown_by card.fields stamp now ≡ touched (at number tree) stamp now
+shown_touched tree number card is stamp now =
+    ap (λ (n : ℕ). shown_with stamp now n card.fields.group card.fields.acl) (sym is.owner)
+    ∙ ap (λ (n : ℕ). shown_with stamp now is.node.owner n card.fields.acl) (sym is.group)
+    ∙ ap (shown_with stamp now is.node.owner is.node.group) (sym is.acl)
+    ∙ ap (λ (o : Option Node). touched o stamp now) (sym is.there)
+
+pub change_shown : (tree : Tree) (number : ℕ) (card : Card) (is : IsNodeOf tree number card) → change_of (at number tree) ≡ card.fields.change
+change_shown tree number card is = ap change_of is.there ∙ is.change
+
+pub entries_shown : (card : Card) (fit : IsCard card) (shown : Shown) (stamp now : ℕ) → shown_of shown ≡ shown_by card.fields stamp now → AreEntries (shown_of shown).acl
+entries_shown card fit shown stamp now is = subst (λ (s : model.Shown). AreEntries s.acl) (sym is) (record { few = fit.fits.acl; each = fit.fits.each_ace })
+
+module _ (fs : FileSystem) (formed : MayStand fs.volume fs.changes) (counted : fs.changes < 2 ^ 32) (limited : fs.volume.limits ≡ limits_of fs.volume.sectors fs.volume.limits.nodes)
+    (cred : Cred) (now number : ℕ) (card : Card) (spelled : Bor (List ℕ)) (entry_stamp target : ℕ) (node : IsNodeOf fs.volume.tree number card) (fit_card : IsCard card)
+    (found : entry_of spelled.now (names_at fs.volume.tree number) ≡ Some (record_from entry_stamp spelled.now target))
+    (passed : first_refusal (removal_refusals fs.volume.limits fs.volume.tree cred number spelled.now) ≡ None)
+    (stamp : ℕ) (shown : Shown) (edits : List Edit) (stamp_is : stamp ≡ next_stamp fs.volume.run fs.changes)
+    (shown_is : shown_of shown ≡ shown_by card.fields stamp now)
+    (edits_are : edits ≡ edit.DropName number entry_stamp spelled ∷ edit.DropNode target ∷ edit.Show number shown ∷ []) where
+  abbrev own : ℕ
+  own = next_stamp fs.volume.run fs.changes
+
+  abbrev entry : Record
+  entry = record_from entry_stamp spelled.now target
+
+  abbrev list : List Edit
+  list = edit.DropName number entry_stamp spelled ∷ edit.DropNode target ∷ edit.Show number shown ∷ []
+
+  abbrev wanted : List model.Edit
+  wanted = laws.wanted fs formed counted limited cred now number spelled.now entry found passed
+
+  shown_then : shown_of shown ≡ touched (at number fs.volume.tree) own now
+  shown_then = shown_is ∙ ap (λ (s : ℕ). shown_by card.fields s now) stamp_is ∙ shown_touched fs.volume.tree number card node own now
+
+  list_is : edits_of list ≡ wanted
+  list_is = ap (λ (s : model.Shown). DropName number entry_stamp ∷ DropNode target ∷ Show number s ∷ []) shown_then
+
+  wanted_is : edits_of edits ≡ wanted
+  wanted_is = ap edits_of edits_are ∙ list_is
+
+  pub after_is : edited_by fs.volume edits ≡ laws.after fs formed counted limited cred now number spelled.now entry found passed
+  after_is = ap (λ (l : List model.Edit). edited l fs.volume.tree) wanted_is
+
+  doable_list : AreDoable fs.volume.tree list
+  doable_list = (
+    record { there = (laws.is fs formed counted limited cred now number spelled.now entry found passed).directory; number = target; named = found },
+    (
+      laws.node_there fs formed counted limited cred now number spelled.now entry found passed,
+      (
+        record {
+          there = laws.directory_there fs formed counted limited cred now number spelled.now entry found passed;
+          entries = entries_shown card fit_card shown stamp now shown_is;
+        },
+        tt,
+      ),
+    ),
+  )
+
+  doable : AreDoable fs.volume.tree edits
+  doable = subst (AreDoable fs.volume.tree) (sym edits_are) doable_list
+
+  fronts : (count : ℕ) → IsTrue (fits fs.volume.limits (front_of fs.volume list count))
+  fronts count = ap (λ (l : List model.Edit). fits fs.volume.limits (edited (take count l) fs.volume.tree)) list_is
+      ∙ laws.fronts fs formed counted limited cred now number spelled.now entry found passed count
+
+  pub planned : fs.changes + 1 < 2 ^ 32 → IsPlanned fs edits
+  planned left = subst (IsPlanned fs) (sym edits_are) (planned_by fs formed counted limited list (omega arith) doable_list (omega arith) (inl refl)
+      (λ n among. absurd (let less = among.1.0 in omega (arith, less))) tt (λ count all. fronts count) (fronts 3) left
+      (subst (IsFormed fs.volume.limits (next_stamp fs.volume.run (fs.changes + 1))) (sym (ap (λ (l : List model.Edit). edited l fs.volume.tree) list_is))
+      (laws.formed_after fs formed counted limited cred now number spelled.now entry found passed (lt-ltb (fs.changes + 1) (2 ^ 32) left))))
+
+  module _ (state : State) (on : IsOn fs cred number state) where
+    pub used_up : is_stamp_left fs.changes ≡ false
+        → does fs.volume.limits state now (Argument.Remove spelled.now) ≡ refused state (Argument.Remove spelled.now) status.ServerFault
+    used_up none = laws.used_up fs formed counted limited cred now number spelled.now entry found passed state on none
+
+    pub goes_on : is_stamp_left fs.changes ≡ true → (before : ℕ) → before ≡ card.fields.change
+        → does fs.volume.limits state now (Argument.Remove spelled.now)
+        ≡ removed (edited_by fs.volume edits) (fs.changes + 1) state (record { number = target; before = before; after = stamp })
+    goes_on left before before_is =
+        laws.goes_on fs formed counted limited cred now number spelled.now entry found passed state on left before
+        (change_shown fs.volume.tree number card node ∙ sym before_is)
+        ∙ ap (λ (t : Tree). removed t (fs.changes + 1) state (record { number = target; before = before; after = own })) (sym after_is)
+        ∙ ap (λ (s : ℕ). removed (edited_by fs.volume edits) (fs.changes + 1) state (record { number = target; before = before; after = s })) (sym stamp_is)

@@ -1,0 +1,169 @@
+-- RENAME's tests, one after the other, and what it does.
+use Rattle.std.proofs.Common.{ℕ, Bool, true, false, [], ◌∷◌, ◌++◌, ◌≡◌, ◌&&◌, ◌∙◌, not, refl, ap}
+use Rattle.std.specs.Prelude.{Option, Some, None, IsTrue, if◌then◌else◌}
+use Rattle.model.specs.declared.limits.Limits.{Limits}
+use Rattle.model.specs.declared.status.Status.{Status}
+use Rattle.model.specs.declared.status.Status.TheVariants as status
+use Rattle.model.specs.Charge.{fits}
+use Rattle.model.specs.Context.{has_current, has_saved, is_same_name}
+use Rattle.model.specs.Directory.{is_named}
+use Rattle.model.specs.Keyed.{is_key}
+use Rattle.model.specs.Name.{name_refusals}
+use Rattle.model.specs.Need.{rename_rights, need_first, need_then}
+use Rattle.model.specs.Operation.{Argument, RenameArguments}
+use Rattle.model.specs.Refusal.{Refusals, first_refusal, refused_or}
+use Rattle.model.specs.Rename.{late_at_rename, rename}
+use Rattle.model.specs.Stamp.{is_stamp_left}
+use Rattle.model.specs.Step.{State, current, saved, late, without_rights, refusals, effect, does, refused, unless_refused}
+use Rattle.model.specs.Tree.{Tree, is_directory_at}
+use Rattle.plain.proofs.Refusing.{or_else, first-append}
+use Rattle.fs.specs.RenameTests.{moving_refusals, placing_refusals}
+
+or_behind : (test : Bool) (reason : Status) (front rest : Option Status) → refused_or test reason (or_else front rest) ≡ or_else (refused_or test reason front) rest
+or_behind true reason front rest = refl
+or_behind false reason front rest = refl
+
+-- Both directories and the old name
+
+module _ (limits : Limits) (tree : Tree) (from to : ℕ) (arguments : RenameArguments) (to_key : is_key to tree ≡ true) (from_key : is_key from tree ≡ true)
+    (from_place : is_directory_at tree from ≡ true) (to_place : is_directory_at tree to ≡ true) where
+  abbrev old_tests : Refusals
+  old_tests = name_refusals limits arguments.old_name
+
+  abbrev new_tests : Refusals
+  new_tests = name_refusals limits arguments.new_name
+
+  abbrev entry_tests : Refusals
+  entry_tests = (not (is_named tree from arguments.old_name), status.NoEnt) ∷ []
+
+  abbrev tests : Refusals
+  tests = moving_refusals limits tree from to arguments
+
+  found_first : first_refusal tests ≡ first_refusal (old_tests ++ (new_tests ++ entry_tests))
+  found_first =
+      let rest = first_refusal (old_tests ++ (new_tests ++ entry_tests)) in
+      ap (λ (b : Bool). refused_or (not b) status.Stale (refused_or (not (is_key from tree)) status.Stale (refused_or (not (is_directory_at tree from)) status.NotDir
+      (refused_or (not (is_directory_at tree to)) status.NotDir rest)))) to_key
+      ∙ ap (λ (b : Bool). refused_or (not b) status.Stale (refused_or (not (is_directory_at tree from)) status.NotDir (refused_or (not (is_directory_at tree to)) status.NotDir rest))) from_key
+      ∙ ap (λ (b : Bool). refused_or (not b) status.NotDir (refused_or (not (is_directory_at tree to)) status.NotDir rest)) from_place
+      ∙ ap (λ (b : Bool). refused_or (not b) status.NotDir rest) to_place
+
+  by_old : (o : Option Status) → first_refusal old_tests ≡ o → first_refusal tests ≡ or_else o (first_refusal (new_tests ++ entry_tests))
+  by_old o is = found_first ∙ first-append old_tests (new_tests ++ entry_tests) ∙ ap (λ (p : Option Status). or_else p (first_refusal (new_tests ++ entry_tests))) is
+
+  pub bad_old : (reason : Status) → first_refusal old_tests ≡ Some reason → first_refusal tests ≡ Some reason
+  bad_old reason bad = by_old (Some reason) bad
+
+  module _ (old_good : first_refusal old_tests ≡ None) where
+    by_new : (o : Option Status) → first_refusal new_tests ≡ o → first_refusal tests ≡ or_else o (first_refusal entry_tests)
+    by_new o is = by_old None old_good ∙ first-append new_tests entry_tests ∙ ap (λ (p : Option Status). or_else p (first_refusal entry_tests)) is
+
+    pub bad_new : (reason : Status) → first_refusal new_tests ≡ Some reason → first_refusal tests ≡ Some reason
+    bad_new reason bad = by_new (Some reason) bad
+
+    module _ (new_good : first_refusal new_tests ≡ None) where
+      pub by_entry : (b : Bool) → is_named tree from arguments.old_name ≡ b → first_refusal tests ≡ refused_or (not b) status.NoEnt None
+      by_entry b is = by_new None new_good ∙ ap (λ (named : Bool). refused_or (not named) status.NoEnt None) is
+
+-- In a state
+
+module _ (limits : Limits) (state : State) (now : ℕ) (arguments : RenameArguments) (has : IsTrue (has_current state.context)) (saves : IsTrue (has_saved state.context)) where
+  abbrev moving : Refusals
+  moving = moving_refusals limits state.tree (saved state) (current state) arguments
+
+  abbrev placing : Refusals
+  placing = placing_refusals state.tree state.context.cred (saved state) (current state) arguments
+
+  abbrev names : Refusals
+  names = name_refusals limits arguments.old_name ++ (name_refusals limits arguments.new_name
+      ++ ((not (is_named state.tree (saved state) arguments.old_name), status.NoEnt) ∷ []))
+
+  -- the tests of rights and behind them, as the definitions have them
+  abbrev last : Refusals
+  last = (without_rights state (need_first state.tree state.context (Argument.Rename arguments)), status.Access)
+      ∷ (without_rights state (need_then state.tree state.context (Argument.Rename arguments)), status.Access)
+      ∷ late limits state (Argument.Rename arguments)
+
+  abbrev front : Option Status → Option Status
+  front o = refused_or (not (is_key (saved state) state.tree)) status.Stale
+      (refused_or (not (is_directory_at state.tree (saved state))) status.NotDir
+      (refused_or (not (is_directory_at state.tree (current state))) status.NotDir o))
+
+  front_behind : (o rest : Option Status) → front (or_else o rest) ≡ or_else (front o) rest
+  front_behind o rest =
+      ap (λ (p : Option Status). refused_or (not (is_key (saved state) state.tree)) status.Stale (refused_or (not (is_directory_at state.tree (saved state))) status.NotDir p))
+      (or_behind (not (is_directory_at state.tree (current state))) status.NotDir o rest)
+      ∙ ap (λ (p : Option Status). refused_or (not (is_key (saved state) state.tree)) status.Stale p)
+      (or_behind (not (is_directory_at state.tree (saved state))) status.NotDir (refused_or (not (is_directory_at state.tree (current state))) status.NotDir o) rest)
+      ∙ or_behind (not (is_key (saved state) state.tree)) status.Stale
+      (refused_or (not (is_directory_at state.tree (saved state))) status.NotDir (refused_or (not (is_directory_at state.tree (current state))) status.NotDir o)) rest
+
+  all_first : first_refusal (refusals limits state (Argument.Rename arguments)) ≡ or_else (first_refusal moving) (first_refusal last)
+  unfolding refusals
+  all_first =
+      let stale = not (is_key (current state) state.tree) in
+      ap (λ (b : Bool). refused_or (not b) status.NoFileHandle (refused_or stale status.Stale
+      (refused_or (not (has_saved state.context)) status.NoFileHandle (front (first_refusal (names ++ last)))))) has
+      ∙ ap (λ (b : Bool). refused_or stale status.Stale (refused_or (not b) status.NoFileHandle (front (first_refusal (names ++ last))))) saves
+      ∙ ap (λ (o : Option Status). refused_or stale status.Stale (front o)) (first-append names last)
+      ∙ ap (refused_or stale status.Stale) (front_behind (first_refusal names) (first_refusal last))
+      ∙ or_behind stale status.Stale (front (first_refusal names)) (first_refusal last)
+
+  -- behind them stands nothing where a name is given to itself
+  abbrev behind : Bool → Option Status
+  behind true = None
+  behind false = first_refusal placing
+
+  last_is : (same : Bool) → is_same_name state.context arguments ≡ same → first_refusal last ≡ behind same
+  last_is true is = ap (λ (s : Bool). first_refusal (
+      (without_rights state (if s then [] else rename_rights state.tree (saved state) (current state) arguments), status.Access)
+      ∷ (without_rights state [], status.Access)
+      ∷ (if s then [] else late_at_rename state arguments))) is
+  last_is false is = ap (λ (s : Bool). first_refusal (
+      (without_rights state (if s then [] else rename_rights state.tree (saved state) (current state) arguments), status.Access)
+      ∷ (without_rights state [], status.Access)
+      ∷ (if s then [] else late_at_rename state arguments))) is
+
+  abbrev stepped : Bool → Tree
+  stepped same = (rename same state now arguments).state.tree
+
+  abbrev changes : Bool → Refusals
+  changes same = (not same && not (fits limits (stepped same)), status.NoSpc) ∷ (not same && not (is_stamp_left state.changes), status.ServerFault) ∷ []
+
+  does_is : (same : Bool) → is_same_name state.context arguments ≡ same → (o : Option Status) → or_else (or_else (first_refusal moving) (behind same)) (first_refusal (changes same)) ≡ o
+      → does limits state now (Argument.Rename arguments) ≡ unless_refused state (Argument.Rename arguments) o (rename same state now arguments)
+  unfolding does effect
+  does_is same is o told =
+      ap (λ (p : Option Status). unless_refused state (Argument.Rename arguments) p (rename (is_same_name state.context arguments) state now arguments))
+      (first-append (refusals limits state (Argument.Rename arguments)) (changes (is_same_name state.context arguments))
+      ∙ ap (λ (p : Option Status). or_else p (first_refusal (changes (is_same_name state.context arguments))))
+      (all_first ∙ ap (or_else (first_refusal moving)) (last_is same is)))
+      ∙ ap (λ (s : Bool). unless_refused state (Argument.Rename arguments) (or_else (or_else (first_refusal moving) (behind same)) (first_refusal (changes s))) (rename s state now arguments)) is
+      ∙ ap (λ (p : Option Status). unless_refused state (Argument.Rename arguments) p (rename same state now arguments)) told
+
+  early_by : (same : Bool) → is_same_name state.context arguments ≡ same → (reason : Status) → first_refusal moving ≡ Some reason
+      → does limits state now (Argument.Rename arguments) ≡ refused state (Argument.Rename arguments) reason
+  early_by same is reason early = does_is same is (Some reason) (rw early refl)
+
+  pub refused_early : (reason : Status) → first_refusal moving ≡ Some reason → does limits state now (Argument.Rename arguments) ≡ refused state (Argument.Rename arguments) reason
+  refused_early reason early = early_by (is_same_name state.context arguments) refl reason early
+
+  module _ (moved : first_refusal moving ≡ None) where
+    pub itself : is_same_name state.context arguments ≡ true → does limits state now (Argument.Rename arguments) ≡ rename true state now arguments
+    itself same = does_is true same None (rw moved refl)
+
+    module _ (other : is_same_name state.context arguments ≡ false) where
+      pub refused_late : (reason : Status) → first_refusal placing ≡ Some reason → does limits state now (Argument.Rename arguments) ≡ refused state (Argument.Rename arguments) reason
+      refused_late reason late = does_is false other (Some reason) (rw (moved, late) refl)
+
+      module _ (placed : first_refusal placing ≡ None) where
+        pub no_room : fits limits (rename false state now arguments).state.tree ≡ false
+            → does limits state now (Argument.Rename arguments) ≡ refused state (Argument.Rename arguments) status.NoSpc
+        no_room full = does_is false other (Some status.NoSpc) (rw (moved, placed, full) refl)
+
+        module _ (room : fits limits (rename false state now arguments).state.tree ≡ true) where
+          pub no_stamp : is_stamp_left state.changes ≡ false → does limits state now (Argument.Rename arguments) ≡ refused state (Argument.Rename arguments) status.ServerFault
+          no_stamp none = does_is false other (Some status.ServerFault) (rw (moved, placed, room, none) refl)
+
+          pub done : is_stamp_left state.changes ≡ true → does limits state now (Argument.Rename arguments) ≡ rename false state now arguments
+          done left = does_is false other None (rw (moved, placed, room, left) refl)

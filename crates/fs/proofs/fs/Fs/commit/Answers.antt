@@ -1,0 +1,26 @@
+use Rattle.std.proofs.Common.{ap, refl}
+use Rattle.std.specs.Prelude.{Err}
+use Rattle.fs.specs.FileSystems.{fs_of}
+use Rattle.fs.specs.Refusals.{volume_fault}
+use Rattle.fs.specs.declared.fault.FsFault.TheVariants as fault
+use Rattle.fs.proofs.ReadLaws.{commit_early, commit_goes_on, committed, commit_fails}
+use Rattle.volume.proofs.ServeLaws.{told_err}
+use Rattle.fs.proofs.fs.Fs.commit.Goals as goal
+
+pub returns-in_err-file-clause-step : goal.returns-in_err-file-clause-step
+returns-in_err-file-clause-step g c state now arguments on =
+    let told = told_err c.from_residual.result (fault.Status c.in_err-file.field-0.0) c.from_residual.ensures.1 in
+    rw told (commit_early (fs_of c.args.self.now) c.args.cred.now c.args.number state now on arguments c.in_err-file.field-0.0 c.in_err-file.ensures.tests)
+
+pub returns-in_err-flush-clause-step : goal.returns-in_err-flush-clause-step
+unfolding fs_of
+returns-in_err-flush-clause-step g c state now arguments on =
+    let told = told_err c.from_residual-in_err-flush.result (volume_fault c.in_err-flush.field-0.0) c.from_residual-in_err-flush.ensures.1 in
+    rw told (commit_fails g.D.Device.keeps_word (fs_of c.args.self.now) (fs_of c.args.self.now) state now arguments c.in_err-flush.field-0.0 c.in_err-flush.ensures.refuses
+    (λ down. c.in_err-flush.ensures.down.0 (ap Err down))
+    (commit_goes_on (fs_of c.args.self.now) c.args.cred.now c.args.number state now on arguments c.in_ok-file.ensures.tests))
+
+pub returns-clause-step : goal.returns-clause-step
+unfolding fs_of
+returns-clause-step g c state now arguments on keeps =
+    committed (fs_of c.args.self.now) c.args.cred.now c.args.number state now on arguments c.in_ok-file.ensures.tests _ _ (c.in_ok-flush.ensures.shows.tree_is keeps) refl

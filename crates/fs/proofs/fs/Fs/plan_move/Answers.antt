@@ -1,0 +1,72 @@
+use Rattle.std.proofs.Common.{◌≡◌, ◌+◌, ◌^◌, ◌∙◌, ap, sym, subst, arith}
+use Rattle.std.proofs.lemmas.Bool.{le-ltb, lt-ltb}
+use Rattle.std.proofs.lemmas.Result.{err_from_is_err_and}
+use Rattle.edits.specs.Edits.{AreDoable}
+use Rattle.layout.specs.Cards.{Card}
+use Rattle.model.specs.Charge.{fits}
+use Rattle.fs.specs.FileSystems.{fs_of}
+use Rattle.fs.specs.Renaming.{arguments_of}
+use Rattle.fs.proofs.RenamePlans as plans
+use Rattle.fs.proofs.RenamedLaws as laws
+use Rattle.volume.specs.Edits.{edited_by}
+use Rattle.volume.specs.Volumes.{held_of}
+use Rattle.fs.proofs.fs.Fs.plan_move.Goals as goal
+
+pub returns-in_err-permit_rename-clause-refused : goal.returns-in_err-permit_rename-clause-refused
+unfolding fs_of held_of
+returns-in_err-permit_rename-clause-refused g c state on =
+    let fs = fs_of c.args.self.now in
+    let asked = c.args.asked in
+    let p = err_from_is_err_and c.from_residual.result c.from_residual.ensures.1 in
+    rw (p.1, p.2) (laws.late_refusal fs c.args.cred.now asked.from asked.to c.args.now (arguments_of asked) state on c.in_err-permit_rename.field-0.0 c.requires.passed c.requires.other c.in_err-permit_rename.ensures)
+
+pub fits-requires : goal.fits-requires
+unfolding fs_of held_of
+fits-requires g c =
+    let fs = fs_of c.args.self.now in
+    subst (AreDoable fs.volume.tree) (sym c.deref.ensures.value)
+    (plans.doable_edits fs (c.args.self.now.ready c.requires.up) c.args.self.now.counted c.args.self.now.volume.limited c.args.cred.now c.args.now c.args.asked c.args.moving c.get-target.result
+    c.requires.moved c.requires.passed c.in_ok-permit_rename.ensures c.requires.other c.to.inside.names (ap (λ (it : Card). it.names) c.to.view_is) c.get-target.ensures.by_stamp
+    c.in-Some.stamp c.in-Some.ensures c.in_ok-from_shown.from_shown c.in_ok-to_shown.to_shown c.in_ok-from_shown.ensures c.in_ok-to_shown.ensures c.in_ok-edits.edits.items c.in_ok-edits.ensures)
+
+pub returns-then-not-fits-clause-refused : goal.returns-then-not-fits-clause-refused
+unfolding fs_of held_of
+returns-then-not-fits-clause-refused g c state on =
+    let fs = fs_of c.args.self.now in
+    let told : c.fits.result ≡ fits fs.volume.limits (edited_by fs.volume c.in_ok-edits.edits.items) = rw (← c.deref.ensures.value) c.fits.ensures in
+    plans.full fs (c.args.self.now.ready c.requires.up) c.args.self.now.counted c.args.self.now.volume.limited c.args.cred.now c.args.now c.args.asked c.args.moving c.get-target.result
+    c.requires.moved c.requires.passed c.in_ok-permit_rename.ensures c.requires.other c.to.inside.names (ap (λ (it : Card). it.names) c.to.view_is) c.get-target.ensures.by_stamp
+    c.in-Some.stamp c.in-Some.ensures c.in_ok-from_shown.from_shown c.in_ok-to_shown.to_shown c.in_ok-from_shown.ensures c.in_ok-to_shown.ensures c.in_ok-edits.edits.items c.in_ok-edits.ensures
+    state on (sym told ∙ c.if-not-fits.true)
+
+pub returns-then-self-clause-refused : goal.returns-then-self-clause-refused
+unfolding fs_of held_of
+returns-then-self-clause-refused g c state on =
+    let fs = fs_of c.args.self.now in
+    let told : c.fits.result ≡ fits fs.volume.limits (edited_by fs.volume c.in_ok-edits.edits.items) = rw (← c.deref.ensures.value) c.fits.ensures in
+    plans.used_up fs (c.args.self.now.ready c.requires.up) c.args.self.now.counted c.args.self.now.volume.limited c.args.cred.now c.args.now c.args.asked c.args.moving c.get-target.result
+    c.requires.moved c.requires.passed c.in_ok-permit_rename.ensures c.requires.other c.to.inside.names (ap (λ (it : Card). it.names) c.to.view_is) c.get-target.ensures.by_stamp
+    c.in-Some.stamp c.in-Some.ensures c.in_ok-from_shown.from_shown c.in_ok-to_shown.to_shown c.in_ok-from_shown.ensures c.in_ok-to_shown.ensures c.in_ok-edits.edits.items c.in_ok-edits.ensures
+    state on (sym told ∙ c.if-not-fits.false) (le-ltb (fs.changes + 1) (2 ^ 32) (omega (arith, c.if-self.true)))
+
+pub returns-clause-planned : goal.returns-clause-planned
+unfolding fs_of held_of
+returns-clause-planned g c =
+    let fs = fs_of c.args.self.now in
+    let told : c.fits.result ≡ fits fs.volume.limits (edited_by fs.volume c.in_ok-edits.edits.items) = rw (← c.deref.ensures.value) c.fits.ensures in
+    plans.planned_edits fs (c.args.self.now.ready c.requires.up) c.args.self.now.counted c.args.self.now.volume.limited c.args.cred.now c.args.now c.args.asked c.args.moving c.get-target.result
+    c.requires.moved c.requires.passed c.in_ok-permit_rename.ensures c.requires.other c.to.inside.names (ap (λ (it : Card). it.names) c.to.view_is) c.get-target.ensures.by_stamp
+    c.in-Some.stamp c.in-Some.ensures c.in_ok-from_shown.from_shown c.in_ok-to_shown.to_shown c.in_ok-from_shown.ensures c.in_ok-to_shown.ensures c.in_ok-edits.edits.items c.in_ok-edits.ensures
+    (sym told ∙ c.if-not-fits.false) (omega (arith, c.args.self.now.counted, c.if-self.false))
+
+pub returns-clause-step : goal.returns-clause-step
+unfolding fs_of held_of
+returns-clause-step g c state on =
+    let fs = fs_of c.args.self.now in
+    let told : c.fits.result ≡ fits fs.volume.limits (edited_by fs.volume c.in_ok-edits.edits.items) = rw (← c.deref.ensures.value) c.fits.ensures in
+    plans.goes_on fs (c.args.self.now.ready c.requires.up) c.args.self.now.counted c.args.self.now.volume.limited c.args.cred.now c.args.now c.args.asked c.args.moving c.get-target.result
+    c.requires.moved c.requires.passed c.in_ok-permit_rename.ensures c.requires.other c.to.inside.names (ap (λ (it : Card). it.names) c.to.view_is) c.get-target.ensures.by_stamp
+    c.in-Some.stamp c.in-Some.ensures c.in_ok-from_shown.from_shown c.in_ok-to_shown.to_shown c.in_ok-from_shown.ensures c.in_ok-to_shown.ensures c.in_ok-edits.edits.items c.in_ok-edits.ensures
+    state on (sym told ∙ c.if-not-fits.false) (lt-ltb (fs.changes + 1) (2 ^ 32) (omega (arith, c.args.self.now.counted, c.if-self.false)))
+    c.from.inside.inode.change c.to.inside.inode.change (ap (λ (it : Card). it.fields.change) c.from.view_is) (ap (λ (it : Card). it.fields.change) c.to.view_is)
+    c.number_of.result c.number_of.ensures

@@ -1,0 +1,23 @@
+use Rattle.std.proofs.Common.{◌≡◌, ◌∙◌, ap}
+use Rattle.layout.specs.Cards.{Card}
+use Rattle.model.specs.declared.acl.Ace.{Ace}
+use Rattle.std.specs.Prelude.{List}
+use Rattle.model.specs.declared.limits.Limits.{Limits}
+use Rattle.model.specs.Mode.{mode_of}
+use Rattle.fs.specs.FileSystems.{fs_of}
+use Rattle.fs.proofs.AttributeLaws.{shows}
+use Rattle.fs.proofs.fs.Fs.shown.Goals as goal
+
+pub returns-clause-shows : goal.returns-clause-shows
+unfolding fs_of
+returns-clause-shows g c bitmap =
+    let limits = (fs_of c.args.self.now).volume.limits in
+    let acl = ap (λ (it : Card). it.fields.acl) c.card.view_is in
+    shows c.args.card.now c.requires limits _
+    (ap (λ (it : Card). it.fields.kind) c.card.view_is) (ap (λ (it : Card). it.fields.number) c.card.view_is)
+    (ap (λ (it : Card). it.fields.owner) c.card.view_is) (ap (λ (it : Card). it.fields.group) c.card.view_is)
+    (c.as_slice.ensures ∙ acl) (c.mode_of.ensures.value ∙ ap mode_of (c.as_slice-2.ensures ∙ acl))
+    (ap (λ (it : Card). it.fields.change) c.card.view_is) (ap (λ (it : Card). it.fields.time_modify) c.card.view_is)
+    (ap (λ (it : Card). it.fields.size) c.card.view_is)
+    (ap (λ (l : Limits). l.file_bytes) c.limits-limits.ensures.limits) (ap (λ (l : Limits). l.name_bytes) c.limits-limits.ensures.limits)
+    bitmap

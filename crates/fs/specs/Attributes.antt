@@ -1,0 +1,42 @@
+-- What the call of GETATTR says.
+use Rattle.std.specs.Prelude.{ℕ, List, Result, Ok, Err, ◌≡◌}
+use Rattle.layout.specs.Cards.{Card}
+use Rattle.model.specs.declared.acl.Cred.{Cred}
+use Rattle.model.specs.declared.limits.Limits.{Limits}
+use Rattle.model.specs.declared.status.Status.{Status}
+use Rattle.model.specs.Answer.{Answer}
+use Rattle.model.specs.NodeAttributes.{node_attributes}
+use Rattle.model.specs.Operation.{Argument}
+use Rattle.model.specs.Step.{State, Stepped, answered, refused, does}
+use Rattle.model.specs.Tree.{Tree}
+use Rattle.plain.specs.Step.{IsState}
+use Rattle.fs.specs.declared.fault.FsFault.{FsFault}
+use Rattle.fs.specs.FileSystem.{FileSystem}
+use Rattle.fs.specs.Operations.{does_on, IsRefused}
+use Rattle.fs.specs.Outline.{node_shown}
+use Rattle.wire_attributes.specs.NodeValues.{answer_view, attributes_answered}
+use Rattle.wire_attributes.specs.declared.answer.AttributesAnswer.{AttributesAnswer}
+use Rattle.wire_attributes.specs.declared.node.NodeAttributes.{NodeAttributes}
+
+-- what the node of a card shows, whichever attributes are asked
+abbrev pub ShowsCard : Limits → Card → NodeAttributes → Type 0
+ShowsCard limits card node = (bitmap : List ℕ) → attributes_answered node bitmap
+    ≡ node_attributes limits bitmap card.fields.number (node_shown card)
+
+abbrev pub attributes_told : State → (bitmap : List ℕ) → Result AttributesAnswer Status → Stepped
+attributes_told state bitmap (Ok answer) = answered state (Answer.GetAttr (answer_view answer))
+attributes_told state bitmap (Err reason) = refused state (Argument.GetAttr bitmap) reason
+
+-- the result is GETATTR's, in each such state
+abbrev pub AreAttributes : Limits → Tree → Cred → (number : ℕ) → (bitmap : List ℕ)
+    → Result AttributesAnswer Status → Type 0
+AreAttributes limits tree cred number bitmap result = (state : State) (now : ℕ)
+    → IsState tree cred number state
+    → does limits state now (Argument.GetAttr bitmap) ≡ attributes_told state bitmap result
+
+abbrev pub GetsAttributes : FileSystem → State → (now : ℕ) → (bitmap : List ℕ)
+    → Result AttributesAnswer FsFault → Type 0
+GetsAttributes fs state now bitmap (Ok answer) =
+    does_on fs state now (Argument.GetAttr bitmap) ≡ attributes_told state bitmap (Ok answer)
+GetsAttributes fs state now bitmap (Err reason) =
+    IsRefused fs state now (Argument.GetAttr bitmap) reason

@@ -1,0 +1,15 @@
+-- The node that a card shows, with zeros for the bytes of a file.
+use Rattle.std.specs.Prelude.{List}
+use Rattle.directory.specs.Listing.{by_stamp}
+use Rattle.edits.specs.Outlines.{zeros}
+use Rattle.layout.specs.Cards.{Card, node_with}
+use Rattle.model.specs.declared.node.NodeKind.{NodeKind}
+use Rattle.model.specs.declared.node.NodeKind.TheVariants as kind
+use Rattle.model.specs.Tree.{Node, Content, File, Directory}
+
+abbrev pub content_shown : NodeKind → Card → Content
+content_shown kind.File card = File (zeros card.fields.size)
+content_shown kind.Directory card = Directory (by_stamp card.names)
+
+abbrev pub node_shown : Card → Node
+node_shown card = node_with card.fields (content_shown card.fields.kind card)

@@ -1,0 +1,60 @@
+-- REMOVE.
+use Rattle.std.specs.Prelude.{ℕ, Bool, true, List, [], ◌∷◌, ◌++◌, Result, Ok, Err, not, ◌≡◌}
+use Rattle.std.specs.List.{list_any}
+use Rattle.model.specs.declared.acl.Cred.{Cred}
+use Rattle.model.specs.declared.limits.Limits.{Limits}
+use Rattle.model.specs.declared.status.Status.TheVariants as status
+use Rattle.model.specs.Answer.{Answer}
+use Rattle.model.specs.Directory.{is_named, number_named}
+use Rattle.model.specs.Keyed.{is_key}
+use Rattle.model.specs.Name.{name_refusals}
+use Rattle.model.specs.Need.{is_granted, removable}
+use Rattle.model.specs.Operation.{Argument}
+use Rattle.model.specs.Refusal.{Refusals}
+use Rattle.model.specs.Rename.{has_names}
+use Rattle.model.specs.State.{State, Stepped, answered}
+use Rattle.model.specs.StateIds.{without_number}
+use Rattle.model.specs.Tree.{Tree, is_directory_at}
+use Rattle.fs.specs.declared.fault.FsFault.{FsFault}
+use Rattle.fs.specs.declared.removing.Removed.{Removed}
+use Rattle.fs.specs.FileSystem.{FileSystem}
+use Rattle.fs.specs.Operations.{does_on, IsNotDone}
+
+-- the tree and the count of changes behind it, and the node that is gone has no opens
+abbrev pub removed : Tree → (changes : ℕ) → State → Removed → Stepped
+removed tree changes state made = answered
+    (record {
+      tree = tree;
+      changes = changes;
+      opens = without_number made.number state.opens;
+      context = state.context;
+    })
+    (Answer.Remove (record { is_atomic = true; before = made.before; after = made.after }))
+
+-- where the device keeps its word it is removed as the definition removes it
+abbrev pub Removes : (keeps_word : Type 0) → (old new : FileSystem) → State → (now : ℕ)
+    → (name : List ℕ) → Result Removed FsFault → Type 0
+Removes keeps_word old new state now name (Ok made) = keeps_word
+    → does_on old state now (Argument.Remove name)
+    ≡ removed new.volume.tree new.changes state made
+Removes keeps_word old new state now name (Err reason) =
+    IsNotDone old state now (Argument.Remove name) reason
+
+-- Its tests
+
+-- whether this caller may take a name out of a directory: it may delete the node that the name
+-- leads to, or any child of the directory
+abbrev pub may_remove : Tree → Cred → (directory : ℕ) → (name : List ℕ) → Bool
+may_remove tree cred directory name =
+    list_any (is_granted tree cred) (removable tree directory name)
+
+-- those behind that of a current filehandle, and before those of room and of stamps
+abbrev pub removal_refusals : Limits → Tree → Cred → (directory : ℕ) → (name : List ℕ) → Refusals
+removal_refusals limits tree cred directory name =
+    (not (is_key directory tree), status.Stale)
+    ∷ (not (is_directory_at tree directory), status.NotDir)
+    ∷ (name_refusals limits name
+    ++ ((not (is_named tree directory name), status.NoEnt)
+    ∷ (not (may_remove tree cred directory name), status.Access)
+    ∷ (has_names tree (number_named tree directory name), status.NotEmpty)
+    ∷ []))

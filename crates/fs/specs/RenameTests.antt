@@ -1,0 +1,115 @@
+-- RENAME's tests, and its edits.
+use Rattle.std.specs.Prelude.{ℕ, Bool, true, false, List, [], ◌∷◌, ◌++◌, Option, Some, None}
+use Rattle.std.specs.Prelude.{not, ◌&&◌, ◌||◌, ◌≡◌}
+use Rattle.std.specs.List.{list_any, list_all}
+use denote.Ref.{Bor}
+use Rattle.directory.specs.Records.{record_from}
+use Rattle.draft.specs.declared.nodes.Shown.{Shown}
+use Rattle.edits.specs.declared.edit.Edit.{Edit}
+use Rattle.edits.specs.declared.edit.Edit.TheVariants as edit
+use Rattle.layout.specs.Cards.{Card}
+use Rattle.layout.specs.Known.{IsCard}
+use Rattle.model.specs.declared.acl.Cred.{Cred}
+use Rattle.model.specs.declared.limits.Limits.{Limits}
+use Rattle.model.specs.declared.status.Status.TheVariants as status
+use Rattle.model.specs.Acl.{granted, delete, delete_child}
+use Rattle.model.specs.Ancestors.{is_below}
+use Rattle.model.specs.Directory.{is_named, number_named}
+use Rattle.model.specs.Keyed.{at, is_key}
+use Rattle.model.specs.Name.{name_refusals}
+use Rattle.model.specs.Need.{is_granted, granted_on, rename_rights}
+use Rattle.model.specs.Operation.{RenameArguments}
+use Rattle.model.specs.Refusal.{Refusals}
+use Rattle.model.specs.Rename.{is_other, has_names}
+use Rattle.model.specs.Tree.{Tree, DirEntry, entry_of, is_directory_at, names_at}
+use Rattle.volume.specs.Nodes.{IsNodeOf}
+use Rattle.fs.specs.declared.renaming.Moving.{Moving}
+use Rattle.fs.specs.declared.renaming.Renaming.{Renaming}
+
+-- Those before the caller's rights, behind that of a current filehandle
+
+abbrev pub moving_refusals : Limits → Tree → (from to : ℕ) → RenameArguments → Refusals
+moving_refusals limits tree from to arguments =
+    (not (is_key to tree), status.Stale)
+    ∷ (not (is_key from tree), status.Stale)
+    ∷ (not (is_directory_at tree from), status.NotDir)
+    ∷ (not (is_directory_at tree to), status.NotDir)
+    ∷ (name_refusals limits arguments.old_name
+    ++ (name_refusals limits arguments.new_name
+    ++ ((not (is_named tree from arguments.old_name), status.NoEnt) ∷ [])))
+
+-- Rights and what stands behind them, of a name that is not given to itself
+
+abbrev pub may_rename : Tree → Cred → (from to : ℕ) → RenameArguments → Bool
+may_rename tree cred from to arguments =
+    list_all (list_any (is_granted tree cred)) (rename_rights tree from to arguments)
+
+abbrev pub moved_in : Tree → (from : ℕ) → RenameArguments → ℕ
+moved_in tree from arguments = number_named tree from arguments.old_name
+
+abbrev pub target_in : Tree → (to : ℕ) → RenameArguments → ℕ
+target_in tree to arguments = number_named tree to arguments.new_name
+
+abbrev pub placing_refusals : Tree → Cred → (from to : ℕ) → RenameArguments → Refusals
+placing_refusals tree cred from to arguments =
+    (not (may_rename tree cred from to arguments), status.Access)
+    ∷ (
+      is_directory_at tree (moved_in tree from arguments)
+          && is_below tree (moved_in tree from arguments) to,
+      status.Inval,
+    )
+    ∷ (
+      is_named tree to arguments.new_name
+          && (is_other (is_directory_at tree (moved_in tree from arguments))
+          (is_directory_at tree (target_in tree to arguments))
+          || has_names tree (target_in tree to arguments)),
+      status.Exist,
+    )
+    ∷ []
+
+-- What was found
+
+-- both directories, and the entry of the old name
+pub record HasMoved (tree : Tree) (asked : Renaming) (moving : Moving) : Type 0 where
+  pub from : IsNodeOf tree asked.from moving.from.now
+  pub to : IsNodeOf tree asked.to moving.to.now
+  pub from_fits : IsCard moving.from.now
+  pub to_fits : IsCard moving.to.now
+  pub entry : entry_of asked.old_name.now (names_at tree asked.from)
+      ≡ Some (record_from moving.stamp asked.old_name.now moving.number)
+
+-- the entry of the new name, where there is one
+abbrev pub record_under : (name : List ℕ) → Option (ℕ × ℕ) → Option (ℕ × DirEntry)
+record_under name None = None
+record_under name (Some found) = Some (record_from found.0 name found.1)
+
+abbrev pub IsTarget : Tree → Renaming → Option (ℕ × ℕ) → Type 0
+IsTarget tree asked target = entry_of asked.new_name.now (names_at tree asked.to)
+    ≡ record_under asked.new_name.now target
+
+-- whether what stands there is in the way of what moves
+abbrev pub is_in_the_way : Tree → (moves_directory : Bool) → Option (ℕ × ℕ) → Bool
+is_in_the_way tree moves_directory None = false
+is_in_the_way tree moves_directory (Some found) =
+    is_other moves_directory (is_directory_at tree found.1) || has_names tree found.1
+
+-- whether a caller may remove it
+abbrev pub may_replace : Tree → Cred → (directory : Card) → Option (ℕ × ℕ) → Bool
+may_replace tree cred directory None = true
+may_replace tree cred directory (Some found) = granted_on (at found.1 tree) cred delete
+    || granted directory.fields.acl directory.fields.owner directory.fields.group cred delete_child
+
+-- The edits
+
+abbrev pub replacing : (to : ℕ) → (name : Bor (List ℕ)) → Option (ℕ × ℕ) → List Edit
+replacing to name None = []
+replacing to name (Some found) = edit.DropName to found.0 name ∷ edit.DropNode found.1 ∷ []
+
+abbrev pub moving_edits : Renaming → (old_stamp number stamp : ℕ) → (from_shown to_shown : Shown)
+    → List Edit
+moving_edits asked old_stamp number stamp from_shown to_shown =
+    edit.DropName asked.from old_stamp asked.old_name
+    ∷ edit.PutName asked.to stamp asked.new_name number
+    ∷ edit.Show asked.from from_shown
+    ∷ edit.Show asked.to to_shown
+    ∷ []

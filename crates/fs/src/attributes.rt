@@ -1,0 +1,93 @@
+//! GETATTR.
+
+use crate::fault::FsFault;
+use crate::fs::Fs;
+use crate::rights::grants;
+use acl_eval::{Cred, Mask};
+use acl_set::mode_of;
+use cards::Card;
+use disk::Device;
+use model::status::Status;
+use wire_attributes::{Attribute, AttributesAnswer, NodeAttributes, is_asked};
+
+#[tactic(auto, unfolding(crate::specs::FileSystems::fs_of))]
+impl<D: Device> Fs<D> {
+    ghost use Rattle.std.specs.Prelude.{◌≡◌, true, ℕ, IfOk, IsErrOf};
+    ghost use Rattle.layout.specs.Known.{IsCard};
+    ghost use Rattle.model.specs.Step.{State};
+    ghost use Rattle.fs.specs.Attributes.{AreAttributes, GetsAttributes, ShowsCard};
+    ghost use Rattle.fs.specs.FileSystems.{fs_of};
+    ghost use Rattle.fs.specs.Operations.{IsOn};
+    ghost use Rattle.wire_attributes.specs.NodeValues.{HasFewEntries};
+
+    /// GETATTR (RFC 8881, section 18.7) of what a bitmap, of any length, asks of the node of this
+    /// number. The answer borrows the node: it tells its size, and is spelled where it is written.
+    ///
+    /// # Errors
+    ///
+    /// STALE, then ACCESS where the list is asked and the caller may not read it.
+    pub fn attributes<'a>(
+        &'a self,
+        cred: &Cred,
+        number: u64,
+        asked: &'a [u32],
+    ) -> Result<AttributesAnswer<'a>, FsFault>
+        ensures step { (state : State) (now : ℕ)
+            → IsOn (fs_of self.entry.now) cred.now number state
+            → GetsAttributes (fs_of self.entry.now) state now asked.entry.now result }
+        ensures few { IfOk result (λ answer. HasFewEntries answer.node) }
+        ensures down { (fs_of self.entry.now).volume.is_down ≡ true
+            → IsErrOf result FsFault.Down }
+    {
+        if self.is_down() {
+            return Err(FsFault::Down);
+        }
+        Ok(self.asked_attributes(cred, number, asked)?)
+    }
+
+    /// The attributes that are asked of a node, for a caller who may read them.
+    fn asked_attributes<'a>(
+        &'a self,
+        cred: &Cred,
+        number: u64,
+        asked: &'a [u32],
+    ) -> Result<AttributesAnswer<'a>, Status>
+        ensures attributes { AreAttributes (fs_of self.entry.now).volume.limits
+            (fs_of self.entry.now).volume.tree cred.now number asked.entry.now result }
+        ensures few { IfOk result (λ answer. HasFewEntries answer.node) }
+    {
+        let Some(card) = self.volume.node(number) else {
+            return Err(Status::Stale);
+        };
+        if is_asked(asked, Attribute::Acl.number()) && !grants(card, cred, Mask::READ_ACL) {
+            return Err(Status::Access);
+        }
+        Ok(AttributesAnswer {
+            node: self.shown(card),
+            asked,
+        })
+    }
+
+    /// What the node of a card shows.
+    pub(crate) fn shown<'a>(&self, card: &'a Card) -> NodeAttributes<'a>
+        requires { IsCard card.now }
+        ensures shows { ShowsCard (fs_of self.now).volume.limits card.entry.now result }
+        ensures few { HasFewEntries result }
+    {
+        let inode = &card.inode;
+        let limits = self.volume.limits();
+        NodeAttributes {
+            kind: inode.kind,
+            number: inode.number,
+            owner: inode.owner,
+            group: inode.group,
+            acl: inode.acl.as_slice(),
+            mode: mode_of(inode.acl.as_slice()),
+            change: inode.change,
+            time_modify: inode.time_modify,
+            size: inode.size,
+            max_file_size: limits.file_bytes as u64,
+            max_name: limits.name_bytes as u32,
+        }
+    }
+}

@@ -1,0 +1,61 @@
+//! Files by number, and who may use one.
+
+use crate::fs::Fs;
+use crate::nodes::is_directory;
+use crate::rights::grants;
+use acl_eval::{Cred, Mask};
+use cards::Card;
+use disk::Device;
+use model::status::Status;
+
+#[tactic(auto, unfolding(crate::specs::FileSystems::fs_of))]
+impl<D: Device> Fs<D> {
+    ghost use Rattle.std.specs.Prelude.{◌≡◌, IfOk};
+    ghost use Rattle.layout.specs.Known.{IsCard};
+    ghost use Rattle.model.specs.declared.node.NodeKind.TheVariants as kind;
+    ghost use Rattle.plain.specs.Given.{IsChecked};
+    ghost use Rattle.fs.specs.Files.{file_refusals, permit_refusals};
+    ghost use Rattle.fs.specs.FileSystems.{fs_of};
+    ghost use Rattle.volume.specs.Nodes.{IsNodeOf};
+
+    /// The file of this number. STALE where no node has it, ISDIR where it is a directory's.
+    pub(crate) fn file(&self, number: u64) -> Result<&Card, Status>
+        ensures tests { IsChecked (file_refusals (fs_of self.entry.now).volume.tree number) result }
+        ensures node { IfOk result (λ card.
+            IsNodeOf (fs_of self.entry.now).volume.tree number card.now) }
+        ensures file { IfOk result (λ card. card.now.fields.kind ≡ kind.File) }
+        ensures fit { IfOk result (λ card. IsCard card.now) }
+    {
+        let Some(card) = self.volume.node(number) else {
+            return Err(Status::Stale);
+        };
+        if is_directory(card) {
+            return Err(Status::IsDir);
+        }
+        Ok(card)
+    }
+
+    /// The file of this number, for a caller who has these rights on it and whose stateid has this
+    /// verdict. STALE, ISDIR, the verdict's refusal, ACCESS.
+    pub(crate) fn permit_file(
+        &self,
+        cred: &Cred,
+        number: u64,
+        verdict: Result<(), Status>,
+        mask: Mask,
+    ) -> Result<&Card, Status>
+        ensures tests { IsChecked (permit_refusals (fs_of self.entry.now).volume.tree cred.now
+            number mask.0 verdict) result }
+        ensures node { IfOk result (λ card.
+            IsNodeOf (fs_of self.entry.now).volume.tree number card.now) }
+        ensures file { IfOk result (λ card. card.now.fields.kind ≡ kind.File) }
+        ensures fit { IfOk result (λ card. IsCard card.now) }
+    {
+        let card = self.file(number)?;
+        verdict?;
+        if !grants(card, cred, mask) {
+            return Err(Status::Access);
+        }
+        Ok(card)
+    }
+}

@@ -1,0 +1,106 @@
+//! READ.
+
+use crate::fault::FsFault;
+use crate::fs::Fs;
+use acl_eval::{Cred, Mask};
+use disk::Device;
+use model::status::Status;
+
+/// The part of a file that a READ gives.
+#[derive(Clone, Copy)]
+struct Part {
+    /// How many bytes.
+    len: usize,
+    /// Whether it reaches the file's end.
+    is_end: bool,
+}
+
+#[tactic(auto, unfolding(crate::specs::FileSystems::fs_of, crate::specs::FileSystems::fs_failures))]
+impl<D: Device> Fs<D> {
+    ghost use Rattle.std.specs.Prelude.{◌≡◌, ◌+◌, ◌<◌, ◌++◌, ◌⊎◌, true, ℕ, nat_le, length, OnOk, OnErr, IfOk, IsErrOf};
+    ghost use Rattle.model.specs.Acl.{read_data};
+    ghost use Rattle.model.specs.Files.{bytes_at};
+    ghost use Rattle.model.specs.Operation.{StateId};
+    ghost use Rattle.model.specs.StateIds.{read_access};
+    ghost use Rattle.model.specs.Step.{State};
+    ghost use Rattle.plain.specs.Given.{IsChecked};
+    ghost use Rattle.fs.specs.Files.{IsVerdict, permit_refusals};
+    ghost use Rattle.fs.specs.FileSystems.{fs_of, Alters};
+    ghost use Rattle.fs.specs.Operations.{IsOn};
+    ghost use Rattle.fs.specs.Reading.{Reads, part_at, read_operation, reading_ending};
+    ghost use Rattle.volume.specs.Changes.{IsTree};
+    ghost use Rattle.volume.specs.Reading.{HasFile};
+
+    /// READ (RFC 8881, section 18.22) of the file of this number, by this caller: appends to `out`
+    /// `count` of its bytes from `offset` on, or as many as one READ gives, or as there are up to its
+    /// end. Answers whether the end was reached. `verdict` is that on the stateid, for an open with
+    /// read access.
+    ///
+    /// # Errors
+    ///
+    /// Refused by the first of these that holds: STALE, ISDIR, the verdict's refusal, ACCESS without
+    /// the right to read. Memory and Device only where bytes were to be read. `out` is as it was.
+    pub fn read(
+        &mut self,
+        cred: &Cred,
+        number: u64,
+        verdict: Result<(), Status>,
+        offset: u64,
+        count: u32,
+        out: &mut Vec<u8>,
+    ) -> Result<bool, FsFault>
+        ensures step { (state : State) (now : ℕ) (stateid : StateId)
+            → IsOn (fs_of self.old) cred.now number state
+            → IsVerdict state read_access stateid verdict
+            → Reads (fs_of self.old) state now (read_operation stateid offset count)
+            (part_at (fs_of self.old) number offset count) result }
+        ensures bytes { D.keeps_word → OnOk result (out.new.items
+            ≡ out.old.items ++ part_at (fs_of self.old) number offset count) }
+        ensures err { OnErr result (out.new.items ≡ out.old.items) }
+        // It only reads, and that where there is something to read
+        ensures volume { Alters self.old self.new
+            (IsTree (fs_of self.old).volume.tree) (reading_ending result) }
+        ensures nothing { (IsErrOf result FsFault.Memory ⊎ IsErrOf result FsFault.Device)
+            → 0 < length (part_at (fs_of self.old) number offset count) }
+        ensures down { (fs_of self.old).volume.is_down ≡ true → IsErrOf result FsFault.Down }
+    {
+        if self.is_down() {
+            return Err(FsFault::Down);
+        }
+        let part = self.permit_read(cred, number, verdict, offset, count)?;
+        if part.len > 0 {
+            self.volume.bytes(number, offset, part.len, out)?;
+        }
+        Ok(part.is_end)
+    }
+
+    /// The tests of a READ, and the part that it gives.
+    fn permit_read(
+        &self,
+        cred: &Cred,
+        number: u64,
+        verdict: Result<(), Status>,
+        offset: u64,
+        count: u32,
+    ) -> Result<Part, Status>
+        ensures tests { IsChecked (permit_refusals (fs_of self.now).volume.tree cred.now
+            number read_data verdict) result }
+        ensures file { OnOk result (HasFile (fs_of self.now).volume.tree number) }
+        ensures len { IfOk result (λ part.
+            part.len ≡ length (part_at (fs_of self.now) number offset count)) }
+        ensures is_end { IfOk result (λ part.
+            part.is_end ≡ nat_le (length (bytes_at (fs_of self.now).volume.tree number))
+            (offset + length (part_at (fs_of self.now) number offset count))) }
+    {
+        let size = self
+            .permit_file(cred, number, verdict, Mask::READ_DATA)?
+            .inode
+            .size;
+        let most = u64::from(count).min(self.volume.limits().transfer_bytes as u64);
+        let rest = size.saturating_sub(offset);
+        Ok(Part {
+            len: most.min(rest) as usize,
+            is_end: rest <= most,
+        })
+    }
+}

@@ -1,0 +1,193 @@
+//! REMOVE.
+
+use crate::changing::{removed_edits, touched};
+use crate::fault::FsFault;
+use crate::fs::Fs;
+use crate::nodes::is_directory;
+use acl_eval::Cred;
+use cards::Card;
+use disk::Device;
+use edits::Edit;
+use model::status::Status;
+use names::check_name;
+use plain::refusal::Refusal;
+
+/// A name that was removed.
+#[derive(Clone, Copy, Debug, PartialEq, Eq)]
+pub struct Removed {
+    /// The number of the node that it led to, which is gone.
+    pub number: u64,
+    /// The change value of its directory, before.
+    pub before: u64,
+    /// The new change value of its directory.
+    pub after: u64,
+}
+
+/// A name that may be removed.
+#[derive(Clone, Copy)]
+struct Removal<'a> {
+    /// The directory that has it.
+    directory: &'a Card,
+    /// The name's entry stamp.
+    stamp: u64,
+    /// The number of the node that it leads to.
+    number: u64,
+}
+
+/// The change that removes a name.
+#[derive(Drop)]
+struct Planned<'a> {
+    edits: Vec<Edit<'a>>,
+    removed: Removed,
+}
+
+#[tactic(auto, unfolding(crate::specs::FileSystems::fs_of, crate::specs::FileSystems::fs_failures))]
+impl<D: Device> Fs<D> {
+    ghost use Rattle.std.specs.Prelude.{◌≡◌, ◌+◌, true, false, Some, OnOk, IfOk, IfErr, IsErrOf};
+    ghost use Rattle.directory.specs.Records.{record_from};
+    ghost use Rattle.layout.specs.Known.{IsCard};
+    ghost use Rattle.model.specs.Directory.{number_named};
+    ghost use Rattle.model.specs.Operation.{Argument};
+    ghost use Rattle.model.specs.Step.{State};
+    ghost use Rattle.model.specs.Tree.{entry_of, names_at};
+    ghost use Rattle.plain.specs.Given.{IsChecked};
+    ghost use Rattle.fs.specs.Changes.{fs_ending};
+    ghost use Rattle.fs.specs.FileSystems.{fs_of, Alters};
+    ghost use Rattle.fs.specs.Operations.{IsOn, MakesTree, IsNotDone, does_on};
+    ghost use Rattle.fs.specs.Planned.{IsPlanned};
+    ghost use Rattle.fs.specs.Refusals.{fault_of};
+    ghost use Rattle.fs.specs.Removing.{Removes, removed, removal_refusals};
+    ghost use Rattle.volume.specs.Edits.{edited_by};
+    ghost use Rattle.volume.specs.Nodes.{IsNodeOf};
+
+    /// REMOVE of a name in the directory of this number (RFC 8881, section 18.25), by this caller
+    /// at this moment, in nanoseconds since 1970: the name is gone, and the node that it led to. It
+    /// is kept on the device before the answer; `has_room` says whether the reply has room for it.
+    ///
+    /// # Errors
+    ///
+    /// Refused by the first of these that holds: STALE, NOTDIR, a name that is none, NOENT, ACCESS
+    /// without the right to delete the node and that to delete a child of the directory, NOTEMPTY,
+    /// and SERVERFAULT where the run has used up its stamps; then `NoRoom`. It is never NOSPC.
+    /// Memory may run out before or behind any of them.
+    pub fn remove(
+        &mut self,
+        cred: &Cred,
+        now: u64,
+        directory: u64,
+        name: &[u8],
+        has_room: bool,
+    ) -> Result<Removed, FsFault>
+        ensures step { (state : State) → IsOn (fs_of self.old) cred.now directory state
+            → Removes D.keeps_word (fs_of self.old) (fs_of self.new) state now name.now result }
+        ensures gone { IfOk result (λ removed. removed.number
+            ≡ number_named (fs_of self.old).volume.tree directory name.now) }
+        ensures volume { Alters self.old self.new
+            (MakesTree (fs_of self.old) cred.now directory now (Argument.Remove name.now))
+            (fs_ending result) }
+        ensures room { OnOk result (has_room ≡ true) }
+        ensures no_room { IsErrOf result FsFault.NoRoom → has_room ≡ false }
+        ensures down { (fs_of self.old).volume.is_down ≡ true → IsErrOf result FsFault.Down }
+        ensures device_room { IsErrOf result FsFault.Device → has_room ≡ true }
+    {
+        if self.is_down() {
+            return Err(FsFault::Down);
+        }
+        let planned = self.plan_removal(cred, now, directory, name)?;
+        if !has_room {
+            return Err(FsFault::NoRoom);
+        }
+        self.keep(planned.edits)?;
+        Ok(planned.removed)
+    }
+
+    /// The change that removes a name, where nothing refuses it but that its reply has no room.
+    fn plan_removal<'a>(
+        &self,
+        cred: &Cred,
+        now: u64,
+        directory: u64,
+        name: &'a [u8],
+    ) -> Result<Planned<'a>, Refusal>
+        requires up { (fs_of self.now).volume.is_down ≡ false }
+        ensures planned { IfOk result (λ planned.
+            IsPlanned (fs_of self.now) planned.edits.items) }
+        ensures gone { IfOk result (λ planned. planned.removed.number
+            ≡ number_named (fs_of self.now).volume.tree directory name.now) }
+        ensures step { (state : State) → IsOn (fs_of self.now) cred.now directory state
+            → IfOk result (λ planned.
+            does_on (fs_of self.now) state now (Argument.Remove name.now)
+            ≡ removed (edited_by (fs_of self.now).volume planned.edits.items)
+            ((fs_of self.now).changes + 1) state planned.removed) }
+        // Refused
+        ensures refused { (state : State) → IsOn (fs_of self.now) cred.now directory state
+            → IfErr result (λ refusal. IsNotDone (fs_of self.now) state now
+            (Argument.Remove name.now) (fault_of refusal)) }
+    {
+        let removal = self.permit_removal(cred, directory, name)?;
+        let holder = removal.directory;
+        let Some(stamp) = self.next_stamp() else {
+            return Err(Refusal::Memory);
+        };
+        if self.changes == u32::MAX {
+            return Err(Refusal::Status(Status::ServerFault));
+        }
+        let shown = touched(self.alloc, holder, stamp, now)?;
+        let edits = removed_edits(
+            self.alloc,
+            directory,
+            removal.stamp,
+            name,
+            removal.number,
+            shown,
+        )?;
+        Ok(Planned {
+            edits,
+            removed: Removed {
+                number: removal.number,
+                before: holder.inode.change,
+                after: stamp,
+            },
+        })
+    }
+
+    /// The tests before those of room and stamps: the directory that has the name, and what stands
+    /// under it.
+    fn permit_removal(
+        &self,
+        cred: &Cred,
+        directory: u64,
+        name: &[u8],
+    ) -> Result<Removal<'_>, Status>
+        ensures tests { IsChecked (removal_refusals (fs_of self.entry.now).volume.limits
+            (fs_of self.entry.now).volume.tree cred.now directory name.now) result }
+        ensures directory { IfOk result (λ removal.
+            IsNodeOf (fs_of self.entry.now).volume.tree directory removal.directory.now) }
+        ensures fit { IfOk result (λ removal. IsCard removal.directory.now) }
+        ensures entry { IfOk result (λ removal.
+            entry_of name.now (names_at (fs_of self.entry.now).volume.tree directory)
+            ≡ Some (record_from removal.stamp name.now removal.number)) }
+    {
+        let Some(card) = self.volume.node(directory) else {
+            return Err(Status::Stale);
+        };
+        if !is_directory(card) {
+            return Err(Status::NotDir);
+        }
+        check_name(name, self.volume.limits())?;
+        let Some((stamp, number)) = card.names.get(name) else {
+            return Err(Status::NoEnt);
+        };
+        if !self.may_remove(cred, card, number) {
+            return Err(Status::Access);
+        }
+        if self.has_names(number) {
+            return Err(Status::NotEmpty);
+        }
+        Ok(Removal {
+            directory: card,
+            stamp,
+            number,
+        })
+    }
+}

@@ -1,0 +1,205 @@
+//! WRITE and COMMIT.
+
+use crate::changing::{touched, written_edits};
+use crate::fault::FsFault;
+use crate::fs::Fs;
+use acl_eval::{Cred, Mask};
+use disk::Device;
+use edits::Edit;
+use model::status::Status;
+use plain::refusal::Refusal;
+
+/// The bytes that a caller writes to a file.
+#[derive(Clone, Copy, Debug)]
+pub struct Writing<'a> {
+    /// Where the first of them is to stand.
+    pub offset: u64,
+    pub bytes: &'a [u8],
+    /// Whether they are to be on the device before the answer (not `UNSTABLE4`).
+    pub is_stable: bool,
+}
+
+#[tactic(auto, unfolding(crate::specs::FileSystems::fs_of, crate::specs::FileSystems::fs_failures))]
+impl<D: Device> Fs<D> {
+    ghost use Rattle.std.specs.Prelude.{◌≡◌, ◌+◌, ◌<◌, ◌≤◌, ◌⊎◌, true, false, ℕ, length, take, OnOk, IfOk, IfErr, IfSome, IfNone, IsErrOf, IsTrue};
+    ghost use Rattle.model.specs.Files.{are_bytes};
+    ghost use Rattle.model.specs.Operation.{Argument, CommitArguments, WriteArguments};
+    ghost use Rattle.model.specs.Step.{State};
+    ghost use Rattle.fs.specs.Changes.{fs_ending};
+    ghost use Rattle.fs.specs.FileSystems.{fs_of, Alters};
+    ghost use Rattle.fs.specs.Operations.{IsOn, IsNotDone, does_on};
+    ghost use Rattle.fs.specs.Planned.{IsPlanned};
+    ghost use Rattle.fs.specs.Refusals.{fault_of};
+    ghost use Rattle.fs.specs.Writing.{Commits, IsPut, IsWriting, Writes, WritesTree, after_write, bytes_taken};
+    ghost use Rattle.volume.specs.Changes.{IsTree};
+    ghost use Rattle.volume.specs.Edits.{edited_by};
+    ghost use Rattle.volume.specs.Formed.{Shows};
+
+    /// WRITE (RFC 8881, section 18.32) to the file of this number, by this caller at this moment, in
+    /// nanoseconds since 1970: the first bytes, as many as one WRITE takes; answers how many. What is
+    /// to be stable is kept on the device before the answer, anything else may be lost until the next
+    /// flush. No bytes are no change. `verdict` is that on the stateid, for an open with write access;
+    /// `has_room` says whether the reply has room.
+    ///
+    /// # Errors
+    ///
+    /// Refused by the first of these that holds: STALE, ISDIR, the verdict's refusal, ACCESS without
+    /// the right to write, FBIG where the bytes pass the limit of a file, NOSPC, and SERVERFAULT
+    /// where the run has used up its stamps; then `NoRoom`. Memory may run out before or behind any
+    /// of the last three.
+    pub fn write(
+        &mut self,
+        cred: &Cred,
+        now: u64,
+        number: u64,
+        verdict: Result<(), Status>,
+        asked: Writing<'_>,
+        has_room: bool,
+    ) -> Result<u32, FsFault>
+        ensures step { (state : State) (arguments : WriteArguments)
+            → IsOn (fs_of self.old) cred.now number state
+            → IsWriting state verdict asked.entry arguments
+            → Writes D.keeps_word (fs_of self.old) (fs_of self.new) state now arguments result }
+        ensures count { IfOk result (λ count.
+            count ≡ length (bytes_taken (fs_of self.old) asked.entry)) }
+        ensures volume { Alters self.old self.new
+            (WritesTree (fs_of self.old) cred.now number now verdict asked.entry)
+            (fs_ending result) }
+        ensures room { OnOk result (has_room ≡ true) }
+        // Refused
+        ensures no_room { IsErrOf result FsFault.NoRoom → has_room ≡ false }
+        ensures down { (fs_of self.old).volume.is_down ≡ true → IsErrOf result FsFault.Down }
+        ensures device_room { IsErrOf result FsFault.Device → has_room ≡ true }
+    {
+        if self.is_down() {
+            return Err(FsFault::Down);
+        }
+        if asked.bytes.is_empty() {
+            self.permit_file(cred, number, verdict, Mask::WRITE_DATA)?;
+            if !has_room {
+                return Err(FsFault::NoRoom);
+            }
+            return Ok(0);
+        }
+        let edits = self.plan_write(cred, now, number, verdict, asked)?;
+        if !has_room {
+            return Err(FsFault::NoRoom);
+        }
+        self.put(edits, asked.is_stable)?;
+        Ok(self.taken(asked.bytes).len() as u32)
+    }
+
+    /// The change that writes bytes, where nothing refuses it but that its reply has no room.
+    fn plan_write<'a>(
+        &self,
+        cred: &Cred,
+        now: u64,
+        number: u64,
+        verdict: Result<(), Status>,
+        asked: Writing<'a>,
+    ) -> Result<Vec<Edit<'a>>, Refusal>
+        requires up { (fs_of self.now).volume.is_down ≡ false }
+        requires some { 0 < length asked.bytes.now }
+        ensures planned { IfOk result (λ edits. IsPlanned (fs_of self.now) edits.items) }
+        ensures step { (state : State) (arguments : WriteArguments)
+            → IsOn (fs_of self.now) cred.now number state
+            → IsWriting state verdict asked.entry arguments
+            → IfOk result (λ edits. does_on (fs_of self.now) state now (Argument.Write arguments)
+            ≡ after_write (edited_by (fs_of self.now).volume edits.items)
+            ((fs_of self.now).changes + 1) state arguments
+            (length (bytes_taken (fs_of self.now) asked.entry))) }
+        // Refused
+        ensures refused { (state : State) (arguments : WriteArguments)
+            → IsOn (fs_of self.now) cred.now number state
+            → IsWriting state verdict asked.entry arguments
+            → IfErr result (λ refusal. IsNotDone (fs_of self.now) state now
+            (Argument.Write arguments) (fault_of refusal)) }
+    {
+        let part = self.taken(asked.bytes);
+        let card = self.permit_file(cred, number, verdict, Mask::WRITE_DATA)?;
+        let Some(offset) = self.place_in_file(asked.offset, part.len()) else {
+            return Err(Refusal::Status(Status::FBig));
+        };
+        let Some(stamp) = self.next_stamp() else {
+            return Err(Refusal::Memory);
+        };
+        let shown = touched(self.alloc, card, stamp, now)?;
+        let edits = written_edits(self.alloc, number, offset, part, shown)?;
+        if !self.volume.fits(&edits) {
+            return Err(Refusal::Status(Status::NoSpc));
+        }
+        if self.changes == u32::MAX {
+            return Err(Refusal::Status(Status::ServerFault));
+        }
+        Ok(edits)
+    }
+
+    /// The bytes that one WRITE takes of these: the first of them.
+    fn taken<'a>(&self, bytes: &'a [u8]) -> &'a [u8]
+        ensures taken { result.now
+            ≡ take (fs_of self.now).volume.limits.transfer_bytes bytes.now }
+        ensures few { length result.now ≤ 8192 }
+        ensures bytes { IsTrue (are_bytes bytes.now) }
+    {
+        &bytes[..bytes.len().min(self.volume.limits().transfer_bytes)]
+    }
+
+    /// Where so many bytes are to start in a file: none where they pass the limit of one.
+    fn place_in_file(&self, offset: u64, len: usize) -> Option<usize>
+        ensures some { IfSome result (λ place. (place ≡ offset)
+            × (offset + len ≤ (fs_of self.now).volume.limits.file_bytes)) }
+        ensures none { IfNone result
+            ((fs_of self.now).volume.limits.file_bytes < offset + len) }
+    {
+        let most = self.volume.limits().file_bytes;
+        if offset > most as u64 {
+            return None;
+        }
+        let place = offset as usize;
+        if len > most - place {
+            return None;
+        }
+        Some(place)
+    }
+
+    /// Makes a change, and counts it; one that is to be stable is kept.
+    fn put(&mut self, edits: Vec<Edit<'_>>, is_stable: bool) -> Result<(), FsFault>
+        requires up { (fs_of self.old).volume.is_down ≡ false }
+        requires planned { IsPlanned (fs_of self.old) edits.items }
+        ensures volume { Alters self.old self.new
+            (IsPut (fs_of self.old).volume edits.entry.items is_stable) (fs_ending result) }
+        ensures shows { OnOk result (Shows D.keeps_word
+            (edited_by (fs_of self.old).volume edits.entry.items) (fs_of self.new).volume.tree) }
+        ensures counted { OnOk result ((fs_of self.new).changes ≡ (fs_of self.old).changes + 1) }
+        ensures only { IfErr result (λ fault.
+            (fault ≡ FsFault.Memory) ⊎ (fault ≡ FsFault.Device)) }
+    {
+        if is_stable {
+            self.keep(edits)
+        } else {
+            self.alter(edits)
+        }
+    }
+
+    /// COMMIT (RFC 8881, section 18.3) of the file of this number, by this caller: keeps all changes
+    /// so far, of every file. Whichever part it asks for.
+    ///
+    /// # Errors
+    ///
+    /// STALE, ISDIR; Device where the device failed.
+    pub fn commit(&mut self, cred: &Cred, number: u64) -> Result<(), FsFault>
+        ensures step { (state : State) (now : ℕ) (arguments : CommitArguments)
+            → IsOn (fs_of self.old) cred.now number state
+            → Commits D.keeps_word (fs_of self.old) (fs_of self.new) state now arguments result }
+        ensures volume { Alters self.old self.new
+            (IsTree (fs_of self.old).volume.tree) (fs_ending result) }
+        ensures down { (fs_of self.old).volume.is_down ≡ true → IsErrOf result FsFault.Down }
+    {
+        if self.is_down() {
+            return Err(FsFault::Down);
+        }
+        self.file(number)?;
+        self.volume.flush()?;
+        Ok(())
+    }
+}
