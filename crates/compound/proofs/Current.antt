@@ -19,6 +19,10 @@ abbrev pub takes_current : Argument → Bool
 takes_current (Argument.Create arguments) = true
 takes_current Argument.GetFh = true
 takes_current (Argument.Lookup name) = true
+takes_current Argument.LookupParent = true
+takes_current (Argument.Remove name) = true
+takes_current (Argument.Rename arguments) = true
+takes_current Argument.SaveFh = true
 takes_current (Argument.ReclaimComplete one_fs) = one_fs
 takes_current _ = false
 
@@ -30,5 +34,9 @@ wants_current world request now (Argument.Create (NewDirectory name given)) none
 wants_current world request now (Argument.Create (OtherType type_number)) none takes = rw none refl
 wants_current world request now Argument.GetFh none takes = rw none refl
 wants_current world request now (Argument.Lookup name) none takes = rw none refl
+wants_current world request now Argument.LookupParent none takes = rw none refl
+wants_current world request now (Argument.Remove name) none takes = rw none refl
+wants_current world request now (Argument.Rename arguments) none takes = rw none refl
+wants_current world request now Argument.SaveFh none takes = rw none refl
 wants_current world request now (Argument.ReclaimComplete true) none takes = rw none refl
 wants_current world request now operation none takes = absurd cc

@@ -1,8 +1,11 @@
+pub mod Changing
 pub mod Creating
 pub mod Current
 pub mod Firsts
 pub mod QuietLaws
 pub mod Refusals
+pub mod RemoveLaws
+pub mod RenameLaws
 pub mod Replies
 pub mod Resuming
 pub mod Rests

@@ -18,12 +18,16 @@ use Rattle.compound.specs.declared.step.Stepped.TheVariants as stepped
 pub left_rest : (left : Effect) (request : InProgress) (rest : List ℕ) → left_by left (with_rest request rest) ≡ with_rest (left_by left request) rest
 left_rest effect.Stays request rest = refl
 left_rest (effect.Moves number) request rest = refl
+left_rest effect.Saves request rest = refl
+left_rest effect.Restores request rest = refl
 left_rest (effect.Joins slot client) request rest = refl
 
 -- nor the results before it
 pub left_answered : (left : Effect) (request : InProgress) → (left_by left request).answered ≡ request.answered
 left_answered effect.Stays request = refl
 left_answered (effect.Moves number) request = refl
+left_answered effect.Saves request = refl
+left_answered effect.Restores request = refl
 left_answered (effect.Joins slot client) request = refl
 
 pub further_from : (before request : InProgress) (done : Stepped) → before.answered ≡ request.answered → GoesFurther before done → GoesFurther request done

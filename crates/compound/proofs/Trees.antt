@@ -1,6 +1,7 @@
 -- The operations on a world are those on its file system's tree.
-use Rattle.std.proofs.Common.{◌≡◌, ◌≢◌, ℕ, ◌==◌, Bool, true, false, not, ◌&&◌, List, [], ◌∷◌, ◌++◌, Option, Some, None, Ok, Err, flat_map, unwrap_or, refl, sym, ap, subst, ◌∙◌}
+use Rattle.std.proofs.Common.{◌≡◌, ◌≢◌, ℕ, ◌==◌, Bool, true, false, not, ◌&&◌, if◌then◌else◌, List, [], ◌∷◌, ◌++◌, Option, Some, None, Ok, Err, flat_map, unwrap_or, refl, sym, ap, subst, ◌∙◌}
 use Rattle.fs.specs.FileSystem.{FileSystem}
+use Rattle.fs.specs.Parents.{LooksUpParent}
 use Rattle.fs.specs.Operations.{IsOn, LooksUp, PutsHandle, GetsHandle, TestsCurrent, current_refusal}
 use Rattle.fs.specs.declared.fault.FsFault.{FsFault}
 use Rattle.fs.specs.declared.fault.FsFault.TheVariants as fault
@@ -8,17 +9,17 @@ use Rattle.model.specs.Answer.{Answer, Outcome, Done, Refused}
 use Rattle.std.proofs.lemmas.List.Concat.{flat_map-cons}
 use Rattle.model.specs.Attribute.{attribute_refusals, entry_refusals, value_refusals, values_of}
 use Rattle.model.specs.AttributeValue.{Value, Acl}
-use Rattle.model.specs.Context.{Context, has_current, current_number, at_node}
+use Rattle.model.specs.Context.{Context, has_current, current_number, at_node, has_saved, saving, restored, is_same_name}
 use Rattle.model.specs.Keyed.{is_key}
 use Rattle.model.specs.declared.limits.Limits.{Limits}
 use Rattle.model.specs.Name.{name_refusals}
 use Rattle.model.specs.Need.{need_first, need_then}
 use Rattle.model.specs.Opens.{Opens, no_opens}
-use Rattle.model.specs.Operation.{Argument, Attributes, NewDirectory, OtherType, operation_of}
+use Rattle.model.specs.Operation.{Argument, Attributes, NewDirectory, OtherType, RenameArguments, operation_of}
 use Rattle.model.specs.Refusal.{Refusals, first_refusal, refused_or}
 use Rattle.model.specs.Session.{Table}
 use Rattle.model.specs.Status.{code_of}
-use Rattle.model.specs.Step.{State, Stepped, does, refused, refusals, effect, late, without_rights, change_refusals, unless_refused, current, current_refusals}
+use Rattle.model.specs.Step.{State, Stepped, does, refused, refusals, effect, late, without_rights, change_refusals, unless_refused, current, current_refusals, answered, rename, rename_refusals, late_at_rename}
 use Rattle.model.specs.Tree.{root}
 use Rattle.model.specs.World.{World, InProgress, Gives, run, stepped, state_of, reclaimed}
 use Rattle.model.specs.declared.node.NodeKind.{NodeKind}
@@ -72,6 +73,14 @@ looks_status fs state now name fault.NoRoom up is = is
 looks_status fs state now name fault.Memory up is = is
 looks_status fs state now name fault.Device up is = is
 looks_status fs state now name fault.Down up is = down fs.volume.is_down up is
+
+pub parent_status : (fs : FileSystem) (state : State) (now : ℕ) (why : FsFault) → fs.volume.is_down ≡ false
+    → LooksUpParent fs state now (Err why) → IsStatus why
+parent_status fs state now (fault.Status reason) up is = tt
+parent_status fs state now fault.NoRoom up is = is
+parent_status fs state now fault.Memory up is = is
+parent_status fs state now fault.Device up is = is
+parent_status fs state now fault.Down up is = down fs.volume.is_down up is
 
 pub puts_status : (fs : FileSystem) (state : State) (now : ℕ) (handle : List ℕ) (why : FsFault) → fs.volume.is_down ≡ false
     → PutsHandle fs state now handle (Err why) → IsStatus why
@@ -178,6 +187,11 @@ pub lookup_bad : (limits : Limits) (state : State) (now : ℕ) (name : List ℕ)
 unfolding refusals name_refusals effect
 lookup_bad limits state now name reason is = does_bad limits state now (Argument.Lookup name) reason Answer.Lookup refl refl is
 
+pub parent_bad : (limits : Limits) (state : State) (now : ℕ) (reason : Status)
+    → does limits state now Argument.LookupParent ≡ refused state Argument.LookupParent reason → IsRefusal reason
+unfolding refusals effect
+parent_bad limits state now reason is = does_bad limits state now Argument.LookupParent reason Answer.LookupParent refl refl is
+
 pub put_bad : (limits : Limits) (state : State) (now : ℕ) (handle : List ℕ) (reason : Status)
     → does limits state now (Argument.PutFh handle) ≡ refused state (Argument.PutFh handle) reason → IsRefusal reason
 unfolding refusals effect
@@ -201,6 +215,35 @@ create_bad limits state now name given reason is =
     ∷ late limits state kind_of)
     (values_bad limits kind.Directory values) refl)
     refl is
+
+pub remove_bad : (limits : Limits) (state : State) (now : ℕ) (name : List ℕ) (reason : Status)
+    → does limits state now (Argument.Remove name) ≡ refused state (Argument.Remove name) reason → IsRefusal reason
+unfolding refusals name_refusals effect
+remove_bad limits state now name reason is = does_bad limits state now (Argument.Remove name) reason _ refl refl is
+
+late_bad : (same : Bool) (state : State) (arguments : RenameArguments)
+    → all_bad (if same then [] else late_at_rename state arguments) ≡ true
+late_bad true state arguments = refl
+late_bad false state arguments = refl
+
+rename_done : (same : Bool) (state : State) (now : ℕ) (arguments : RenameArguments)
+    → (answer : Answer) × ((rename same state now arguments).outcome ≡ Done answer)
+rename_done true state now arguments = (_, refl)
+rename_done false state now arguments = (_, refl)
+
+pub rename_bad : (limits : Limits) (state : State) (now : ℕ) (arguments : RenameArguments) (reason : Status)
+    → does limits state now (Argument.Rename arguments) ≡ refused state (Argument.Rename arguments) reason → IsRefusal reason
+unfolding refusals name_refusals effect
+rename_bad limits state now arguments reason is =
+    let kind_of : Argument = Argument.Rename arguments in
+    let done = rename_done (is_same_name state.context arguments) state now arguments in
+    does_bad limits state now kind_of reason done.0
+    (append_bad (current_refusals state ++ rename_refusals limits state arguments)
+    ((without_rights state (need_first state.tree state.context kind_of), status.Access)
+    ∷ (without_rights state (need_then state.tree state.context kind_of), status.Access)
+    ∷ late limits state kind_of)
+    refl (late_bad (is_same_name state.context arguments) state arguments))
+    done.1 is
 
 pub current_bad : (state : State) (reason : Status) → current_refusal state ≡ Some reason → IsRefusal reason
 current_bad state reason is = bad_refuses (code_of reason) (first_bad (current_refusals state) reason refl is)
@@ -260,6 +303,18 @@ module _ (now : ℕ) (fs : FileSystem) (table : Table) (opens : Opens) (request 
     put_err reason does_so = tree_runs request.context (Argument.PutFh name) (Refused 22 reason) (λ world rest. refl)
         (λ world rest on. does_so (state_of world (with_rest request rest)) (here world fs table opens request rest on))
 
+  pub parent_ok : (number : ℕ) → ((state : State) → IsHere fs request state → LooksUpParent fs state now (Ok number))
+      → RunsTo now (shared fs table opens) (shared fs table opens) request (record request { context = at_node request.context number }) Argument.LookupParent (Done Answer.LookupParent)
+  unfolding run
+  parent_ok number does_so = tree_runs (at_node request.context number) Argument.LookupParent (Done Answer.LookupParent) (λ world rest. refl)
+      (λ world rest on. does_so (state_of world (with_rest request rest)) (here world fs table opens request rest on))
+
+  pub parent_err : (reason : Status) → ((state : State) → IsHere fs request state → LooksUpParent fs state now (Err (fault.Status reason)))
+      → RunsTo now (shared fs table opens) (shared fs table opens) request request Argument.LookupParent (Refused 16 reason)
+  unfolding run
+  parent_err reason does_so = tree_runs request.context Argument.LookupParent (Refused 16 reason) (λ world rest. refl)
+      (λ world rest on. does_so (state_of world (with_rest request rest)) (here world fs table opens request rest on))
+
   pub got_ok : (handle : List ℕ) → ((state : State) → IsHere fs request state → GetsHandle fs state now (Ok handle))
       → RunsTo now (shared fs table opens) (shared fs table opens) request request Argument.GetFh (Done (Answer.GetFh handle))
   unfolding run
@@ -285,6 +340,47 @@ module _ (now : ℕ) (fs : FileSystem) (table : Table) (opens : Opens) (request 
   reclaim_err reason tests = λ world rest on.
       ap (reclaimed world (with_rest request rest)) (tests (state_of world (with_rest request rest)) (here world fs table opens request rest on))
       ∙ ap (λ (after : World). Gives (Refused 58 reason) after (with_rest request rest)) (sym (state_same world (shared fs table opens) on))
+
+  -- SAVEFH and RESTOREFH
+
+  save_does : (state : State) (first : Option Status) → current_refusal state ≡ first
+      → does fs.volume.limits state now Argument.SaveFh
+      ≡ unless_refused state Argument.SaveFh first (answered (record state { context = saving state.context }) Answer.SaveFh)
+  unfolding does refusals effect
+  save_does state first is =
+      ap (λ (one : Option Status). unless_refused state Argument.SaveFh one (answered (record state { context = saving state.context }) Answer.SaveFh)) is
+
+  pub save_ok : ((state : State) → IsHere fs request state → current_refusal state ≡ None)
+      → RunsTo now (shared fs table opens) (shared fs table opens) request (record request { context = saving request.context }) Argument.SaveFh (Done Answer.SaveFh)
+  unfolding run
+  save_ok tests = tree_runs (saving request.context) Argument.SaveFh (Done Answer.SaveFh) (λ world rest. refl)
+      (λ world rest on. let state = state_of world (with_rest request rest) in save_does state None (tests state (here world fs table opens request rest on)))
+
+  pub save_err : (reason : Status) → ((state : State) → IsHere fs request state → current_refusal state ≡ Some reason)
+      → RunsTo now (shared fs table opens) (shared fs table opens) request request Argument.SaveFh (Refused 32 reason)
+  unfolding run
+  save_err reason tests = tree_runs request.context Argument.SaveFh (Refused 32 reason) (λ world rest. refl)
+      (λ world rest on. let state = state_of world (with_rest request rest) in save_does state (Some reason) (tests state (here world fs table opens request rest on)))
+
+  restore_does : (state : State) (saved : Bool) → has_saved state.context ≡ saved
+      → does fs.volume.limits state now Argument.RestoreFh
+      ≡ unless_refused state Argument.RestoreFh (refused_or (not saved) status.NoFileHandle None) (answered (record state { context = restored state.context }) Answer.RestoreFh)
+  unfolding does refusals effect
+  restore_does state saved is =
+      ap (λ (one : Bool). unless_refused state Argument.RestoreFh (refused_or (not one) status.NoFileHandle None)
+      (answered (record state { context = restored state.context }) Answer.RestoreFh)) is
+
+  pub restore_ok : has_saved request.context ≡ true
+      → RunsTo now (shared fs table opens) (shared fs table opens) request (record request { context = restored request.context }) Argument.RestoreFh (Done Answer.RestoreFh)
+  unfolding run
+  restore_ok has = tree_runs (restored request.context) Argument.RestoreFh (Done Answer.RestoreFh) (λ world rest. refl)
+      (λ world rest on. restore_does (state_of world (with_rest request rest)) true has)
+
+  pub restore_err : has_saved request.context ≡ false
+      → RunsTo now (shared fs table opens) (shared fs table opens) request request Argument.RestoreFh (Refused 31 status.NoFileHandle)
+  unfolding run
+  restore_err none = tree_runs request.context Argument.RestoreFh (Refused 31 status.NoFileHandle) (λ world rest. refl)
+      (λ world rest on. restore_does (state_of world (with_rest request rest)) false none)
 
   -- CREATE of another type
 

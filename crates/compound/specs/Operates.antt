@@ -2,7 +2,7 @@
 use Rattle.std.specs.Prelude.{◌≡◌, ℕ, ◌≤◌, ◌<◌, ◌^◌, Bool, true, false, List, length, Some, ⊤}
 use Rattle.fs.specs.FileSystem.{FileSystem}
 use Rattle.model.specs.Answer as model
-use Rattle.model.specs.Context.{at_node}
+use Rattle.model.specs.Context.{at_node, saving, restored}
 use Rattle.model.specs.Opens.{Opens}
 use Rattle.model.specs.Operation.{Argument, operation_of}
 use Rattle.model.specs.Session.{Table}
@@ -23,6 +23,8 @@ use Rattle.compound.specs.declared.operated.Operated.TheVariants as operated
 abbrev pub left_by : Effect → InProgress → InProgress
 left_by effect.Stays request = request
 left_by (effect.Moves number) request = record request { context = at_node request.context number }
+left_by effect.Saves request = record request { context = saving request.context }
+left_by effect.Restores request = record request { context = restored request.context }
 left_by (effect.Joins slot client) request = record request { context = record request.context { client = client }; slot = Some (slot_of slot) }
 
 -- the operation runs, and its result is there if the reply has room for it
@@ -66,6 +68,11 @@ ChangesTable old new request operation done = (now : ℕ) (files : FileSystem)
 abbrev pub ChangesFiles : (old new : FileSystem) → (now : ℕ) → InProgress → Argument → Operated → Type 0
 ChangesFiles old new now request operation done = (table : Table) (opens : Opens)
     → Operates now (shared old table opens) (shared new table opens) request operation done
+
+-- it leaves the clients and the sessions, and nothing is open: a node that it takes away had no opens
+abbrev pub ChangesNodes : (old new : FileSystem) → (now : ℕ) → InProgress → Argument → Operated → Type 0
+ChangesNodes old new now request operation done = (table : Table)
+    → Operates now (without_opens old table) (without_opens new table) request operation done
 
 -- the tree behind it
 abbrev pub tree_by : World → HasRun → Tree

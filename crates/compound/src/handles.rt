@@ -1,4 +1,4 @@
-//! The current filehandle (RFC 8881, section 16.2.3.1).
+//! The current and the saved filehandle (RFC 8881, section 16.2.3.1).
 
 ghost use Rattle.std.specs.Prelude.{◌≡◌};
 
@@ -19,7 +19,7 @@ impl Running<'_> {
     ghost use Rattle.fs.specs.FileSystem.{FileSystem};
     ghost use Rattle.fs.specs.FileSystems.{fs_of};
     ghost use Rattle.model.specs.Answer.{Done, GetFh};
-    ghost use Rattle.model.specs.Context.{has_current, current_number};
+    ghost use Rattle.model.specs.Context.{has_current, current_number, has_saved, saved_number};
     ghost use Rattle.model.specs.Operation as operations;
     ghost use Rattle.model.specs.WireAnswers as answers;
     ghost use Rattle.model.specs.World.{reply_with, outcome_text};
@@ -68,6 +68,33 @@ impl Running<'_> {
         }
     }
 
+    /// SAVEFH (section 18.28): the current node is the saved one too.
+    pub(crate) fn save_handle<D: Device>(&self, fs: &Fs<D>) -> Operated
+        requires up { (fs_of fs.now).volume.is_down ≡ false }
+        requires run { (in_progress_of self.now).context.run ≡ (fs_of fs.now).volume.run }
+        ensures gives { OnlyReads (fs_of fs.now) (in_progress_of self.now)
+            operations.Argument.SaveFh result }
+        ensures answered { IsAnswered (in_progress_of self.now) result }
+    {
+        match self.check_current(fs) {
+            Ok(()) => self.settle(Answer::SaveFh, Effect::Saves),
+            Err(status) => self.refuse(Operation::SaveFh, status),
+        }
+    }
+
+    /// RESTOREFH (section 18.27): the saved node is the current one too, whether it is there or not. NOFILEHANDLE where none is
+    /// saved.
+    pub(crate) fn restore_handle(&self) -> Operated
+        ensures gives { (files : FileSystem)
+            → OnlyReads files (in_progress_of self.now) operations.Argument.RestoreFh result }
+        ensures answered { IsAnswered (in_progress_of self.now) result }
+    {
+        match self.saved_node() {
+            Ok(_) => self.settle(Answer::RestoreFh, Effect::Restores),
+            Err(status) => self.refuse(Operation::RestoreFh, status),
+        }
+    }
+
     /// What GETFH comes to, where nothing else refuses it.
     fn settle_handle(&self, handle: [u8; 8]) -> Operated
         ensures gives { (now : ℕ) (state : SharedState)
@@ -106,6 +133,23 @@ impl Running<'_> {
             × (has_current (in_progress_of self.now).context ≡ false)) }
     {
         match self.progress.current {
+            Some(number) => Ok(number),
+            None => Err(Status::NoFileHandle),
+        }
+    }
+
+    /// The number of the saved node.
+    ///
+    /// # Errors
+    /// NOFILEHANDLE where there is none.
+    pub(crate) fn saved_node(&self) -> Result<u64, Status>
+        ensures ok { IfOk result (λ number.
+            (has_saved (in_progress_of self.now).context ≡ true)
+            × (saved_number (in_progress_of self.now).context ≡ number)) }
+        ensures err { IfErr result (λ reason. (reason ≡ status.NoFileHandle)
+            × (has_saved (in_progress_of self.now).context ≡ false)) }
+    {
+        match self.progress.saved {
             Some(number) => Ok(number),
             None => Err(Status::NoFileHandle),
         }

@@ -12,6 +12,8 @@ mod next;
 mod operate;
 mod operated;
 mod progress;
+mod removing;
+mod renaming;
 mod results;
 mod running;
 mod sequence;

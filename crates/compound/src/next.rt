@@ -23,12 +23,17 @@ use xdr::{Reader, Refusal};
 const OP_ILLEGAL: u32 = 10044;
 
 /// The operations that are served; another one of the standard's is answered NOTSUPP.
-const SERVED: [Operation; 11] = [
+const SERVED: [Operation; 16] = [
     Operation::Create,
     Operation::GetFh,
     Operation::Lookup,
+    Operation::LookupParent,
     Operation::PutFh,
     Operation::PutRootFh,
+    Operation::Remove,
+    Operation::Rename,
+    Operation::RestoreFh,
+    Operation::SaveFh,
     Operation::ExchangeId,
     Operation::CreateSession,
     Operation::DestroySession,

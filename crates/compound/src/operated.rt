@@ -10,6 +10,10 @@ pub enum Effect {
     Stays,
     /// The node of this number is the current one.
     Moves(u64),
+    /// The current node is the saved one too.
+    Saves,
+    /// The saved node is the current one too.
+    Restores,
     /// The slot runs the COMPOUND, of the session of this client.
     Joins { slot: SlotId, client: u64 },
 }

@@ -2,9 +2,11 @@
 
 ghost use Rattle.std.specs.Prelude.{◌≡◌};
 
+use crate::fault::Fault;
 use crate::operated::{Effect, Operated};
 use crate::progress::Progress;
 use crate::running::Running;
+use fs::FsFault;
 use model::status::Status;
 use wire::{Answer, Operation, Outcome};
 use xdr::opaque_size;
@@ -29,6 +31,7 @@ impl Running<'_> {
     ghost use Rattle.wire.specs.Short.{IsRefusal, IsShortAnswer};
     ghost use Rattle.compound.specs.Operates.{Operates, RunsTo, GivesIn, IsAnswered, IsKept, left_by};
     ghost use Rattle.compound.specs.States.{SharedState};
+    ghost use Rattle.compound.specs.Trees.{IsUp, refusal, told};
     ghost use Rattle.compound.specs.Views.{in_progress_of};
 
     /// Whether the reply has room for this result, if it were the last one.
@@ -74,6 +77,7 @@ impl Running<'_> {
             → Operates now old new (in_progress_of self.now) kind result }
         ensures answered { IsAnswered (in_progress_of self.now) result }
         ensures kept { (table : Sessions) → IsKept table result }
+        ensures is { result ≡ refusal (number_of operation) status }
     {
         let outcome = Outcome::Refused {
             operation: operation.number(),
@@ -83,6 +87,23 @@ impl Running<'_> {
         Operated::Gives {
             outcome,
             effect: Effect::Stays,
+        }
+    }
+
+    /// What an operation comes to that its file system did not do.
+    ///
+    /// # Errors
+    /// Those of the file system that are no status.
+    pub(crate) fn tell_fault(&self, operation: Operation, fault: FsFault) -> Result<Operated, Fault>
+        requires { IsUp fault }
+        ensures { result ≡ told (number_of operation) fault }
+    {
+        match fault {
+            FsFault::Status(status) => Ok(self.refuse(operation, status)),
+            FsFault::NoRoom => Ok(self.refuse(operation, Status::RepTooBig)),
+            FsFault::Memory => Err(Fault::Memory),
+            FsFault::Device => Err(Fault::Device),
+            FsFault::Down => unreachable!(),
         }
     }
 

@@ -131,6 +131,8 @@ impl Running<'_> {
         match effect {
             Effect::Stays => {}
             Effect::Moves(number) => self.progress.current = Some(number),
+            Effect::Saves => self.progress.saved = self.progress.current,
+            Effect::Restores => self.progress.current = self.progress.saved,
             Effect::Joins { slot, client } => {
                 self.progress.slot = Some(slot);
                 self.progress.client = client;

@@ -1,4 +1,4 @@
-//! The operations on the tree (RFC 8881, sections 18.4 and 18.13).
+//! CREATE, LOOKUP and LOOKUPP (RFC 8881, sections 18.4, 18.13 and 18.14).
 
 ghost use Rattle.std.specs.Prelude.{◌≡◌};
 
@@ -65,6 +65,24 @@ impl Running<'_> {
         match fs.lookup(&self.cred, directory, name) {
             Ok(number) => self.settle(Answer::Lookup, Effect::Moves(number)),
             Err(fault) => self.refuse(Operation::Lookup, status_of(fault)),
+        }
+    }
+
+    /// LOOKUPP (section 18.14): the directory that has the name of the current one is the current node.
+    pub(crate) fn look_up_parent<D: Device>(&self, fs: &Fs<D>) -> Operated
+        requires up { (fs_of fs.now).volume.is_down ≡ false }
+        requires run { (in_progress_of self.now).context.run ≡ (fs_of fs.now).volume.run }
+        ensures gives { OnlyReads (fs_of fs.now) (in_progress_of self.now)
+            operations.Argument.LookupParent result }
+        ensures answered { IsAnswered (in_progress_of self.now) result }
+    {
+        let directory = match self.current_node() {
+            Ok(number) => number,
+            Err(status) => return self.refuse(Operation::LookupParent, status),
+        };
+        match fs.parent(&self.cred, directory) {
+            Ok(number) => self.settle(Answer::LookupParent, Effect::Moves(number)),
+            Err(fault) => self.refuse(Operation::LookupParent, status_of(fault)),
         }
     }
 

@@ -2,11 +2,11 @@
 use Rattle.std.specs.Prelude.{ℕ, ◌==◌, Bool, true, false, List, [], ◌∷◌}
 use Rattle.std.specs.List.{list_any}
 use Rattle.model.specs.Operation.{Argument, OtherType, Opening, Opens, Exclusive, OtherClaim}
-use Rattle.model.specs.OperationNumber.{OP_CREATE, OP_GETFH, OP_LOOKUP, OP_PUTFH, OP_PUTROOTFH, OP_EXCHANGE_ID, OP_CREATE_SESSION, OP_DESTROY_SESSION, OP_SEQUENCE, OP_DESTROY_CLIENTID, OP_RECLAIM_COMPLETE}
+use Rattle.model.specs.OperationNumber.{OP_CREATE, OP_GETFH, OP_LOOKUP, OP_LOOKUPP, OP_PUTFH, OP_PUTROOTFH, OP_REMOVE, OP_RENAME, OP_RESTOREFH, OP_SAVEFH, OP_EXCHANGE_ID, OP_CREATE_SESSION, OP_DESTROY_SESSION, OP_SEQUENCE, OP_DESTROY_CLIENTID, OP_RECLAIM_COMPLETE}
 
 abbrev pub served : List ℕ
 served =
-    OP_CREATE ∷ OP_GETFH ∷ OP_LOOKUP ∷ OP_PUTFH ∷ OP_PUTROOTFH
+    OP_CREATE ∷ OP_GETFH ∷ OP_LOOKUP ∷ OP_LOOKUPP ∷ OP_PUTFH ∷ OP_PUTROOTFH ∷ OP_REMOVE ∷ OP_RENAME ∷ OP_RESTOREFH ∷ OP_SAVEFH
     ∷ OP_EXCHANGE_ID ∷ OP_CREATE_SESSION ∷ OP_DESTROY_SESSION ∷ OP_SEQUENCE ∷ OP_DESTROY_CLIENTID ∷ OP_RECLAIM_COMPLETE ∷ []
 
 abbrev pub is_served : (operation : ℕ) → Bool

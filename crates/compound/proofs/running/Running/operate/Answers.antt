@@ -19,6 +19,17 @@ use Rattle.compound.proofs.running.Running.operate.Goals as goal
 pub returns-in-Create-clause-volume : goal.returns-in-Create-clause-volume
 returns-in-Create-clause-volume g c = rw c.in-Create.is (c.create.ensures.volume (table_of c.args.table.now) no_opens)
 
+pub returns-in-Remove-clause-volume : goal.returns-in-Remove-clause-volume
+returns-in-Remove-clause-volume g c = rw c.in-Remove.is (c.remove.ensures.volume (table_of c.args.table.now) no_opens)
+
+pub returns-in-Rename-clause-volume : goal.returns-in-Rename-clause-volume
+returns-in-Rename-clause-volume g c = rw c.in-Rename.is (c.rename.ensures.volume (table_of c.args.table.now) no_opens)
+
+pub returns-in-LookupParent-clause-volume : goal.returns-in-LookupParent-clause-volume
+returns-in-LookupParent-clause-volume g c =
+    quiet_changes g.D.Device.keeps_word (shared_of c.args.fs.now c.args.table.now) (fs_failures c.args.fs.now) (in_progress_of c.args.self.now) c.args.now (argument_view c.args.argument.now)
+    c.requires.up (rw c.in-LookupParent.is refl)
+
 pub returns-in-GetFh-clause-volume : goal.returns-in-GetFh-clause-volume
 returns-in-GetFh-clause-volume g c =
     quiet_changes g.D.Device.keeps_word (shared_of c.args.fs.now c.args.table.now) (fs_failures c.args.fs.now) (in_progress_of c.args.self.now) c.args.now (argument_view c.args.argument.now)
@@ -38,6 +49,16 @@ pub returns-in-PutRootFh-clause-volume : goal.returns-in-PutRootFh-clause-volume
 returns-in-PutRootFh-clause-volume g c =
     quiet_changes g.D.Device.keeps_word (shared_of c.args.fs.now c.args.table.now) (fs_failures c.args.fs.now) (in_progress_of c.args.self.now) c.args.now (argument_view c.args.argument.now)
     c.requires.up (rw c.in-PutRootFh.is refl)
+
+pub returns-in-RestoreFh-clause-volume : goal.returns-in-RestoreFh-clause-volume
+returns-in-RestoreFh-clause-volume g c =
+    quiet_changes g.D.Device.keeps_word (shared_of c.args.fs.now c.args.table.now) (fs_failures c.args.fs.now) (in_progress_of c.args.self.now) c.args.now (argument_view c.args.argument.now)
+    c.requires.up (rw c.in-RestoreFh.is refl)
+
+pub returns-in-SaveFh-clause-volume : goal.returns-in-SaveFh-clause-volume
+returns-in-SaveFh-clause-volume g c =
+    quiet_changes g.D.Device.keeps_word (shared_of c.args.fs.now c.args.table.now) (fs_failures c.args.fs.now) (in_progress_of c.args.self.now) c.args.now (argument_view c.args.argument.now)
+    c.requires.up (rw c.in-SaveFh.is refl)
 
 pub returns-in-DestroySession-clause-volume : goal.returns-in-DestroySession-clause-volume
 returns-in-DestroySession-clause-volume g c =
@@ -75,11 +96,20 @@ returns-in-GetFh-clause-gives g c = λ keeps. rw c.in-GetFh.is (c.get_handle.ens
 pub returns-in-Lookup-clause-gives : goal.returns-in-Lookup-clause-gives
 returns-in-Lookup-clause-gives g c = λ keeps. rw c.in-Lookup.is (c.look_up.ensures.gives c.args.now (table_of c.args.table.now) no_opens)
 
+pub returns-in-LookupParent-clause-gives : goal.returns-in-LookupParent-clause-gives
+returns-in-LookupParent-clause-gives g c = λ keeps. rw c.in-LookupParent.is (c.look_up_parent.ensures.gives c.args.now (table_of c.args.table.now) no_opens)
+
 pub returns-in-PutFh-clause-gives : goal.returns-in-PutFh-clause-gives
 returns-in-PutFh-clause-gives g c = λ keeps. rw c.in-PutFh.is (c.put_handle.ensures.gives c.args.now (table_of c.args.table.now) no_opens)
 
 pub returns-in-PutRootFh-clause-gives : goal.returns-in-PutRootFh-clause-gives
 returns-in-PutRootFh-clause-gives g c = λ keeps. rw c.in-PutRootFh.is (c.put_root.ensures.gives (fs_of c.args.fs.now) c.args.now (table_of c.args.table.now) no_opens)
+
+pub returns-in-RestoreFh-clause-gives : goal.returns-in-RestoreFh-clause-gives
+returns-in-RestoreFh-clause-gives g c = λ keeps. rw c.in-RestoreFh.is (c.restore_handle.ensures.gives (fs_of c.args.fs.now) c.args.now (table_of c.args.table.now) no_opens)
+
+pub returns-in-SaveFh-clause-gives : goal.returns-in-SaveFh-clause-gives
+returns-in-SaveFh-clause-gives g c = λ keeps. rw c.in-SaveFh.is (c.save_handle.ensures.gives c.args.now (table_of c.args.table.now) no_opens)
 
 pub returns-in-DestroySession-clause-gives : goal.returns-in-DestroySession-clause-gives
 returns-in-DestroySession-clause-gives g c = λ keeps. rw c.in-DestroySession.is (c.destroy_session.ensures.gives c.args.now (fs_of c.args.fs.now))
@@ -108,6 +138,12 @@ kept_if now files old new request operation (Err fault) runs = tt
 pub returns-in-Create-clause-kept : goal.returns-in-Create-clause-kept
 returns-in-Create-clause-kept g c = c.create.ensures.kept (table_of c.args.table.now)
 
+pub returns-in-Remove-clause-kept : goal.returns-in-Remove-clause-kept
+returns-in-Remove-clause-kept g c = c.remove.ensures.kept (table_of c.args.table.now)
+
+pub returns-in-Rename-clause-kept : goal.returns-in-Rename-clause-kept
+returns-in-Rename-clause-kept g c = c.rename.ensures.kept (table_of c.args.table.now)
+
 pub returns-in-GetFh-clause-kept : goal.returns-in-GetFh-clause-kept
 returns-in-GetFh-clause-kept g c =
     kept_of c.args.now (shared_of c.args.fs.now c.args.table.now) (shared_of c.args.fs.now c.args.table.now) (in_progress_of c.args.self.now) _ c.get_handle.result
@@ -118,6 +154,11 @@ returns-in-Lookup-clause-kept g c =
     kept_of c.args.now (shared_of c.args.fs.now c.args.table.now) (shared_of c.args.fs.now c.args.table.now) (in_progress_of c.args.self.now) _ c.look_up.result
     (c.look_up.ensures.gives c.args.now (table_of c.args.table.now) no_opens)
 
+pub returns-in-LookupParent-clause-kept : goal.returns-in-LookupParent-clause-kept
+returns-in-LookupParent-clause-kept g c =
+    kept_of c.args.now (shared_of c.args.fs.now c.args.table.now) (shared_of c.args.fs.now c.args.table.now) (in_progress_of c.args.self.now) _ c.look_up_parent.result
+    (c.look_up_parent.ensures.gives c.args.now (table_of c.args.table.now) no_opens)
+
 pub returns-in-PutFh-clause-kept : goal.returns-in-PutFh-clause-kept
 returns-in-PutFh-clause-kept g c =
     kept_of c.args.now (shared_of c.args.fs.now c.args.table.now) (shared_of c.args.fs.now c.args.table.now) (in_progress_of c.args.self.now) _ c.put_handle.result
@@ -127,6 +168,16 @@ pub returns-in-PutRootFh-clause-kept : goal.returns-in-PutRootFh-clause-kept
 returns-in-PutRootFh-clause-kept g c =
     kept_of c.args.now (shared_of c.args.fs.now c.args.table.now) (shared_of c.args.fs.now c.args.table.now) (in_progress_of c.args.self.now) _ c.put_root.result
     (c.put_root.ensures.gives (fs_of c.args.fs.now) c.args.now (table_of c.args.table.now) no_opens)
+
+pub returns-in-RestoreFh-clause-kept : goal.returns-in-RestoreFh-clause-kept
+returns-in-RestoreFh-clause-kept g c =
+    kept_of c.args.now (shared_of c.args.fs.now c.args.table.now) (shared_of c.args.fs.now c.args.table.now) (in_progress_of c.args.self.now) _ c.restore_handle.result
+    (c.restore_handle.ensures.gives (fs_of c.args.fs.now) c.args.now (table_of c.args.table.now) no_opens)
+
+pub returns-in-SaveFh-clause-kept : goal.returns-in-SaveFh-clause-kept
+returns-in-SaveFh-clause-kept g c =
+    kept_of c.args.now (shared_of c.args.fs.now c.args.table.now) (shared_of c.args.fs.now c.args.table.now) (in_progress_of c.args.self.now) _ c.save_handle.result
+    (c.save_handle.ensures.gives c.args.now (table_of c.args.table.now) no_opens)
 
 pub returns-in-DestroySession-clause-kept : goal.returns-in-DestroySession-clause-kept
 returns-in-DestroySession-clause-kept g c =

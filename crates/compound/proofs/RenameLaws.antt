@@ -1,0 +1,145 @@
+-- RENAME on a world is that on its file system.
+use Rattle.std.proofs.Common.{◌≡◌, ℕ, Bool, true, false, not, List, length, nat_le, Option, Some, None, refl, sym, ap, subst, ◌∙◌, arith, length-append}
+use Rattle.xdr.proofs.Sizes.{int_length, hyper_length}
+use Rattle.fs.specs.FileSystem.{FileSystem}
+use Rattle.fs.specs.Operations.{IsNotDone, does_on, current_refusal}
+use Rattle.fs.specs.Renaming.{IsOnBoth, RenamesTree, renamed, opens_behind}
+use Rattle.fs.specs.declared.fault.FsFault.{FsFault}
+use Rattle.fs.specs.declared.renaming.Change.{Change}
+use Rattle.fs.specs.declared.renaming.Renamed.{Renamed}
+use Rattle.model.specs.Answer.{Done}
+use Rattle.model.specs.Context.{Context, has_current, has_saved, saved_number, is_same_name}
+use Rattle.model.specs.Keyed.{is_key}
+use Rattle.model.specs.Opens.{Opens, no_opens}
+use Rattle.model.specs.Operation.{Argument, RenameArguments}
+use Rattle.model.specs.Refusal.{refused_or}
+use Rattle.model.specs.Session.{Table}
+use Rattle.model.specs.Step.{State, does, effect, refused, refusals, unless_refused, answered, rename, current}
+use Rattle.model.specs.Tree.{Tree}
+use Rattle.model.specs.World as turns
+use Rattle.model.specs.World.{World, InProgress, HasRun, run, stepped, state_of, reply_with, outcome_text}
+use Rattle.model.specs.declared.limits.Limits.{Limits}
+use Rattle.model.specs.declared.status.Status.{Status}
+use Rattle.model.specs.declared.status.Status.TheVariants as status
+use Rattle.compound.specs.Operates.{run_in_room}
+use Rattle.compound.specs.Runs.{with_rest}
+use Rattle.compound.specs.States.{shared}
+use Rattle.compound.specs.Trees.{IsHere, IsUp, AreBoth, no_change, renamed_answer}
+use Rattle.compound.specs.Volumes.{OperationGives, lasts, executed_by}
+use Rattle.compound.proofs.Changing.{HasThisRoom, is_up, same_room, tree_given}
+use Rattle.compound.proofs.Trees.{here, is_on, is_there, of_request, rename_bad}
+
+-- The room of its answer
+
+text_length : (source target : Change) → length (outcome_text (Done (renamed_answer source target))) ≡ 48
+unfolding outcome_text
+text_length source target = simp (length-append, int_length, hyper_length) (omega arith)
+
+pub renamed_room : (request : InProgress) (source target source_2 target_2 : Change) (room : Bool)
+    → room ≡ nat_le (length (reply_with request (Done (renamed_answer source target)))) 16368
+    → room ≡ nat_le (length (reply_with request (Done (renamed_answer source_2 target_2)))) 16368
+renamed_room request source target source_2 target_2 room is =
+    same_room request (renamed_answer source target) (renamed_answer source_2 target_2) room
+    (omega (arith, text_length source target, text_length source_2 target_2)) is
+
+rename_sized : (same : Bool) (state : State) (now : ℕ) (arguments : RenameArguments) (request : InProgress) (room : Bool)
+    → room ≡ nat_le (length (reply_with request (Done (renamed_answer no_change no_change)))) 16368
+    → HasThisRoom request room (rename same state now arguments)
+rename_sized true state now arguments request room is =
+    (_, refl, renamed_room request no_change no_change (record { before = _; after = _ }) (record { before = _; after = _ }) room is)
+rename_sized false state now arguments request room is =
+    (_, refl, renamed_room request no_change no_change (record { before = _; after = _ }) (record { before = _; after = _ }) room is)
+
+-- Its first tests
+
+behind_some : (a b : Bool) (reason : Status) (others : Option Status)
+    → refused_or a status.NoFileHandle (refused_or b status.Stale None) ≡ Some reason
+    → refused_or a status.NoFileHandle (refused_or b status.Stale others) ≡ Some reason
+behind_some true b reason others is = is
+behind_some false true reason others is = is
+behind_some false false reason others is = absurd (cc)
+
+behind_none : (a b : Bool) (others : Option Status)
+    → refused_or a status.NoFileHandle (refused_or b status.Stale None) ≡ None
+    → refused_or a status.NoFileHandle (refused_or b status.Stale others) ≡ others
+behind_none true b others is = absurd (cc)
+behind_none false true others is = absurd (cc)
+behind_none false false others is = refl
+
+pub refused_current : (limits : Limits) (state : State) (now : ℕ) (arguments : RenameArguments) (reason : Status) → current_refusal state ≡ Some reason
+    → does limits state now (Argument.Rename arguments) ≡ refused state (Argument.Rename arguments) reason
+unfolding does refusals
+refused_current limits state now arguments reason is =
+    ap (λ (first : Option Status). unless_refused state (Argument.Rename arguments) first (effect limits state now (Argument.Rename arguments)))
+    (behind_some (not (has_current state.context)) (not (is_key (current state) state.tree)) reason _ is)
+
+saved_first : (saved : Bool) (others : Option Status) → saved ≡ false → refused_or (not saved) status.NoFileHandle others ≡ Some status.NoFileHandle
+saved_first saved others none = ap (λ (b : Bool). refused_or (not b) status.NoFileHandle others) none
+
+pub refused_saved : (limits : Limits) (state : State) (now : ℕ) (arguments : RenameArguments) → current_refusal state ≡ None → has_saved state.context ≡ false
+    → does limits state now (Argument.Rename arguments) ≡ refused state (Argument.Rename arguments) status.NoFileHandle
+unfolding does refusals
+refused_saved limits state now arguments is none =
+    ap (λ (first : Option Status). unless_refused state (Argument.Rename arguments) first (effect limits state now (Argument.Rename arguments)))
+    (behind_none (not (has_current state.context)) (not (is_key (current state) state.tree)) _ is ∙ saved_first (has_saved state.context) _ none)
+
+-- What it leaves
+
+none_open : (same : Bool) (replaced : Option ℕ) → opens_behind same replaced no_opens ≡ no_opens
+none_open true replaced = refl
+none_open false None = refl
+none_open false (Some number) = refl
+
+-- a name that is given to itself does not have to last
+quiet_ran : (world : World) (request : InProgress) (arguments : RenameArguments) (ran : HasRun) → is_same_name request.context arguments ≡ true
+    → lasts (executed_by world request (Argument.Rename arguments) ran) ≡ false
+quiet_ran world request arguments (turns.Gives outcome after left) same = rw same refl
+quiet_ran world request arguments (turns.Replays reply session slot) same = refl
+
+module _ (now : ℕ) (fs : FileSystem) (request : InProgress) (arguments : RenameArguments) where
+  pub on_tree : (world : World) (rest : List ℕ) → run world (with_rest request rest) now (Argument.Rename arguments)
+      ≡ stepped world (with_rest request rest) (does world.limits.volume (state_of world (with_rest request rest)) now (Argument.Rename arguments))
+  unfolding run
+  on_tree world rest = refl
+
+  pub sized : (room : Bool) → room ≡ nat_le (length (reply_with request (Done (renamed_answer no_change no_change)))) 16368
+      → (state : State) → IsHere fs request state → HasThisRoom request room (effect fs.volume.limits state now (Argument.Rename arguments))
+  unfolding effect
+  sized room is state there = rename_sized (is_same_name state.context arguments) state now arguments request room is
+
+  pub does_rename : (new : FileSystem) (made : Renamed) (state : State) → IsHere fs request state → state.opens ≡ no_opens
+      → does_on fs state now (Argument.Rename arguments) ≡ renamed new.volume.tree new.changes state arguments made
+      → does fs.volume.limits state now (Argument.Rename arguments)
+      ≡ answered (record { tree = new.volume.tree; changes = new.changes; opens = no_opens; context = request.context }) (renamed_answer made.source made.target)
+  does_rename new made state there none is =
+      is
+      ∙ (ap (λ (opens : Opens). answered (record { tree = new.volume.tree; changes = new.changes; opens = opens; context = state.context })
+      (renamed_answer made.source made.target))
+      (ap (opens_behind (is_same_name state.context arguments) made.replaced) none ∙ none_open (is_same_name state.context arguments) made.replaced)
+      ∙ ap (λ (context : Context). answered (record { tree = new.volume.tree; changes = new.changes; opens = no_opens; context = context })
+      (renamed_answer made.source made.target)) there.context_is)
+
+  pub is_on_both : (numbers : ℕ × ℕ) → request.context.run ≡ fs.volume.run → AreBoth request.context numbers
+      → (state : State) → IsHere fs request state → IsOnBoth fs request.context.cred numbers.0 numbers.1 state
+  is_on_both numbers in_run both state there = record {
+    on = is_on fs request numbers.1 state in_run both.has_current both.current_is there;
+    has_saved = subst (λ (context : Context). has_saved context ≡ true) (sym there.context_is) both.has_saved;
+    saved_is = ap saved_number there.context_is ∙ both.saved_is;
+  }
+
+  pub rename_up : (numbers : ℕ × ℕ) (why : FsFault) → fs.volume.is_down ≡ false → request.context.run ≡ fs.volume.run → AreBoth request.context numbers
+      → ((state : State) → IsOnBoth fs request.context.cred numbers.0 numbers.1 state → IsNotDone fs state now (Argument.Rename arguments) why) → IsUp why
+  rename_up numbers why up in_run both step =
+      let state = of_request fs request in
+      is_up now fs state (Argument.Rename arguments) why up (rename_bad fs.volume.limits state now arguments) (step state (is_on_both numbers in_run both state (is_there fs request)))
+
+  pub rename_makes : (table : Table) (opens : Opens) (numbers : ℕ × ℕ) → request.context.run ≡ fs.volume.run → AreBoth request.context numbers
+      → (room : Bool) → room ≡ nat_le (length (reply_with request (Done (renamed_answer no_change no_change)))) 16368 → room ≡ true
+      → (tree : Tree) (lasting : Bool) → OperationGives (shared fs table opens) request now (Argument.Rename arguments) tree lasting
+      → RenamesTree fs request.context.cred numbers.0 numbers.1 now arguments tree lasting
+  rename_makes table opens numbers in_run both room fits some tree lasting gives = record {
+    state = state_of gives.world (with_rest request gives.rest);
+    on = is_on_both numbers in_run both _ (here gives.world fs table opens request gives.rest gives.has);
+    tree = gives.tree ∙ tree_given now fs request (Argument.Rename arguments) on_tree room (sized room fits) table opens gives.world gives.rest some gives.has;
+    quiet = λ same. gives.lasting_is ∙ quiet_ran gives.world (with_rest request gives.rest) arguments (run_in_room gives.world (with_rest request gives.rest) now (Argument.Rename arguments)) same;
+  }

@@ -1,0 +1,128 @@
+use Rattle.std.proofs.Common.{true, Result, refl, sym, subst, ◌∙◌, arith, IfOk}
+use Rattle.fs.specs.FileSystems.{fs_of, fs_failures}
+use Rattle.fs.proofs.ChangeLaws.{changes_by}
+use Rattle.model.specs.Answer.{Outcome, Refused}
+use Rattle.model.specs.Opens.{no_opens}
+use Rattle.model.specs.Operation.{Argument}
+use Rattle.model.specs.declared.status.Status.{Status}
+use Rattle.compound.specs.Operates.{GivesIn, HasRoom, ChangesNodes, IsAnswered, IsKept}
+use Rattle.compound.specs.States.{shared, without_opens}
+use Rattle.compound.specs.Volumes.{OperationGives, ending}
+use Rattle.compound.specs.Views.{in_progress_of}
+use Rattle.compound.specs.declared.fault.Fault.{Fault}
+use Rattle.compound.specs.declared.operated.Operated.{Operated}
+use Rattle.fs.specs.Changes.{Changes}
+use Rattle.compound.proofs.Changing.{done_runs, told_gives, told_changes, told_spelled, told_kept, is_short}
+use Rattle.compound.proofs.Rooms.{gives_in_room, gives_refusal}
+use Rattle.compound.specs.Trees.{removed_answer}
+use Rattle.compound.proofs.RemoveLaws.{on_tree, sized, does_remove, removed_room, remove_makes, remove_up}
+use Rattle.compound.proofs.Trees.{is_on, wants}
+use Rattle.compound.proofs.VolumeLaws.{refusal_changes}
+use Rattle.compound.proofs.running.Running.remove.Goals as goal
+
+pub returns-in-Err-clause-gives : goal.returns-in-Err-clause-gives
+returns-in-Err-clause-gives g c = λ keeps table.
+    let fs = fs_of c.args.fs.now in
+    let request = in_progress_of c.args.self.now in
+    let kind = Argument.Remove c.args.name.now in
+    c.refuse.ensures.gives c.args.now (without_opens fs table) (without_opens fs table) kind
+    (subst (λ (reason : Status). GivesIn c.args.now (without_opens fs table) (without_opens fs table) request request kind (Refused 28 reason)) (sym c.in-Err.ensures.err.0)
+    (gives_refusal c.args.now (without_opens fs table) (without_opens fs table) request kind 28 _ (wants c.args.now fs table no_opens request kind refl c.in-Err.ensures.err.1)))
+
+pub returns-in-Err-clause-volume : goal.returns-in-Err-clause-volume
+returns-in-Err-clause-volume g c = λ table opens.
+    let fs = fs_of c.args.fs.now in
+    let request = in_progress_of c.args.self.now in
+    let kind = Argument.Remove c.args.name.now in
+    refusal_changes g.D.Device.keeps_word fs fs table opens (fs_failures c.args.fs.now) (fs_failures c.args.fs.now) request c.args.now kind 28 c.in-Err.status refl (omega arith) c.requires.up
+    (subst (λ (reason : Status). GivesIn c.args.now (shared fs table opens) (shared fs table opens) request request kind (Refused 28 reason)) (sym c.in-Err.ensures.err.0)
+    (gives_refusal c.args.now (shared fs table opens) (shared fs table opens) request kind 28 _ (wants c.args.now fs table opens request kind refl c.in-Err.ensures.err.1)))
+
+-- Where it is done
+
+pub returns-in-Ok-remove-clause-gives : goal.returns-in-Ok-remove-clause-gives
+unfolding in_progress_of
+returns-in-Ok-remove-clause-gives g c = λ keeps table.
+    let fs = fs_of c.args.fs.now in
+    let new = fs_of c.remove.new.self in
+    let request = in_progress_of c.args.self.now in
+    let name = c.args.name.now in
+    let made = c.in-Ok-remove.gone in
+    subst (λ (outcome : Outcome). GivesIn c.args.now (without_opens fs table) (without_opens new table) request request (Argument.Remove name) outcome) (sym c.removed.ensures.is)
+    (gives_in_room c.args.now (without_opens fs table) (without_opens new table) request request (Argument.Remove name) (removed_answer made.before made.after)
+    (removed_room request 0 0 made.before made.after true (sym c.in-Ok-remove.ensures.room ∙ c.has_removed_room-has_room.ensures))
+    (done_runs c.args.now fs request (Argument.Remove name) (on_tree c.args.now fs request name) new table request.context (removed_answer made.before made.after)
+    (λ state there none. does_remove c.args.now fs request name new made state there none
+    (c.in-Ok-remove.ensures.step state (is_on fs request _ _ c.requires.run c.in-Ok.ensures.ok.0 c.in-Ok.ensures.ok.1 there) keeps))))
+
+pub returns-in-Ok-remove-clause-answered : goal.returns-in-Ok-remove-clause-answered
+unfolding in_progress_of
+returns-in-Ok-remove-clause-answered g c =
+    let request = in_progress_of c.args.self.now in
+    let made = c.in-Ok-remove.gone in
+    record {
+      fits = c.removed.ensures.fits;
+      small = c.removed.ensures.small;
+      room = subst (HasRoom request) (sym c.removed.ensures.is)
+          (is_short request (removed_answer made.before made.after)
+          (removed_room request 0 0 made.before made.after true (sym c.in-Ok-remove.ensures.room ∙ c.has_removed_room-has_room.ensures)));
+    }
+
+pub returns-in-Ok-remove-clause-volume : goal.returns-in-Ok-remove-clause-volume
+unfolding in_progress_of
+returns-in-Ok-remove-clause-volume g c = λ table opens.
+    let fs = fs_of c.args.fs.now in
+    let request = in_progress_of c.args.self.now in
+    changes_by g.D.Device.keeps_word _ _
+    (remove_makes c.args.now fs request c.args.name.now table opens _ c.requires.run c.in-Ok.ensures.ok.0 c.in-Ok.ensures.ok.1 _ c.has_removed_room-has_room.ensures c.in-Ok-remove.ensures.room)
+    _ _ _ _ _ c.in-Ok-remove.ensures.volume
+
+-- Where it is not
+
+pub tell_fault-requires : goal.tell_fault-requires
+unfolding in_progress_of
+tell_fault-requires g c =
+    let fs = fs_of c.args.fs.now in
+    let request = in_progress_of c.args.self.now in
+    remove_up c.args.now fs request c.args.name.now _ c.in-Err-remove.fault c.requires.up c.requires.run c.in-Ok.ensures.ok.0 c.in-Ok.ensures.ok.1 c.in-Err-remove.ensures.step
+
+pub returns-in-Err-remove-clause-gives : goal.returns-in-Err-remove-clause-gives
+unfolding in_progress_of
+returns-in-Err-remove-clause-gives g c = λ keeps.
+    let fs = fs_of c.args.fs.now in
+    let new = fs_of c.remove.new.self in
+    let request = in_progress_of c.args.self.now in
+    let name = c.args.name.now in
+    subst (λ (r : Result Operated Fault). IfOk r (ChangesNodes fs new c.args.now request (Argument.Remove name))) (sym c.tell_fault.ensures)
+    (told_gives c.args.now fs request (Argument.Remove name) (on_tree c.args.now fs request name) _ (sized c.args.now fs request name _ c.has_removed_room-has_room.ensures)
+    g.D.Device.keeps_word _ new _ _ c.requires.up _ c.in-Err-remove.fault
+    (λ state there. c.in-Err-remove.ensures.step state (is_on fs request _ _ c.requires.run c.in-Ok.ensures.ok.0 c.in-Ok.ensures.ok.1 there))
+    c.in-Err-remove.ensures.no_room c.in-Err-remove.ensures.volume)
+
+pub returns-in-Err-remove-clause-answered : goal.returns-in-Err-remove-clause-answered
+unfolding in_progress_of
+returns-in-Err-remove-clause-answered g c =
+    let fs = fs_of c.args.fs.now in
+    let request = in_progress_of c.args.self.now in
+    subst (λ (r : Result Operated Fault). IfOk r (IsAnswered request)) (sym c.tell_fault.ensures)
+    (told_spelled request 28 c.in-Err-remove.fault (omega arith) (remove_up c.args.now fs request c.args.name.now _ c.in-Err-remove.fault c.requires.up c.requires.run c.in-Ok.ensures.ok.0 c.in-Ok.ensures.ok.1 c.in-Err-remove.ensures.step))
+
+pub returns-in-Err-remove-clause-kept : goal.returns-in-Err-remove-clause-kept
+returns-in-Err-remove-clause-kept g c = λ table.
+    subst (λ (r : Result Operated Fault). IfOk r (IsKept table)) (sym c.tell_fault.ensures) (told_kept table 28 c.in-Err-remove.fault)
+
+pub returns-in-Err-remove-clause-volume : goal.returns-in-Err-remove-clause-volume
+unfolding in_progress_of
+returns-in-Err-remove-clause-volume g c = λ table opens.
+    let fs = fs_of c.args.fs.now in
+    let new = fs_of c.remove.new.self in
+    let request = in_progress_of c.args.self.now in
+    let name = c.args.name.now in
+    subst (λ (r : Result Operated Fault). Changes g.D.Device.keeps_word (OperationGives (shared fs table opens) request c.args.now (Argument.Remove name)) fs new (fs_failures c.args.fs.now) (fs_failures c.remove.new.self) (ending r))
+    (sym c.tell_fault.ensures)
+    (told_changes c.args.now fs request (Argument.Remove name) (on_tree c.args.now fs request name) _ (sized c.args.now fs request name _ c.has_removed_room-has_room.ensures)
+    g.D.Device.keeps_word _ new _ _ c.requires.up _ table opens c.in-Err-remove.fault
+    (λ state there. c.in-Err-remove.ensures.step state (is_on fs request _ _ c.requires.run c.in-Ok.ensures.ok.0 c.in-Ok.ensures.ok.1 there))
+    (remove_up c.args.now fs request c.args.name.now _ c.in-Err-remove.fault c.requires.up c.requires.run c.in-Ok.ensures.ok.0 c.in-Ok.ensures.ok.1 c.in-Err-remove.ensures.step) c.in-Err-remove.ensures.no_room c.in-Err-remove.ensures.device_room
+    (remove_makes c.args.now fs request name table opens _ c.requires.run c.in-Ok.ensures.ok.0 c.in-Ok.ensures.ok.1 _ c.has_removed_room-has_room.ensures)
+    c.in-Err-remove.ensures.volume)

@@ -1,0 +1,127 @@
+use Rattle.std.proofs.Common.{true, Result, refl, sym, subst, ◌∙◌, arith, IfOk}
+use Rattle.fs.specs.FileSystems.{fs_of, fs_failures}
+use Rattle.fs.proofs.ChangeLaws.{changes_by}
+use Rattle.model.specs.Answer.{Outcome}
+use Rattle.model.specs.Opens.{no_opens}
+use Rattle.model.specs.Operation.{Argument}
+use Rattle.compound.specs.Operates.{GivesIn, HasRoom, ChangesNodes, IsAnswered, IsKept}
+use Rattle.compound.specs.States.{shared, without_opens}
+use Rattle.compound.specs.Volumes.{OperationGives, ending}
+use Rattle.compound.specs.Views.{in_progress_of}
+use Rattle.compound.specs.declared.fault.Fault.{Fault}
+use Rattle.compound.specs.declared.operated.Operated.{Operated}
+use Rattle.fs.specs.Changes.{Changes}
+use Rattle.compound.proofs.Changing.{done_runs, told_gives, told_changes, told_spelled, told_kept, is_short, refused_gives}
+use Rattle.compound.proofs.Rooms.{gives_in_room}
+use Rattle.wire.specs.ArgumentViews.{rename_view}
+use Rattle.compound.specs.Trees.{no_change, renamed_answer}
+use Rattle.compound.proofs.RenameLaws.{on_tree, sized, does_rename, renamed_room, rename_makes, rename_up, is_on_both}
+use Rattle.compound.proofs.VolumeLaws.{refusal_changes}
+use Rattle.compound.proofs.running.Running.rename.Goals as goal
+
+pub returns-in-Err-clause-gives : goal.returns-in-Err-clause-gives
+returns-in-Err-clause-gives g c = λ keeps table.
+    let fs = fs_of c.args.fs.now in
+    let request = in_progress_of c.args.self.now in
+    let arguments = rename_view c.args.arguments.now in
+    c.refuse.ensures.gives c.args.now (without_opens fs table) (without_opens fs table) (Argument.Rename arguments)
+    (refused_gives c.args.now fs request (Argument.Rename arguments) (on_tree c.args.now fs request arguments) table no_opens c.in-Err.status
+    (λ state there. c.in-Err.ensures.err state c.args.now arguments there))
+
+pub returns-in-Err-clause-volume : goal.returns-in-Err-clause-volume
+returns-in-Err-clause-volume g c = λ table opens.
+    let fs = fs_of c.args.fs.now in
+    let request = in_progress_of c.args.self.now in
+    let arguments = rename_view c.args.arguments.now in
+    refusal_changes g.D.Device.keeps_word fs fs table opens (fs_failures c.args.fs.now) (fs_failures c.args.fs.now) request c.args.now (Argument.Rename arguments) 29 c.in-Err.status refl (omega arith) c.requires.up
+    (refused_gives c.args.now fs request (Argument.Rename arguments) (on_tree c.args.now fs request arguments) table opens c.in-Err.status
+    (λ state there. c.in-Err.ensures.err state c.args.now arguments there))
+
+-- Where it is done
+
+pub returns-in-Ok-rename-clause-gives : goal.returns-in-Ok-rename-clause-gives
+unfolding in_progress_of
+returns-in-Ok-rename-clause-gives g c = λ keeps table.
+    let fs = fs_of c.args.fs.now in
+    let new = fs_of c.rename.new.self in
+    let request = in_progress_of c.args.self.now in
+    let arguments = rename_view c.args.arguments.now in
+    let made = c.in-Ok-rename.made in
+    subst (λ (outcome : Outcome). GivesIn c.args.now (without_opens fs table) (without_opens new table) request request (Argument.Rename arguments) outcome) (sym c.renamed.ensures.is)
+    (gives_in_room c.args.now (without_opens fs table) (without_opens new table) request request (Argument.Rename arguments) (renamed_answer made.source made.target)
+    (renamed_room request no_change no_change made.source made.target true (sym c.in-Ok-rename.ensures.room ∙ c.has_renamed_room-has_room.ensures))
+    (done_runs c.args.now fs request (Argument.Rename arguments) (on_tree c.args.now fs request arguments) new table request.context (renamed_answer made.source made.target)
+    (λ state there none. does_rename c.args.now fs request arguments new made state there none
+    (c.in-Ok-rename.ensures.step state (is_on_both c.args.now fs request arguments c.in-Ok.numbers c.requires.run c.in-Ok.ensures.ok state there) keeps))))
+
+pub returns-in-Ok-rename-clause-answered : goal.returns-in-Ok-rename-clause-answered
+unfolding in_progress_of
+returns-in-Ok-rename-clause-answered g c =
+    let request = in_progress_of c.args.self.now in
+    let made = c.in-Ok-rename.made in
+    record {
+      fits = c.renamed.ensures.fits;
+      small = c.renamed.ensures.small;
+      room = subst (HasRoom request) (sym c.renamed.ensures.is)
+          (is_short request (renamed_answer made.source made.target)
+          (renamed_room request no_change no_change made.source made.target true (sym c.in-Ok-rename.ensures.room ∙ c.has_renamed_room-has_room.ensures)));
+    }
+
+pub returns-in-Ok-rename-clause-volume : goal.returns-in-Ok-rename-clause-volume
+unfolding in_progress_of
+returns-in-Ok-rename-clause-volume g c = λ table opens.
+    let fs = fs_of c.args.fs.now in
+    let request = in_progress_of c.args.self.now in
+    changes_by g.D.Device.keeps_word _ _
+    (rename_makes c.args.now fs request (rename_view c.args.arguments.now) table opens c.in-Ok.numbers c.requires.run c.in-Ok.ensures.ok _ c.has_renamed_room-has_room.ensures c.in-Ok-rename.ensures.room)
+    _ _ _ _ _ c.in-Ok-rename.ensures.volume
+
+-- Where it is not
+
+pub tell_fault-requires : goal.tell_fault-requires
+unfolding in_progress_of
+tell_fault-requires g c =
+    let fs = fs_of c.args.fs.now in
+    let request = in_progress_of c.args.self.now in
+    rename_up c.args.now fs request (rename_view c.args.arguments.now) c.in-Ok.numbers c.in-Err-rename.fault c.requires.up c.requires.run c.in-Ok.ensures.ok c.in-Err-rename.ensures.step
+
+pub returns-in-Err-rename-clause-gives : goal.returns-in-Err-rename-clause-gives
+unfolding in_progress_of
+returns-in-Err-rename-clause-gives g c = λ keeps.
+    let fs = fs_of c.args.fs.now in
+    let new = fs_of c.rename.new.self in
+    let request = in_progress_of c.args.self.now in
+    let arguments = rename_view c.args.arguments.now in
+    subst (λ (r : Result Operated Fault). IfOk r (ChangesNodes fs new c.args.now request (Argument.Rename arguments))) (sym c.tell_fault.ensures)
+    (told_gives c.args.now fs request (Argument.Rename arguments) (on_tree c.args.now fs request arguments) _ (sized c.args.now fs request arguments _ c.has_renamed_room-has_room.ensures)
+    g.D.Device.keeps_word _ new _ _ c.requires.up _ c.in-Err-rename.fault
+    (λ state there. c.in-Err-rename.ensures.step state (is_on_both c.args.now fs request arguments c.in-Ok.numbers c.requires.run c.in-Ok.ensures.ok state there))
+    c.in-Err-rename.ensures.no_room c.in-Err-rename.ensures.volume)
+
+pub returns-in-Err-rename-clause-answered : goal.returns-in-Err-rename-clause-answered
+unfolding in_progress_of
+returns-in-Err-rename-clause-answered g c =
+    let fs = fs_of c.args.fs.now in
+    let request = in_progress_of c.args.self.now in
+    subst (λ (r : Result Operated Fault). IfOk r (IsAnswered request)) (sym c.tell_fault.ensures)
+    (told_spelled request 29 c.in-Err-rename.fault (omega arith) (rename_up c.args.now fs request (rename_view c.args.arguments.now) c.in-Ok.numbers c.in-Err-rename.fault c.requires.up c.requires.run c.in-Ok.ensures.ok c.in-Err-rename.ensures.step))
+
+pub returns-in-Err-rename-clause-kept : goal.returns-in-Err-rename-clause-kept
+returns-in-Err-rename-clause-kept g c = λ table.
+    subst (λ (r : Result Operated Fault). IfOk r (IsKept table)) (sym c.tell_fault.ensures) (told_kept table 29 c.in-Err-rename.fault)
+
+pub returns-in-Err-rename-clause-volume : goal.returns-in-Err-rename-clause-volume
+unfolding in_progress_of
+returns-in-Err-rename-clause-volume g c = λ table opens.
+    let fs = fs_of c.args.fs.now in
+    let new = fs_of c.rename.new.self in
+    let request = in_progress_of c.args.self.now in
+    let arguments = rename_view c.args.arguments.now in
+    subst (λ (r : Result Operated Fault). Changes g.D.Device.keeps_word (OperationGives (shared fs table opens) request c.args.now (Argument.Rename arguments)) fs new (fs_failures c.args.fs.now) (fs_failures c.rename.new.self) (ending r))
+    (sym c.tell_fault.ensures)
+    (told_changes c.args.now fs request (Argument.Rename arguments) (on_tree c.args.now fs request arguments) _ (sized c.args.now fs request arguments _ c.has_renamed_room-has_room.ensures)
+    g.D.Device.keeps_word _ new _ _ c.requires.up _ table opens c.in-Err-rename.fault
+    (λ state there. c.in-Err-rename.ensures.step state (is_on_both c.args.now fs request arguments c.in-Ok.numbers c.requires.run c.in-Ok.ensures.ok state there))
+    (rename_up c.args.now fs request (rename_view c.args.arguments.now) c.in-Ok.numbers c.in-Err-rename.fault c.requires.up c.requires.run c.in-Ok.ensures.ok c.in-Err-rename.ensures.step) c.in-Err-rename.ensures.no_room c.in-Err-rename.ensures.device_room
+    (rename_makes c.args.now fs request arguments table opens c.in-Ok.numbers c.requires.run c.in-Ok.ensures.ok _ c.has_renamed_room-has_room.ensures)
+    c.in-Err-rename.ensures.volume)

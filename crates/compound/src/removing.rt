@@ -1,0 +1,92 @@
+//! REMOVE (RFC 8881, section 18.25).
+
+ghost use Rattle.std.specs.Prelude.{◌≡◌, ◌<◌, ◌^◌, length};
+ghost use Rattle.model.specs.Answer.{Done};
+ghost use Rattle.model.specs.World.{outcome_text};
+ghost use Rattle.model.specs.WireAnswers as answers;
+ghost use Rattle.wire.specs.OutcomeView.{outcome_view};
+ghost use Rattle.wire.specs.SmallViews.{change_view};
+ghost use Rattle.compound.specs.Trees.{change_answer, removed_answer};
+
+use crate::fault::Fault;
+use crate::operated::{Effect, Operated};
+use crate::running::Running;
+use disk::Device;
+use fs::Fs;
+use wire::{Answer, ChangeInfo, Operation, Outcome};
+
+impl Running<'_> {
+    ghost use Rattle.std.specs.Prelude.{◌≡◌, false, nat_le, length, IfOk};
+    ghost use Rattle.fs.specs.FileSystems.{fs_of, Alters};
+    ghost use Rattle.model.specs.Answer.{Done};
+    ghost use Rattle.model.specs.Opens.{Opens};
+    ghost use Rattle.model.specs.Operation as operations;
+    ghost use Rattle.model.specs.Session.{Table};
+    ghost use Rattle.model.specs.World.{reply_with};
+    ghost use Rattle.compound.specs.Operates.{ChangesNodes, IsAnswered, IsKept};
+    ghost use Rattle.compound.specs.States.{shared};
+    ghost use Rattle.compound.specs.Trees.{removed_answer};
+    ghost use Rattle.compound.specs.Views.{in_progress_of};
+    ghost use Rattle.compound.specs.Volumes.{OperationGives, ending};
+
+    /// REMOVE: the name is gone, and the node that it led to. Nothing is removed where the reply has no room for the result.
+    pub(crate) fn remove<D: Device>(
+        &self,
+        fs: &mut Fs<D>,
+        now: u64,
+        name: &[u8],
+    ) -> Result<Operated, Fault>
+        requires up { (fs_of fs.old).volume.is_down ≡ false }
+        requires run { (in_progress_of self.now).context.run ≡ (fs_of fs.old).volume.run }
+        ensures gives { D.keeps_word → IfOk result (ChangesNodes (fs_of fs.old) (fs_of fs.new)
+            now (in_progress_of self.now) (operations.Argument.Remove name.now)) }
+        ensures answered { IfOk result (IsAnswered (in_progress_of self.now)) }
+        ensures kept { (table : Table) → IfOk result (IsKept table) }
+        ensures volume { (table : Table) (opens : Opens) → Alters fs.old fs.new
+            (OperationGives (shared (fs_of fs.old) table opens) (in_progress_of self.now) now
+            (operations.Argument.Remove name.now)) (ending result) }
+    {
+        let directory = match self.current_node() {
+            Ok(number) => number,
+            Err(status) => return Ok(self.refuse(Operation::Remove, status)),
+        };
+        let has_room = self.has_removed_room();
+        match fs.remove(&self.cred, now, directory, name, has_room) {
+            Ok(gone) => Ok(Operated::Gives {
+                outcome: removed(gone.before, gone.after),
+                effect: Effect::Stays,
+            }),
+            Err(fault) => self.tell_fault(Operation::Remove, fault),
+        }
+    }
+
+    /// Whether the reply has room for the result of a REMOVE. The change values do not matter.
+    fn has_removed_room(&self) -> bool
+        ensures { result ≡ nat_le (length
+            (reply_with (in_progress_of self.now) (Done (removed_answer 0 0)))) 16368 }
+    {
+        self.has_room(&removed(0, 0))
+    }
+}
+
+/// The result of a REMOVE: its directory's change value before and after.
+fn removed(before: u64, after: u64) -> Outcome<'static>
+    ensures is { outcome_view result ≡ Done (removed_answer before after) }
+    ensures fits { answers.outcome.Fits (outcome_view result) }
+    ensures small { length (outcome_text (outcome_view result)) < 2 ^ 63 }
+{
+    let outcome = Outcome::Done(Answer::Remove(change_info(before, after)));
+    outcome.tell_fits();
+    outcome
+}
+
+/// The change value of a directory before and after a change.
+pub(crate) fn change_info(before: u64, after: u64) -> ChangeInfo
+    ensures { change_view result ≡ change_answer before after }
+{
+    ChangeInfo {
+        is_atomic: true,
+        before,
+        after,
+    }
+}

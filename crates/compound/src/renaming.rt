@@ -1,0 +1,117 @@
+//! RENAME (RFC 8881, section 18.26).
+
+ghost use Rattle.std.specs.Prelude.{◌≡◌, ◌<◌, ◌^◌, length};
+ghost use Rattle.model.specs.Answer.{Done};
+ghost use Rattle.model.specs.World.{outcome_text};
+ghost use Rattle.model.specs.WireAnswers as answers;
+ghost use Rattle.wire.specs.OutcomeView.{outcome_view};
+ghost use Rattle.compound.specs.Trees.{renamed_answer};
+
+use crate::fault::Fault;
+use crate::operated::{Effect, Operated};
+use crate::removing::change_info;
+use crate::running::Running;
+use disk::Device;
+use fs::{Change, Fs, Renaming};
+use model::status::Status;
+use wire::{Answer, Operation, Outcome, RenameAnswer, RenameArguments};
+
+/// What a directory shows where its change value does not matter.
+const NO_CHANGE: Change = Change {
+    before: 0,
+    after: 0,
+};
+
+impl Running<'_> {
+    ghost use Rattle.std.specs.Prelude.{◌≡◌, false, nat_le, length, IfOk, IfErr};
+    ghost use Rattle.fs.specs.FileSystems.{fs_of, Alters};
+    ghost use Rattle.model.specs.Answer.{Done};
+    ghost use Rattle.model.specs.Opens.{Opens};
+    ghost use Rattle.model.specs.Operation as operations;
+    ghost use Rattle.model.specs.Session.{Table};
+    ghost use Rattle.model.specs.World.{reply_with};
+    ghost use Rattle.wire.specs.ArgumentViews.{rename_view};
+    ghost use Rattle.wire.specs.Short.{IsRefusal};
+    ghost use Rattle.compound.specs.Operates.{ChangesNodes, IsAnswered, IsKept};
+    ghost use Rattle.compound.specs.States.{shared};
+    ghost use Rattle.compound.specs.Trees.{AreBoth, RefusesRename, no_change, renamed_answer};
+    ghost use Rattle.compound.specs.Views.{in_progress_of};
+    ghost use Rattle.compound.specs.Volumes.{OperationGives, ending};
+
+    /// RENAME of a name in the saved directory to one in the current directory. Nothing is renamed where the reply has no room
+    /// for the result.
+    pub(crate) fn rename<D: Device>(
+        &self,
+        fs: &mut Fs<D>,
+        now: u64,
+        arguments: &RenameArguments<'_>,
+    ) -> Result<Operated, Fault>
+        requires up { (fs_of fs.old).volume.is_down ≡ false }
+        requires run { (in_progress_of self.now).context.run ≡ (fs_of fs.old).volume.run }
+        ensures gives { D.keeps_word → IfOk result (ChangesNodes (fs_of fs.old) (fs_of fs.new)
+            now (in_progress_of self.now)
+            (operations.Argument.Rename (rename_view arguments.now))) }
+        ensures answered { IfOk result (IsAnswered (in_progress_of self.now)) }
+        ensures kept { (table : Table) → IfOk result (IsKept table) }
+        ensures volume { (table : Table) (opens : Opens) → Alters fs.old fs.new
+            (OperationGives (shared (fs_of fs.old) table opens) (in_progress_of self.now) now
+            (operations.Argument.Rename (rename_view arguments.now))) (ending result) }
+    {
+        let (from, to) = match self.both_nodes(fs) {
+            Ok(numbers) => numbers,
+            Err(status) => return Ok(self.refuse(Operation::Rename, status)),
+        };
+        let has_room = self.has_renamed_room();
+        let asked = Renaming {
+            from,
+            old_name: arguments.old_name,
+            to,
+            new_name: arguments.new_name,
+        };
+        match fs.rename(&self.cred, now, asked, has_room) {
+            Ok(made) => Ok(Operated::Gives {
+                outcome: renamed(made.source, made.target),
+                effect: Effect::Stays,
+            }),
+            Err(fault) => self.tell_fault(Operation::Rename, fault),
+        }
+    }
+
+    /// The numbers of the saved node and of the current one.
+    ///
+    /// # Errors
+    /// The first of these that holds: NOFILEHANDLE where none is current, STALE where the current one is gone, and NOFILEHANDLE
+    /// where none is saved.
+    fn both_nodes<D: Device>(&self, fs: &Fs<D>) -> Result<(u64, u64), Status>
+        requires up { (fs_of fs.now).volume.is_down ≡ false }
+        requires run { (in_progress_of self.now).context.run ≡ (fs_of fs.now).volume.run }
+        ensures ok { IfOk result (AreBoth (in_progress_of self.now).context) }
+        ensures err { IfErr result (RefusesRename (fs_of fs.now) (in_progress_of self.now)) }
+        ensures refused { IfErr result IsRefusal }
+    {
+        self.check_current(fs)?;
+        Ok((self.saved_node()?, self.current_node()?))
+    }
+
+    /// Whether the reply has room for the result of a RENAME. The change values do not matter.
+    fn has_renamed_room(&self) -> bool
+        ensures { result ≡ nat_le (length (reply_with (in_progress_of self.now)
+            (Done (renamed_answer no_change no_change)))) 16368 }
+    {
+        self.has_room(&renamed(NO_CHANGE, NO_CHANGE))
+    }
+}
+
+/// The result of a RENAME: the change values before and after, of the directory that had the node and of the one that has it.
+fn renamed(source: Change, target: Change) -> Outcome<'static>
+    ensures is { outcome_view result ≡ Done (renamed_answer source target) }
+    ensures fits { answers.outcome.Fits (outcome_view result) }
+    ensures small { length (outcome_text (outcome_view result)) < 2 ^ 63 }
+{
+    let outcome = Outcome::Done(Answer::Rename(RenameAnswer {
+        source: change_info(source.before, source.after),
+        target: change_info(target.before, target.after),
+    }));
+    outcome.tell_fits();
+    outcome
+}
