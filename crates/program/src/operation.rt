@@ -1,26 +1,48 @@
 //! The operations of a script's `call`.
 
 ghost use Rattle.std.specs.Prelude.{◌≤◌, length, IfOk};
-ghost use Rattle.wire_client.specs.ArgumentFits.{CreateFits};
+ghost use Rattle.wire_client.specs.ArgumentFits.{CreateFits, RenameFits};
 
 use crate::refused::Refused;
+use hex::{FromHexError, decode};
 use std::alloc::{AllocError, Global};
-use wire::{Argument, Attributes, Bitmap, CreateArguments};
+use wire::{Argument, Attributes, Bitmap, CreateArguments, RenameArguments};
 use wire_client::write_argument;
 use xdr::Writer;
 
 /// The longest name that a record has room for, and more.
 const MOST_NAME_BYTES: usize = 65_536;
 
+/// The most bytes of a filehandle.
+const MOST_HANDLE_BYTES: usize = 128;
+
 /// An operation of a script.
-#[derive(Clone, Copy, Debug, PartialEq, Eq)]
+#[derive(Drop)]
 pub enum Operation<'a> {
     /// PUTROOTFH.
     Root,
+    /// PUTFH of these bytes.
+    PutHandle(Vec<u8>),
     /// LOOKUP of a name.
     Lookup(&'a str),
+    /// LOOKUPP.
+    Up,
     /// CREATE of a directory of this name and mode.
-    MakeDir { name: &'a str, mode: u32 },
+    MakeDir {
+        name: &'a str,
+        mode: u32,
+    },
+    /// REMOVE of a name.
+    Remove(&'a str),
+    /// SAVEFH.
+    Save,
+    /// RESTOREFH.
+    Restore,
+    /// RENAME of a name in the saved directory, to one in the current directory.
+    Rename {
+        old_name: &'a str,
+        new_name: &'a str,
+    },
     /// GETFH.
     GetHandle,
 }
@@ -30,8 +52,14 @@ pub enum Operation<'a> {
 pub enum Verb {
     Sequence,
     Root,
+    PutHandle,
     Lookup,
+    Up,
     MakeDir,
+    Remove,
+    Save,
+    Restore,
+    Rename,
     GetHandle,
 }
 
@@ -41,8 +69,14 @@ impl Verb {
         match self {
             Verb::Sequence => "sequence",
             Verb::Root => "root",
+            Verb::PutHandle => "fh",
             Verb::Lookup => "lookup",
+            Verb::Up => "up",
             Verb::MakeDir => "mkdir",
+            Verb::Remove => "remove",
+            Verb::Save => "save",
+            Verb::Restore => "restore",
+            Verb::Rename => "rename",
             Verb::GetHandle => "getfh",
         }
     }
@@ -50,22 +84,40 @@ impl Verb {
 
 impl Operation<'_> {
     /// Its word.
-    pub fn verb(self) -> Verb {
+    pub fn verb(&self) -> Verb {
         match self {
             Operation::Root => Verb::Root,
+            Operation::PutHandle(_) => Verb::PutHandle,
             Operation::Lookup(_) => Verb::Lookup,
+            Operation::Up => Verb::Up,
             Operation::MakeDir { .. } => Verb::MakeDir,
+            Operation::Remove(_) => Verb::Remove,
+            Operation::Save => Verb::Save,
+            Operation::Restore => Verb::Restore,
+            Operation::Rename { .. } => Verb::Rename,
             Operation::GetHandle => Verb::GetHandle,
         }
     }
 
     /// Writes its number and its arguments.
-    pub fn write(self, out: &mut Writer) -> Result<(), Refused> {
+    pub fn write(&self, out: &mut Writer) -> Result<(), Refused> {
         match self {
             Operation::Root => write_argument(out, &Argument::PutRootFh)?,
-            Operation::GetHandle => write_argument(out, &Argument::GetFh)?,
+            Operation::PutHandle(handle) => {
+                write_argument(out, &Argument::PutFh(handle_bytes(handle)?))?
+            }
             Operation::Lookup(name) => write_argument(out, &Argument::Lookup(name_bytes(name)?))?,
-            Operation::MakeDir { name, mode } => write_new_directory(out, name_bytes(name)?, mode)?,
+            Operation::Up => write_argument(out, &Argument::LookupParent)?,
+            Operation::MakeDir { name, mode } => {
+                write_new_directory(out, name_bytes(name)?, *mode)?
+            }
+            Operation::Remove(name) => write_argument(out, &Argument::Remove(name_bytes(name)?))?,
+            Operation::Save => write_argument(out, &Argument::SaveFh)?,
+            Operation::Restore => write_argument(out, &Argument::RestoreFh)?,
+            Operation::Rename { old_name, new_name } => {
+                write_argument(out, &Argument::Rename(renaming(old_name, new_name)?))?
+            }
+            Operation::GetHandle => write_argument(out, &Argument::GetFh)?,
         }
         Ok(())
     }
@@ -93,6 +145,15 @@ fn new_directory<'a>(name: &'a [u8], values: &'a [u8]) -> CreateArguments<'a>
     CreateArguments::NewDirectory { name, attributes }
 }
 
+fn renaming<'a>(old_name: &'a str, new_name: &'a str) -> Result<RenameArguments<'a>, Refused>
+    ensures { IfOk result RenameFits }
+{
+    Ok(RenameArguments {
+        old_name: name_bytes(old_name)?,
+        new_name: name_bytes(new_name)?,
+    })
+}
+
 fn name_bytes(name: &str) -> Result<&[u8], Refused>
     ensures { IfOk result (λ bytes. length bytes.now ≤ 65536) }
 {
@@ -103,6 +164,15 @@ fn name_bytes(name: &str) -> Result<&[u8], Refused>
     Ok(bytes)
 }
 
+fn handle_bytes(handle: &[u8]) -> Result<&[u8], Refused>
+    ensures { IfOk result (λ bytes. length bytes.now ≤ 128) }
+{
+    if handle.len() > MOST_HANDLE_BYTES {
+        return Err(Refused::Script);
+    }
+    Ok(handle)
+}
+
 /// Reads operations that are parted by `;`; none where one has no form.
 pub fn read_operations<'a>(
     alloc: Global,
@@ -110,7 +180,7 @@ pub fn read_operations<'a>(
 ) -> Result<Option<Vec<Operation<'a>>>, AllocError> {
     let mut operations = Vec::new(alloc);
     for operation in words.split(|word| *word == ";") {
-        match operation_of(operation) {
+        match operation_of(alloc, operation)? {
             Some(operation) => operations.push(operation)?,
             None => return Ok(None),
         }
@@ -118,16 +188,61 @@ pub fn read_operations<'a>(
     Ok(Some(operations))
 }
 
-fn operation_of<'a>(words: &[&'a str]) -> Option<Operation<'a>> {
+fn operation_of<'a>(alloc: Global, words: &[&'a str]) -> Result<Option<Operation<'a>>, AllocError> {
     match words {
-        [verb] if *verb == "root" => Some(Operation::Root),
-        [verb] if *verb == "getfh" => Some(Operation::GetHandle),
-        [verb, name] if *verb == "lookup" => Some(Operation::Lookup(*name)),
-        [verb, name, mode] if *verb == "mkdir" => Some(Operation::MakeDir {
-            name: *name,
-            mode: octal(*mode)?,
+        [verb] => Ok(plain_operation(*verb)),
+        [verb, digits] if *verb == "fh" => put_handle(alloc, *digits),
+        [verb, name] => Ok(operation_on(*verb, *name)),
+        [verb, name, word] => Ok(operation_with(*verb, *name, *word)),
+        _ => Ok(None),
+    }
+}
+
+/// The operation of a word alone.
+fn plain_operation<'a>(verb: &str) -> Option<Operation<'a>> {
+    match verb {
+        "root" => Some(Operation::Root),
+        "up" => Some(Operation::Up),
+        "save" => Some(Operation::Save),
+        "restore" => Some(Operation::Restore),
+        "getfh" => Some(Operation::GetHandle),
+        _ => None,
+    }
+}
+
+/// The operation of a word and a name.
+fn operation_on<'a>(verb: &str, name: &'a str) -> Option<Operation<'a>> {
+    match verb {
+        "lookup" => Some(Operation::Lookup(name)),
+        "remove" => Some(Operation::Remove(name)),
+        _ => None,
+    }
+}
+
+/// The operation of a word, a name and one word more.
+fn operation_with<'a>(verb: &str, name: &'a str, word: &'a str) -> Option<Operation<'a>> {
+    match verb {
+        "mkdir" => Some(Operation::MakeDir {
+            name,
+            mode: octal(word)?,
+        }),
+        "rename" => Some(Operation::Rename {
+            old_name: name,
+            new_name: word,
         }),
         _ => None,
+    }
+}
+
+/// PUTFH of the bytes that hexadecimal digits spell, two of them each.
+fn put_handle<'a>(alloc: Global, digits: &str) -> Result<Option<Operation<'a>>, AllocError> {
+    if digits.is_empty() {
+        return Ok(None);
+    }
+    match decode(alloc, digits) {
+        Ok(handle) => Ok(Some(Operation::PutHandle(handle))),
+        Err(FromHexError::OutOfMemory) => Err(AllocError),
+        Err(_) => Ok(None),
     }
 }
 

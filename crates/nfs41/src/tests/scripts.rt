@@ -37,6 +37,89 @@ const TWO_CLIENTS: [(&str, &str); 24] = [
     ("A take", "A sequence 0\nA root 0\nA mkdir 17\n"),
 ];
 
+/// Filehandles that are put, saved and restored, and parents: lines and what they tell.
+const PLACES: [(&str, &str); 8] = [
+    ("A hello 7 7", "A client 4294967297 1\n"),
+    ("A session", "A session 00000001000000010000000000000001\n"),
+    (
+        "A call root ; mkdir a 755 ; save ; up ; getfh ; restore ; getfh ; up ; up",
+        "",
+    ),
+    (
+        "A take",
+        "A sequence 0\nA root 0\nA mkdir 0\nA save 0\nA up 0\nA getfh 0 0000000000000001\nA restore 0\nA getfh 0 0000000100000001\nA up 0\nA up 2\n",
+    ),
+    (
+        "A call fh 0000000100000001 ; up ; lookup a ; fh 00000001000000aB",
+        "",
+    ),
+    (
+        "A take",
+        "A sequence 0\nA fh 0\nA up 0\nA lookup 0\nA fh 70\n",
+    ),
+    ("A call root ; restore", ""),
+    ("A take", "A sequence 0\nA root 0\nA restore 10020\n"),
+];
+
+/// Names that are given to other nodes and taken away, up to a mount: lines and what they tell. A name that is given to itself
+/// uses up no stamp, and a node keeps its filehandle under its new name.
+const NAMES: [(&str, &str); 21] = [
+    ("A hello 7 7", "A client 4294967297 1\n"),
+    ("A session", "A session 00000001000000010000000000000001\n"),
+    ("A call root ; mkdir a 755 ; root ; mkdir b 755", ""),
+    (
+        "A take",
+        "A sequence 0\nA root 0\nA mkdir 0\nA root 0\nA mkdir 0\n",
+    ),
+    ("A call root ; save ; rename a c ; lookup c ; getfh", ""),
+    (
+        "A take",
+        "A sequence 0\nA root 0\nA save 0\nA rename 0\nA lookup 0\nA getfh 0 0000000100000001\n",
+    ),
+    (
+        "A call root ; save ; rename b b ; lookup b ; save ; root ; rename b d",
+        "",
+    ),
+    (
+        "A take",
+        "A sequence 0\nA root 0\nA save 0\nA rename 0\nA lookup 0\nA save 0\nA root 0\nA rename 2\n",
+    ),
+    ("A call root ; save ; lookup b ; rename b x", ""),
+    (
+        "A take",
+        "A sequence 0\nA root 0\nA save 0\nA lookup 0\nA rename 22\n",
+    ),
+    (
+        "A call root ; lookup b ; mkdir x 755 ; save ; root ; save ; fh 0000000100000004 ; rename b y",
+        "",
+    ),
+    (
+        "A take",
+        "A sequence 0\nA root 0\nA lookup 0\nA mkdir 0\nA save 0\nA root 0\nA save 0\nA fh 0\nA rename 22\n",
+    ),
+    (
+        "A call fh 0000000100000004 ; up ; remove x ; up ; getfh ; up",
+        "",
+    ),
+    (
+        "A take",
+        "A sequence 0\nA fh 0\nA up 0\nA remove 0\nA up 0\nA getfh 0 0000000000000001\nA up 2\n",
+    ),
+    (
+        "A call root ; save ; rename b c ; lookup c ; getfh ; restore ; remove b",
+        "",
+    ),
+    (
+        "A take",
+        "A sequence 0\nA root 0\nA save 0\nA rename 0\nA lookup 0\nA getfh 0 0000000100000002\nA restore 0\nA remove 2\n",
+    ),
+    ("restart", "run 2\n"),
+    ("A hello 7 7", "A client 8589934593 1\n"),
+    ("A session", "A session 00000002000000010000000000000001\n"),
+    ("A call fh 0000000100000001", ""),
+    ("A take", "A sequence 0\nA fh 70\n"),
+];
+
 /// What holds of sessions and retries: lines and what they tell.
 const SESSIONS: [(&str, &str); 17] = [
     ("A hello 7 7", "A client 4294967297 1\n"),
@@ -59,7 +142,7 @@ const SESSIONS: [(&str, &str); 17] = [
 ];
 
 /// Lines of no form, and lines that lack what they speak of.
-const REFUSED_LINES: [&str; 30] = [
+const REFUSED_LINES: [&str; 18] = [
     "A\n",
     "A hello\n",
     "A hello 7\n",
@@ -78,18 +161,36 @@ const REFUSED_LINES: [&str; 30] = [
     "A take\n",
     "A retry\n",
     "A call root\n",
-    "A call\n",
-    "A call root ;\n",
-    "A call ; root\n",
-    "A call root ; ; root\n",
-    "A call root;root\n",
-    "A call root now\n",
-    "A call lookup\n",
-    "A call mkdir a\n",
-    "A call mkdir a 8\n",
-    "A call mkdir a 40000000000\n",
-    "A call getfh 1\n",
-    "A call nothing\n",
+];
+
+/// Calls of no form.
+const REFUSED_CALLS: [&str; 26] = [
+    "",
+    " root ;",
+    " ; root",
+    " root ; ; root",
+    " root;root",
+    " root now",
+    " lookup",
+    " lookup a b",
+    " mkdir a",
+    " mkdir a 8",
+    " mkdir a 40000000000",
+    " mkdir a 755 b",
+    " getfh 1",
+    " nothing",
+    " fh",
+    " fh 0",
+    " fh 0g",
+    " fh +0",
+    " fh 00 00",
+    " up 1",
+    " remove",
+    " remove a b",
+    " save 1",
+    " restore 1",
+    " rename a",
+    " rename a b c",
 ];
 
 fn expect_lines<R: std::rt::Files<File = std::fs::File> + AllocGlobal + std::process::Abort>(
@@ -114,6 +215,16 @@ fn clients_take_turns(rt: HostRuntime) -> Result<(), Fail> {
 }
 
 #[test]
+fn places_are_saved_and_restored(rt: HostRuntime) -> Result<(), Fail> {
+    expect_lines(&rt, &PLACES)
+}
+
+#[test]
+fn names_move_and_go(rt: HostRuntime) -> Result<(), Fail> {
+    expect_lines(&rt, &NAMES)
+}
+
+#[test]
 fn sessions_answer_again(rt: HostRuntime) -> Result<(), Fail> {
     expect_lines(&rt, &SESSIONS)
 }
@@ -123,6 +234,18 @@ fn lines_of_no_form_stop_the_script(rt: HostRuntime) {
     for line in REFUSED_LINES {
         expect_run(&rt, &[], line, 1, "", "refused: Script\n");
     }
+}
+
+#[test]
+fn calls_of_no_form_stop_the_script(rt: HostRuntime) -> Result<(), Fail> {
+    let told = "A client 4294967297 1\nA session 00000001000000010000000000000001\n";
+    for words in REFUSED_CALLS {
+        let mut script = String::from_str(rt.alloc(), "A hello 7 7\nA session\nA call")?;
+        script.push_str(words)?;
+        script.push('\n')?;
+        expect_run(&rt, &[], script.as_str(), 1, told, "refused: Script\n");
+    }
+    Ok(())
 }
 
 /// A line that takes a reply where none is to come, and one behind a restart, which ended the connection.
