@@ -1,69 +1,14 @@
 //! Directories: what a mount finds, how much there is room for, and stops.
 
-ghost use Rattle.std.specs.Prelude.{◌≤◌, length};
-
-use acl_eval::{Cred, Gids};
+use super::drivers::{FIRST, look_up, make, make_in_room, mount, volume};
 use disk::{CrashDevice, Device, MemDevice, Stop, landings};
 use fs::{Created, Fs, FsFault, MountFault};
 use model::status::Status;
-use plain::attributes::Attributes;
-use plain::make_dir::NewDirectory;
 use std::alloc::Global;
 use std::process::Abort;
 use std::test::Fail;
 
-/// The number of the first node that is made in the first run.
-const FIRST: u64 = 0x1_0000_0001;
-
-/// The attribute mode, 755.
-const MODE: [u32; 2] = [0, 2];
-
-const MODE_755: [u8; 4] = [0, 0, 1, 0xED];
-
 const NO_SPACE: FsFault = FsFault::Status(Status::NoSpc);
-
-fn caller() -> Cred {
-    Cred {
-        uid: 7,
-        gid: 7,
-        gids: Gids::new(),
-    }
-}
-
-fn named(parent: u64, name: &[u8]) -> NewDirectory
-    ensures { length result.attributes.bitmap.now ≤ 8 }
-{
-    NewDirectory {
-        parent,
-        name,
-        attributes: Attributes {
-            bitmap: &MODE,
-            values: &MODE_755,
-        },
-    }
-}
-
-/// A new volume of so many sectors and nodes.
-fn volume(alloc: Global, sectors: u32, nodes: u32) -> Result<MemDevice, Fail> {
-    let mut device = MemDevice::new(alloc, sectors)?;
-    Fs::format(alloc, &mut device, nodes)?;
-    Ok(device)
-}
-
-fn mount<D: Device>(alloc: Global, device: D) -> Result<Fs<D>, Fail> {
-    match Fs::mount(alloc, device) {
-        Ok(fs) => Ok(fs),
-        Err(_) => Err("not mounted".into()),
-    }
-}
-
-fn make<D: Device>(fs: &mut Fs<D>, parent: u64, name: &[u8]) -> Result<Created, FsFault> {
-    fs.make_dir(&caller(), 5, named(parent, name), true)
-}
-
-fn look_up<D: Device>(fs: &Fs<D>, parent: u64, name: &[u8]) -> Result<u64, FsFault> {
-    fs.lookup(&caller(), parent, name)
-}
 
 #[test]
 fn directories_are_there_after_a_mount(rt: HostRuntime) -> Result<(), Fail> {
@@ -75,7 +20,7 @@ fn directories_are_there_after_a_mount(rt: HostRuntime) -> Result<(), Fail> {
     assert_eq!(rt; make(&mut fs, 1, b"a"), Ok(created));
     assert_eq!(rt; make(&mut fs, 1, b"a"), Err(FsFault::Status(Status::Exist)));
     make(&mut fs, FIRST, b"b")?;
-    let without_room = fs.make_dir(&caller(), 5, named(1, b"c"), false);
+    let without_room = make_in_room(&mut fs, 1, b"c", false);
     assert_eq!(rt; without_room, Err(FsFault::NoRoom));
     let fs = mount(rt.alloc(), fs.into_device())?;
     assert_eq!(rt; fs.restart_count(), 2);

@@ -50,6 +50,15 @@ const RUN_THE_TREE: &str = "800000c8 9 0 2 186a3 4 1 1 14 0 0 7 7 0 0 0 1 740000
 const TREE_RUN: &str = "800000c0 9 1 0 0 0 0 2717 1 74000000 a
     35 0 1 1 0 1 1 0 7 7 0 18 0 6 0 1 0 1 1 1 0 a 0 8 1 1 18 0 f 0 16 0 3a 0 3a 0 6 2717";
 
+/// Number 1 of slot 0: PUTROOTFH, SAVEFH, CREATE of the directory `a` with mode 755, RESTOREFH, RENAME of `a` to `c`, LOOKUP of `c`, LOOKUPP,
+/// REMOVE of `c`, and LOOKUPP at the root.
+const MOVE_NAMES: &str = "800000d0 9 0 2 186a3 4 1 1 14 0 0 7 7 0 0 0 0 1 a
+    35 1 1 0 1 1 0 0 0 18 20 6 2 1 61000000 2 0 2 4 1ed 1f 1d 1 61000000 1 63000000 f 1 63000000 10 1c 1 63000000 10";
+
+/// NOENT and ten results. The root's change value goes from 1 to 1 1, 1 2 and 1 3.
+const NAMES_MOVED: &str = "800000f4 9 1 0 0 0 0 2 0 a
+    35 0 1 1 0 1 1 0 7 7 0 18 0 20 0 6 0 1 0 1 1 1 2 0 2 1f 0 1d 0 1 1 1 1 2 1 1 1 1 2 f 0 10 0 1c 0 1 1 2 1 3 10 2";
+
 /// Number 1 of slot 0: GETFH.
 const GET_NO_HANDLE: &str =
     "80000070 9 0 2 186a3 4 1 1 14 0 0 7 7 0 0 0 0 1 2 35 1 1 0 1 1 0 0 0 a";
@@ -79,6 +88,12 @@ const SERVED: [Step; 3] = [
     Asks(0, RUN_THE_TREE, 10, TREE_RUN),
 ];
 
+const NAMES: [Step; 3] = [
+    Asks(0, EXCHANGE_ID, 1, EXCHANGED),
+    Asks(0, CREATE_SESSION, 1, CREATED),
+    Asks(0, MOVE_NAMES, 10, NAMES_MOVED),
+];
+
 const WITHOUT_HANDLE: [Step; 3] = [
     Asks(0, EXCHANGE_ID, 1, EXCHANGED),
     Asks(0, CREATE_SESSION, 1, CREATED),
@@ -86,9 +101,10 @@ const WITHOUT_HANDLE: [Step; 3] = [
 ];
 
 /// Whole connections, by what they show.
-pub(super) const ROWS: [(&str, &[Step]); 4] = [
+pub(super) const ROWS: [(&str, &[Step]); 5] = [
     ("first operations are tested in order", &REFUSED_FIRST),
     ("a compound runs once", &RUN_ONCE),
     ("the tree is served", &SERVED),
+    ("names move and go", &NAMES),
     ("there is no filehandle at first", &WITHOUT_HANDLE),
 ];
