@@ -10,7 +10,7 @@ use Rattle.model.specs.declared.status.Status.{Status}
 use Rattle.model.specs.declared.status.Status.TheVariants as status
 use Rattle.model.specs.Acl.{without, every_right, inheritance, are_flags_for, is_entry_for, is_list_for, is_plain}
 use Rattle.model.specs.AclText.{identifier_group, ace_in, aces_in, named_in}
-use Rattle.model.specs.Attribute.{entry_refusals, value_refusals, attribute_refusals, first_said, acl_said, values_of, attributes_of, supported_beside, has_one_outside, GivenListsFit}
+use Rattle.model.specs.Attribute.{entry_refusals, value_refusals, attribute_refusals, first_said, acl_said, values_of, attributes_of, supported, has_one_outside, GivenListsFit}
 use Rattle.model.specs.AttributeValue.{AclEntry, Value, Acl}
 use Rattle.model.specs.Limits.{Limits}
 use Rattle.model.specs.Refusal.{Refusals, first_refusal, refused_or}
@@ -101,7 +101,7 @@ said_fits limits kind (value ∷ values) acl room none said =
 pub given_lists_fit : GivenListsFit
 unfolding attribute_refusals
 given_lists_fit limits kind settable given acl room none said =
-    let behind_supported = front_passed (has_one_outside (supported_beside settable) (attributes_of given.bitmap)) status.AttrNotSupp _ none in
+    let behind_supported = front_passed (has_one_outside supported (attributes_of given.bitmap)) status.AttrNotSupp _ none in
     let behind_settable = front_passed (has_one_outside settable (attributes_of given.bitmap)) status.Inval _ behind_supported.1 in
     let behind_whole = front_passed (is_none (values_of given)) status.BadXdr _ behind_settable.1 in
     said_fits limits kind (unwrap_or (values_of given) []) acl room behind_whole.1 said

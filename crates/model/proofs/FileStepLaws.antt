@@ -13,7 +13,7 @@ use Rattle.model.specs.declared.status.Status.{Status}
 use Rattle.model.specs.declared.status.Status.TheVariants as status
 use Rattle.model.specs.Acl.{is_list_for}
 use Rattle.model.specs.AclLaws.{ModesKeepLimits, InheritanceKeepsLimits}
-use Rattle.model.specs.Attribute.{attribute_refusals, settable_at_setattr, settable_at_open, value_refusals, supported_beside, has_one_outside, attributes_of, values_of, is_empty, first_said, size_said, size_given, acl_given, mode_given}
+use Rattle.model.specs.Attribute.{attribute_refusals, settable_at_setattr, settable_at_open, value_refusals, supported, has_one_outside, attributes_of, values_of, is_empty, first_said, size_said, size_given, acl_given, mode_given}
 use Rattle.model.specs.AttributeValue.{Value, Size}
 use Rattle.model.specs.Changes.{touched, touch, made_edits}
 use Rattle.model.specs.Context.{has_current}
@@ -184,8 +184,8 @@ pub size_within : (limits : Limits) (of : NodeKind) (settable : List ℕ) (given
     → first_refusal (attribute_refusals limits of settable given) ≡ None → size_given given ≡ Some size → size ≤ limits.file_bytes
 unfolding attribute_refusals
 size_within limits of settable given size none said =
-    let supported = none_in_front (has_one_outside (supported_beside settable) (attributes_of given.bitmap)) status.AttrNotSupp _ none in
-    let settable_here = none_in_front (has_one_outside settable (attributes_of given.bitmap)) status.Inval _ supported.1 in
+    let known = none_in_front (has_one_outside supported (attributes_of given.bitmap)) status.AttrNotSupp _ none in
+    let settable_here = none_in_front (has_one_outside settable (attributes_of given.bitmap)) status.Inval _ known.1 in
     let whole = none_in_front (is_none (values_of given)) status.BadXdr _ settable_here.1 in
     said_within limits of (unwrap_or (values_of given) []) size whole.1 said
 
@@ -196,7 +196,7 @@ module _ (modes : ModesKeepLimits) (inheritance : InheritanceKeepsLimits) where
   unfolding is_list_for
   empty_list limits of = rw (le-leb 0 limits.aces (omega arith), le-leb 0 limits.aces_set (omega arith)) refl
 
-  pub list_created : (limits : Limits) (of : NodeKind) → limits.aces_set + 5 ≤ limits.aces → (parent : List Ace)
+  list_created : (limits : Limits) (of : NodeKind) → limits.aces_set + 5 ≤ limits.aces → (parent : List Ace)
       → is_list_for limits.aces_set limits.aces kind.Directory parent ≡ true → (nothing_given : Bool) (mode : Option ℕ)
       → is_list_for limits.aces_set limits.aces of (created_without_list parent of nothing_given mode) ≡ true
   list_created limits of room parent is nothing_given (Some mode) =
@@ -206,14 +206,14 @@ module _ (modes : ModesKeepLimits) (inheritance : InheritanceKeepsLimits) where
   list_created limits of room parent is false None = inheritance limits.aces_set limits.aces (omega arith) of parent is
 
   -- with a list that was given, which passed its tests
-  list_given : (limits : Limits) (of : NodeKind) → limits.aces_set + 5 ≤ limits.aces → (parent : List Ace)
+  pub list_given : (limits : Limits) (of : NodeKind) → limits.aces_set + 5 ≤ limits.aces → (parent : List Ace)
       → is_list_for limits.aces_set limits.aces kind.Directory parent ≡ true → (nothing_given : Bool) (mode : Option ℕ) (acl : Option (List Ace))
       → ((list : List Ace) → acl ≡ Some list → is_list_for limits.aces_set limits.aces of list ≡ true)
       → is_list_for limits.aces_set limits.aces of (created parent of nothing_given mode acl) ≡ true
   list_given limits of room parent is nothing_given mode None fits = list_created limits of room parent is nothing_given mode
   list_given limits of room parent is nothing_given mode (Some list) fits = fits list refl
 
-  list_is_set : (limits : Limits) (of : NodeKind) → limits.aces_set + 5 ≤ limits.aces → (acl : List Ace)
+  pub list_is_set : (limits : Limits) (of : NodeKind) → limits.aces_set + 5 ≤ limits.aces → (acl : List Ace)
       → is_list_for limits.aces_set limits.aces of acl ≡ true → (mode : Option ℕ) (set : Option (List Ace))
       → ((list : List Ace) → set ≡ Some list → is_list_for limits.aces_set limits.aces of list ≡ true)
       → is_list_for limits.aces_set limits.aces of (list_set of acl mode set) ≡ true

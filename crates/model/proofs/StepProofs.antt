@@ -10,7 +10,7 @@ use Rattle.model.specs.declared.status.Status.TheVariants as status
 use Rattle.model.specs.Acl.{is_list_for}
 use Rattle.model.specs.AclLaws.{ModesKeepLimits, InheritanceKeepsLimits}
 use Rattle.model.specs.Answer.{Answer, Outcome}
-use Rattle.model.specs.Attribute.{attribute_refusals, settable_at_creation, is_empty, mode_given}
+use Rattle.model.specs.Attribute.{attribute_refusals, settable_at_creation, is_empty, mode_given, acl_given}
 use Rattle.model.specs.Charge.{fits}
 use Rattle.model.specs.Directory.{new_directory, acl_of, number_named, number_of_entry, is_named}
 use Rattle.model.specs.Ancestors.{is_below}
@@ -33,7 +33,8 @@ use Rattle.model.proofs.AncestorLaws.{below_is_reached}
 use Rattle.model.proofs.ChangeLaws.{IsChanged, removal_keeps, rename_keeps, creation_keeps, entry_found, names_in}
 use Rattle.model.proofs.EditLaws.{forest_of, from_leaf, kind_of_directory}
 use Rattle.model.proofs.FreshTree.{no_names, fresh_well_formed, fresh_before}
-use Rattle.model.proofs.FileStepLaws.{is_true, second_false, list_created, write_changed, set_changed, opening_changed, opening_leaves}
+use Rattle.model.proofs.AttributeLaws.{given_lists_fit}
+use Rattle.model.proofs.FileStepLaws.{is_true, second_false, list_given, write_changed, set_changed, opening_changed, opening_leaves}
 use Rattle.model.proofs.StepCases.{Passes, none_in_front, none_in_both, does_cases}
 
 -- What an operation is answered with
@@ -109,6 +110,7 @@ pub record Creates (limits : Limits) (state : State) (name : List ℕ) (given : 
   pub directory : is_directory_at state.tree (current state) ≡ true
   pub allowed : first_refusal (name_refusals limits name) ≡ None
   pub new : entry_of name (names_at state.tree (current state)) ≡ None
+  pub attributes : first_refusal (attribute_refusals limits kind.Directory settable_at_creation given) ≡ None
 
 is_nothing : {A : Type 0} (o : Option A) → is_some o ≡ false → o ≡ None
 is_nothing None told = refl
@@ -127,6 +129,7 @@ creates limits state now name given passes =
     record {
       directory = is_true (is_directory_at state.tree (current state)) place.0;
       allowed = place.1;
+      attributes = named.1;
       new = is_nothing (entry_of name (names_at state.tree (current state))) there.0;
     }
 
@@ -242,9 +245,10 @@ module _ (modes : ModesKeepLimits) (inheritance : InheritanceKeepsLimits) where
 
     child_is_node : IsNode limits child
     child_is_node = record {
-      entries = list_created modes inheritance limits kind.Directory sound.room_for_mode parent.acl
+      entries = list_given modes inheritance limits kind.Directory sound.room_for_mode parent.acl
           (let old = sound.well_formed.nodes (current state) parent there in directory_list old.entries)
-          (is_empty given.bitmap) (mode_given given);
+          (is_empty given.bitmap) (mode_given given) (acl_given given) (λ acl said. given_lists_fit limits kind.Directory
+          settable_at_creation given acl (let room = sound.room_for_mode in omega arith) passed.attributes said);
       content = no_names limits;
     }
       where

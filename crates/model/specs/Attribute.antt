@@ -60,7 +60,7 @@ owner_group_number = 37
 abbrev pub supported : List ℕ
 supported = 0 ∷ 1 ∷ 2 ∷ 3 ∷ 4 ∷ 5 ∷ 6 ∷ 7 ∷ 8 ∷ 9 ∷ 10 ∷ 11 ∷ 12 ∷ 13 ∷ 19 ∷ 20 ∷ 27 ∷ 29 ∷ 30 ∷ 31 ∷ 33 ∷ 35 ∷ 36 ∷ 37 ∷ 53 ∷ 75 ∷ []
 
--- what SETATTR, OPEN and CREATE may set; CREATE does not yet take a list
+-- what SETATTR, OPEN and CREATE may set
 
 abbrev pub settable_at_setattr : List ℕ
 settable_at_setattr = size_number ∷ acl_number ∷ mode_number ∷ owner_number ∷ owner_group_number ∷ []
@@ -69,18 +69,13 @@ abbrev pub settable_at_open : List ℕ
 settable_at_open = size_number ∷ acl_number ∷ mode_number ∷ []
 
 abbrev pub settable_at_creation : List ℕ
-settable_at_creation = mode_number ∷ []
+settable_at_creation = acl_number ∷ mode_number ∷ []
 
 abbrev pub is_among : (numbers : List ℕ) → (attribute : ℕ) → Bool
 is_among numbers attribute = list_any (nat_eq attribute) numbers
 
 abbrev pub has_one_outside : (numbers attributes : List ℕ) → Bool
 has_one_outside numbers attributes = list_any (λ attribute. not (is_among numbers attribute)) attributes
-
--- where a list may not be set, it counts as unsupported
-abbrev pub supported_beside : (settable : List ℕ) → List ℕ
-supported_beside settable =
-    if is_among settable acl_number then supported else filter (λ number. not (number == acl_number)) supported
 
 -- What is set
 
@@ -159,7 +154,7 @@ value_refusals limits kind _ = []
 
 unfoldable pub attribute_refusals : Limits → NodeKind → (settable : List ℕ) → Attributes → Refusals
 attribute_refusals limits kind settable given =
-    (has_one_outside (supported_beside settable) (attributes_of given.bitmap), status.AttrNotSupp)
+    (has_one_outside supported (attributes_of given.bitmap), status.AttrNotSupp)
     ∷ (has_one_outside settable (attributes_of given.bitmap), status.Inval)
     ∷ (is_none (values_of given), status.BadXdr)
     ∷ flat_map (value_refusals limits kind) (unwrap_or (values_of given) [])

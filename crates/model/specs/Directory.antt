@@ -3,7 +3,7 @@ use Rattle.std.specs.Prelude.{ℕ, Bool, List, [], Option, Some, None, is_some}
 use Rattle.model.specs.declared.acl.Ace.{Ace}
 use Rattle.model.specs.declared.acl.Cred.{Cred}
 use Rattle.model.specs.declared.node.NodeKind.TheVariants as kind
-use Rattle.model.specs.Attribute.{is_empty, mode_given}
+use Rattle.model.specs.Attribute.{is_empty, mode_given, acl_given}
 use Rattle.model.specs.Inherit.{created}
 use Rattle.model.specs.Keyed.{Keyed, at, with}
 use Rattle.model.specs.Operation.{Attributes}
@@ -30,13 +30,13 @@ abbrev pub acl_of : Option Node → List Ace
 acl_of None = []
 acl_of (Some node) = node.acl
 
--- A new directory is the caller's. A list of entries cannot be given yet: it has those of the mode, those handed down, or none
--- where no attribute is given (section 6.4.3).
+-- A new directory is the caller's. Its list is the one given, or that of the mode and those handed down, or those handed down,
+-- or none where no attribute is given (section 6.4.3).
 abbrev pub new_directory : Cred → (parent : List Ace) → Attributes → (stamp now : ℕ) → Node
 new_directory cred parent given stamp now = record {
   owner = cred.uid;
   group = cred.gid;
-  acl = created parent kind.Directory (is_empty given.bitmap) (mode_given given) None;
+  acl = created parent kind.Directory (is_empty given.bitmap) (mode_given given) (acl_given given);
   change = stamp;
   time_modify = now;
   content = Directory [];

@@ -8,9 +8,11 @@ use Rattle.model.specs.declared.status.Status.TheVariants as status
 use Rattle.model.specs.Answer.{Answer, Outcome}
 use Rattle.model.specs.Attribute.{attributes_of, supported}
 use Rattle.model.specs.Charge.{charge_of_blocks, divided_up}
+use Rattle.model.specs.Directory.{acl_of}
 use Rattle.model.specs.Fresh.{fresh_root, fresh_tree}
 use Rattle.model.specs.Limits.{Limits, limits_of}
 use Rattle.model.specs.Mode.{entry}
+use Rattle.model.specs.Keyed.{at}
 use Rattle.model.specs.Name.{name_refusals}
 use Rattle.model.specs.Opens.{no_opens}
 use Rattle.model.specs.Operation.{Argument, Attributes, ChangeInfo, NewDirectory, OtherType}
@@ -58,6 +60,13 @@ make_a = Argument.Create (NewDirectory (97 ∷ []) (mode_given 1 0xED))
 
 abbrev pub make_b : Argument
 make_b = Argument.Create (NewDirectory (98 ∷ []) nothing_given)
+
+-- with an empty list and the mode 755
+abbrev pub make_b_without_entries : Argument
+make_b_without_entries = Argument.Create (NewDirectory (98 ∷ []) (record {
+  bitmap = 0x1000 ∷ 2 ∷ [];
+  values = 0 ∷ 0 ∷ 0 ∷ 0 ∷ 0 ∷ 0 ∷ 1 ∷ 0xED ∷ [];
+}))
 
 abbrev pub with_a : Tree
 with_a = (
@@ -153,8 +162,12 @@ pub record StepExamples : Type 0 where
   -- refusals of what is to be made
   pub bad_type : in_root 7 (Argument.Create (OtherType 1)) ≡ at_root ∷ Outcome.Refused 6 status.BadType ∷ []
   pub high_mode : in_root 7 (Argument.Create (NewDirectory (98 ∷ []) (mode_given 2 0))) ≡ at_root ∷ Outcome.Refused 6 status.Inval ∷ []
-  pub list_given : in_root 7 (Argument.Create (NewDirectory (98 ∷ []) (record { bitmap = 0x1000 ∷ []; values = 0 ∷ 0 ∷ 0 ∷ 0 ∷ [] })))
-      ≡ at_root ∷ Outcome.Refused 6 status.AttrNotSupp ∷ []
+  -- an empty list may be given, and stands for itself where a mode is given beside it
+  pub list_given : in_root 7 make_b_without_entries ≡ at_root ∷ Outcome.Done (Answer.Create (record {
+    change = altered;
+    was_set = 0x1000 ∷ 2 ∷ [];
+  })) ∷ []
+  pub list_stands : acl_of (at 4294967298 (state_after volume (begun 7 with_a 1) (Argument.PutRootFh ∷ make_b_without_entries ∷ [])).tree) ≡ []
   pub owner_given : in_root 7 (Argument.Create (NewDirectory (98 ∷ []) (record { bitmap = 0 ∷ 0x10 ∷ []; values = [] })))
       ≡ at_root ∷ Outcome.Refused 6 status.Inval ∷ []
   pub short_values : in_root 7 (Argument.Create (NewDirectory (98 ∷ []) (record { bitmap = 0 ∷ 2 ∷ []; values = 0 ∷ 0 ∷ 1 ∷ [] })))

@@ -1,3 +1,4 @@
+use Rattle.xdr.specs.Forms as X
 use Rattle.std.proofs.Common.{refl}
 use Rattle.xdr.specs.Grammar.{number_at}
 use Rattle.model.specs.Acl.{first_of, granted}
@@ -14,7 +15,7 @@ use Rattle.std.specs.Str.{is_utf8, chars}
 use Rattle.model.proofs.step.examples.Goals as goal
 
 pub returns : goal.returns
-unfolding first_of granted attributes_of attribute_refusals value_at values_at number_at fits inherited moded name_refusals permitted refusals effect does is_utf8 chars encode_utf8
+unfolding first_of granted attributes_of attribute_refusals value_at values_at number_at fits inherited moded name_refusals permitted refusals effect does is_utf8 chars encode_utf8 X.elements_at X.each_at
 returns c = record {
   makes = refl;
   made = refl;
@@ -39,6 +40,7 @@ returns c = record {
   bad_type = refl;
   high_mode = refl;
   list_given = refl;
+  list_stands = refl;
   owner_given = refl;
   short_values = refl;
   not_granted = refl;
