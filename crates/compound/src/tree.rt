@@ -6,10 +6,9 @@ use crate::fault::Fault;
 use crate::operated::{Effect, Operated};
 use crate::running::Running;
 use disk::Device;
-use fs::{Fs, FsFault};
+use fs::{Fs, FsFault, NewDirectory};
 use model::status::Status;
-use plain::attributes::Attributes as Given;
-use plain::make_dir::NewDirectory;
+use settings::Attributes as Given;
 use wire::{
     Answer, Attributes, Bitmap, ChangeInfo, CreateAnswer, CreateArguments, Operation, Outcome,
 };

@@ -1,12 +1,12 @@
 -- What the card of a node says of the rights on it.
-use Rattle.std.proofs.Common.{◌≡◌, ℕ, refl, sym, ap, subst, ◌∙◌}
+use Rattle.std.proofs.Common.{◌≡◌, ℕ, refl, ap}
 use Rattle.std.specs.Prelude.{Some}
 use Rattle.layout.specs.Cards.{Card}
 use Rattle.model.specs.declared.acl.Cred.{Cred}
 use Rattle.model.specs.declared.node.NodeKind.{NodeKind}
 use Rattle.model.specs.declared.node.NodeKind.TheVariants as kind
 use Rattle.model.specs.Access.{access_of}
-use Rattle.model.specs.Tree.{Tree, Node, kind_of}
+use Rattle.model.specs.Tree.{Tree, kind_of}
 use Rattle.fs.specs.AccessRights.{access_on}
 use Rattle.volume.specs.Nodes.{IsNodeOf, ShowsContent}
 

@@ -1,5 +1,5 @@
 -- What the card of a node says of its attributes.
-use Rattle.std.proofs.Common.{◌≡◌, ℕ, List, length, map, replicate, refl, sym, ap, subst, ◌∙◌}
+use Rattle.std.proofs.Common.{◌≡◌, ℕ, List, length, map, refl, sym, ap, subst, ◌∙◌}
 use Rattle.std.specs.List.{flat_map}
 use Rattle.std.proofs.lemmas.List.{length-replicate}
 use Rattle.directory.specs.Listing.{by_stamp}
@@ -14,7 +14,7 @@ use Rattle.model.specs.AttributeValue.{Value, value_text}
 use Rattle.model.specs.Mode.{mode_of}
 use Rattle.model.specs.NodeAttributes.{node_values, node_attributes, asked_values, common, supported_bitmap, size_of}
 use Rattle.model.specs.Operation.{Attributes}
-use Rattle.model.specs.Tree.{Tree, Node, Content, File, Directory, kind_of}
+use Rattle.model.specs.Tree.{Tree, Node, kind_of}
 use Rattle.fs.specs.Outline.{content_shown, node_shown}
 use Rattle.fs.proofs.AccessLaws.{kind_is}
 use Rattle.volume.specs.Nodes.{IsNodeOf, ShowsContent}

@@ -1,7 +1,7 @@
 -- Lists of bytes.
-use Rattle.std.proofs.Common.{◌≡◌, ◌<◌, ◌&&◌, ℕ, suc, Bool, true, List, [], ◌∷◌, length, refl, ap₂, ◌∙◌, arith}
+use Rattle.std.proofs.Common.{◌≡◌, ◌<◌, ◌&&◌, ℕ, suc, Bool, true, List, [], ◌∷◌, length, refl, ap₂, arith}
 use Rattle.std.proofs.lemmas.Bool.{lt-ltb}
-use Rattle.std.specs.Prelude.{slice_index, nat_lt}
+use Rattle.std.specs.Prelude.{slice_index}
 use Rattle.model.specs.Files.{are_bytes}
 
 pub bytes_by : (bytes : List ℕ) → ((i : ℕ) → slice_index bytes i < 256) → are_bytes bytes ≡ true

@@ -1,44 +1,52 @@
--- The entries of a list that a directory may have.
-use Rattle.std.proofs.Common.{◌≡◌, ◌≤◌, ◌<◌, ◌+◌, ◌^◌, ℕ, Bool, true, List, [], ◌∷◌, None, length, sym, arith, subst}
-use Rattle.std.specs.Prelude.{Option}
+-- The entries of a list that a node may have.
+use Rattle.std.proofs.Common.{◌≡◌, ◌≤◌, ◌<◌, ◌+◌, ◌^◌, ℕ, true, List, [], ◌∷◌, length, refl, sym, arith, subst}
 use Rattle.std.specs.List.{AllByRecursion, list_all}
 use Rattle.std.proofs.lemmas.Bool.{and_parts, eqb-true, leb-true}
 use Rattle.std.proofs.lemmas.Nat.Bits.{and_high_mask}
 use Rattle.model.specs.declared.acl.Ace.{Ace}
 use Rattle.model.specs.declared.limits.Limits.{Limits}
+use Rattle.model.specs.declared.node.NodeKind.{NodeKind}
 use Rattle.model.specs.declared.node.NodeKind.TheVariants as kind
-use Rattle.model.specs.Acl.{without, inheritance, is_entry_for, is_list_for}
+use Rattle.model.specs.Acl.{without, inheritance, are_flags_for, is_entry_for, is_list_for}
 use Rattle.model.specs.Inherit.{created}
 use Rattle.model.specs.Limits.{limits_of}
-use Rattle.model.proofs.FileStepLaws.{list_created}
+use Rattle.model.proofs.FileStepLaws.{list_given}
 use Rattle.model.proofs.LimitLaws.{modes_keep_limits, inheritance_keeps_limits}
+use Rattle.settings.specs.declared.said.Settings.{Settings}
+use Rattle.settings.specs.Given.{AreWithin}
 use Rattle.fs.specs.Entries.{HasFewFlags}
 use Rattle.fs.specs.Planned.{IsList}
 
 pub few_flags : (flags : ℕ) → flags < 2 ^ 32 → without flags inheritance ≡ 0 → flags < 16
 few_flags flags word none = (let high = and_high_mask 32 4 (omega arith) flags word in omega (arith, high, none))
 
-each_few : (acl : List Ace) → list_all (is_entry_for kind.Directory) acl ≡ true → AllByRecursion HasFewFlags acl
-each_few [] all = tt
-each_few (ace ∷ acl) all =
+-- no other flag than those of inheritance, and of a file's entries none at all
+few_for : (of : NodeKind) (flags : ℕ) → are_flags_for of flags ≡ true → without flags inheritance ≡ 0
+few_for kind.Directory flags are = eqb-true (without flags inheritance) 0 (and_parts _ _ are).0
+few_for kind.File flags are = (let none = eqb-true flags 0 are in rw none refl)
+
+each_few : (of : NodeKind) (acl : List Ace) → list_all (is_entry_for of) acl ≡ true → AllByRecursion HasFewFlags acl
+each_few of [] all = tt
+each_few of (ace ∷ acl) all =
     let parts = and_parts _ _ all in
     let entry = and_parts _ _ parts.0 in
-    let flags = and_parts _ _ entry.0 in
-    (eqb-true (without ace.flags.0 inheritance) 0 flags.0, each_few acl parts.1)
+    (few_for of ace.flags.0 entry.0, each_few of acl parts.1)
 
 pub record IsSmall (acl : List Ace) (most : ℕ) : Type 0 where
   pub each : AllByRecursion HasFewFlags acl
   pub few : length acl ≤ most
 
-pub small_list : (limits : Limits) (acl : List Ace) → IsList limits acl → IsSmall acl limits.aces
+pub small_list : (limits : Limits) (of : NodeKind) (acl : List Ace) → IsList limits of acl → IsSmall acl limits.aces
 unfolding is_list_for
-small_list limits acl is =
+small_list limits of acl is =
     let front = and_parts _ _ is in
     let parts = and_parts _ _ front.0 in
-    record { each = each_few acl parts.0; few = leb-true (length acl) limits.aces parts.1 }
+    record { each = each_few of acl parts.0; few = leb-true (length acl) limits.aces parts.1 }
 
--- the list of a new directory is one
-pub created_list : (limits : Limits) (sectors nodes : ℕ) → limits ≡ limits_of sectors nodes → (parent : List Ace) → IsList limits parent → (nothing_given : Bool) (mode : Option ℕ)
-    → IsList limits (created parent kind.Directory nothing_given mode None)
-created_list limits sectors nodes limited parent is nothing_given mode =
-    list_created modes_keep_limits inheritance_keeps_limits limits kind.Directory (subst (λ (l : Limits). l.aces_set + 5 ≤ l.aces) (sym limited) (omega arith)) parent is nothing_given mode
+-- the list of a new node is one, where the list that is given is
+pub created_list : (limits : Limits) (sectors nodes : ℕ) → limits ≡ limits_of sectors nodes → (of : NodeKind) (parent : List Ace) → IsList limits kind.Directory parent
+    → (settings : Settings) → AreWithin limits of settings → IsList limits of (created parent of settings.is_empty settings.mode settings.acl)
+created_list limits sectors nodes limited of parent is settings within =
+    let room : limits.aces_set + 5 ≤ limits.aces = subst (λ (l : Limits). l.aces_set + 5 ≤ l.aces) (sym limited) (omega arith) in
+    list_given modes_keep_limits inheritance_keeps_limits limits of room parent is settings.is_empty settings.mode settings.acl
+    (λ list said. within.acl (omega (arith, room)) list said)

@@ -1,11 +1,10 @@
 -- WRITE of bytes that passed its tests, on the tree with zeros for the bytes of files: there it is WRITE of as many zeros. So the tree behind it may stand.
-use Rattle.std.proofs.Common.{◌≡◌, ◌≤◌, ◌<◌, ◌+◌, ◌-◌, ◌^◌, ℕ, zero, suc, Bool, true, false, List, [], ◌∷◌, ◌++◌, Option, Some, None, length, take, drop, min, replicate, refl, sym, ap, ap₂, ◌∙◌, arith, subst, not, inl, is_some}
+use Rattle.std.proofs.Common.{◌≡◌, ◌≤◌, ◌<◌, ◌+◌, ◌-◌, ◌^◌, ℕ, zero, suc, Bool, true, false, List, [], ◌∷◌, ◌++◌, Option, Some, None, length, take, drop, replicate, refl, sym, ap, ap₂, ◌∙◌, arith, subst, not}
 use Rattle.std.proofs.Math.Logic.{∥∥₁_elim}
 use Rattle.std.proofs.Props.{props}
 use Rattle.std.proofs.lemmas.Bool.{lt-ltb, le-ltb, leb-true, leb-false}
 use Rattle.std.proofs.lemmas.List.{take-replicate, drop-replicate, take_all, append-nil, replicate-append-replicate}
-use Rattle.std.specs.Prelude.{IsTrue, Result, Ok, Err, option_map, nat_le, nat_lt}
-use Rattle.std.specs.List.{list_all}
+use Rattle.std.specs.Prelude.{IsTrue, Result, Ok, option_map, nat_le}
 use Rattle.edits.specs.Outlines.{blank, blank_node, blanked, zeros}
 use Rattle.edits.proofs.BlankLaws.{at-blanked, blanked-with, key-blanked, directory-blanked, edits_blanked, length-zeros, overwritten-length}
 use Rattle.model.specs.declared.acl.Cred.{Cred}
@@ -22,10 +21,10 @@ use Rattle.model.specs.Limits.{limits_of}
 use Rattle.model.specs.Need.{granted_on}
 use Rattle.model.specs.Opens.{no_opens}
 use Rattle.model.specs.Operation.{Argument, StateId, WriteArguments}
-use Rattle.model.specs.Refusal.{Refusals, first_refusal, refused_or}
+use Rattle.model.specs.Refusal.{first_refusal}
 use Rattle.model.specs.Stamp.{next_stamp, is_stamp_left}
 use Rattle.model.specs.StateIds.{found, state_refusals, write_access}
-use Rattle.model.specs.Step.{State, Stepped, does}
+use Rattle.model.specs.Step.{State, does}
 use Rattle.model.specs.Tree.{Tree, Node, Content, File, Directory, bytes_of, is_directory_at}
 use Rattle.model.specs.WellFormed.{IsWellFormed, IsContent}
 use Rattle.model.proofs.NodeChangeLaws.{altered-twice}

@@ -3,12 +3,15 @@ pub mod AttributeLaws
 pub mod BytesLaws
 pub mod CardViews
 pub mod ChangeLaws
+pub mod Creating
 pub mod EntryLaws
 pub mod FileSteps
 pub mod FlatLaws
 pub mod FlatWrites
 pub mod FrontLaws
+pub mod HandleLaws
 pub mod KeptLaws
+pub mod LookupTests
 pub mod MadeLaws
 pub mod PlacedLaws
 pub mod PlanLaws

@@ -32,8 +32,8 @@ use Rattle.model.specs.WellFormed.{IsWellFormed, IsBefore}
 use Rattle.model.proofs.KeyedLaws.{at-above}
 use Rattle.model.proofs.LimitLaws.{modes_keep_limits, inheritance_keeps_limits}
 use Rattle.model.proofs.StepProofs.{every_step}
-use Rattle.plain.proofs.Creating as creating
-use Rattle.plain.specs.Step.{IsState, new_directory_refusals}
+use Rattle.fs.proofs.Creating as creating
+use Rattle.fs.specs.OnTree.{IsState, new_directory_refusals}
 use Rattle.fs.specs.declared.created.Created.{Created}
 use Rattle.fs.specs.FileSystem.{FileSystem}
 use Rattle.fs.specs.Operations.{created, new_directory as new_dir}

@@ -28,7 +28,7 @@ use Rattle.model.specs.Stamp.{next_stamp, stamp}
 use Rattle.model.specs.Tree.{Tree, Node, Directory, DirEntry, names_of, names_of_node, is_directory, is_directory_node, entry_of}
 use Rattle.model.proofs.StepCases.{none_in_front, none_in_both}
 use Rattle.model.proofs.StepProofs.{before_later}
-use Rattle.plain.specs.Step.{new_directory_refusals}
+use Rattle.fs.specs.OnTree.{new_directory_refusals}
 use Rattle.fs.specs.FileSystem.{FileSystem}
 use Rattle.fs.specs.Planned.{IsPlanned}
 use Rattle.fs.specs.Ready.{MayStand}

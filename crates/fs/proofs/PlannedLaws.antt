@@ -18,6 +18,7 @@ use Rattle.model.specs.declared.node.NodeKind.{NodeKind}
 use Rattle.model.specs.declared.node.NodeKind.TheVariants as kind
 use Rattle.model.specs.declared.status.Status.TheVariants as status
 use Rattle.model.specs.Acl.{is_list_for}
+use Rattle.model.specs.Attribute.{is_empty, mode_given}
 use Rattle.model.specs.Changes.{touched}
 use Rattle.model.specs.Charge.{fits}
 use Rattle.model.specs.Directory.{new_directory}
@@ -31,11 +32,12 @@ use Rattle.model.specs.Stamp.{next_stamp, is_stamp_left}
 use Rattle.model.specs.Step.{State, refused}
 use Rattle.model.specs.Tree.{Tree, Node, Content, File, Directory, DirEntry, kind_of, is_directory, is_directory_node}
 use Rattle.model.proofs.StepCases.{none_in_front}
-use Rattle.plain.specs.declared.attributes.Settings.{Settings}
-use Rattle.plain.specs.Step.{new_directory_refusals}
+use Rattle.settings.specs.declared.said.Settings.{Settings}
+use Rattle.fs.specs.OnTree.{new_directory_refusals}
+use Rattle.settings.specs.Given.{AreSettings}
 use Rattle.fs.specs.FileSystem.{FileSystem}
 use Rattle.fs.specs.Operations as operations
-use Rattle.fs.specs.Planned.{IsPlanned, AreSettings, IsList, child_shown, shown_by}
+use Rattle.fs.specs.Planned.{IsPlanned, IsList, child_shown, shown_by}
 use Rattle.fs.specs.Ready.{MayStand}
 use Rattle.fs.proofs.MadeLaws as made
 use Rattle.fs.proofs.PlanLaws as plan
@@ -57,10 +59,10 @@ module _ (fs : FileSystem) (formed : MayStand fs.volume fs.changes) (counted : f
       names_in node.node.content (ap is_directory_node (sym node.there) ∙ not-false _ place.0)
 
   -- the list of its directory is one
-  pub listed : IsList fs.volume.limits card.fields.acl
+  pub listed : IsList fs.volume.limits kind.Directory card.fields.acl
   listed = ∥∥₁_elim formed.well_formed (Prim.hlevel props) (λ well.
       let is = well.nodes number node.node (made.flat_there fs formed counted limited cred now number spelled.now given node.node names.0 node.there names.1 passed) in
-      subst (λ (acl : List Ace). IsList fs.volume.limits acl) node.acl
+      subst (λ (acl : List Ace). IsList fs.volume.limits kind.Directory acl) node.acl
       (subst (λ (of : NodeKind). is_list_for fs.volume.limits.aces_set fs.volume.limits.aces of node.node.acl ≡ true) (ap kind_of names.1) is.entries))
 
   module _ (stamp : ℕ) (settings : Settings) (child parent : Shown) (edits : List Edit) (set : AreSettings settings given) (stamp_is : stamp ≡ next_stamp fs.volume.run fs.changes)
@@ -69,11 +71,11 @@ module _ (fs : FileSystem) (formed : MayStand fs.volume fs.changes) (counted : f
     abbrev own : ℕ
     own = next_stamp fs.volume.run fs.changes
 
-    abbrev child_by : (at_stamp : ℕ) → List Ace → Bool → Option ℕ → Node
-    child_by at_stamp acl empty mode = fresh_node kind.Directory (record {
+    abbrev child_by : (at_stamp : ℕ) → List Ace → Bool → Option ℕ → Option (List Ace) → Node
+    child_by at_stamp acl empty mode list = fresh_node kind.Directory (record {
       owner = cred.uid;
       group = cred.gid;
-      acl = created acl kind.Directory empty mode None;
+      acl = created acl kind.Directory empty mode list;
       change = at_stamp;
       time_modify = now;
     })
@@ -81,10 +83,11 @@ module _ (fs : FileSystem) (formed : MayStand fs.volume fs.changes) (counted : f
     new_child : fresh_node kind.Directory (shown_of child) ≡ new_directory cred node.node.acl given own now
     new_child =
         ap (fresh_node kind.Directory) child_is
-        ∙ ap (λ (s : ℕ). child_by s card.fields.acl settings.is_empty settings.mode) stamp_is
-        ∙ ap (λ (acl : List Ace). child_by own acl settings.is_empty settings.mode) (sym node.acl)
-        ∙ ap (λ (b : Bool). child_by own node.node.acl b settings.mode) set.empty
-        ∙ ap (child_by own node.node.acl _) set.mode
+        ∙ ap (λ (s : ℕ). child_by s card.fields.acl settings.is_empty settings.mode settings.acl) stamp_is
+        ∙ ap (λ (acl : List Ace). child_by own acl settings.is_empty settings.mode settings.acl) (sym node.acl)
+        ∙ ap (λ (b : Bool). child_by own node.node.acl b settings.mode settings.acl) set.empty
+        ∙ ap (λ (mode : Option ℕ). child_by own node.node.acl (is_empty given.bitmap) mode settings.acl) set.mode
+        ∙ ap (child_by own node.node.acl (is_empty given.bitmap) (mode_given given)) set.acl
 
     abbrev shown_with : (at_stamp owner group : ℕ) → List Ace → model.Shown
     shown_with at_stamp owner group acl = record { owner = owner; group = group; acl = acl; change = at_stamp; time_modify = now }

@@ -1,6 +1,6 @@
 -- READ and COMMIT in each state of a COMPOUND on a file system.
 use Rattle.std.proofs.Common.{◌≡◌, ◌+◌, ℕ, Bool, true, List, Some, None, length, refl, sym, ap, ap₂, ◌⊎◌, ⊎_elim, ◌∙◌}
-use Rattle.std.specs.Prelude.{Result, Ok, Err, nat_le, take, drop, min}
+use Rattle.std.specs.Prelude.{Result, Err, nat_le, take, drop, min}
 use Rattle.model.specs.declared.acl.Cred.{Cred}
 use Rattle.model.specs.declared.status.Status.{Status}
 use Rattle.model.specs.Acl.{read_data}

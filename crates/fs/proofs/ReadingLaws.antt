@@ -1,5 +1,5 @@
 -- LOOKUPP, ACCESS and GETATTR, one test after the other.
-use Rattle.std.proofs.Common.{ℕ, Bool, true, false, ◌≡◌, ◌==◌, List, refl, ap, ◌∙◌}
+use Rattle.std.proofs.Common.{ℕ, true, false, ◌≡◌, ◌==◌, List, refl, ap, ◌∙◌}
 use Rattle.std.specs.Prelude.{Option, Some, None}
 use Rattle.model.specs.declared.acl.Cred.{Cred}
 use Rattle.model.specs.declared.limits.Limits.{Limits}
@@ -15,7 +15,7 @@ use Rattle.model.specs.Operation.{Argument}
 use Rattle.model.specs.ReadDir.{asks_lists}
 use Rattle.model.specs.Step.{State, current, refusals, effect, does, refused, answered, moved_to}
 use Rattle.model.specs.Tree.{Tree, Node, is_directory, root}
-use Rattle.plain.specs.Step.{IsState}
+use Rattle.fs.specs.OnTree.{IsState}
 
 module _ (limits : Limits) (tree : Tree) (cred : Cred) (number : ℕ) (state : State) (now : ℕ)
     (is : IsState tree cred number state) where

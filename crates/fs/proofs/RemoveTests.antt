@@ -17,7 +17,7 @@ use Rattle.model.specs.Rename.{has_names, remove}
 use Rattle.model.specs.Stamp.{is_stamp_left}
 use Rattle.model.specs.Step.{State, current, late, without_rights, refusals, change_refusals, effect, does, refused, unless_refused}
 use Rattle.model.specs.Tree.{Tree, Node, is_directory, is_directory_node, is_directory_at}
-use Rattle.plain.proofs.Refusing.{or_else, first-append}
+use Rattle.settings.proofs.Refusing.{or_else, first-append}
 use Rattle.fs.specs.Removing.{may_remove, removal_refusals}
 
 module _ (limits : Limits) (tree : Tree) (cred : Cred) (number : ℕ) (name : List ℕ) where

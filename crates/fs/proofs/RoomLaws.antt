@@ -1,5 +1,5 @@
 -- What the edits of a change do to the room of a tree: a node that shows something else takes as much, and what is dropped takes none.
-use Rattle.std.proofs.Common.{◌≡◌, ◌≢◌, ◌≤◌, ◌&&◌, ℕ, Bool, true, false, [], ◌∷◌, Option, Some, None, length, eqb, refl, sym, ap, ap₂, ◌∙◌, arith, inl, inr}
+use Rattle.std.proofs.Common.{◌≡◌, ◌≤◌, ◌&&◌, ℕ, Bool, true, false, [], ◌∷◌, Option, Some, None, length, eqb, refl, sym, ap, ap₂, ◌∙◌, arith, inl, inr}
 use Rattle.std.specs.Prelude.{IsTrue}
 use Rattle.std.proofs.lemmas.Bool.{cases_eq, le-leb}
 use Rattle.edits.proofs.NamedLaws.{few-at}

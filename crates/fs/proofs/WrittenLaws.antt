@@ -1,15 +1,15 @@
 -- WRITE that was permitted: what it comes to by the definition, and that its edits are a change that may be kept.
 use denote.Ref.{Bor}
-use Rattle.std.proofs.Common.{◌≡◌, ◌≤◌, ◌<◌, ◌+◌, ◌^◌, ◌%◌, ◌/◌, ℕ, zero, suc, Bool, true, false, List, [], ◌∷◌, Option, Some, None, length, take, refl, sym, ap, ap₂, ◌∙◌, arith, subst, not, inl, is_some, ◌&&◌, ◌||◌}
+use Rattle.std.proofs.Common.{◌≡◌, ◌≤◌, ◌<◌, ◌+◌, ◌^◌, ℕ, Bool, true, false, List, [], ◌∷◌, Some, None, length, take, refl, sym, ap, ap₂, ◌∙◌, arith, subst, not, inl, is_some, ◌&&◌, ◌||◌}
 use Rattle.std.proofs.lemmas.Bool.{lt-ltb, le-ltb}
 use Rattle.std.proofs.lemmas.List.{length-take}
-use Rattle.std.specs.Prelude.{IsTrue, Result, Ok, Err, nat_lt, ◌==◌}
+use Rattle.std.specs.Prelude.{IsTrue, Result, nat_lt, ◌==◌}
 use Rattle.draft.specs.declared.nodes.Shown.{Shown}
 use Rattle.draft.specs.Nodes.{shown_of}
 use Rattle.edits.specs.declared.edit.Edit.{Edit}
 use Rattle.edits.specs.declared.edit.Edit.TheVariants as edit
 use Rattle.edits.specs.Doing.{updates_of_all}
-use Rattle.edits.specs.Edits.{AreEntries, AreDoable, edits_of, edit_of, size_of}
+use Rattle.edits.specs.Edits.{AreEntries, AreDoable, edits_of, size_of}
 use Rattle.layout.specs.Cards.{Card}
 use Rattle.layout.specs.Known.{IsCard}
 use Rattle.model.specs.declared.acl.Ace.{Ace}
@@ -25,7 +25,7 @@ use Rattle.model.specs.Charge.{fits}
 use Rattle.model.specs.Edit.{PutBytes, Show, done, edited, with_content, overwritten}
 use Rattle.model.specs.Edit as model
 use Rattle.model.specs.Files.{are_bytes, has_bytes, taken_bytes, write}
-use Rattle.model.specs.Keyed.{at, with, is_key}
+use Rattle.model.specs.Keyed.{at, is_key}
 use Rattle.model.specs.Limits.{limits_of}
 use Rattle.model.specs.Operation.{Argument, WriteArguments}
 use Rattle.model.specs.Refusal.{first_refusal}

@@ -9,7 +9,7 @@ use Rattle.model.specs.NodeAttributes.{node_attributes}
 use Rattle.model.specs.Operation.{Argument}
 use Rattle.model.specs.Step.{State, Stepped, answered, refused, does}
 use Rattle.model.specs.Tree.{Tree}
-use Rattle.plain.specs.Step.{IsState}
+use Rattle.fs.specs.OnTree.{IsState}
 use Rattle.fs.specs.declared.fault.FsFault.{FsFault}
 use Rattle.fs.specs.FileSystem.{FileSystem}
 use Rattle.fs.specs.Operations.{does_on, IsRefused}

@@ -1,5 +1,5 @@
 -- What an operation on a file's bytes asks before it looks at them.
-use Rattle.std.specs.Prelude.{ℕ, List, [], ◌∷◌, ◌++◌, true, not, Result, Ok, Err}
+use Rattle.std.specs.Prelude.{ℕ, [], ◌∷◌, ◌++◌, true, not, Result, Ok, Err}
 use Rattle.model.specs.declared.acl.Cred.{Cred}
 use Rattle.model.specs.declared.status.Status.{Status}
 use Rattle.model.specs.declared.status.Status.TheVariants as status
@@ -10,7 +10,7 @@ use Rattle.model.specs.Refusal.{Refusals}
 use Rattle.model.specs.State.{State}
 use Rattle.model.specs.StateIds.{state_refusals}
 use Rattle.model.specs.Tree.{Tree, is_directory_at}
-use Rattle.plain.specs.Given.{IsChecked}
+use Rattle.settings.specs.Given.{IsChecked}
 
 -- The verdict on a stateid
 

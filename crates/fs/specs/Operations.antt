@@ -10,7 +10,7 @@ use Rattle.model.specs.Refusal.{first_refusal}
 use Rattle.model.specs.Runs.{is_done}
 use Rattle.model.specs.Step.{State, Stepped, current_refusals, answered, refused, does}
 use Rattle.model.specs.Tree.{Tree}
-use Rattle.plain.specs.Step.{IsState, looked_up, put_handle, got_handle}
+use Rattle.fs.specs.OnTree.{IsState, looked_up, put_handle, got_handle}
 use Rattle.fs.specs.declared.fault.FsFault.{FsFault}
 use Rattle.fs.specs.declared.fault.FsFault.TheVariants as fault
 use Rattle.fs.specs.declared.created.Created.{Created}

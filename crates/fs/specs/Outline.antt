@@ -1,5 +1,4 @@
 -- The node that a card shows, with zeros for the bytes of a file.
-use Rattle.std.specs.Prelude.{List}
 use Rattle.directory.specs.Listing.{by_stamp}
 use Rattle.edits.specs.Outlines.{zeros}
 use Rattle.layout.specs.Cards.{Card, node_with}

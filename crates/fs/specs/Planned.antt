@@ -1,20 +1,18 @@
 -- A change that passed its tests, before it is kept.
-use Rattle.std.specs.Prelude.{◌≡◌, ◌+◌, ◌<◌, ◌≤◌, ◌^◌, ℕ, List, None, IsTrue}
-use Rattle.std.specs.Option.{ForSome}
+use Rattle.std.specs.Prelude.{◌+◌, ◌<◌, ◌^◌, ℕ, List, IsTrue}
 use Rattle.edits.specs.declared.edit.Edit.{Edit}
 use Rattle.inode.specs.Fields.{Fields}
 use Rattle.model.specs.declared.acl.Ace.{Ace}
 use Rattle.model.specs.declared.acl.Cred.{Cred}
 use Rattle.model.specs.declared.limits.Limits.{Limits}
+use Rattle.model.specs.declared.node.NodeKind.{NodeKind}
 use Rattle.model.specs.declared.node.NodeKind.TheVariants as kind
 use Rattle.model.specs.Acl.{is_list_for}
-use Rattle.model.specs.Attribute.{is_empty, mode_given}
 use Rattle.model.specs.Charge.{fits}
 use Rattle.model.specs.Edit.{Shown}
 use Rattle.model.specs.Inherit.{created}
-use Rattle.model.specs.Operation.{Attributes}
 use Rattle.model.specs.Stamp.{next_stamp}
-use Rattle.plain.specs.declared.attributes.Settings.{Settings}
+use Rattle.settings.specs.declared.said.Settings.{Settings}
 use Rattle.fs.specs.FileSystem.{FileSystem}
 use Rattle.volume.specs.Edits.{IsChange, edited_by}
 use Rattle.volume.specs.Formed.{IsFormed}
@@ -37,22 +35,16 @@ shown_by fields stamp now = record {
   time_modify = now;
 }
 
--- what the attributes of a creation set
-pub record AreSettings (settings : Settings) (given : Attributes) : Type 0 where
-  pub empty : settings.is_empty ≡ is_empty given.bitmap
-  pub mode : settings.mode ≡ mode_given given
-  pub nine_bits : ForSome settings.mode (λ mode. mode ≤ 511)
-
 -- a new directory of this caller, below one of this list
 abbrev pub child_shown : Cred → (parent : List Ace) → Settings → (stamp now : ℕ) → Shown
 child_shown cred parent settings stamp now = record {
   owner = cred.uid;
   group = cred.gid;
-  acl = created parent kind.Directory settings.is_empty settings.mode None;
+  acl = created parent kind.Directory settings.is_empty settings.mode settings.acl;
   change = stamp;
   time_modify = now;
 }
 
--- a list that a directory may have
-abbrev pub IsList : Limits → List Ace → Type 0
-IsList limits acl = IsTrue (is_list_for limits.aces_set limits.aces kind.Directory acl)
+-- a list that a node of this kind may have
+abbrev pub IsList : Limits → NodeKind → List Ace → Type 0
+IsList limits of acl = IsTrue (is_list_for limits.aces_set limits.aces of acl)

@@ -2,8 +2,8 @@
 use Rattle.fs.specs.declared.fault.FsFault.{FsFault}
 use Rattle.fs.specs.declared.fault.FsFault.TheVariants as fault
 use Rattle.model.specs.declared.status.Status.TheVariants as status
-use Rattle.plain.specs.declared.refusal.Refusal.{Refusal}
-use Rattle.plain.specs.declared.refusal.Refusal.TheVariants as refusal
+use Rattle.settings.specs.declared.refusal.Refusal.{Refusal}
+use Rattle.settings.specs.declared.refusal.Refusal.TheVariants as refusal
 use Rattle.volume.specs.declared.fault.VolumeFault.{VolumeFault}
 use Rattle.volume.specs.declared.fault.VolumeFault.TheVariants as volumes
 

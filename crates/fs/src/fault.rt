@@ -3,7 +3,7 @@
 ghost use Rattle.std.specs.Prelude.{◌≡◌};
 
 use model::status::Status;
-use plain::refusal::Refusal;
+use settings::Refusal;
 use std::alloc::AllocError;
 use thiserror::Error;
 use volume::VolumeFault;

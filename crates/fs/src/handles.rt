@@ -1,10 +1,31 @@
 //! Operations that move the current filehandle or answer it.
 
+ghost use Rattle.std.specs.Prelude.{◌≡◌, MatchResult, IsTrue, IsFalse};
+ghost use Rattle.model.specs.Stamp.{filehandle_of, is_filehandle, number_of};
+
 use crate::fault::FsFault;
 use crate::fs::Fs;
 use disk::Device;
 use model::status::Status;
-use plain::stamp::{filehandle_of, number_of};
+
+// The filehandle of a node.
+fn filehandle_of(number: u64) -> [u8; 8]
+    ensures { result ≡ filehandle_of number }
+{
+    number.to_be_bytes()
+}
+
+// The number of the node that a filehandle names, if it is one of this server's.
+fn number_of(handle: &[u8]) -> Result<u64, Status>
+    ensures { MatchResult result
+        (λ number. (number ≡ number_of handle.now) × IsTrue (is_filehandle handle.now))
+        (λ refused. (refused ≡ Status.BadHandle) × IsFalse (is_filehandle handle.now)) }
+{
+    let Ok(bytes) = <[u8; 8]>::try_from(handle) else {
+        return Err(Status::BadHandle);
+    };
+    Ok(u64::from_be_bytes(bytes))
+}
 
 #[tactic(auto, unfolding(crate::specs::FileSystems::fs_of))]
 impl<D: Device> Fs<D> {

@@ -13,7 +13,7 @@ use names::check_name;
 impl<D: Device> Fs<D> {
     ghost use Rattle.std.specs.Prelude.{◌≡◌, true, ℕ, IsErrOf};
     ghost use Rattle.model.specs.Step.{State};
-    ghost use Rattle.plain.specs.Step.{LooksUp as PlainLooksUp};
+    ghost use Rattle.fs.specs.OnTree.{LooksUpIn};
     ghost use Rattle.fs.specs.FileSystems.{fs_of};
     ghost use Rattle.fs.specs.Operations.{IsOn, LooksUp};
 
@@ -32,7 +32,7 @@ impl<D: Device> Fs<D> {
 
     /// The number that a name in a directory leads to, for a caller who may look it up.
     fn entry(&self, cred: &Cred, directory: u64, name: &[u8]) -> Result<u64, Status>
-        ensures { PlainLooksUp (fs_of self.now).volume.limits (fs_of self.now).volume.tree
+        ensures { LooksUpIn (fs_of self.now).volume.limits (fs_of self.now).volume.tree
             cred.now directory name.now result }
     {
         let Some(card) = self.volume.node(directory) else {

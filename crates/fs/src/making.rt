@@ -5,20 +5,28 @@ use crate::created::Created;
 use crate::entries::tell_entries;
 use crate::fault::FsFault;
 use crate::fs::Fs;
+use crate::lists::list_created;
 use crate::nodes::is_directory;
 use crate::rights::grants;
 use acl_eval::{Cred, Mask, NodeKind};
-use acl_set::{Given, at_creation};
 use cards::Card;
 use disk::Device;
 use draft::Shown;
 use edits::Edit;
 use model::status::Status;
 use names::check_name;
-use plain::attributes::{SETTABLE_AT_CREATION, Settings, check_attributes};
-use plain::make_dir::NewDirectory;
-use plain::refusal::Refusal;
+use settings::{Attributes, Refusal, SETTABLE_AT_CREATION, Settings, check_attributes};
 use std::alloc::AllocError;
+
+/// The directory that a caller asks for.
+#[derive(Clone, Copy, Debug)]
+pub struct NewDirectory<'a> {
+    /// The number of the directory that is to hold it.
+    pub parent: u64,
+    pub name: &'a [u8],
+    /// At most the mode and the list.
+    pub attributes: Attributes<'a>,
+}
 
 /// A directory that may be made.
 #[derive(Drop)]
@@ -35,14 +43,13 @@ impl<D: Device> Fs<D> {
     ghost use Rattle.draft.specs.Nodes.{shown_of};
     ghost use Rattle.edits.specs.Edits.{AreEntries};
     ghost use Rattle.layout.specs.Known.{IsCard};
-    ghost use Rattle.model.specs.Attribute.{is_empty, mode_given};
     ghost use Rattle.model.specs.Step.{State};
-    ghost use Rattle.plain.specs.Given.{given_of, IsCheckedInMemory};
-    ghost use Rattle.plain.specs.Step.{new_directory_refusals};
+    ghost use Rattle.settings.specs.Given.{given_of, AreSettings, AreWithin, IsCheckedInMemory};
+    ghost use Rattle.fs.specs.OnTree.{new_directory_refusals};
     ghost use Rattle.fs.specs.Changes.{fs_ending};
     ghost use Rattle.fs.specs.FileSystems.{fs_of, Alters};
     ghost use Rattle.fs.specs.Operations.{IsOn, MakesDir, MakesTree, IsNotDone, created, does_on, new_directory};
-    ghost use Rattle.fs.specs.Planned.{AreSettings, IsList, IsPlanned, child_shown};
+    ghost use Rattle.fs.specs.Planned.{IsList, IsPlanned, child_shown};
     ghost use Rattle.fs.specs.Refusals.{fault_of};
     ghost use Rattle.volume.specs.Edits.{edited_by};
     ghost use Rattle.volume.specs.Nodes.{IsNodeOf};
@@ -152,6 +159,8 @@ impl<D: Device> Fs<D> {
         ensures fit { IfOk result (λ permitted. IsCard permitted.0.now) }
         ensures settings { IfOk result (λ permitted.
             AreSettings permitted.1 (given_of asked.entry.attributes)) }
+        ensures within { IfOk result (λ permitted.
+            AreWithin (fs_of self.entry.now).volume.limits NodeKind.Directory permitted.1) }
     {
         let Some(parent) = self.volume.node(asked.parent) else {
             return Err(Refusal::Status(Status::Stale));
@@ -186,25 +195,15 @@ impl<D: Device> Fs<D> {
         stamp: u64,
         now: u64,
     ) -> Result<Shown, AllocError>
-        requires mode { ForSome settings.mode (λ mode. mode ≤ 511) }
-        requires listed { IsList (fs_of self.now).volume.limits parent.now.fields.acl }
+        requires within { AreWithin (fs_of self.now).volume.limits NodeKind.Directory settings }
+        requires listed { IsList (fs_of self.now).volume.limits NodeKind.Directory parent.now.fields.acl }
         ensures shown { IfOk result (λ child. shown_of child
             ≡ child_shown cred.now parent.now.fields.acl settings stamp now) }
         ensures entries { IfOk result (λ child. AreEntries (shown_of child).acl) }
     {
         let (owner, group) = (cred.uid, cred.gid);
-        let given = Given {
-            empty: settings.is_empty,
-            mode: settings.mode,
-            acl: None,
-        };
-        let acl = at_creation(
-            self.alloc,
-            parent.inode.acl.as_slice(),
-            NodeKind::Directory,
-            &given,
-        )
-        .map_err(|_| AllocError)?;
+        let parent = parent.inode.acl.as_slice();
+        let acl = list_created(self.alloc, parent, NodeKind::Directory, settings)?;
         tell_entries(acl.as_slice());
         Ok(Shown {
             owner,

@@ -10,7 +10,7 @@ use disk::Device;
 use edits::Edit;
 use model::status::Status;
 use names::check_name;
-use plain::refusal::Refusal;
+use settings::Refusal;
 
 /// A name that was removed.
 #[derive(Clone, Copy, Debug, PartialEq, Eq)]
@@ -50,7 +50,7 @@ impl<D: Device> Fs<D> {
     ghost use Rattle.model.specs.Operation.{Argument};
     ghost use Rattle.model.specs.Step.{State};
     ghost use Rattle.model.specs.Tree.{entry_of, names_at};
-    ghost use Rattle.plain.specs.Given.{IsChecked};
+    ghost use Rattle.settings.specs.Given.{IsChecked};
     ghost use Rattle.fs.specs.Changes.{fs_ending};
     ghost use Rattle.fs.specs.FileSystems.{fs_of, Alters};
     ghost use Rattle.fs.specs.Operations.{IsOn, MakesTree, IsNotDone, does_on};

@@ -16,7 +16,7 @@ use draft::Shown;
 use edits::Edit;
 use model::status::Status;
 use names::check_name;
-use plain::refusal::Refusal;
+use settings::Refusal;
 use std::alloc::{AllocError, Global};
 
 /// The rename that a caller asks for.
@@ -138,7 +138,7 @@ impl<D: Device> Fs<D> {
     ghost use Rattle.model.specs.Refusal.{first_refusal};
     ghost use Rattle.model.specs.Step.{State};
     ghost use Rattle.model.specs.Tree.{is_directory_at};
-    ghost use Rattle.plain.specs.Given.{IsChecked};
+    ghost use Rattle.settings.specs.Given.{IsChecked};
     ghost use Rattle.fs.specs.Changes.{fs_ending};
     ghost use Rattle.fs.specs.FileSystems.{fs_of, Alters};
     ghost use Rattle.fs.specs.Operations.{IsNotDone};

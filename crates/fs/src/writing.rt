@@ -7,7 +7,7 @@ use acl_eval::{Cred, Mask};
 use disk::Device;
 use edits::Edit;
 use model::status::Status;
-use plain::refusal::Refusal;
+use settings::Refusal;
 
 /// The bytes that a caller writes to a file.
 #[derive(Clone, Copy, Debug)]

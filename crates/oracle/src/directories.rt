@@ -22,7 +22,7 @@ use oracle_values::attributes::settings_of;
 use std::alloc::{AllocError, Global};
 use wire::{Attributes, RenameArguments, trimmed};
 
-// A new directory is the caller's. A list cannot be given yet.
+// A new directory is the caller's.
 fn new_directory(
     alloc: Global,
     cred: &Cred,
@@ -43,7 +43,7 @@ fn new_directory(
             NodeKind::Directory,
             set.is_empty,
             set.mode,
-            None,
+            set.acl,
         )?,
         change: stamp,
         time_modify: now,

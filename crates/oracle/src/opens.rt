@@ -1,7 +1,6 @@
 //! What OPEN and CLOSE do (RFC 8881, sections 18.16 and 18.2).
 
 ghost use Rattle.std.specs.Prelude.{◌≡◌, ◌<◌, ◌^◌, ◌-◌, ◌||◌, None, true, false, IfOk, IsFalse};
-ghost use Rattle.model.specs.Attribute.{acl_given, is_empty, mode_given, size_given};
 ghost use Rattle.model.specs.Open.{asked_open, change_at_open, close_file, cut_or_not, cuts_file, given_by, makes_file, new_file, open_file, opening_done, set_at_open, with_file};
 ghost use Rattle.model.specs.Operation.{Argument};
 ghost use Rattle.model.specs.State.{answered};
@@ -12,6 +11,7 @@ ghost use Rattle.wire.specs.SmallViews.{state_view};
 ghost use Rattle.oracle.specs.Answers.{answer_of, change_of, effect_of};
 ghost use Rattle.oracle.specs.Opening.{joined_by, opened_of};
 ghost use Rattle.oracle_refusals.specs.States.{opens_of, state_of};
+ghost use Rattle.settings.specs.Given.{AreSettings};
 
 use crate::answers::{Answer, ChangeInfo};
 use crate::effect::{Effect, changed, unchanged};
@@ -26,7 +26,8 @@ use oracle_tree::edit::set_size;
 use oracle_tree::keyed::put;
 use oracle_tree::places::{change_at, number_named};
 use oracle_tree::tree::{Content, Node, clone_tree};
-use oracle_values::attributes::{Settings, settings_of};
+use oracle_values::attributes::settings_of;
+use settings::Settings;
 use std::alloc::{AllocError, Global};
 use wire::{Attributes, Claim, CloseArguments, OpenArguments, OpenType, Opening, StateId, trimmed};
 use xdr::Words;
@@ -140,10 +141,7 @@ fn new_file(
 
 // What the attributes of a file that is made set.
 fn given_settings(alloc: Global, how: &OpenType<'_>) -> Result<Settings, AllocError>
-    ensures empty { IfOk result (λ set. set.is_empty ≡ is_empty (given_by (open_type_view how.now)).bitmap) }
-    ensures size { IfOk result (λ set. set.size ≡ size_given (given_by (open_type_view how.now))) }
-    ensures acl { IfOk result (λ set. set.acl ≡ acl_given (given_by (open_type_view how.now))) }
-    ensures mode { IfOk result (λ set. set.mode ≡ mode_given (given_by (open_type_view how.now))) }
+    ensures { IfOk result (λ settings. AreSettings settings (given_by (open_type_view how.now))) }
 {
     match how {
         OpenType::NoCreate => {

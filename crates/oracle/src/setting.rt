@@ -18,7 +18,8 @@ use oracle_tree::changes::moded;
 use oracle_tree::edit::{Shown, set_size, show};
 use oracle_tree::keyed::at;
 use oracle_tree::tree::{Node, Tree, clone_tree};
-use oracle_values::attributes::{Settings, settings_of};
+use oracle_values::attributes::settings_of;
+use settings::Settings;
 use std::alloc::{AllocError, Global};
 use wire::{Attributes, SetAttrArguments, trimmed};
 

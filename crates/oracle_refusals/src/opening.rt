@@ -13,7 +13,8 @@ use model::limits::Limits;
 use model::status::Status;
 use oracle_tree::places::{is_directory_at, number_named};
 use oracle_tree::refusals::{Tests, concat};
-use oracle_values::attributes::{SETTABLE_AT_OPEN, attribute_tests, settings_of};
+use oracle_values::attributes::{attribute_tests, settings_of};
+use settings::SETTABLE_AT_OPEN;
 use std::alloc::{AllocError, Global};
 use wire::{Claim, OpenArguments, OpenType, Opening};
 

@@ -31,9 +31,8 @@ use oracle_tree::places::{
     ROOT, has_names, is_below, is_directory_at, is_named, kind_at, number_named,
 };
 use oracle_tree::refusals::{Tests, concat};
-use oracle_values::attributes::{
-    SETTABLE_AT_CREATION, SETTABLE_AT_SETATTR, attribute_tests, settings_of,
-};
+use oracle_values::attributes::{attribute_tests, settings_of};
+use settings::{SETTABLE_AT_CREATION, SETTABLE_AT_SETATTR};
 use std::alloc::{AllocError, Global};
 use wire::{
     Argument, CreateArguments, ReadDirArguments, RenameArguments, SetAttrArguments, StateId,

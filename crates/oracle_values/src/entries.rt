@@ -11,7 +11,6 @@ ghost use Rattle.model.specs.ReadDir.{asks_lists, entry_attributes, entry_of, en
 ghost use Rattle.model.specs.WireAnswers.{entry};
 ghost use Rattle.oracle_values.specs.Shown.{shown_attributes};
 
-use crate::attributes::{ACL, is_among};
 use crate::getattr::attributes_at;
 use crate::shown::{Entry, ShownAttributes};
 use crate::spelling::{counted, hyper, joined, word};
@@ -19,6 +18,7 @@ use acl_eval::{Cred, Mask};
 use model::limits::Limits;
 use oracle_tree::keyed::at;
 use oracle_tree::tree::{DirEntry, Node};
+use settings::{ACL, is_among};
 use std::alloc::{AllocError, Global};
 use wire::Bitmap;
 use wire_attributes::numbers_of;

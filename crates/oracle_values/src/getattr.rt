@@ -10,7 +10,6 @@ ghost use Rattle.model.specs.SetAttr.{attributes_at};
 ghost use Rattle.oracle_values.specs.Shown.{shown_attributes};
 ghost use Rattle.oracle_values.specs.Values.{asked_bytes, limit_values, list_values, owner_values, told, volume_values};
 
-use crate::attributes::is_among;
 use crate::shown::ShownAttributes;
 use crate::spelling::{acl_spelling, counted, hyper, joined, name_text, word};
 use acl_eval::{NodeKind, Who};
@@ -18,6 +17,7 @@ use acl_set::mode_of;
 use model::limits::Limits;
 use oracle_tree::bytes::eight_bytes;
 use oracle_tree::tree::{Content, Node};
+use settings::is_among;
 use std::alloc::{AllocError, Global};
 use std::marker::Model;
 use wire::{Bitmap, trimmed};

@@ -2,9 +2,9 @@
 
 mod creation;
 mod drivers;
+mod given;
 mod lists;
 mod naming;
-mod operations;
 mod rights;
 mod steps;
 mod telling;

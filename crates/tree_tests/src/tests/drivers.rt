@@ -5,10 +5,9 @@ ghost use Rattle.std.specs.Prelude.{◌≤◌, length};
 
 use acl_eval::{Cred, Gids};
 use disk::{Device, MemDevice};
-use fs::{Access, Created, Fs, FsFault, Removed, Renamed, Renaming, Writing};
+use fs::{Access, Created, Fs, FsFault, NewDirectory, Removed, Renamed, Renaming, Writing};
 use model::status::Status;
-use plain::attributes::Attributes;
-use plain::make_dir::NewDirectory;
+use settings::Attributes;
 use std::alloc::Global;
 use std::test::Fail;
 use xdr::Writer;

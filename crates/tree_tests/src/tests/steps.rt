@@ -25,10 +25,10 @@ use wire::{
 use wire_client::read_outcome;
 use xdr::{Reader, Refusal, Words};
 
-const ROOT: u128 = 1;
+pub(super) const ROOT: u128 = 1;
 
 // The first stamp of run 1.
-const FIRST: u128 = 0x1_0000_0001;
+pub(super) const FIRST: u128 = 0x1_0000_0001;
 
 const ANONYMOUS: StateId = StateId {
     seqid: 0,
@@ -40,11 +40,11 @@ const CURRENT: StateId = StateId {
     other: [0; 12],
 };
 
-const MODE_755: [u8; 4] = [0, 0, 1, 0xED];
+pub(super) const MODE_755: [u8; 4] = [0, 0, 1, 0xED];
 
 const MODE_644: [u8; 4] = [0, 0, 1, 0xA4];
 
-fn cred(uid: u32) -> Cred {
+pub(super) fn cred(uid: u32) -> Cred {
     Cred {
         uid,
         gid: uid,
@@ -57,7 +57,7 @@ fn limits() -> Limits {
 }
 
 // A fresh tree in run 1, and no filehandle.
-fn fresh<'a>(alloc: Global, cred: &'a Cred) -> Result<State<'a>, Fail> {
+pub(super) fn fresh<'a>(alloc: Global, cred: &'a Cred) -> Result<State<'a>, Fail> {
     let everyone = Ace {
         kind: AceKind::Allow,
         flags: AceFlags::empty(),
@@ -92,31 +92,46 @@ fn fresh<'a>(alloc: Global, cred: &'a Cred) -> Result<State<'a>, Fail> {
 }
 
 // The call stands here once, since it brings all that it promises to its caller.
-fn run(alloc: Global, state: &mut State<'_>, operation: &Argument<'_>) -> Result<Outcome, Fail>
+pub(super) fn run_within(
+    alloc: Global,
+    limits: &Limits,
+    state: &mut State<'_>,
+    operation: &Argument<'_>,
+) -> Result<Outcome, Fail>
     requires { IsTrue (is_computed (argument_view operation.now)) }
 {
-    let stepped = step(alloc, &limits(), state, 5, operation)?;
+    let stepped = step(alloc, limits, state, 5, operation)?;
     *state = stepped.state;
     Ok(stepped.outcome)
 }
 
-fn is_refused(outcome: &Outcome, want: Status) -> bool {
+pub(super) fn run(
+    alloc: Global,
+    state: &mut State<'_>,
+    operation: &Argument<'_>,
+) -> Result<Outcome, Fail>
+    requires { IsTrue (is_computed (argument_view operation.now)) }
+{
+    run_within(alloc, &limits(), state, operation)
+}
+
+pub(super) fn is_refused(outcome: &Outcome, want: Status) -> bool {
     matches!(outcome, Outcome::Refused(_, status) if *status == want)
 }
 
-fn is_done(outcome: &Outcome) -> bool {
+pub(super) fn is_done(outcome: &Outcome) -> bool {
     matches!(outcome, Outcome::Done(_))
 }
 
 // The attributes of one or two words.
-fn words(first: u32, second: u32) -> Bitmap {
+pub(super) fn words(first: u32, second: u32) -> Bitmap {
     let mut words = Words::new();
     words.push(first);
     words.push(second);
     words
 }
 
-fn mode(values: &[u8]) -> Attributes<'_> {
+pub(super) fn mode(values: &[u8]) -> Attributes<'_> {
     Attributes {
         bitmap: words(0, 2),
         values,
@@ -516,11 +531,11 @@ fn ace(kind: AceKind, who: Who, flags: u32, mask: u32) -> Ace {
     }
 }
 
-fn allow(who: Who, flags: u32, mask: u32) -> Ace {
+pub(super) fn allow(who: Who, flags: u32, mask: u32) -> Ace {
     ace(AceKind::Allow, who, flags, mask)
 }
 
-fn deny(who: Who, mask: u32) -> Ace {
+pub(super) fn deny(who: Who, mask: u32) -> Ace {
     ace(AceKind::Deny, who, 0, mask)
 }
 
@@ -550,7 +565,7 @@ fn put_node(
     Ok(())
 }
 
-fn acl_of<'a>(state: &'a State<'_>, number: u128) -> Option<&'a [Ace]> {
+pub(super) fn acl_of<'a>(state: &'a State<'_>, number: u128) -> Option<&'a [Ace]> {
     Some(at(number, &state.tree)?.acl.as_slice())
 }
 

@@ -2,20 +2,23 @@
 
 use super::calls::{Caller, Operation, compound, hello, on_slot, session};
 use crate::tests::drivers;
-use acl_eval::{Cred, Gids};
+use acl_eval::{Ace, AceFlags, AceKind, Acl, Cred, Gids, Mask, Who};
+use bitflags::Flags;
 use disk::{CrashDevice, Device, MemDevice, Stop, landings};
 use fs::{Fs, FsFault};
 use model::limits::Limits;
 use model::status::Status;
-use plain::attributes::Attributes;
-use plain::make_dir::NewDirectory;
-use plain::put::Moment;
-use plain::refusal::Refusal;
-use plain::tree::Tree;
+use oracle::answers::Outcome;
+use oracle::step::step;
+use oracle_refusals::state::{Context, Opens, Place, State};
+use oracle_tree::keyed::is_key;
+use oracle_tree::tree::{Content, Node, Tree, clone_tree};
 use server::{Server, ServerFault, Turn};
 use std::alloc::Global;
 use std::process::Abort;
 use std::test::Fail;
+use wire::{Argument, Attributes, CreateArguments};
+use xdr::Words;
 
 const SECTORS: u32 = 256;
 
@@ -91,24 +94,54 @@ fn caller(uid: u32) -> Cred {
     }
 }
 
-/// What the plain model makes of the script: the trees after each change, and how many changes each front of the records has.
+/// The tree of a new volume.
+fn fresh(alloc: Global) -> Result<Tree, Fail> {
+    let everyone = Ace {
+        kind: AceKind::Allow,
+        flags: AceFlags::empty(),
+        mask: Mask::from_bits_retain(0x1F_01E7),
+        who: Who::Everyone,
+    };
+    let root = Node {
+        owner: 0,
+        group: 0,
+        acl: Acl::from_slice(alloc, &[everyone])?,
+        change: 1,
+        time_modify: 0,
+        content: Content::Directory(Vec::new(alloc)),
+    };
+    let mut tree = Vec::new(alloc);
+    tree.push((1, root))?;
+    Ok(tree)
+}
+
+/// What the oracle makes of the script: the trees after each change, what each of them tells, and how many changes each front of
+/// the records has.
 #[derive(Drop)]
 struct Fronts {
     trees: Vec<Tree>,
+    told: Vec<Told>,
     changes: Vec<usize>,
 }
 
 impl Fronts {
     fn new(alloc: Global) -> Result<Fronts, Fail> {
         let mut trees = Vec::new(alloc);
-        trees.push(Tree::fresh(alloc)?)?;
+        trees.push(fresh(alloc)?)?;
         let mut changes = Vec::new(alloc);
         for _ in 0..3 {
             changes.push(0)?;
         }
-        let mut fronts = Fronts { trees, changes };
+        let mut fronts = Fronts {
+            trees,
+            told: Vec::new(alloc),
+            changes,
+        };
         for creation in CREATIONS {
             fronts.create(alloc, creation)?;
+        }
+        for tree in &fronts.trees {
+            fronts.told.push(Told::of(alloc, tree)?)?;
         }
         Ok(fronts)
     }
@@ -119,13 +152,12 @@ impl Fronts {
         };
         let cred = caller(creation.uid);
         let made = self.trees.len().saturating_sub(1);
-        let status = match made_in(alloc, tree, &cred, made, creation) {
+        let status = match made_in(alloc, tree, &cred, made, creation)? {
             Ok(next) => {
                 self.trees.push(next)?;
                 Status::Ok
             }
-            Err(Refusal::Status(status)) => status,
-            Err(Refusal::Memory) => return Err("no memory".into()),
+            Err(status) => status,
         };
         if status != creation.status {
             return Err("another status".into());
@@ -139,38 +171,82 @@ fn limits() -> Limits {
     Limits::of_volume(SECTORS as usize, NODES as usize)
 }
 
-/// The directory to which the names lead from the root.
-fn walk(tree: &Tree, cred: &Cred, path: &[u8]) -> Result<u64, Status> {
-    let mut number = 1;
-    for name in path {
-        number = tree.lookup(&limits(), cred, number, &[*name])?;
-    }
-    Ok(number)
+/// A state of run 1 on this tree, with the node of this number as the current one.
+fn state_at<'a>(
+    alloc: Global,
+    tree: &Tree,
+    cred: &'a Cred,
+    changes: usize,
+    number: u64,
+) -> Result<State<'a>, Fail> {
+    let place = Place {
+        number: u128::from(number),
+        state: None,
+    };
+    Ok(State {
+        tree: clone_tree(alloc, tree)?,
+        changes: u32::try_from(changes).unwrap_or(u32::MAX),
+        opens: Opens {
+            given: 0,
+            known: Vec::new(alloc),
+        },
+        context: Context {
+            cred,
+            client: 1,
+            run: 1,
+            current: Some(place),
+            saved: None,
+        },
+    })
 }
 
-/// The tree with the new directory, behind so many changes.
+/// The number that a name in a directory leads to, or why it is not looked up.
+fn look_up(
+    alloc: Global,
+    tree: &Tree,
+    cred: &Cred,
+    number: u64,
+    name: u8,
+) -> Result<Result<u128, Status>, Fail> {
+    let state = state_at(alloc, tree, cred, 0, number)?;
+    let looked = step(alloc, &limits(), &state, NOW, &Argument::Lookup(&[name]))?;
+    match looked.outcome {
+        Outcome::Done(_) => Ok(Ok(looked.state.current())),
+        Outcome::Refused(_, status) => Ok(Err(status)),
+    }
+}
+
+/// The tree with the new directory, behind so many changes, or why it is not made.
 fn made_in(
     alloc: Global,
     tree: &Tree,
     cred: &Cred,
     changes: usize,
     creation: Creation,
-) -> Result<Tree, Refusal> {
-    let moment = Moment {
-        run: 1,
-        changes: u32::try_from(changes).unwrap_or(u32::MAX),
-        now: NOW,
-    };
-    let asked = NewDirectory {
-        parent: walk(tree, cred, creation.path)?,
+) -> Result<Result<Tree, Status>, Fail> {
+    let mut state = state_at(alloc, tree, cred, changes, 1)?;
+    for name in creation.path {
+        let looked = step(alloc, &limits(), &state, NOW, &Argument::Lookup(&[*name]))?;
+        if let Outcome::Refused(_, status) = looked.outcome {
+            return Ok(Err(status));
+        }
+        state = looked.state;
+    }
+    let mut bitmap = Words::new();
+    bitmap.push(0);
+    bitmap.push(2);
+    let asked = CreateArguments::NewDirectory {
         name: &[creation.name],
         attributes: Attributes {
-            bitmap: &[0, 2],
+            bitmap,
             values: &[0, 0, 1, 0xED],
         },
     };
-    let made = tree.make_dir(alloc, &limits(), cred, moment, asked)?;
-    Ok(made.tree)
+    let made = step(alloc, &limits(), &state, NOW, &Argument::Create(asked))?;
+    match made.outcome {
+        Outcome::Done(_) => Ok(Ok(made.state.tree)),
+        Outcome::Refused(_, status) => Ok(Err(status)),
+    }
 }
 
 /// The script's records: a client makes itself known, takes a session, and creates.
@@ -256,25 +332,47 @@ fn serve(
     play(alloc, &mut server, records)
 }
 
-/// Whether a lookup of each name in this directory, and its filehandle, are the tree's.
-fn is_directory_of(fs: &Fs<MemDevice>, tree: &Tree, cred: &Cred, number: u64) -> bool {
-    for name in NAMES {
-        let expected = tree.lookup(&limits(), cred, number, &[name]);
-        if drivers::look_up(fs, cred, number, name) != expected.map_err(FsFault::Status) {
-            return false;
-        }
-    }
-    drivers::handle(fs, number) == tree.handle(number).map_err(FsFault::Status)
+/// What a tree tells: a lookup of each name in each number, and the filehandle of each number.
+#[derive(Drop)]
+struct Told {
+    looked_up: Vec<(u64, u8, Result<u128, FsFault>)>,
+    handles: Vec<(u64, Result<[u8; 8], FsFault>)>,
 }
 
-/// Whether the file system has the tree's names and numbers.
-fn is_tree_of(fs: &Fs<MemDevice>, tree: &Tree, cred: &Cred) -> bool {
-    for number in NUMBERS {
-        if !is_directory_of(fs, tree, cred, number) {
-            return false;
+impl Told {
+    fn of(alloc: Global, tree: &Tree) -> Result<Told, Fail> {
+        let cred = caller(9);
+        let mut looked_up = Vec::new(alloc);
+        for number in NUMBERS {
+            for name in NAMES {
+                let found = look_up(alloc, tree, &cred, number, name)?;
+                looked_up.push((number, name, found.map_err(FsFault::Status)))?;
+            }
         }
+        let mut handles = Vec::new(alloc);
+        for number in NUMBERS {
+            let handle = if is_key(u128::from(number), tree) {
+                Ok(number.to_be_bytes())
+            } else {
+                Err(FsFault::Status(Status::Stale))
+            };
+            handles.push((number, handle))?;
+        }
+        Ok(Told { looked_up, handles })
     }
-    true
+
+    /// Whether the file system tells the same.
+    fn is_told_by(&self, fs: &Fs<MemDevice>) -> bool {
+        let cred = caller(9);
+        let has_names = self.looked_up.iter().all(|(number, name, found)| {
+            drivers::look_up(fs, &cred, *number, *name).map(u128::from) == *found
+        });
+        has_names
+            && self
+                .handles
+                .iter()
+                .all(|(number, handle)| drivers::handle(fs, *number) == *handle)
+    }
 }
 
 /// The script, and what was found behind its stops.
@@ -295,12 +393,11 @@ impl Trial {
         if fs.restart_count() != 2 {
             return Err("another restart count".into());
         }
-        let cred = caller(9);
         Ok(
             self.fronts
-                .trees
+                .told
                 .iter()
-                .position(|tree| is_tree_of(&fs, tree, &cred)),
+                .position(|told| told.is_told_by(&fs)),
         )
     }
 
@@ -396,11 +493,11 @@ fn two_lives(alloc: Global, device: CrashDevice, records: &[Vec<u8>]) -> Result<
 }
 
 /// The restart count of the next mount, which has to find this tree.
-fn count_behind(rt: &impl Abort, alloc: Global, left: MemDevice, tree: &Tree) -> Result<u32, Fail> {
+fn count_behind(rt: &impl Abort, alloc: Global, left: MemDevice, told: &Told) -> Result<u32, Fail> {
     let Ok(fs) = Fs::mount(alloc, left) else {
         return Err("not mounted".into());
     };
-    assert!(rt; is_tree_of(&fs, tree, &caller(9)));
+    assert!(rt; told.is_told_by(&fs));
     Ok(fs.restart_count())
 }
 
@@ -415,7 +512,7 @@ fn stops_of_a_second_mount(rt: HostRuntime) -> Result<(), Fail> {
     let whole = CrashDevice::new(volume.landed(alloc, &[])?, Stop::Never);
     let whole = two_lives(alloc, whole, &records)?;
     let fronts = Fronts::new(alloc)?;
-    let tree = fronts.trees.last().ok_or("no tree")?;
+    let told = fronts.told.last().ok_or("no tree")?;
     let mut found = [0u32; 2];
     for step in first.steps()..whole.steps() {
         for stop in [Stop::Before(step), Stop::Within(step)] {
@@ -424,7 +521,7 @@ fn stops_of_a_second_mount(rt: HostRuntime) -> Result<(), Fail> {
             assert!(rt; stopped.is_stopped());
             for landing in landings(alloc, &stopped.unsynced(alloc)?)?.iter() {
                 let left = stopped.landed(alloc, landing)?;
-                match count_behind(&rt, alloc, left, tree)? {
+                match count_behind(&rt, alloc, left, told)? {
                     2 => found[0] = found[0].saturating_add(1),
                     3 => found[1] = found[1].saturating_add(1),
                     _ => return Err("another restart count".into()),

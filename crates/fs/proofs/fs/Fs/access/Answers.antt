@@ -1,4 +1,4 @@
-use Rattle.std.proofs.Common.{◌≡◌, ◌∙◌, sym, ap}
+use Rattle.std.proofs.Common.{◌∙◌, sym, ap}
 use Rattle.model.specs.Answer.{Answer, AccessAnswer}
 use Rattle.model.specs.Step.{answered}
 use Rattle.fs.specs.FileSystems.{fs_of}

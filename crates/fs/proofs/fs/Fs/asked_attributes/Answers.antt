@@ -1,4 +1,4 @@
-use Rattle.std.proofs.Common.{◌≡◌, ◌∙◌, Some, sym, ap}
+use Rattle.std.proofs.Common.{◌≡◌, ◌∙◌, sym, ap}
 use Rattle.model.specs.Acl.{read_acl}
 use Rattle.model.specs.Answer.{Answer}
 use Rattle.model.specs.Attribute.{attributes_of, is_among}

@@ -2,7 +2,7 @@ use Rattle.std.proofs.Common.{sym, ap, ◌∙◌}
 use Rattle.model.specs.Answer.{Answer}
 use Rattle.model.specs.Stamp.{filehandle_of}
 use Rattle.model.specs.Step.{answered}
-use Rattle.plain.proofs.Moving.{current_gone, handle_got}
+use Rattle.fs.proofs.HandleLaws.{current_gone, handle_got}
 use Rattle.fs.specs.FileSystems.{fs_of}
 use Rattle.fs.proofs.fs.Fs.handle.Goals as goal
 

@@ -1,4 +1,4 @@
-use Rattle.std.proofs.Common.{◌≡◌, None, ap, sym, subst, arith, rules}
+use Rattle.std.proofs.Common.{◌≡◌, ap, sym, subst, arith, rules}
 use Rattle.std.specs.List.{AllByRecursion}
 use Rattle.model.specs.declared.limits.Limits.{Limits}
 use Rattle.model.specs.declared.node.NodeKind.TheVariants as kind
@@ -14,20 +14,20 @@ pub tell_entries-requires : goal.tell_entries-requires
 unfolding fs_of held_of
 tell_entries-requires g c =
     let held = (fs_of c.args.self.now).volume in
-    let is : c.in_ok-acl.acl ≡ created c.args.parent.now.fields.acl kind.Directory c.args.settings.is_empty c.args.settings.mode None = search rules in
-    let list : IsList held.limits c.in_ok-acl.acl = subst (IsList held.limits) (sym is)
-    (created_list held.limits held.sectors held.limits.nodes c.args.self.now.volume.limited c.args.parent.now.fields.acl c.requires.listed c.args.settings.is_empty c.args.settings.mode) in
-    let small = small_list held.limits c.in_ok-acl.acl list in
-    subst (AllByRecursion HasFewFlags) (sym c.as_slice-2.ensures) small.each
+    let is : c.in_ok-acl.acl ≡ created c.args.parent.now.fields.acl kind.Directory c.args.settings.is_empty c.args.settings.mode c.args.settings.acl = search rules in
+    let list : IsList held.limits kind.Directory c.in_ok-acl.acl = subst (IsList held.limits kind.Directory) (sym is)
+    (created_list held.limits held.sectors held.limits.nodes c.args.self.now.volume.limited kind.Directory c.args.parent.now.fields.acl c.requires.listed c.args.settings c.requires.within) in
+    let small = small_list held.limits kind.Directory c.in_ok-acl.acl list in
+    subst (AllByRecursion HasFewFlags) (sym c.as_slice.ensures) small.each
 
 pub returns-clause-entries : goal.returns-clause-entries
 unfolding fs_of held_of
 returns-clause-entries g c =
     let held = (fs_of c.args.self.now).volume in
-    let is : c.in_ok-acl.acl ≡ created c.args.parent.now.fields.acl kind.Directory c.args.settings.is_empty c.args.settings.mode None = search rules in
-    let list : IsList held.limits c.in_ok-acl.acl = subst (IsList held.limits) (sym is)
-    (created_list held.limits held.sectors held.limits.nodes c.args.self.now.volume.limited c.args.parent.now.fields.acl c.requires.listed c.args.settings.is_empty c.args.settings.mode) in
-    let small = small_list held.limits c.in_ok-acl.acl list in
+    let is : c.in_ok-acl.acl ≡ created c.args.parent.now.fields.acl kind.Directory c.args.settings.is_empty c.args.settings.mode c.args.settings.acl = search rules in
+    let list : IsList held.limits kind.Directory c.in_ok-acl.acl = subst (IsList held.limits kind.Directory) (sym is)
+    (created_list held.limits held.sectors held.limits.nodes c.args.self.now.volume.limited kind.Directory c.args.parent.now.fields.acl c.requires.listed c.args.settings c.requires.within) in
+    let small = small_list held.limits kind.Directory c.in_ok-acl.acl list in
     let few = small.few in
     let most : held.limits.aces ≡ 40 = ap (λ (l : Limits). l.aces) c.args.self.now.volume.limited in
-    record { few = omega (arith, few, most); each = rw (← c.as_slice-2.ensures) c.tell_entries.ensures }
+    record { few = omega (arith, few, most); each = rw (← c.as_slice.ensures) c.tell_entries.ensures }

@@ -1,4 +1,4 @@
-use Rattle.std.proofs.Common.{◌≡◌, ℕ, ◌∙◌, sym, ap, true≢false}
+use Rattle.std.proofs.Common.{ℕ, ◌∙◌, sym, ap, true≢false}
 use Rattle.std.proofs.lemmas.Bool.{eq-eqb, ne_eqb}
 use Rattle.model.specs.Acl.{execute}
 use Rattle.model.specs.Answer.{Answer}

@@ -11,11 +11,11 @@ use Rattle.model.specs.Attribute.{attribute_refusals, settable_at_creation}
 use Rattle.model.specs.Name.{name_refusals}
 use Rattle.model.specs.Refusal.{Refusals, first_refusal}
 use Rattle.model.specs.Tree.{is_directory, names_of, entry_of}
-use Rattle.plain.specs.declared.refusal.Refusal.{Refusal}
-use Rattle.plain.specs.declared.refusal.Refusal.TheVariants as refusal
-use Rattle.plain.specs.Given.{given_of, IsRefusedBy}
-use Rattle.plain.specs.Step.{new_directory_refusals}
-use Rattle.plain.proofs.Creating as creating
+use Rattle.settings.specs.declared.refusal.Refusal.{Refusal}
+use Rattle.settings.specs.declared.refusal.Refusal.TheVariants as refusal
+use Rattle.settings.specs.Given.{given_of, IsRefusedBy}
+use Rattle.fs.specs.OnTree.{new_directory_refusals}
+use Rattle.fs.proofs.Creating as creating
 use Rattle.fs.specs.FileSystems.{fs_of}
 use Rattle.fs.proofs.CardViews.{granted_by, names_are, entry_is}
 use Rattle.fs.proofs.fs.Fs.permit_dir.Goals as goal

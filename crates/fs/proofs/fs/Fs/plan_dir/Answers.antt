@@ -4,11 +4,11 @@ use Rattle.std.proofs.lemmas.Result.{err_from_is_err_and}
 use Rattle.edits.specs.Edits.{AreDoable}
 use Rattle.layout.specs.Cards.{Card}
 use Rattle.model.specs.Charge.{fits}
-use Rattle.plain.specs.declared.refusal.Refusal.{Refusal}
-use Rattle.plain.specs.declared.refusal.Refusal.TheVariants as refusal
-use Rattle.plain.specs.Given.{given_of, IsRefusedBy}
-use Rattle.plain.specs.Step.{new_directory_refusals}
-use Rattle.plain.proofs.Creating.{early_refusal}
+use Rattle.settings.specs.declared.refusal.Refusal.{Refusal}
+use Rattle.settings.specs.declared.refusal.Refusal.TheVariants as refusal
+use Rattle.settings.specs.Given.{given_of, IsRefusedBy}
+use Rattle.fs.specs.OnTree.{new_directory_refusals}
+use Rattle.fs.proofs.Creating.{early_refusal}
 use Rattle.fs.specs.FileSystems.{fs_of}
 use Rattle.fs.specs.Operations.{IsNotDone, new_directory}
 use Rattle.fs.specs.Refusals.{fault_of}

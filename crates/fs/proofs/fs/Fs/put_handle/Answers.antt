@@ -1,7 +1,7 @@
 use Rattle.std.proofs.Common.{sym, ap, ◌∙◌}
 use Rattle.model.specs.Answer.{Answer}
 use Rattle.model.specs.Step.{answered, moved_to}
-use Rattle.plain.proofs.Moving.{bad_handle, stale_handle, handle_put}
+use Rattle.fs.proofs.HandleLaws.{bad_handle, stale_handle, handle_put}
 use Rattle.fs.specs.FileSystems.{fs_of}
 use Rattle.fs.specs.declared.fault.FsFault.TheVariants as fault
 use Rattle.volume.proofs.ServeLaws.{told_err}

@@ -1,7 +1,5 @@
-use Rattle.std.proofs.Common.{◌≡◌, ◌∙◌, ap}
+use Rattle.std.proofs.Common.{◌∙◌, ap}
 use Rattle.layout.specs.Cards.{Card}
-use Rattle.model.specs.declared.acl.Ace.{Ace}
-use Rattle.std.specs.Prelude.{List}
 use Rattle.model.specs.declared.limits.Limits.{Limits}
 use Rattle.model.specs.Mode.{mode_of}
 use Rattle.fs.specs.FileSystems.{fs_of}

@@ -1,8 +1,7 @@
-use Rattle.std.proofs.Common.{◌≡◌, true, ap, ◌∙◌, length, sym, arith}
+use Rattle.std.proofs.Common.{◌≡◌, ap, ◌∙◌, length, sym}
 use Rattle.std.proofs.lemmas.Bool.{eqb-true}
 use Rattle.model.specs.Runs.{is_done}
 use Rattle.model.specs.Step.{Stepped}
-use Rattle.fs.specs.Changes.{fs_ending}
 use Rattle.fs.specs.FileSystems.{fs_of}
 use Rattle.fs.specs.Writing.{IsPut, WritesTree}
 use Rattle.fs.specs.declared.fault.FsFault.TheVariants as fault

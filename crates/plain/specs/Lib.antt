@@ -1,4 +1,0 @@
-pub mod Given
-pub mod Put
-pub mod Step
-pub mod View

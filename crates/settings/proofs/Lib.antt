@@ -1,0 +1,3 @@
+mod EachTest
+pub mod Refusing
+mod Values
