@@ -16,6 +16,7 @@ ran_root world request now = refl
 
 -- the operations served that take the current filehandle
 abbrev pub takes_current : Argument → Bool
+takes_current (Argument.Access rights) = true
 takes_current (Argument.Create arguments) = true
 takes_current Argument.GetFh = true
 takes_current (Argument.Lookup name) = true
@@ -30,6 +31,7 @@ pub wants_current : (world : World) (request : InProgress) (now : ℕ) (operatio
     → takes_current operation ≡ true
     → run world request now operation ≡ Gives (Outcome.Refused (operation_of operation) status.NoFileHandle) world request
 unfolding run does refusals permitted effect
+wants_current world request now (Argument.Access rights) none takes = rw none refl
 wants_current world request now (Argument.Create (NewDirectory name given)) none takes = rw none refl
 wants_current world request now (Argument.Create (OtherType type_number)) none takes = rw none refl
 wants_current world request now Argument.GetFh none takes = rw none refl

@@ -13,6 +13,7 @@ pub mod Rooms
 pub mod Sequencing
 pub mod Stepping
 pub mod Tables
+pub mod Telling
 pub mod Trees
 pub mod Turning
 pub mod VolumeLaws

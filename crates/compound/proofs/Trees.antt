@@ -172,7 +172,7 @@ unless_bad state kind reason answer None after bad done is =
 unless_bad state kind reason answer (Some of) after bad done is =
     subst (λ (r : Status). is_bad r ≡ true) (same_reason (operation_of kind) of reason (ap (λ (s : Stepped). s.outcome) is)) (bad of refl)
 
-does_bad : (limits : Limits) (state : State) (now : ℕ) (kind : Argument) (reason : Status) (answer : Answer)
+pub does_bad : (limits : Limits) (state : State) (now : ℕ) (kind : Argument) (reason : Status) (answer : Answer)
     → all_bad (refusals limits state kind) ≡ true → (effect limits state now kind).outcome ≡ Done answer
     → does limits state now kind ≡ refused state kind reason → IsRefusal reason
 unfolding does

@@ -3,6 +3,7 @@
 //! `Running` is a COMPOUND over its record, made anew for each operation; `Progress` is what is kept of it from one to the next.
 #![tactic(auto)]
 
+mod access;
 mod begin;
 mod clients;
 mod end;

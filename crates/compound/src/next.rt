@@ -23,7 +23,8 @@ use xdr::{Reader, Refusal};
 const OP_ILLEGAL: u32 = 10044;
 
 /// The operations that are served; another one of the standard's is answered NOTSUPP.
-const SERVED: [Operation; 16] = [
+const SERVED: [Operation; 17] = [
+    Operation::Access,
     Operation::Create,
     Operation::GetFh,
     Operation::Lookup,

@@ -45,6 +45,7 @@ impl Running<'_> {
             (in_progress_of self.now) now (argument_view argument.now)) (ending result) }
     {
         match argument {
+            Argument::Access(asked) => Ok(self.access(fs, *asked)),
             Argument::Create(arguments) => self.create(fs, now, arguments),
             Argument::GetFh => Ok(self.get_handle(fs)),
             Argument::Lookup(name) => Ok(self.look_up(fs, name)),

@@ -3,6 +3,7 @@
 ghost use Rattle.std.specs.Prelude.{◌≤◌, length, IfOk};
 ghost use Rattle.wire_client.specs.ArgumentFits.{CreateFits, RenameFits};
 
+use crate::line::decimal;
 use crate::refused::Refused;
 use hex::{FromHexError, decode};
 use std::alloc::{AllocError, Global};
@@ -43,6 +44,8 @@ pub enum Operation<'a> {
         old_name: &'a str,
         new_name: &'a str,
     },
+    /// ACCESS of these bits.
+    Access(u32),
     /// GETFH.
     GetHandle,
 }
@@ -60,6 +63,7 @@ pub enum Verb {
     Save,
     Restore,
     Rename,
+    Access,
     GetHandle,
 }
 
@@ -77,6 +81,7 @@ impl Verb {
             Verb::Save => "save",
             Verb::Restore => "restore",
             Verb::Rename => "rename",
+            Verb::Access => "access",
             Verb::GetHandle => "getfh",
         }
     }
@@ -95,6 +100,7 @@ impl Operation<'_> {
             Operation::Save => Verb::Save,
             Operation::Restore => Verb::Restore,
             Operation::Rename { .. } => Verb::Rename,
+            Operation::Access(_) => Verb::Access,
             Operation::GetHandle => Verb::GetHandle,
         }
     }
@@ -117,6 +123,7 @@ impl Operation<'_> {
             Operation::Rename { old_name, new_name } => {
                 write_argument(out, &Argument::Rename(renaming(old_name, new_name)?))?
             }
+            Operation::Access(bits) => write_argument(out, &Argument::Access(*bits))?,
             Operation::GetHandle => write_argument(out, &Argument::GetFh)?,
         }
         Ok(())
@@ -210,11 +217,12 @@ fn plain_operation<'a>(verb: &str) -> Option<Operation<'a>> {
     }
 }
 
-/// The operation of a word and a name.
+/// The operation of a word and one word more.
 fn operation_on<'a>(verb: &str, name: &'a str) -> Option<Operation<'a>> {
     match verb {
         "lookup" => Some(Operation::Lookup(name)),
         "remove" => Some(Operation::Remove(name)),
+        "access" => Some(Operation::Access(decimal(name)?)),
         _ => None,
     }
 }

@@ -120,6 +120,30 @@ const NAMES: [(&str, &str); 21] = [
     ("A take", "A sequence 0\nA fh 70\n"),
 ];
 
+/// ACCESS, whatever it grants, and where there is no filehandle or its node is gone: lines and what they tell.
+const RIGHTS: [(&str, &str); 8] = [
+    ("A hello 7 7", "A client 4294967297 1\n"),
+    ("A session", "A session 00000001000000010000000000000001\n"),
+    (
+        "A call root ; mkdir a 755 ; access 63 ; access 0 ; access 4294967295",
+        "",
+    ),
+    (
+        "A take",
+        "A sequence 0\nA root 0\nA mkdir 0\nA access 0\nA access 0\nA access 0\n",
+    ),
+    ("A call access 1", ""),
+    ("A take", "A sequence 0\nA access 10020\n"),
+    (
+        "A call root ; lookup a ; save ; up ; remove a ; restore ; access 1",
+        "",
+    ),
+    (
+        "A take",
+        "A sequence 0\nA root 0\nA lookup 0\nA save 0\nA up 0\nA remove 0\nA restore 0\nA access 70\n",
+    ),
+];
+
 /// What holds of sessions and retries: lines and what they tell.
 const SESSIONS: [(&str, &str); 17] = [
     ("A hello 7 7", "A client 4294967297 1\n"),
@@ -164,7 +188,7 @@ const REFUSED_LINES: [&str; 18] = [
 ];
 
 /// Calls of no form.
-const REFUSED_CALLS: [&str; 26] = [
+const REFUSED_CALLS: [&str; 29] = [
     "",
     " root ;",
     " ; root",
@@ -191,6 +215,9 @@ const REFUSED_CALLS: [&str; 26] = [
     " restore 1",
     " rename a",
     " rename a b c",
+    " access",
+    " access x",
+    " access 4294967296",
 ];
 
 fn expect_lines<R: std::rt::Files<File = std::fs::File> + AllocGlobal + std::process::Abort>(
@@ -222,6 +249,11 @@ fn places_are_saved_and_restored(rt: HostRuntime) -> Result<(), Fail> {
 #[test]
 fn names_move_and_go(rt: HostRuntime) -> Result<(), Fail> {
     expect_lines(&rt, &NAMES)
+}
+
+#[test]
+fn rights_are_told(rt: HostRuntime) -> Result<(), Fail> {
+    expect_lines(&rt, &RIGHTS)
 }
 
 #[test]

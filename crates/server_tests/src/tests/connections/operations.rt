@@ -59,6 +59,21 @@ const MOVE_NAMES: &str = "800000d0 9 0 2 186a3 4 1 1 14 0 0 7 7 0 0 0 0 1 a
 const NAMES_MOVED: &str = "800000f4 9 1 0 0 0 0 2 0 a
     35 0 1 1 0 1 1 0 7 7 0 18 0 20 0 6 0 1 0 1 1 1 2 0 2 1f 0 1d 0 1 1 1 1 2 1 1 1 1 2 f 0 10 0 1c 0 1 1 2 1 3 10 2";
 
+/// Number 1 of slot 0: PUTROOTFH, CREATE of the directory `a` with mode 755, and ACCESS of the bits 3f.
+const ASK_OWN_RIGHTS: &str = "8000009c 9 0 2 186a3 4 1 1 14 0 0 7 7 0 0 0 0 1 4
+    35 1 1 0 1 1 0 0 0 18 6 2 1 61000000 2 0 2 4 1ed 3 3f";
+
+/// A directory has the bits 1f, and its owner all of them.
+const OWN_RIGHTS: &str = "80000090 9 1 0 0 0 0 0 0 4
+    35 0 1 1 0 1 1 0 7 7 0 18 0 6 0 1 0 1 1 1 2 0 2 3 0 1f 1f";
+
+/// Number 2 of slot 0, by uid 8 and gid 8: PUTROOTFH, LOOKUP of `a`, and ACCESS of the bits 3f.
+const ASK_RIGHTS: &str = "80000084 9 0 2 186a3 4 1 1 14 0 0 8 8 0 0 0 0 1 4
+    35 1 1 0 1 2 0 0 0 18 f 1 61000000 3 3f";
+
+/// To read and to look up.
+const RIGHTS: &str = "80000070 9 1 0 0 0 0 0 0 4 35 0 1 1 0 1 2 0 7 7 0 18 0 f 0 3 0 1f 3";
+
 /// Number 1 of slot 0: GETFH.
 const GET_NO_HANDLE: &str =
     "80000070 9 0 2 186a3 4 1 1 14 0 0 7 7 0 0 0 0 1 2 35 1 1 0 1 1 0 0 0 a";
@@ -94,6 +109,13 @@ const NAMES: [Step; 3] = [
     Asks(0, MOVE_NAMES, 10, NAMES_MOVED),
 ];
 
+const TOLD: [Step; 4] = [
+    Asks(0, EXCHANGE_ID, 1, EXCHANGED),
+    Asks(0, CREATE_SESSION, 1, CREATED),
+    Asks(0, ASK_OWN_RIGHTS, 4, OWN_RIGHTS),
+    Asks(0, ASK_RIGHTS, 4, RIGHTS),
+];
+
 const WITHOUT_HANDLE: [Step; 3] = [
     Asks(0, EXCHANGE_ID, 1, EXCHANGED),
     Asks(0, CREATE_SESSION, 1, CREATED),
@@ -101,10 +123,11 @@ const WITHOUT_HANDLE: [Step; 3] = [
 ];
 
 /// Whole connections, by what they show.
-pub(super) const ROWS: [(&str, &[Step]); 5] = [
+pub(super) const ROWS: [(&str, &[Step]); 6] = [
     ("first operations are tested in order", &REFUSED_FIRST),
     ("a compound runs once", &RUN_ONCE),
     ("the tree is served", &SERVED),
     ("names move and go", &NAMES),
+    ("rights are told", &TOLD),
     ("there is no filehandle at first", &WITHOUT_HANDLE),
 ];

@@ -25,6 +25,11 @@ returns-in-Remove-clause-volume g c = rw c.in-Remove.is (c.remove.ensures.volume
 pub returns-in-Rename-clause-volume : goal.returns-in-Rename-clause-volume
 returns-in-Rename-clause-volume g c = rw c.in-Rename.is (c.rename.ensures.volume (table_of c.args.table.now) no_opens)
 
+pub returns-in-Access-clause-volume : goal.returns-in-Access-clause-volume
+returns-in-Access-clause-volume g c =
+    quiet_changes g.D.Device.keeps_word (shared_of c.args.fs.now c.args.table.now) (fs_failures c.args.fs.now) (in_progress_of c.args.self.now) c.args.now (argument_view c.args.argument.now)
+    c.requires.up (rw c.in-Access.is refl)
+
 pub returns-in-LookupParent-clause-volume : goal.returns-in-LookupParent-clause-volume
 returns-in-LookupParent-clause-volume g c =
     quiet_changes g.D.Device.keeps_word (shared_of c.args.fs.now c.args.table.now) (fs_failures c.args.fs.now) (in_progress_of c.args.self.now) c.args.now (argument_view c.args.argument.now)
@@ -90,6 +95,9 @@ returns-in-CreateSession-clause-volume g c =
     quiet_result g.D.Device.keeps_word (shared_of c.args.fs.now c.args.table.now) (fs_failures c.args.fs.now) (in_progress_of c.args.self.now) c.args.now (argument_view c.args.argument.now) c.create_session.result
     c.requires.up (rw c.in-CreateSession.is refl) (λ reason is. (rw is at c.create_session.ensures.err).0)
 
+pub returns-in-Access-clause-gives : goal.returns-in-Access-clause-gives
+returns-in-Access-clause-gives g c = λ keeps. rw c.in-Access.is (c.access.ensures.gives c.args.now (table_of c.args.table.now) no_opens)
+
 pub returns-in-GetFh-clause-gives : goal.returns-in-GetFh-clause-gives
 returns-in-GetFh-clause-gives g c = λ keeps. rw c.in-GetFh.is (c.get_handle.ensures.gives c.args.now (table_of c.args.table.now) no_opens)
 
@@ -143,6 +151,11 @@ returns-in-Remove-clause-kept g c = c.remove.ensures.kept (table_of c.args.table
 
 pub returns-in-Rename-clause-kept : goal.returns-in-Rename-clause-kept
 returns-in-Rename-clause-kept g c = c.rename.ensures.kept (table_of c.args.table.now)
+
+pub returns-in-Access-clause-kept : goal.returns-in-Access-clause-kept
+returns-in-Access-clause-kept g c =
+    kept_of c.args.now (shared_of c.args.fs.now c.args.table.now) (shared_of c.args.fs.now c.args.table.now) (in_progress_of c.args.self.now) _ c.access.result
+    (c.access.ensures.gives c.args.now (table_of c.args.table.now) no_opens)
 
 pub returns-in-GetFh-clause-kept : goal.returns-in-GetFh-clause-kept
 returns-in-GetFh-clause-kept g c =
