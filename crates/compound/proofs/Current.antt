@@ -18,6 +18,7 @@ ran_root world request now = refl
 abbrev pub takes_current : Argument → Bool
 takes_current (Argument.Access rights) = true
 takes_current (Argument.Create arguments) = true
+takes_current (Argument.GetAttr bitmap) = true
 takes_current Argument.GetFh = true
 takes_current (Argument.Lookup name) = true
 takes_current Argument.LookupParent = true
@@ -34,6 +35,7 @@ unfolding run does refusals permitted effect
 wants_current world request now (Argument.Access rights) none takes = rw none refl
 wants_current world request now (Argument.Create (NewDirectory name given)) none takes = rw none refl
 wants_current world request now (Argument.Create (OtherType type_number)) none takes = rw none refl
+wants_current world request now (Argument.GetAttr bitmap) none takes = rw none refl
 wants_current world request now Argument.GetFh none takes = rw none refl
 wants_current world request now (Argument.Lookup name) none takes = rw none refl
 wants_current world request now Argument.LookupParent none takes = rw none refl

@@ -14,6 +14,7 @@ pub mod Sequencing
 pub mod Stepping
 pub mod Tables
 pub mod Telling
+pub mod Tellings
 pub mod Trees
 pub mod Turning
 pub mod VolumeLaws

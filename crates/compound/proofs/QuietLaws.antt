@@ -1,5 +1,5 @@
 -- Calls that leave the tree as it is.
-use Rattle.std.proofs.Common.{◌≡◌, ◌≤◌, ℕ, Bool, true, false, refl, sym, ap, ap₂, ◌∙◌, subst, inl, arith}
+use Rattle.std.proofs.Common.{◌≡◌, ◌≤◌, ℕ, Bool, true, false, sym, ap, ap₂, ◌∙◌, subst, inl, arith}
 use Rattle.model.specs.Tree.{Tree}
 use Rattle.volume.specs.Changes.{Given, Done, Nothing, Broken}
 use Rattle.volume.specs.Held.{Held, IsSameVolume, IsRecent, AddsTrees}

@@ -38,6 +38,11 @@ pub access_bad : (limits : Limits) (state : State) (now asked : ℕ) (reason : S
 unfolding refusals effect
 access_bad limits state now asked reason is = does_bad limits state now (Argument.Access asked) reason _ refl refl is
 
+pub attributes_bad : (limits : Limits) (state : State) (now : ℕ) (bitmap : List ℕ) (reason : Status)
+    → does limits state now (Argument.GetAttr bitmap) ≡ refused state (Argument.GetAttr bitmap) reason → IsRefusal reason
+unfolding refusals effect
+attributes_bad limits state now bitmap reason is = does_bad limits state now (Argument.GetAttr bitmap) reason _ refl refl is
+
 -- An operation on the tree comes to what the call says of it
 
 abbrev pub OnTree : Argument → Type 0
@@ -47,6 +52,10 @@ OnTree kind = (world : World) (request : InProgress) (now : ℕ)
 pub access_on_tree : (asked : ℕ) → OnTree (Argument.Access asked)
 unfolding run
 access_on_tree asked = λ world request now. refl
+
+pub attributes_on_tree : (bitmap : List ℕ) → OnTree (Argument.GetAttr bitmap)
+unfolding run
+attributes_on_tree bitmap = λ world request now. refl
 
 module _ (now : ℕ) (fs : FileSystem) (table : Table) (opens : Opens) (request : InProgress) (kind : Argument) (on_tree : OnTree kind) where
   pub tells_ok : (answer : Answer) → ((state : State) → IsHere fs request state → does_on fs state now kind ≡ answered state answer)

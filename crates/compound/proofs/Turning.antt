@@ -35,8 +35,11 @@ pub turns_read : (now : ℕ) (old new : SharedState) (request : InProgress) (ope
     → Turns now old new request rest done
 turns_read now old new request operation rest (operated.Gives outcome left) next ran =
     turns_to now old new request (left_by left request) operation rest (outcome_view outcome) next ran
-turns_read now old new request operation rest (operated.GivesHandle handle) next ran =
-    turns_to now old new request request operation rest (model.Done (model.GetFh handle)) next ran
+turns_read now old new request operation rest (operated.GivesSpelled kind values) next ran = (
+  ran.0,
+  ran.1,
+  turns_to now old new request request operation rest (model.Done ran.0) next ran.2,
+)
 turns_read now old new request operation rest (operated.Replays slot) next ran = (
   ran.0,
   ran.1,

@@ -2,6 +2,7 @@ pub mod Operates
 pub mod Runs
 pub mod States
 pub mod Steps
+pub mod Told
 pub mod Trees
 pub mod Turns
 pub mod Views

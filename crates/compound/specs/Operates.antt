@@ -1,5 +1,6 @@
 -- One operation that was read, with the room that the reply has for its result, by the definition.
-use Rattle.std.specs.Prelude.{◌≡◌, ℕ, ◌≤◌, ◌<◌, ◌^◌, Bool, true, false, List, length, Some, ⊤}
+use Rattle.std.specs.Prelude.{◌≡◌, ℕ, ◌+◌, ◌≤◌, ◌<◌, ◌^◌, Bool, true, false, List, ◌++◌, length, Some, ⊤}
+use Rattle.std.specs.Int.{w32}
 use Rattle.fs.specs.FileSystem.{FileSystem}
 use Rattle.model.specs.Answer as model
 use Rattle.model.specs.Context.{at_node, saving, restored}
@@ -11,7 +12,10 @@ use Rattle.model.specs.WireAnswers as answers
 use Rattle.model.specs.World as turns
 use Rattle.model.specs.World.{World, InProgress, HasRun, run, in_room, outcome_text, reply_with}
 use Rattle.session.specs.Views.{reply_kept}
+use Rattle.wire.specs.Numbers.{number_of}
 use Rattle.wire.specs.OutcomeView.{outcome_view}
+use Rattle.xdr.specs.Forms.{counted}
+use Rattle.xdr.specs.Grammar.{number}
 use Rattle.compound.specs.Runs.{with_rest}
 use Rattle.compound.specs.States.{SharedState, HasState, with_state, shared, without_opens}
 use Rattle.compound.specs.Views.{slot_of}
@@ -44,11 +48,21 @@ GivesIn now old new request left operation outcome =
     → run_in_room world (with_rest request rest) now operation
     ≡ turns.Gives outcome (with_state world new) (with_rest left rest)
 
+-- a result's number, the status OK, and these values behind it
+abbrev pub spelled_text : (operation : ℕ) → (values : List ℕ) → List ℕ
+spelled_text operation values = number w32 operation ++ (number w32 0 ++ values)
+
+-- this answer of the operation is spelled so behind its status
+pub record Spells (operation : ℕ) (values : List ℕ) (answer : model.Answer) : Type 0 where
+  pub number_is : (answers.answer_told answer).number ≡ operation
+  pub values_are : (answers.answer_told answer).text ≡ values
+
 abbrev pub Operates : (now : ℕ) → (old new : SharedState) → InProgress → Argument → Operated → Type 0
 Operates now old new request operation (operated.Gives outcome left) =
     GivesIn now old new request (left_by left request) operation (outcome_view outcome)
-Operates now old new request operation (operated.GivesHandle handle) =
-    GivesIn now old new request request operation (model.Done (model.GetFh handle))
+Operates now old new request operation (operated.GivesSpelled kind values) =
+    (answer : model.Answer) × Spells (number_of kind) values.items answer
+    × GivesIn now old new request request operation (model.Done answer)
 Operates now old new request operation (operated.Replays slot) =
     (reply : List ℕ) × (new ≡ old) × (reply_kept slot.session slot.slot old.table ≡ Some reply)
     × ((world : World) (rest : List ℕ) → HasState world old
@@ -84,6 +98,10 @@ abbrev pub HasRoom : InProgress → model.Outcome → Type 0
 HasRoom request (model.Done answer) = length (reply_with request (model.Done answer)) ≤ 16368
 HasRoom request (model.Refused operation reason) = ⊤
 
+-- a reply has room for these bytes behind the results so far
+abbrev pub HasRoomFor : InProgress → (text : List ℕ) → Type 0
+HasRoomFor request text = 32 + length (counted request.tag) + length request.results + length text ≤ 16368
+
 -- a result can be spelled, in few bytes
 pub record IsSpelled (request : InProgress) (outcome : model.Outcome) : Type 0 where
   pub fits : answers.outcome.Fits outcome
@@ -92,13 +110,13 @@ pub record IsSpelled (request : InProgress) (outcome : model.Outcome) : Type 0 w
 
 abbrev pub IsAnswered : InProgress → Operated → Type 0
 IsAnswered request (operated.Gives outcome left) = IsSpelled request (outcome_view outcome)
-IsAnswered request (operated.GivesHandle handle) = IsSpelled request (model.Done (model.GetFh handle))
+IsAnswered request (operated.GivesSpelled kind values) = HasRoomFor request (spelled_text (number_of kind) values.items)
 IsAnswered request (operated.Replays slot) = ⊤
 
 -- what is sent again is there
 abbrev pub IsKept : Table → Operated → Type 0
 IsKept table (operated.Gives outcome left) = Unit {0}
-IsKept table (operated.GivesHandle handle) = Unit {0}
+IsKept table (operated.GivesSpelled kind values) = Unit {0}
 IsKept table (operated.Replays slot) =
     (reply : List ℕ) × (reply_kept slot.session slot.slot table ≡ Some reply)
 

@@ -5,10 +5,11 @@ use Rattle.model.specs.Record.{framed}
 use Rattle.model.specs.Rpc.{Success, reply_text}
 use Rattle.model.specs.Session.{Table}
 use Rattle.model.specs.World as turns
-use Rattle.model.specs.World.{World, InProgress, Entry, Turned, behind, result_of, status_of, with_result, with_connection, with_table}
+use Rattle.model.specs.World.{World, InProgress, Entry, Turned, behind, with_connection, with_table}
 use Rattle.session.specs.Views.{reply_kept}
+use Rattle.wire.specs.Numbers.{number_of}
 use Rattle.wire.specs.OutcomeView.{outcome_view}
-use Rattle.compound.specs.Operates.{left_by}
+use Rattle.compound.specs.Operates.{Spells, left_by}
 use Rattle.compound.specs.Runs.{with_rest}
 use Rattle.compound.specs.Views.{Asked}
 use Rattle.compound.specs.States.{SharedState, HasState, with_state}
@@ -16,10 +17,6 @@ use Rattle.compound.specs.Steps.{stepped_on, turn_by, connection_by}
 use Rattle.compound.specs.declared.operated.Operated.{Operated}
 use Rattle.compound.specs.declared.operated.Operated.TheVariants as operated
 use Rattle.compound.specs.declared.step.Stepped.{Stepped}
-
--- the whole result of a COMPOUND, where this one of an operation is the last
-abbrev pub last_result : InProgress → model.Outcome → List ℕ
-last_result request outcome = result_of (with_result request outcome) (status_of outcome)
 
 -- a kept reply is sent again
 abbrev pub repeated : World → (number : ℕ) → InProgress → (reply session : List ℕ) → (slot : ℕ) → Turned
@@ -41,8 +38,9 @@ TurnsTo now old new request left outcome =
 abbrev pub Turns : (now : ℕ) → (old new : SharedState) → InProgress → (rest : List ℕ) → Operated → Type 0
 Turns now old new request rest (operated.Gives outcome left) =
     TurnsTo now old new request (with_rest (left_by left request) rest) (outcome_view outcome)
-Turns now old new request rest (operated.GivesHandle handle) =
-    TurnsTo now old new request (with_rest request rest) (model.Done (model.GetFh handle))
+Turns now old new request rest (operated.GivesSpelled kind values) =
+    (answer : model.Answer) × Spells (number_of kind) values.items answer
+    × TurnsTo now old new request (with_rest request rest) (model.Done answer)
 Turns now old new request rest (operated.Replays slot) =
     (reply : List ℕ) × (new ≡ old) × (reply_kept slot.session slot.slot old.table ≡ Some reply)
     × ((world : World) (number : ℕ) → HasState world old

@@ -3,42 +3,34 @@
 ghost use Rattle.std.specs.Prelude.{◌≡◌, ◌≤◌, ◌+◌, ◌++◌, [], length};
 ghost use Rattle.model.specs.Rpc.{compound_text};
 ghost use Rattle.model.specs.Session.{finish};
-ghost use Rattle.model.specs.World.{status_of, outcome_text};
 ghost use Rattle.rpc.specs.Views.{result_text};
-ghost use Rattle.model.specs.WireAnswers as answers;
 ghost use Rattle.session.specs.Views.{table_of};
-ghost use Rattle.wire.specs.OutcomeView.{outcome_view};
 
 use crate::progress::{Progress, SlotId};
 use crate::running::Running;
+use crate::told::Told;
 use model::status::Status;
 use rpc::{Compound, CompoundResult, Reply, Tag, write_reply};
 use session::Table;
-use wire::Outcome;
 use xdr::Writer;
 
 impl Running<'_> {
     ghost use Rattle.std.specs.Prelude.{◌≡◌, ◌≤◌, ℕ, List, Some, length};
     ghost use Rattle.model.specs.Record.{framed};
     ghost use Rattle.model.specs.Rpc.{Success, reply_text};
-    ghost use Rattle.model.specs.World.{reply_with, kept_by};
-    ghost use Rattle.model.specs.WireAnswers as answers;
+    ghost use Rattle.model.specs.World.{kept_by};
     ghost use Rattle.session.specs.Views.{table_of, reply_kept};
-    ghost use Rattle.wire.specs.OutcomeView.{outcome_view};
-    ghost use Rattle.compound.specs.Turns.{last_result};
+    ghost use Rattle.compound.specs.Told.{CanBeSpelled, last_told, reply_told};
     ghost use Rattle.compound.specs.Views.{in_progress_of};
 
     /// The reply's whole record, where this result is the last one. The slot keeps the result of the COMPOUND. No memory is taken.
     #[tactic(auto, unfolding(crate::specs::Views::in_progress_of, model::specs::World::outcome_text), using(crate::proofs::Replies::room_length, crate::proofs::Replies::success_length, crate::proofs::Replies::framed_length))]
-    pub(crate) fn end(self, table: &mut Table, outcome: &Outcome<'_>) -> Vec<u8>
-        requires fits { answers.outcome.Fits (outcome_view outcome.now) }
-        requires room { length (reply_with (in_progress_of self) (outcome_view outcome.now))
-            ≤ 16384 }
-        ensures reply { result.items
-            ≡ framed (reply_with (in_progress_of self.entry) (outcome_view outcome.now)) }
+    pub(crate) fn end(self, table: &mut Table, told: Told<'_>) -> Vec<u8>
+        requires spelled { CanBeSpelled told }
+        requires room { length (reply_told (in_progress_of self) told) ≤ 16384 }
+        ensures reply { result.items ≡ framed (reply_told (in_progress_of self.entry) told.entry) }
         ensures kept { table_of table.new ≡ kept_by (in_progress_of self.entry).slot
-            (last_result (in_progress_of self.entry) (outcome_view outcome.now))
-            (table_of table.old) }
+            (last_told (in_progress_of self.entry) told.entry) (table_of table.old) }
     {
         let Running {
             xid,
@@ -54,8 +46,8 @@ impl Running<'_> {
             slot,
             ..
         } = progress;
-        let results = with_outcome(results, outcome);
-        let compound = result_of(status_of(outcome), tag, answered + 1, results.as_slice());
+        let results = told.write(results);
+        let compound = result_of(told.status(), tag, answered + 1, results.as_slice());
         if let Some(id) = slot {
             keep(table, &id, &compound, kept);
         }
@@ -86,21 +78,6 @@ impl Running<'_> {
     }
 }
 
-/// The results, and one more.
-#[tactic(auto, unfolding(model::specs::World::outcome_text))]
-fn with_outcome(results: Writer, outcome: &Outcome<'_>) -> Writer
-    requires fits { answers.outcome.Fits (outcome_view outcome.now) }
-    requires room { length results.bytes + length (outcome_text (outcome_view outcome.now))
-        ≤ results.capacity }
-    ensures { result.bytes ≡ results.bytes ++ outcome_text (outcome_view outcome.now) }
-{
-    let mut results = results;
-    match outcome.write(&mut results) {
-        Ok(()) => results,
-        Err(_) => unreachable!(),
-    }
-}
-
 /// The result of a COMPOUND.
 fn result_of<'a>(status: Status, tag: Tag<'a>, count: u32, results: &'a [u8]) -> CompoundResult<'a>
     ensures text { result_text result ≡ compound_text status tag.entry.bytes.now count results.now }
@@ -125,15 +102,5 @@ fn keep(table: &mut Table, id: &SlotId, compound: &CompoundResult<'_>, memory: W
     match compound.write(memory) {
         Ok(result) => table.finish(&id.session, id.slot, result),
         Err(_) => unreachable!(),
-    }
-}
-
-/// The status of a result.
-fn status_of(outcome: &Outcome<'_>) -> Status
-    ensures { result ≡ status_of (outcome_view outcome.now) }
-{
-    match outcome {
-        Outcome::Done(_) => Status::Ok,
-        Outcome::Refused { status, .. } => *status,
     }
 }

@@ -5,6 +5,7 @@ ghost use Rattle.compound.specs.declared.fault.Fault.TheVariants as fault;
 
 use std::alloc::{AllocError, AllocFailed};
 use thiserror::Error;
+use xdr::Refusal;
 
 /// Why a step is not done.
 #[derive(Clone, Copy, Debug, PartialEq, Eq, Error)]
@@ -29,6 +30,15 @@ impl<T: Drop> From<AllocFailed<T>> for Fault {
     ghost from_gives = { λ _ made. made ≡ fault.Memory };
 
     fn from(_error: AllocFailed<T>) -> Fault {
+        Fault::Memory
+    }
+}
+
+/// Of writers alone, which are refused only for memory.
+impl From<Refusal> for Fault {
+    ghost from_gives = { λ _ made. made ≡ fault.Memory };
+
+    fn from(_refusal: Refusal) -> Fault {
         Fault::Memory
     }
 }

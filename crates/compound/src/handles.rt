@@ -2,13 +2,16 @@
 
 ghost use Rattle.std.specs.Prelude.{◌≡◌};
 
+use crate::fault::Fault;
 use crate::operated::{Effect, Operated};
 use crate::running::Running;
 use crate::tree::status_of;
 use disk::Device;
 use fs::Fs;
 use model::status::Status;
-use wire::{Answer, Operation, Outcome};
+use std::alloc::Global;
+use wire::{Answer, Operation};
+use xdr::Writer;
 
 /// The root's number.
 const ROOT: u64 = 1;
@@ -27,6 +30,7 @@ impl Running<'_> {
     ghost use Rattle.compound.specs.Operates.{Operates, RunsTo, OnlyReads, IsAnswered};
     ghost use Rattle.compound.specs.States.{SharedState};
     ghost use Rattle.compound.specs.Views.{in_progress_of};
+    ghost use Rattle.compound.specs.declared.fault.Fault.TheVariants.{Memory};
 
     /// PUTROOTFH (section 18.21): the root is the current node, whether it is there or not.
     pub(crate) fn put_root(&self) -> Operated
@@ -51,20 +55,24 @@ impl Running<'_> {
     }
 
     /// GETFH (section 18.8).
-    pub(crate) fn get_handle<D: Device>(&self, fs: &Fs<D>) -> Operated
+    pub(crate) fn get_handle<D: Device>(&self, fs: &Fs<D>) -> Result<Operated, Fault>
         requires up { (fs_of fs.now).volume.is_down ≡ false }
         requires run { (in_progress_of self.now).context.run ≡ (fs_of fs.now).volume.run }
-        ensures gives { OnlyReads (fs_of fs.now) (in_progress_of self.now)
-            operations.Argument.GetFh result }
-        ensures answered { IsAnswered (in_progress_of self.now) result }
+        ensures gives { IfOk result (OnlyReads (fs_of fs.now) (in_progress_of self.now)
+            operations.Argument.GetFh) }
+        ensures answered { IfOk result (IsAnswered (in_progress_of self.now)) }
+        ensures err { IfErr result (λ fault. fault ≡ Memory) }
     {
         let number = match self.current_node() {
             Ok(number) => number,
-            Err(status) => return self.refuse(Operation::GetFh, status),
+            Err(status) => return Ok(self.refuse(Operation::GetFh, status)),
         };
         match fs.handle(number) {
-            Ok(handle) => self.settle_handle(handle),
-            Err(fault) => self.refuse(Operation::GetFh, status_of(fault)),
+            Ok(handle) => {
+                let values = spelled(self.alloc, &handle)?;
+                Ok(self.settle_spelled(Operation::GetFh, values))
+            }
+            Err(fault) => Ok(self.refuse(Operation::GetFh, status_of(fault))),
         }
     }
 
@@ -93,32 +101,6 @@ impl Running<'_> {
             Ok(_) => self.settle(Answer::RestoreFh, Effect::Restores),
             Err(status) => self.refuse(Operation::RestoreFh, status),
         }
-    }
-
-    /// What GETFH comes to, where nothing else refuses it.
-    fn settle_handle(&self, handle: [u8; 8]) -> Operated
-        ensures gives { (now : ℕ) (state : SharedState)
-            → RunsTo now state state (in_progress_of self.now) (in_progress_of self.now)
-            operations.Argument.GetFh (Done (GetFh handle))
-            → Operates now state state (in_progress_of self.now) operations.Argument.GetFh result }
-        ensures answered { IsAnswered (in_progress_of self.now) result }
-    {
-        if !self.has_handle_room(&handle) {
-            return self.refuse(Operation::GetFh, Status::RepTooBig);
-        }
-        Operated::GivesHandle(handle)
-    }
-
-    /// Whether the reply has room for this answer of GETFH.
-    fn has_handle_room(&self, handle: &[u8; 8]) -> bool
-        ensures room { result ≡ nat_le
-            (length (reply_with (in_progress_of self.now) (Done (GetFh handle.now)))) 16368 }
-        ensures fits { answers.outcome.Fits (Done (GetFh handle.now)) }
-        ensures small { length (outcome_text (Done (GetFh handle.now))) < 2 ^ 63 }
-    {
-        let outcome = Outcome::Done(Answer::GetFh(handle));
-        outcome.tell_fits();
-        self.has_room(&outcome)
     }
 
     /// The number of the current node.
@@ -154,4 +136,18 @@ impl Running<'_> {
             None => Err(Status::NoFileHandle),
         }
     }
+}
+
+ghost use Rattle.std.specs.Prelude.{IfOk, IfErr};
+ghost use Rattle.xdr.specs.Forms.{counted};
+ghost use Rattle.compound.specs.declared.fault.Fault.TheVariants.{Memory};
+
+/// A filehandle as GETFH's result has it.
+fn spelled(alloc: Global, handle: &[u8; 8]) -> Result<Vec<u8>, Fault>
+    ensures ok { IfOk result (λ values. values.items ≡ counted handle.now) }
+    ensures err { IfErr result (λ fault. fault ≡ Memory) }
+{
+    let mut out = Writer::new(alloc);
+    out.write_opaque(handle)?;
+    Ok(out.into_vec())
 }

@@ -4,6 +4,7 @@
 #![tactic(auto)]
 
 mod access;
+mod attributes;
 mod begin;
 mod clients;
 mod end;
@@ -19,6 +20,7 @@ mod results;
 mod running;
 mod sequence;
 mod step;
+mod told;
 mod tree;
 
 pub use fault::Fault;

@@ -23,9 +23,10 @@ use xdr::{Reader, Refusal};
 const OP_ILLEGAL: u32 = 10044;
 
 /// The operations that are served; another one of the standard's is answered NOTSUPP.
-const SERVED: [Operation; 17] = [
+const SERVED: [Operation; 18] = [
     Operation::Access,
     Operation::Create,
+    Operation::GetAttr,
     Operation::GetFh,
     Operation::Lookup,
     Operation::LookupParent,

@@ -47,7 +47,8 @@ impl Running<'_> {
         match argument {
             Argument::Access(asked) => Ok(self.access(fs, *asked)),
             Argument::Create(arguments) => self.create(fs, now, arguments),
-            Argument::GetFh => Ok(self.get_handle(fs)),
+            Argument::GetAttr(asked) => self.get_attributes(fs, asked),
+            Argument::GetFh => self.get_handle(fs),
             Argument::Lookup(name) => Ok(self.look_up(fs, name)),
             Argument::LookupParent => Ok(self.look_up_parent(fs)),
             Argument::PutFh(handle) => Ok(self.put_handle(fs, handle)),

@@ -1,7 +1,7 @@
 //! What an operation does.
 
 use crate::progress::SlotId;
-use wire::Outcome;
+use wire::{Operation, Outcome};
 
 /// What an operation leaves of its COMPOUND, beside the result.
 #[derive(Clone, Copy, Debug, PartialEq, Eq)]
@@ -26,8 +26,11 @@ pub enum Operated {
         outcome: Outcome<'static>,
         effect: Effect,
     },
-    /// The result of GETFH: this filehandle. Nothing changes.
-    GivesHandle([u8; 8]),
+    /// An OK result, spelled: the values behind its status. Nothing changes.
+    GivesSpelled {
+        operation: Operation,
+        values: Vec<u8>,
+    },
     /// The COMPOUND is a retry: its whole result is the one that this slot keeps, which `Table::kept` gives.
     Replays(SlotId),
 }

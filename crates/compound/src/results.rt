@@ -6,6 +6,7 @@ use crate::fault::Fault;
 use crate::operated::{Effect, Operated};
 use crate::progress::Progress;
 use crate::running::Running;
+use crate::told::Told;
 use fs::FsFault;
 use model::status::Status;
 use wire::{Answer, Operation, Outcome};
@@ -18,10 +19,14 @@ const MOST_REPLY_BYTES: usize = 16_368;
 /// the status and the number of results.
 const AROUND_RESULTS: usize = 32;
 
+/// The bytes of a result before its values: its number and its status.
+const RESULT_FRONT: usize = 8;
+
 #[tactic(auto, unfolding(model::specs::World::outcome_text))]
 impl Running<'_> {
     ghost use Rattle.std.specs.Prelude.{◌≡◌, ◌+◌, ◌<◌, ◌≤◌, ◌^◌, ℕ, nat_le, length};
-    ghost use Rattle.model.specs.Answer.{Done, Refused};
+    ghost use Rattle.xdr.specs.Forms.{counted};
+    ghost use Rattle.model.specs.Answer.{Answer as Answered, Done, Refused};
     ghost use Rattle.model.specs.Operation.{Argument as Kind, operation_of};
     ghost use Rattle.model.specs.Session.{Table as Sessions};
     ghost use Rattle.model.specs.World.{reply_with, outcome_text};
@@ -29,7 +34,7 @@ impl Running<'_> {
     ghost use Rattle.wire.specs.OutcomeView.{answer_view, outcome_view};
     ghost use Rattle.wire.specs.Numbers.{number_of};
     ghost use Rattle.wire.specs.Short.{IsRefusal, IsShortAnswer};
-    ghost use Rattle.compound.specs.Operates.{Operates, RunsTo, GivesIn, IsAnswered, IsKept, left_by};
+    ghost use Rattle.compound.specs.Operates.{Operates, RunsTo, GivesIn, Spells, IsAnswered, IsKept, left_by};
     ghost use Rattle.compound.specs.States.{SharedState};
     ghost use Rattle.compound.specs.Trees.{IsUp, refusal, told};
     ghost use Rattle.compound.specs.Views.{in_progress_of};
@@ -42,10 +47,20 @@ impl Running<'_> {
         ensures { result ≡ nat_le
             (length (reply_with (in_progress_of self.now) (outcome_view outcome.now))) 16368 }
     {
+        self.has_room_for(outcome.size())
+    }
+
+    /// Whether the reply has room for a result of so many bytes, if it were the last one.
+    #[tactic(auto, unfolding(crate::specs::Views::in_progress_of))]
+    fn has_room_for(&self, result_size: usize) -> bool
+        requires { result_size < 2 ^ 63 + 8 }
+        ensures { result ≡ nat_le (32 + length (counted (in_progress_of self.now).tag)
+            + length (in_progress_of self.now).results + result_size) 16368 }
+    {
         let size = AROUND_RESULTS
             + opaque_size(self.compound.tag.bytes)
             + self.progress.results.len()
-            + outcome.size();
+            + result_size;
         size <= MOST_REPLY_BYTES
     }
 
@@ -66,6 +81,23 @@ impl Running<'_> {
             return self.refuse(operation, Status::RepTooBig);
         }
         Operated::Gives { outcome, effect }
+    }
+
+    /// What an operation comes to that changes nothing, and whose OK result is spelled: it is refused where the reply has no room.
+    pub(crate) fn settle_spelled(&self, operation: Operation, values: Vec<u8>) -> Operated
+        ensures gives { (now : ℕ) (state : SharedState) (kind : Kind) (answer : Answered)
+            → Spells (number_of operation) values.items answer
+            → number_of operation ≡ operation_of kind
+            → RunsTo now state state (in_progress_of self.now) (in_progress_of self.now) kind
+            (Done answer)
+            → Operates now state state (in_progress_of self.now) kind result }
+        ensures answered { IsAnswered (in_progress_of self.now) result }
+        ensures kept { (table : Sessions) → IsKept table result }
+    {
+        if !self.has_room_for(RESULT_FRONT + values.as_slice().len()) {
+            return self.refuse(operation, Status::RepTooBig);
+        }
+        Operated::GivesSpelled { operation, values }
     }
 
     /// What an operation comes to that is refused.
@@ -124,27 +156,42 @@ impl Running<'_> {
 }
 
 impl Progress {
-    ghost use Rattle.std.specs.Prelude.{◌≡◌, ◌+◌, ◌<◌, ◌≤◌, ◌^◌, ◌++◌, length};
-    ghost use Rattle.model.specs.World.{with_result, outcome_text};
-    ghost use Rattle.model.specs.WireAnswers as answers;
-    ghost use Rattle.wire.specs.OutcomeView.{outcome_view};
+    ghost use Rattle.std.specs.Prelude.{◌≡◌, ◌+◌, ◌<◌, ◌≤◌, ◌^◌, length};
+    ghost use Rattle.compound.specs.Told.{CanBeSpelled, told_text, with_told};
     ghost use Rattle.compound.specs.Views.{Asked, resumed};
 
-    /// Puts a result behind those so far.
-    #[tactic(auto, unfolding(model::specs::World::outcome_text))]
-    pub(crate) fn push_result(&mut self, outcome: &Outcome<'_>)
-        requires fits { answers.outcome.Fits (outcome_view outcome.now) }
-        requires more { self.old.answered + 1 < 2 ^ 32 }
-        requires room { length self.old.results.bytes
-            + length (outcome_text (outcome_view outcome.now)) ≤ 16384 }
-        ensures request { (asked : Asked) → resumed asked self.new
-            ≡ with_result (resumed asked self.old) (outcome_view outcome.now) }
-        ensures position { self.new.position ≡ self.old.position }
+    /// With one result more, behind those so far.
+    pub(crate) fn with_result(self, told: Told<'_>) -> Progress
+        requires spelled { CanBeSpelled told }
+        requires more { self.answered + 1 < 2 ^ 32 }
+        requires room { length self.results.bytes + length (told_text told) ≤ 16384 }
+        ensures request { (asked : Asked) → resumed asked result
+            ≡ with_told (resumed asked self) told.entry }
+        ensures position { result.position ≡ self.position }
     {
-        self.answered += 1;
-        match outcome.write(&mut self.results) {
-            Ok(()) => {}
-            Err(_) => unreachable!(),
+        let Progress {
+            position,
+            answered,
+            results,
+            kept,
+            reply,
+            client,
+            run,
+            current,
+            saved,
+            slot,
+        } = self;
+        Progress {
+            position,
+            answered: answered + 1,
+            results: told.write(results),
+            kept,
+            reply,
+            client,
+            run,
+            current,
+            saved,
+            slot,
         }
     }
 }

@@ -10,11 +10,12 @@ use crate::next::Next;
 use crate::operated::{Effect, Operated};
 use crate::progress::Progress;
 use crate::running::Running;
+use crate::told::Told;
 use disk::Device;
 use fs::Fs;
 use model::status::Status;
 use session::Table;
-use wire::{Answer, Outcome};
+use wire::Outcome;
 
 /// What a step leaves.
 #[derive(Drop)]
@@ -37,10 +38,11 @@ impl Running<'_> {
     ghost use Rattle.std.specs.Prelude.{◌≡◌, ◌≤◌, true, false, length, drop, IfOk, IfErr, OnErr};
     ghost use Rattle.fs.specs.FileSystems.{fs_of, Alters};
     ghost use Rattle.session.specs.Views.{table_of};
-    ghost use Rattle.wire.specs.OutcomeView.{outcome_view};
-    ghost use Rattle.compound.specs.Operates.{IsAnswered, IsKept, IsSpelled, left_by};
+    ghost use Rattle.model.specs.Answer as model;
+    ghost use Rattle.compound.specs.Operates.{IsAnswered, IsKept, left_by};
     ghost use Rattle.compound.specs.States.{shared_of};
     ghost use Rattle.compound.specs.Steps.{Steps, StaysInRun, GoesFurther, still_fits, stepped_on};
+    ghost use Rattle.compound.specs.Told.{CanBeTold, Tells};
     ghost use Rattle.compound.specs.Turns.{Turns, StandsBehind};
     ghost use Rattle.compound.specs.Views.{in_progress_of, asked_of};
     ghost use Rattle.compound.specs.Volumes.{TurnGives, ending, undone_ending};
@@ -83,13 +85,16 @@ impl Running<'_> {
         running.advance(position);
         match done {
             Operated::Replays(slot) => Ok(Stepped::Answered(running.repeat(table, &slot))),
-            Operated::GivesHandle(handle) => {
-                let outcome = Outcome::Done(Answer::GetFh(&handle));
-                Ok(running.answer(table, &outcome))
+            Operated::GivesSpelled { operation, values } => {
+                let told = Told::Spelled {
+                    operation,
+                    values: values.as_slice(),
+                };
+                Ok(running.answer(table, told))
             }
             Operated::Gives { outcome, effect } => {
                 running.leave(effect);
-                Ok(running.answer(table, &outcome))
+                Ok(running.answer(table, Told::Whole(&outcome)))
             }
         }
     }
@@ -141,22 +146,19 @@ impl Running<'_> {
     }
 
     /// The COMPOUND behind this result: it goes on, or the reply is there, since this result is the last one or not OK.
-    fn answer(self, table: &mut Table, outcome: &Outcome<'_>) -> Stepped
-        requires { IsSpelled (in_progress_of self) (outcome_view outcome.now) }
-        ensures stands { StandsBehind (table_of table.old) (table_of table.new)
-            (asked_of self.entry) (in_progress_of self.entry) (outcome_view outcome.now) result }
+    fn answer(self, table: &mut Table, told: Told<'_>) -> Stepped
+        requires { CanBeTold (in_progress_of self) told }
+        ensures stands { (outcome : model.Outcome) → Tells told.entry outcome
+            → StandsBehind (table_of table.old) (table_of table.new)
+            (asked_of self.entry) (in_progress_of self.entry) outcome result }
         ensures stays { StaysInRun (in_progress_of self.entry).context.run result }
         ensures further { GoesFurther (in_progress_of self.entry) result }
         ensures fits { still_fits (asked_of self.entry) result ≡ true }
     {
-        match outcome {
-            Outcome::Done(_) if !self.is_last() => {
-                let mut progress = self.progress;
-                progress.push_result(outcome);
-                Stepped::Ran(progress)
-            }
-            _ => Stepped::Answered(self.end(table, outcome)),
+        if told.is_ok() && !self.is_last() {
+            return Stepped::Ran(self.progress.with_result(told));
         }
+        Stepped::Answered(self.end(table, told))
     }
 }
 

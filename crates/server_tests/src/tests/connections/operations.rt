@@ -74,6 +74,36 @@ const ASK_RIGHTS: &str = "80000084 9 0 2 186a3 4 1 1 14 0 0 8 8 0 0 0 0 1 4
 /// To read and to look up.
 const RIGHTS: &str = "80000070 9 1 0 0 0 0 0 0 4 35 0 1 1 0 1 2 0 7 7 0 18 0 f 0 3 0 1f 3";
 
+/// Number 3 of slot 0: PUTROOTFH, LOOKUP of `a`, and GETATTR of mode and owner.
+const ASK_MODE: &str = "8000008c 9 0 2 186a3 4 1 1 14 0 0 7 7 0 0 0 0 1 4
+    35 1 1 0 1 3 0 0 0 18 f 1 61000000 9 2 0 12";
+
+/// Mode 755, and the owner `7`.
+const MODE: &str = "80000084 9 1 0 0 0 0 0 0 4
+    35 0 1 1 0 1 3 0 7 7 0 18 0 f 0 9 0 2 0 12 c 1ed 1 37000000";
+
+/// Number 4 of slot 0, by uid 8 and gid 8: PUTROOTFH, LOOKUP of `a`, GETATTR of nothing, and of its list.
+const ASK_LIST: &str = "80000090 9 0 2 186a3 4 1 1 14 0 0 8 8 0 0 0 0 1 5
+    35 1 1 0 1 4 0 0 0 18 f 1 61000000 9 0 9 1 1000";
+
+/// The list may not be read.
+const LIST_REFUSED: &str = "80000078 9 1 0 0 0 0 d 0 5
+    35 0 1 1 0 1 4 0 7 7 0 18 0 f 0 9 0 0 0 9 d";
+
+/// Number 5 of slot 0: PUTROOTFH, LOOKUP of `a`, SAVEFH, LOOKUPP, REMOVE of `a`, RESTOREFH, and GETATTR of the type.
+const ASK_GONE: &str = "800000a0 9 0 2 186a3 4 1 1 14 0 0 7 7 0 0 0 0 1 8
+    35 1 1 0 1 5 0 0 0 18 f 1 61000000 20 10 1c 1 61000000 1f 9 1 2";
+
+/// STALE. The root's change value goes from 1 1 to 1 2.
+const GONE: &str = "8000009c 9 1 0 0 0 0 46 0 8
+    35 0 1 1 0 1 5 0 7 7 0 18 0 f 0 20 0 10 0 1c 0 1 1 1 1 2 1f 0 9 46";
+
+/// Number 6 of slot 0: GETATTR without a filehandle.
+const ASK_NOTHING: &str = "80000078 9 0 2 186a3 4 1 1 14 0 0 7 7 0 0 0 0 1 2
+    35 1 1 0 1 6 0 0 0 9 1 2";
+
+const NOTHING_TOLD: &str = "80000058 9 1 0 0 0 0 2724 0 2 35 0 1 1 0 1 6 0 7 7 0 9 2724";
+
 /// Number 1 of slot 0: GETFH.
 const GET_NO_HANDLE: &str =
     "80000070 9 0 2 186a3 4 1 1 14 0 0 7 7 0 0 0 0 1 2 35 1 1 0 1 1 0 0 0 a";
@@ -109,11 +139,15 @@ const NAMES: [Step; 3] = [
     Asks(0, MOVE_NAMES, 10, NAMES_MOVED),
 ];
 
-const TOLD: [Step; 4] = [
+const TOLD: [Step; 8] = [
     Asks(0, EXCHANGE_ID, 1, EXCHANGED),
     Asks(0, CREATE_SESSION, 1, CREATED),
     Asks(0, ASK_OWN_RIGHTS, 4, OWN_RIGHTS),
     Asks(0, ASK_RIGHTS, 4, RIGHTS),
+    Asks(0, ASK_MODE, 4, MODE),
+    Asks(0, ASK_LIST, 5, LIST_REFUSED),
+    Asks(0, ASK_GONE, 8, GONE),
+    Asks(0, ASK_NOTHING, 2, NOTHING_TOLD),
 ];
 
 const WITHOUT_HANDLE: [Step; 3] = [
@@ -128,6 +162,6 @@ pub(super) const ROWS: [(&str, &[Step]); 6] = [
     ("a compound runs once", &RUN_ONCE),
     ("the tree is served", &SERVED),
     ("names move and go", &NAMES),
-    ("rights are told", &TOLD),
+    ("rights and attributes are told", &TOLD),
     ("there is no filehandle at first", &WITHOUT_HANDLE),
 ];

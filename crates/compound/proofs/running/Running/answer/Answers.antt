@@ -1,58 +1,68 @@
-use Rattle.std.proofs.Common.{◌≡◌, ◌+◌, ◌++◌, ◌≤◌, false, ap, sym, subst, ◌∙◌, arith}
+use Rattle.std.proofs.Common.{◌≡◌, ◌+◌, ◌++◌, ◌&&◌, Bool, true, false, not, ap, ap₂, sym, ◌∙◌, arith}
 use Rattle.std.proofs.lemmas.List.{length-append}
 use Rattle.std.specs.Prelude.{length}
-use Rattle.model.specs.Answer.{Outcome, Done}
-use Rattle.model.specs.World.{InProgress, is_last, outcome_text, reply_with}
+use Rattle.model.specs.World.{InProgress, is_last}
 use Rattle.session.specs.Views.{table_of}
-use Rattle.wire.specs.OutcomeView.{outcome_view, answer_view}
-use Rattle.compound.specs.Operates.{HasRoom}
+use Rattle.compound.specs.Told.{is_ok, told_text}
 use Rattle.compound.specs.Views.{in_progress_of, asked_of}
-use Rattle.compound.proofs.Replies.{room_length, spelled_short}
-use Rattle.compound.proofs.Resuming.{fits_by, goes_on}
+use Rattle.compound.proofs.Resuming.{fits_by}
+use Rattle.compound.proofs.Tellings.{ends_told, goes_on_told, ok_room, told_short}
+use Rattle.compound.proofs.running.Running.answer.Goals.{else-is_ok-via-then-is_ok+else-not-is_last, else-is_ok-via-else-is_ok}
 use Rattle.compound.proofs.running.Running.answer.Goals as goal
 
-pub push_result-requires-clause-room : goal.push_result-requires-clause-room
+pub with_result-requires-clause-room : goal.with_result-requires-clause-room
 unfolding in_progress_of
-push_result-requires-clause-room c =
-    omega (arith, spelled_short (in_progress_of c.args.self) (outcome_view c.args.outcome.now) c.requires c.args.self.brief, room_length (in_progress_of c.args.self) (outcome_view c.args.outcome.now))
+with_result-requires-clause-room c =
+    omega (arith, ok_room (in_progress_of c.args.self) c.args.told c.requires (sym c.is_ok.ensures ∙ c.if-is_ok.true))
 
-pub end-requires-clause-room : goal.end-requires-clause-room
+pub returns-then-not-is_last-clause-stands : goal.returns-then-not-is_last-clause-stands
 unfolding in_progress_of
-end-requires-clause-room c = spelled_short (in_progress_of c.args.self) (outcome_view c.args.outcome.now) c.requires c.args.self.brief
-
-pub returns-in-Done-clause-stands : goal.returns-in-Done-clause-stands
-unfolding in_progress_of
-returns-in-Done-clause-stands c =
+returns-then-not-is_last-clause-stands c = λ outcome is.
     let request = in_progress_of c.args.self in
-    let answer = answer_view c.in-Done.field-0 in
-    let is : outcome_view c.args.outcome.now ≡ Done answer = ap outcome_view c.in-Done.is in
-    let pushed = rw is at c.push_result.ensures.request (asked_of c.args.self) in
+    let ok : is_ok c.args.told ≡ true = sym c.is_ok.ensures ∙ c.if-is_ok.true in
     let more : is_last request ≡ false = sym c.is_last.ensures ∙ c.if-not-is_last.true in
-    rw is (goes_on (table_of c.args.table.now) (asked_of c.args.self) request answer c.push_result.new.self more pushed)
+    goes_on_told (table_of c.args.table.now) (asked_of c.args.self) request c.args.told outcome c.with_result.result ok more
+    (c.with_result.ensures.request (asked_of c.args.self)) is
 
-pub returns-in-Done-clause-stays : goal.returns-in-Done-clause-stays
+pub returns-then-not-is_last-clause-stays : goal.returns-then-not-is_last-clause-stays
 unfolding in_progress_of
-returns-in-Done-clause-stays c = ap (λ (r : InProgress). r.context.run) (c.push_result.ensures.request (asked_of c.args.self))
+returns-then-not-is_last-clause-stays c = ap (λ (r : InProgress). r.context.run) (c.with_result.ensures.request (asked_of c.args.self))
 
-pub returns-in-Done-clause-further : goal.returns-in-Done-clause-further
+pub returns-then-not-is_last-clause-further : goal.returns-then-not-is_last-clause-further
 unfolding in_progress_of
-returns-in-Done-clause-further c = ap (λ (r : InProgress). r.answered) (c.push_result.ensures.request (asked_of c.args.self))
+returns-then-not-is_last-clause-further c = ap (λ (r : InProgress). r.answered) (c.with_result.ensures.request (asked_of c.args.self))
 
-pub returns-in-Done-clause-fits : goal.returns-in-Done-clause-fits
+pub returns-then-not-is_last-clause-fits : goal.returns-then-not-is_last-clause-fits
 unfolding in_progress_of
-returns-in-Done-clause-fits c =
+returns-then-not-is_last-clause-fits c =
     let old = c.args.self.progress in
-    let new = c.push_result.new.self in
-    let request = in_progress_of c.args.self in
-    let text = outcome_text (outcome_view c.args.outcome.now) in
-    let is : outcome_view c.args.outcome.now ≡ Done (answer_view c.in-Done.field-0) = ap outcome_view c.in-Done.is in
-    let room : length (reply_with request (outcome_view c.args.outcome.now)) ≤ 16368 =
-    subst (λ (o : Outcome). length (reply_with request o) ≤ 16368) (sym is) (subst (HasRoom request) is c.requires.room) in
-    let pushed = c.push_result.ensures.request (asked_of c.args.self) in
+    let new = c.with_result.result in
+    let text = told_text c.args.told in
+    let room = ok_room (in_progress_of c.args.self) c.args.told c.requires (sym c.is_ok.ensures ∙ c.if-is_ok.true) in
+    let pushed = c.with_result.ensures.request (asked_of c.args.self) in
     let count : new.answered ≡ old.answered + 1 = ap (λ (r : InProgress). r.answered) pushed in
     let results : new.results.bytes ≡ old.results.bytes ++ text = ap (λ (r : InProgress). r.results) pushed in
-    let position = c.push_result.ensures.position in
+    let position = c.with_result.ensures.position in
     fits_by (asked_of c.args.self) new
     (grind (arith, c.is_last.ensures, c.if-not-is_last.true, c.args.self.more, count))
     (omega (arith, c.args.self.within, position))
-    (omega (arith, room, room_length request (outcome_view c.args.outcome.now), ap length results, length-append old.results.bytes text))
+    (omega (arith, room, ap length results, length-append old.results.bytes text))
+
+pub end-requires-clause-room : goal.end-requires-clause-room
+unfolding in_progress_of
+end-requires-clause-room c = told_short (in_progress_of c.args.self) c.args.told c.requires c.args.self.brief
+
+pub returns-clause-stands : goal.returns-clause-stands
+unfolding in_progress_of
+returns-clause-stands c =
+    let request = in_progress_of c.args.self in
+    let ends : (is_ok c.args.told && not (is_last request)) ≡ false =
+    elim c.else-is_ok.branch [
+      | else-is_ok-via-then-is_ok+else-not-is_last w ↦
+          ap₂ (λ (a b : Bool). a && not b) (sym c.is_ok.ensures ∙ w.if-is_ok.true) (sym w.is_last.ensures ∙ w.if-not-is_last.false)
+      | else-is_ok-via-else-is_ok w ↦
+          ap (λ (a : Bool). a && not (is_last request)) (sym c.is_ok.ensures ∙ w.if-is_ok.false)
+    ] in
+    λ outcome is.
+    ends_told (table_of c.args.table.now) (table_of c.end.new.table) (asked_of c.args.self) request c.args.told outcome c.end.result ends
+    c.end.ensures.reply c.end.ensures.kept is

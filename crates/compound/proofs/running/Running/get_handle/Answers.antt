@@ -2,7 +2,7 @@ use Rattle.std.proofs.Common.{sym, subst, refl, Err}
 use Rattle.fs.specs.FileSystems.{fs_of}
 use Rattle.fs.specs.Operations.{GetsHandle}
 use Rattle.fs.specs.declared.fault.FsFault.{FsFault}
-use Rattle.model.specs.Answer.{Refused}
+use Rattle.model.specs.Answer.{Answer, Refused}
 use Rattle.model.specs.Operation.{Argument}
 use Rattle.model.specs.declared.status.Status.{Status}
 use Rattle.compound.specs.Operates.{GivesIn}
@@ -37,11 +37,12 @@ refuse-requires-in-Err-handle g c =
     (subst (λ (why : FsFault). GetsHandle fs state 0 (Err why)) c.status_of.ensures
     (c.in-Err-handle.ensures.step request.context.cred state 0 (is_on fs request _ _ c.requires.run c.in-Ok.ensures.ok.0 c.in-Ok.ensures.ok.1 (is_there fs request))))
 
-pub returns-in-Ok-handle-clause-gives : goal.returns-in-Ok-handle-clause-gives
-returns-in-Ok-handle-clause-gives g c = λ now table opens.
+pub returns-in_ok-values-in-Ok-handle-clause-gives : goal.returns-in_ok-values-in-Ok-handle-clause-gives
+returns-in_ok-values-in-Ok-handle-clause-gives g c = λ now table opens.
     let fs = fs_of c.args.fs.now in
     let request = in_progress_of c.args.self.now in
-    c.settle_handle.ensures.gives now (shared fs table opens)
+    c.settle_spelled.ensures.gives now (shared fs table opens) Argument.GetFh (Answer.GetFh c.in-Ok-handle.handle)
+    (record { number_is = refl; values_are = sym c.in_ok-values-in-Ok-handle.ensures.ok }) refl
     (got_ok now fs table opens request c.in-Ok-handle.handle
     (λ state there. c.in-Ok-handle.ensures.step request.context.cred state now (is_on fs request _ _ c.requires.run c.in-Ok.ensures.ok.0 c.in-Ok.ensures.ok.1 there)))
 

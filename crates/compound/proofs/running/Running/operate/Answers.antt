@@ -1,4 +1,4 @@
-use Rattle.std.proofs.Common.{◌≡◌, ℕ, Result, Ok, Err, IfOk, refl, ap, ◌∙◌}
+use Rattle.std.proofs.Common.{ℕ, Result, Ok, Err, IfOk, refl, ap, ◌∙◌}
 use Rattle.fs.specs.FileSystems.{fs_of, fs_failures}
 use Rattle.model.specs.Opens.{no_opens}
 use Rattle.model.specs.Operation.{Argument}
@@ -7,8 +7,8 @@ use Rattle.model.specs.World.{InProgress}
 use Rattle.session.specs.Views.{table_of, reply_kept}
 use Rattle.wire.specs.ArgumentView.{argument_view}
 use Rattle.fs.specs.FileSystem.{FileSystem}
-use Rattle.compound.specs.Operates.{Operates, ChangesTable, IsKept}
-use Rattle.compound.specs.States.{SharedState, shared, without_opens, shared_of}
+use Rattle.compound.specs.Operates.{Operates, OnlyReads, ChangesTable, IsKept}
+use Rattle.compound.specs.States.{SharedState, without_opens, shared_of}
 use Rattle.compound.specs.declared.fault.Fault.{Fault}
 use Rattle.compound.specs.declared.operated.Operated.{Operated}
 use Rattle.compound.specs.declared.operated.Operated.TheVariants as operated
@@ -37,8 +37,13 @@ returns-in-LookupParent-clause-volume g c =
 
 pub returns-in-GetFh-clause-volume : goal.returns-in-GetFh-clause-volume
 returns-in-GetFh-clause-volume g c =
-    quiet_changes g.D.Device.keeps_word (shared_of c.args.fs.now c.args.table.now) (fs_failures c.args.fs.now) (in_progress_of c.args.self.now) c.args.now (argument_view c.args.argument.now)
-    c.requires.up (rw c.in-GetFh.is refl)
+    quiet_result g.D.Device.keeps_word (shared_of c.args.fs.now c.args.table.now) (fs_failures c.args.fs.now) (in_progress_of c.args.self.now) c.args.now (argument_view c.args.argument.now) c.get_handle.result
+    c.requires.up (rw c.in-GetFh.is refl) (λ reason is. rw is at c.get_handle.ensures.err)
+
+pub returns-in-GetAttr-clause-volume : goal.returns-in-GetAttr-clause-volume
+returns-in-GetAttr-clause-volume g c =
+    quiet_result g.D.Device.keeps_word (shared_of c.args.fs.now c.args.table.now) (fs_failures c.args.fs.now) (in_progress_of c.args.self.now) c.args.now (argument_view c.args.argument.now) c.get_attributes.result
+    c.requires.up (rw c.in-GetAttr.is refl) (λ reason is. rw is at c.get_attributes.ensures.err)
 
 pub returns-in-Lookup-clause-volume : goal.returns-in-Lookup-clause-volume
 returns-in-Lookup-clause-volume g c =
@@ -95,11 +100,35 @@ returns-in-CreateSession-clause-volume g c =
     quiet_result g.D.Device.keeps_word (shared_of c.args.fs.now c.args.table.now) (fs_failures c.args.fs.now) (in_progress_of c.args.self.now) c.args.now (argument_view c.args.argument.now) c.create_session.result
     c.requires.up (rw c.in-CreateSession.is refl) (λ reason is. (rw is at c.create_session.ensures.err).0)
 
+-- A reply that is sent again is there
+
+kept_of : (now : ℕ) (old new : SharedState) (request : InProgress) (operation : Argument) (done : Operated) → Operates now old new request operation done → IsKept new.table done
+kept_of now old new request operation (operated.Gives outcome left) runs = tt
+kept_of now old new request operation (operated.GivesSpelled kind values) runs = tt
+kept_of now old new request operation (operated.Replays slot) runs = (runs.0, ap (λ (s : SharedState). reply_kept slot.session slot.slot s.table) runs.1 ∙ runs.2)
+
+-- One that changes nothing, and is refused for memory alone
+
+told_if : (now : ℕ) (files : FileSystem) (table : Table) (request : InProgress) (operation : Argument) (result : Result Operated Fault)
+    → IfOk result (OnlyReads files request operation) → IfOk result (Operates now (without_opens files table) (without_opens files table) request operation)
+told_if now files table request operation (Ok done) reads = reads now table no_opens
+told_if now files table request operation (Err fault) reads = tt
+
+told_kept : (now : ℕ) (files : FileSystem) (table : Table) (request : InProgress) (operation : Argument) (result : Result Operated Fault)
+    → IfOk result (OnlyReads files request operation) → IfOk result (IsKept table)
+told_kept now files table request operation (Ok done) reads = kept_of now (without_opens files table) (without_opens files table) request operation done (reads now table no_opens)
+told_kept now files table request operation (Err fault) reads = tt
+
 pub returns-in-Access-clause-gives : goal.returns-in-Access-clause-gives
 returns-in-Access-clause-gives g c = λ keeps. rw c.in-Access.is (c.access.ensures.gives c.args.now (table_of c.args.table.now) no_opens)
 
 pub returns-in-GetFh-clause-gives : goal.returns-in-GetFh-clause-gives
-returns-in-GetFh-clause-gives g c = λ keeps. rw c.in-GetFh.is (c.get_handle.ensures.gives c.args.now (table_of c.args.table.now) no_opens)
+returns-in-GetFh-clause-gives g c = λ keeps. rw c.in-GetFh.is
+    (told_if c.args.now (fs_of c.args.fs.now) (table_of c.args.table.now) (in_progress_of c.args.self.now) Argument.GetFh c.get_handle.result c.get_handle.ensures.gives)
+
+pub returns-in-GetAttr-clause-gives : goal.returns-in-GetAttr-clause-gives
+returns-in-GetAttr-clause-gives g c = λ keeps. rw c.in-GetAttr.is
+    (told_if c.args.now (fs_of c.args.fs.now) (table_of c.args.table.now) (in_progress_of c.args.self.now) _ c.get_attributes.result c.get_attributes.ensures.gives)
 
 pub returns-in-Lookup-clause-gives : goal.returns-in-Lookup-clause-gives
 returns-in-Lookup-clause-gives g c = λ keeps. rw c.in-Lookup.is (c.look_up.ensures.gives c.args.now (table_of c.args.table.now) no_opens)
@@ -133,11 +162,6 @@ returns-in-ReclaimComplete-clause-gives g c = λ keeps. rw c.in-ReclaimComplete.
 
 -- A reply that is sent again is there
 
-kept_of : (now : ℕ) (old new : SharedState) (request : InProgress) (operation : Argument) (done : Operated) → Operates now old new request operation done → IsKept new.table done
-kept_of now old new request operation (operated.Gives outcome left) runs = tt
-kept_of now old new request operation (operated.GivesHandle handle) runs = tt
-kept_of now old new request operation (operated.Replays slot) runs = (runs.0, ap (λ (s : SharedState). reply_kept slot.session slot.slot s.table) runs.1 ∙ runs.2)
-
 kept_if : (now : ℕ) (files : FileSystem) (old new : Table) (request : InProgress) (operation : Argument) (result : Result Operated Fault)
     → IfOk result (ChangesTable old new request operation) → IfOk result (IsKept new)
 kept_if now files old new request operation (Ok done) runs = kept_of now (without_opens files old) (without_opens files new) request operation done (runs now files)
@@ -159,8 +183,11 @@ returns-in-Access-clause-kept g c =
 
 pub returns-in-GetFh-clause-kept : goal.returns-in-GetFh-clause-kept
 returns-in-GetFh-clause-kept g c =
-    kept_of c.args.now (shared_of c.args.fs.now c.args.table.now) (shared_of c.args.fs.now c.args.table.now) (in_progress_of c.args.self.now) _ c.get_handle.result
-    (c.get_handle.ensures.gives c.args.now (table_of c.args.table.now) no_opens)
+    told_kept c.args.now (fs_of c.args.fs.now) (table_of c.args.table.now) (in_progress_of c.args.self.now) _ c.get_handle.result c.get_handle.ensures.gives
+
+pub returns-in-GetAttr-clause-kept : goal.returns-in-GetAttr-clause-kept
+returns-in-GetAttr-clause-kept g c =
+    told_kept c.args.now (fs_of c.args.fs.now) (table_of c.args.table.now) (in_progress_of c.args.self.now) _ c.get_attributes.result c.get_attributes.ensures.gives
 
 pub returns-in-Lookup-clause-kept : goal.returns-in-Lookup-clause-kept
 returns-in-Lookup-clause-kept g c =

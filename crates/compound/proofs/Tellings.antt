@@ -1,0 +1,143 @@
+-- What a result leaves, whole or spelled.
+use Rattle.std.proofs.Common.{◌≡◌, ℕ, ◌+◌, ◌≤◌, Bool, true, false, not, ◌&&◌, List, ◌++◌, length, refl, sym, ap, ap₂, subst, ◌∙◌, arith, length-append, nat_le, leb-true}
+use Rattle.std.specs.Global.{Vec}
+use Rattle.std.specs.Int.{w32}
+use Rattle.xdr.specs.Forms.{counted}
+use Rattle.xdr.specs.Grammar.{number}
+use Rattle.xdr.proofs.Sizes.{int_length}
+use Rattle.wire.specs.Numbers.{number_of}
+use Rattle.model.specs.Answer.{Answer, Outcome, Done, Refused}
+use Rattle.model.specs.Record.{framed}
+use Rattle.model.specs.Rpc.{Success, reply_text}
+use Rattle.model.specs.Runs.{is_done}
+use Rattle.model.specs.Session.{Table}
+use Rattle.model.specs.WireAnswers as answers
+use Rattle.model.specs.World.{InProgress, is_last, kept_by, outcome_text, reply_with, result_of, status_of, with_result}
+use Rattle.wire.specs.OutcomeView.{outcome_view}
+use Rattle.compound.specs.Operates.{HasRoom, HasRoomFor, Spells, spelled_text}
+use Rattle.compound.specs.Told.{CanBeSpelled, CanBeTold, Tells, is_ok, last_told, reply_told, told_status, told_text, with_told}
+use Rattle.compound.specs.Turns.{StandsBehind}
+use Rattle.compound.specs.Views.{Asked, resumed}
+use Rattle.compound.specs.declared.progress.Progress.{Progress}
+use Rattle.compound.specs.declared.step.Stepped.TheVariants as stepped
+use Rattle.compound.specs.declared.told.Told.{Told}
+use Rattle.compound.specs.declared.told.Told.TheVariants as told
+use Rattle.compound.proofs.Replies.{reply_length, room_length, spelled_short}
+use Rattle.compound.proofs.Resuming.{goes_on}
+
+-- its spelling is the definition's
+
+done_text : (answer : Answer) → spelled_text (answers.answer_told answer).number (answers.answer_told answer).text ≡ outcome_text (Done answer)
+unfolding outcome_text
+done_text answer = refl
+
+spelled_is : (operation : ℕ) (values : List ℕ) (answer : Answer) → Spells operation values answer → spelled_text operation values ≡ outcome_text (Done answer)
+spelled_is operation values answer is = ap₂ spelled_text (sym is.number_is) (sym is.values_are) ∙ done_text answer
+
+spelled_length : (operation : ℕ) (values : List ℕ) → length (spelled_text operation values) ≡ 8 + length values
+spelled_length operation values = omega (
+  arith,
+  length-append (number w32 operation) (number w32 0 ++ values),
+  length-append (number w32 0) values,
+  int_length operation,
+  int_length 0,
+)
+
+-- how much room it needs
+room_spelled : (request : InProgress) (operation : ℕ) (values : List ℕ) (answer : Answer) → Spells operation values answer
+    → length (reply_with request (Done answer)) ≡ 32 + length (counted request.tag) + length request.results + (8 + length values)
+room_spelled request operation values answer is =
+    omega (arith, room_length request (Done answer), ap length (spelled_is operation values answer is), spelled_length operation values)
+
+pub room_for_spelled : (request : InProgress) (operation : ℕ) (values : List ℕ) (answer : Answer) (size : ℕ) (room : Bool) → Spells operation values answer
+    → size ≡ length values → room ≡ nat_le (32 + length (counted request.tag) + length request.results + (8 + size)) 16368
+    → room ≡ nat_le (length (reply_with request (Done answer))) 16368
+room_for_spelled request operation values answer size room is same has =
+    has ∙ (ap (λ (n : ℕ). nat_le (32 + length (counted request.tag) + length request.results + (8 + n)) 16368) same
+    ∙ ap (λ (n : ℕ). nat_le n 16368) (sym (room_spelled request operation values answer is)))
+
+pub has_room_for : (request : InProgress) (operation : ℕ) (values : List ℕ) (size : ℕ) → size ≡ length values
+    → nat_le (32 + length (counted request.tag) + length request.results + (8 + size)) 16368 ≡ true
+    → HasRoomFor request (spelled_text operation values)
+has_room_for request operation values size same has =
+    omega (arith, same, spelled_length operation values, leb-true (32 + length (counted request.tag) + length request.results + (8 + size)) 16368 has)
+
+pub text_is : (result : Told) (outcome : Outcome) → Tells result outcome → told_text result ≡ outcome_text outcome
+text_is (told.Whole whole) outcome is = ap outcome_text (sym is)
+text_is (told.Spelled operation values) outcome is = spelled_is (number_of operation) values.now is.0 is.2 ∙ ap outcome_text (sym is.1)
+
+pub status_is : (result : Told) (outcome : Outcome) → Tells result outcome → told_status result ≡ status_of outcome
+status_is (told.Whole whole) outcome is = ap status_of (sym is)
+status_is (told.Spelled operation values) outcome is = ap status_of (sym is.1)
+
+pub ok_is : (result : Told) (outcome : Outcome) → Tells result outcome → is_ok result ≡ is_done outcome
+ok_is (told.Whole whole) outcome is = ap is_done (sym is)
+ok_is (told.Spelled operation values) outcome is = ap is_done (sym is.1)
+
+pub request_is : (request : InProgress) (result : Told) (outcome : Outcome) → Tells result outcome → with_told request result ≡ with_result request outcome
+request_is request result outcome is =
+    ap (λ (text : List ℕ). record request { answered = request.answered + 1; results = request.results ++ text }) (text_is result outcome is)
+
+pub last_is : (request : InProgress) (result : Told) (outcome : Outcome) → Tells result outcome → last_told request result ≡ result_of (with_result request outcome) (status_of outcome)
+last_is request result outcome is = ap₂ result_of (request_is request result outcome is) (status_is result outcome is)
+
+-- How long the reply is
+
+pub told_length : (request : InProgress) (result : Told)
+    → length (reply_told request result) ≡ 32 + length (counted request.tag) + length request.results + length (told_text result)
+told_length request result = reply_length request.xid (told_status result) request.tag (request.answered + 1) request.results (told_text result)
+
+pub told_short : (request : InProgress) (result : Told) → CanBeTold request result
+    → 32 + length (counted request.tag) + length request.results ≤ 16368 → length (reply_told request result) ≤ 16384
+told_short request (told.Whole outcome) can brief = spelled_short request (outcome_view outcome.now) can brief
+told_short request (told.Spelled operation values) can brief = omega (arith, told_length request (told.Spelled operation values), can)
+
+pub ok_room : (request : InProgress) (result : Told) → CanBeTold request result → is_ok result ≡ true
+    → 32 + length (counted request.tag) + length request.results + length (told_text result) ≤ 16368
+ok_room request (told.Whole outcome) can ok = by_outcome (outcome_view outcome.now) refl
+  where
+    by_outcome : (of : Outcome) → outcome_view outcome.now ≡ of → 32 + length (counted request.tag) + length request.results + length (outcome_text (outcome_view outcome.now)) ≤ 16368
+    by_outcome (Done answer) is = omega (arith, room_length request (outcome_view outcome.now), room)
+      where
+        room : length (reply_with request (outcome_view outcome.now)) ≤ 16368
+        room = subst (λ (o : Outcome). length (reply_with request o) ≤ 16368) (sym is) (subst (HasRoom request) is can.room)
+    by_outcome (Refused n reason) is = let never : ⊥ = cc in absurd never
+ok_room request (told.Spelled operation values) can ok = can
+
+pub can_spell : (request : InProgress) (result : Told) → CanBeTold request result → CanBeSpelled result
+can_spell request (told.Whole outcome) can = can.fits
+can_spell request (told.Spelled operation values) can = tt
+
+-- Behind an OK result that is not the last one the COMPOUND goes on
+
+goes_on_by : (table : Table) (asked : Asked) (request : InProgress) (outcome : Outcome) (progress : Progress) → is_done outcome ≡ true → is_last request ≡ false
+    → resumed asked progress ≡ with_result request outcome → StandsBehind table table asked request outcome (stepped.Ran progress)
+goes_on_by table asked request (Done answer) progress done more pushed = goes_on table asked request answer progress more pushed
+goes_on_by table asked request (Refused n reason) progress done more pushed = let never : ⊥ = cc in absurd never
+
+pub goes_on_told : (table : Table) (asked : Asked) (request : InProgress) (result : Told) (outcome : Outcome) (progress : Progress) → is_ok result ≡ true → is_last request ≡ false
+    → resumed asked progress ≡ with_told request result → Tells result outcome → StandsBehind table table asked request outcome (stepped.Ran progress)
+goes_on_told table asked request result outcome progress ok more pushed is =
+    goes_on_by table asked request outcome progress (sym (ok_is result outcome is) ∙ ok) more (pushed ∙ request_is request result outcome is)
+
+-- else the reply is there
+
+ends_by : (old new : Table) (asked : Asked) (request : InProgress) (outcome : Outcome) (reply : Vec ℕ) → (is_done outcome && not (is_last request)) ≡ false
+    → reply.items ≡ framed (reply_text request.xid (Success (result_of (with_result request outcome) (status_of outcome))))
+    → new ≡ kept_by request.slot (result_of (with_result request outcome) (status_of outcome)) old
+    → StandsBehind old new asked request outcome (stepped.Answered reply)
+ends_by old new asked request (Refused n reason) reply ends reply_is kept = λ world number executed here. rw (reply_is, kept, ← here) (refl, refl)
+ends_by old new asked request (Done answer) reply ends reply_is kept = λ world number executed here. rw (is_end (is_last request) ends, reply_is, kept, ← here) (refl, refl)
+  where
+    is_end : (last : Bool) → (true && not last) ≡ false → last ≡ true
+    is_end true is = refl
+    is_end false is = absurd cc
+
+pub ends_told : (old new : Table) (asked : Asked) (request : InProgress) (result : Told) (outcome : Outcome) (reply : Vec ℕ) → (is_ok result && not (is_last request)) ≡ false
+    → reply.items ≡ framed (reply_told request result) → new ≡ kept_by request.slot (last_told request result) old → Tells result outcome
+    → StandsBehind old new asked request outcome (stepped.Answered reply)
+ends_told old new asked request result outcome reply ends reply_is kept is =
+    let last = last_is request result outcome is in
+    ends_by old new asked request outcome reply (ap (λ (b : Bool). b && not (is_last request)) (sym (ok_is result outcome is)) ∙ ends)
+    (reply_is ∙ ap (λ (bytes : List ℕ). framed (reply_text request.xid (Success bytes))) last)
+    (kept ∙ ap (λ (bytes : List ℕ). kept_by request.slot bytes old) last)

@@ -1,0 +1,55 @@
+-- A result on its way into the reply.
+use Rattle.std.specs.Prelude.{◌≡◌, ◌+◌, Bool, true, List, ℕ, ◌++◌, ⊤}
+use Rattle.model.specs.Answer as model
+use Rattle.model.specs.Rpc.{Success, reply_text}
+use Rattle.model.specs.Runs.{is_done}
+use Rattle.model.specs.WireAnswers as answers
+use Rattle.model.specs.World.{InProgress, outcome_text, status_of, result_of}
+use Rattle.model.specs.declared.status.Status.{Status}
+use Rattle.model.specs.declared.status.Status.TheVariants as status
+use Rattle.wire.specs.Numbers.{number_of}
+use Rattle.wire.specs.OutcomeView.{outcome_view}
+use Rattle.compound.specs.Operates.{IsSpelled, Spells, HasRoomFor, spelled_text}
+use Rattle.compound.specs.declared.told.Told.{Told}
+use Rattle.compound.specs.declared.told.Told.TheVariants as told
+
+-- what is spelled of it
+abbrev pub told_text : Told → List ℕ
+told_text (told.Whole outcome) = outcome_text (outcome_view outcome.now)
+told_text (told.Spelled operation values) = spelled_text (number_of operation) values.now
+
+abbrev pub told_status : Told → Status
+told_status (told.Whole outcome) = status_of (outcome_view outcome.now)
+told_status (told.Spelled operation values) = status.Ok
+
+abbrev pub is_ok : Told → Bool
+is_ok (told.Whole outcome) = is_done (outcome_view outcome.now)
+is_ok (told.Spelled operation values) = true
+
+-- it is this result of the definition
+abbrev pub Tells : Told → model.Outcome → Type 0
+Tells (told.Whole outcome) result = result ≡ outcome_view outcome.now
+Tells (told.Spelled operation values) result =
+    (answer : model.Answer) × (result ≡ model.Done answer) × Spells (number_of operation) values.now answer
+
+-- it has a spelling
+abbrev pub CanBeSpelled : Told → Type 0
+CanBeSpelled (told.Whole outcome) = answers.outcome.Fits (outcome_view outcome.now)
+CanBeSpelled (told.Spelled operation values) = ⊤
+
+-- the reply has room for it
+abbrev pub CanBeTold : InProgress → Told → Type 0
+CanBeTold request (told.Whole outcome) = IsSpelled request (outcome_view outcome.now)
+CanBeTold request (told.Spelled operation values) = HasRoomFor request (spelled_text (number_of operation) values.now)
+
+-- the request behind it
+abbrev pub with_told : InProgress → Told → InProgress
+with_told request result = record request { answered = request.answered + 1; results = request.results ++ told_text result }
+
+-- the whole result of a COMPOUND, where it is the last one of an operation
+abbrev pub last_told : InProgress → Told → List ℕ
+last_told request result = result_of (with_told request result) (told_status result)
+
+-- and the reply, without the record's header
+abbrev pub reply_told : InProgress → Told → List ℕ
+reply_told request result = reply_text request.xid (Success (last_told request result))

@@ -1,0 +1,64 @@
+//! GETATTR (RFC 8881, section 18.7).
+
+use crate::fault::Fault;
+use crate::operated::Operated;
+use crate::running::Running;
+use crate::tree::status_of;
+use disk::Device;
+use fs::Fs;
+use std::alloc::Global;
+use wire::{Bitmap, Operation};
+use wire_attributes::AttributesAnswer;
+use xdr::Writer;
+
+impl Running<'_> {
+    ghost use Rattle.std.specs.Prelude.{◌≡◌, false, IfOk, IfErr};
+    ghost use Rattle.fs.specs.FileSystems.{fs_of};
+    ghost use Rattle.model.specs.Operation as operations;
+    ghost use Rattle.compound.specs.Operates.{OnlyReads, IsAnswered};
+    ghost use Rattle.compound.specs.Views.{in_progress_of};
+    ghost use Rattle.compound.specs.declared.fault.Fault.TheVariants.{Memory};
+
+    /// GETATTR: the attributes of the current node that are asked, as far as the server has them.
+    pub(crate) fn get_attributes<D: Device>(
+        &self,
+        fs: &Fs<D>,
+        asked: &Bitmap,
+    ) -> Result<Operated, Fault>
+        requires up { (fs_of fs.now).volume.is_down ≡ false }
+        requires run { (in_progress_of self.now).context.run ≡ (fs_of fs.now).volume.run }
+        ensures gives { IfOk result (OnlyReads (fs_of fs.now) (in_progress_of self.now)
+            (operations.Argument.GetAttr asked.now)) }
+        ensures answered { IfOk result (IsAnswered (in_progress_of self.now)) }
+        ensures err { IfErr result (λ fault. fault ≡ Memory) }
+    {
+        let number = match self.current_node() {
+            Ok(number) => number,
+            Err(status) => return Ok(self.refuse(Operation::GetAttr, status)),
+        };
+        match fs.attributes(&self.cred, number, asked.as_slice()) {
+            Ok(answer) => {
+                let values = spelled(self.alloc, &answer)?;
+                Ok(self.settle_spelled(Operation::GetAttr, values))
+            }
+            Err(fault) => Ok(self.refuse(Operation::GetAttr, status_of(fault))),
+        }
+    }
+}
+
+ghost use Rattle.std.specs.Prelude.{◌≡◌, IfOk, IfErr};
+ghost use Rattle.model.specs.WireAnswers.{answered_attributes};
+ghost use Rattle.wire_attributes.specs.NodeValues.{HasFewEntries, answer_view};
+ghost use Rattle.compound.specs.declared.fault.Fault.TheVariants.{Memory};
+
+/// The attributes as the result has them.
+fn spelled(alloc: Global, answer: &AttributesAnswer<'_>) -> Result<Vec<u8>, Fault>
+    requires { HasFewEntries answer.now.node }
+    ensures ok { IfOk result (λ values.
+        values.items ≡ answered_attributes.spelling (answer_view answer.now)) }
+    ensures err { IfErr result (λ fault. fault ≡ Memory) }
+{
+    let mut out = Writer::with_capacity(alloc, answer.size())?;
+    answer.write(&mut out)?;
+    Ok(out.into_vec())
+}

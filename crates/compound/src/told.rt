@@ -1,0 +1,114 @@
+//! A result on its way into the reply.
+
+use model::status::Status;
+use wire::{Operation, Outcome};
+use xdr::{Refusal, Writer};
+
+/// A result of an operation, as it goes into the reply.
+#[derive(Clone, Copy)]
+pub(crate) enum Told<'a> {
+    Whole(&'a Outcome<'static>),
+    /// An OK result, of which the values behind the status are spelled already.
+    Spelled {
+        operation: Operation,
+        values: &'a [u8],
+    },
+}
+
+impl Told<'_> {
+    ghost use Rattle.std.specs.Prelude.{◌≡◌, ◌+◌, ◌≤◌, ◌++◌, length};
+    ghost use Rattle.compound.specs.Told.{CanBeSpelled, told_text, told_status, is_ok};
+
+    /// Whether its status is OK.
+    pub(crate) fn is_ok(&self) -> bool
+        ensures { result ≡ is_ok self.now }
+    {
+        !matches!(self, Told::Whole(Outcome::Refused { .. }))
+    }
+
+    /// The status.
+    pub(crate) fn status(&self) -> Status
+        ensures { result ≡ told_status self.now }
+    {
+        match self {
+            Told::Whole(Outcome::Refused { status, .. }) => *status,
+            _ => Status::Ok,
+        }
+    }
+
+    /// It is spelled behind other results.
+    pub(crate) fn write(&self, results: Writer) -> Writer
+        requires spelled { CanBeSpelled self.now }
+        requires room { length results.bytes + length (told_text self.now) ≤ results.capacity }
+        ensures bytes { result.bytes ≡ results.bytes ++ told_text self.now }
+        ensures capacity { results.capacity ≤ result.capacity }
+    {
+        match self {
+            Told::Whole(outcome) => write_outcome(results, outcome),
+            Told::Spelled { operation, values } => write_spelled(results, *operation, values),
+        }
+    }
+}
+
+ghost use Rattle.std.specs.Prelude.{◌≡◌, ◌+◌, ◌≤◌, ◌++◌, length};
+ghost use Rattle.std.specs.Int.{w32};
+ghost use Rattle.xdr.specs.Clauses.{Wrote};
+ghost use Rattle.xdr.specs.Grammar.{number};
+ghost use Rattle.model.specs.WireAnswers as answers;
+ghost use Rattle.model.specs.World.{outcome_text};
+ghost use Rattle.wire.specs.Numbers.{number_of};
+ghost use Rattle.wire.specs.OutcomeView.{outcome_view};
+ghost use Rattle.compound.specs.Operates.{spelled_text};
+
+/// The results, and one more.
+#[tactic(auto, unfolding(model::specs::World::outcome_text))]
+fn write_outcome(results: Writer, outcome: &Outcome<'_>) -> Writer
+    requires fits { answers.outcome.Fits (outcome_view outcome.now) }
+    requires room { length results.bytes + length (outcome_text (outcome_view outcome.now))
+        ≤ results.capacity }
+    ensures bytes { result.bytes ≡ results.bytes ++ outcome_text (outcome_view outcome.now) }
+    ensures capacity { results.capacity ≤ result.capacity }
+{
+    let mut results = results;
+    match outcome.write(&mut results) {
+        Ok(()) => results,
+        Err(_) => unreachable!(),
+    }
+}
+
+/// The results, and one more whose values are spelled already.
+fn write_spelled(results: Writer, operation: Operation, values: &[u8]) -> Writer
+    requires { length results.bytes + length (spelled_text (number_of operation) values.now)
+        ≤ results.capacity }
+    ensures bytes { result.bytes
+        ≡ results.bytes ++ spelled_text (number_of operation) values.now }
+    ensures capacity { results.capacity ≤ result.capacity }
+{
+    let mut front = results;
+    match write_front(&mut front, operation) {
+        Ok(()) => append(front, values),
+        Err(_) => unreachable!(),
+    }
+}
+
+/// Writes the number and the status OK. A refusal may leave a front of them.
+#[tactic(auto, using(xdr::proofs::Writing::wrote_on, xdr::proofs::Writing::wrote_exit, xdr::proofs::Writing::wrote_end))]
+fn write_front(w: &mut Writer, operation: Operation) -> Result<(), Refusal>
+    ensures { Wrote w.old w.new result (number w32 (number_of operation) ++ number w32 0) }
+{
+    w.write_u32(operation.number())?;
+    w.write_u32(0)
+}
+
+/// The bytes that were written, and others behind them as they are.
+fn append(front: Writer, values: &[u8]) -> Writer
+    requires { length front.bytes + length values.now ≤ front.capacity }
+    ensures bytes { result.bytes ≡ front.bytes ++ values.now }
+    ensures capacity { front.capacity ≤ result.capacity }
+{
+    let mut bytes = front.into_vec();
+    match bytes.extend_from_slice(values) {
+        Ok(()) => Writer::from_vec(bytes),
+        Err(_) => unreachable!(),
+    }
+}
