@@ -3,6 +3,7 @@ pub mod AttributeLaws
 pub mod BytesLaws
 pub mod CardViews
 pub mod ChangeLaws
+pub mod CreatedLaws
 pub mod Creating
 pub mod EntryLaws
 pub mod FileSteps
@@ -12,10 +13,10 @@ pub mod FrontLaws
 pub mod HandleLaws
 pub mod KeptLaws
 pub mod LookupTests
-pub mod MadeLaws
+pub mod MakingLaws
+pub mod MakingPlans
+pub mod NodePlans
 pub mod PlacedLaws
-pub mod PlanLaws
-pub mod PlannedLaws
 pub mod ReadLaws
 pub mod ReadingLaws
 pub mod RemovalPlans

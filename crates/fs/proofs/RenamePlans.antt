@@ -43,7 +43,7 @@ use Rattle.fs.proofs.CardViews.{entry_at, kind_told}
 use Rattle.fs.proofs.FlatLaws.{key-altered}
 use Rattle.fs.proofs.KeptLaws.{planned_by}
 use Rattle.fs.proofs.PlacedLaws.{CanMove, can_move, moved_doable, name_there, target_there}
-use Rattle.fs.proofs.PlanLaws.{name_some, name_short}
+use Rattle.fs.proofs.MakingPlans.{name_some, name_short}
 use Rattle.fs.proofs.RemovalPlans.{shown_touched, change_shown, entries_shown}
 use Rattle.fs.proofs.RenamedLaws as laws
 use Rattle.volume.specs.Edits.{HasPut, edited_by, named_by}

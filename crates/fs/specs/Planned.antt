@@ -35,12 +35,16 @@ shown_by fields stamp now = record {
   time_modify = now;
 }
 
--- a new directory of this caller, below one of this list
-abbrev pub child_shown : Cred → (parent : List Ace) → Settings → (stamp now : ℕ) → Shown
-child_shown cred parent settings stamp now = record {
+-- the list of a new node of this kind, below a directory of this one
+abbrev pub list_by : NodeKind → (parent : List Ace) → Settings → List Ace
+list_by of parent settings = created parent of settings.is_empty settings.mode settings.acl
+
+-- a new node of this caller with such a list
+abbrev pub child_shown : Cred → (acl : List Ace) → (stamp now : ℕ) → Shown
+child_shown cred acl stamp now = record {
   owner = cred.uid;
   group = cred.gid;
-  acl = created parent kind.Directory settings.is_empty settings.mode settings.acl;
+  acl = acl;
   change = stamp;
   time_modify = now;
 }

@@ -1,8 +1,9 @@
 //! Changes of the tree: the edits that they are made of, and keeping them.
 
-ghost use Rattle.std.specs.Prelude.{◌≡◌, ◌⊎◌, ◌+◌, ◌∷◌, [], false, IfOk, IfErr, OnOk, IfSome};
+ghost use Rattle.std.specs.Prelude.{◌≡◌, ◌⊎◌, ◌+◌, ◌∷◌, [], ◌++◌, false, IfOk, IfErr, OnOk, IfSome};
 ghost use Rattle.draft.specs.Nodes.{shown_of};
 ghost use Rattle.edits.specs.declared.edit.Edit.TheVariants as edit;
+ghost use Rattle.fs.specs.Making.{sizing};
 ghost use Rattle.fs.specs.Planned.{shown_by};
 
 use crate::fault::FsFault;
@@ -28,34 +29,50 @@ pub(crate) fn touched(alloc: Global, card: &Card, stamp: u64, now: u64) -> Resul
     })
 }
 
+/// A node that is to be made, and its name.
+#[derive(Clone, Copy)]
+pub(crate) struct NewNode<'a> {
+    /// The number of its directory.
+    pub(crate) directory: u64,
+    pub(crate) name: &'a [u8],
+    pub(crate) kind: NodeKind,
+    /// Of a file, in bytes, which are zeros; 0 of a directory.
+    pub(crate) size: u64,
+}
+
 /// A new node of the change's number, its name, and what its directory shows then.
 pub(crate) fn made_edits<'a>(
     alloc: Global,
-    kind: NodeKind,
-    shown: Shown,
+    new: NewNode<'a>,
     stamp: u64,
-    directory: u64,
+    shown: Shown,
     directory_shown: Shown,
-    name: &'a [u8],
 ) -> Result<Vec<Edit<'a>>, AllocError>
-    ensures { IfOk result (λ edits. edits.items ≡ edit.PutNode stamp kind shown
-        ∷ edit.PutName directory stamp name.entry stamp
-        ∷ edit.Show directory directory_shown ∷ []) }
+    ensures { IfOk result (λ edits. edits.items ≡ edit.PutNode stamp new.entry.kind shown
+        ∷ (sizing stamp new.entry.size
+        ++ (edit.PutName new.entry.directory stamp new.entry.name stamp
+        ∷ edit.Show new.entry.directory directory_shown ∷ []))) }
 {
     let mut edits = Vec::new(alloc);
     edits.push(Edit::PutNode {
         number: stamp,
-        kind,
+        kind: new.kind,
         shown,
     })?;
+    if new.size > 0 {
+        edits.push(Edit::SetSize {
+            file: stamp,
+            size: new.size,
+        })?;
+    }
     edits.push(Edit::PutName {
-        directory,
+        directory: new.directory,
         stamp,
-        name,
+        name: new.name,
         number: stamp,
     })?;
     edits.push(Edit::Show {
-        number: directory,
+        number: new.directory,
         shown: directory_shown,
     })?;
     Ok(edits)

@@ -1,6 +1,6 @@
 //! CREATE of a directory.
 
-use crate::changing::{made_edits, touched};
+use crate::changing::{NewNode, made_edits, touched};
 use crate::created::Created;
 use crate::entries::tell_entries;
 use crate::fault::FsFault;
@@ -43,13 +43,16 @@ impl<D: Device> Fs<D> {
     ghost use Rattle.draft.specs.Nodes.{shown_of};
     ghost use Rattle.edits.specs.Edits.{AreEntries};
     ghost use Rattle.layout.specs.Known.{IsCard};
+    ghost use Rattle.model.specs.Stamp.{next_stamp};
     ghost use Rattle.model.specs.Step.{State};
     ghost use Rattle.settings.specs.Given.{given_of, AreSettings, AreWithin, IsCheckedInMemory};
     ghost use Rattle.fs.specs.OnTree.{new_directory_refusals};
     ghost use Rattle.fs.specs.Changes.{fs_ending};
     ghost use Rattle.fs.specs.FileSystems.{fs_of, Alters};
     ghost use Rattle.fs.specs.Operations.{IsOn, MakesDir, MakesTree, IsNotDone, created, does_on, new_directory};
-    ghost use Rattle.fs.specs.Planned.{IsList, IsPlanned, child_shown};
+    ghost use Rattle.fs.specs.Making.{IsDirectoryOf, IsSizeOf, MayBeMade, first_node, room_tests};
+    ghost use Rattle.fs.specs.Making.{tree_with};
+    ghost use Rattle.fs.specs.Planned.{IsList, IsPlanned, child_shown, list_by};
     ghost use Rattle.fs.specs.Refusals.{fault_of};
     ghost use Rattle.volume.specs.Edits.{edited_by};
     ghost use Rattle.volume.specs.Nodes.{IsNodeOf};
@@ -121,23 +124,14 @@ impl<D: Device> Fs<D> {
         let Some(stamp) = self.next_stamp() else {
             return Err(Refusal::Memory);
         };
-        let child = self.new_directory(cred, parent, settings, stamp, now)?;
-        let shown = touched(self.alloc, parent, stamp, now)?;
-        let edits = made_edits(
-            self.alloc,
-            NodeKind::Directory,
-            child,
-            stamp,
-            asked.parent,
-            shown,
-            asked.name,
-        )?;
-        if !self.volume.fits(&edits) {
-            return Err(Refusal::Status(Status::NoSpc));
-        }
-        if self.changes == u32::MAX {
-            return Err(Refusal::Status(Status::ServerFault));
-        }
+        let shown = self.new_node(cred, parent, NodeKind::Directory, settings, stamp, now)?;
+        let new = NewNode {
+            directory: asked.parent,
+            name: asked.name,
+            kind: NodeKind::Directory,
+            size: 0,
+        };
+        let edits = self.plan_node(parent, new, shown, stamp, now)?;
         Ok(Planned {
             edits,
             created: Created {
@@ -186,24 +180,61 @@ impl<D: Device> Fs<D> {
         Ok((parent, settings))
     }
 
-    /// What a new directory of this caller shows.
-    fn new_directory(
+    /// The change that makes a node below a directory, where the tree has room for it and a stamp is
+    /// left. NOSPC, SERVERFAULT.
+    pub(crate) fn plan_node<'a>(
+        &self,
+        parent: &Card,
+        new: NewNode<'a>,
+        shown: Shown,
+        stamp: u64,
+        now: u64,
+    ) -> Result<Vec<Edit<'a>>, Refusal>
+        requires up { (fs_of self.now).volume.is_down ≡ false }
+        requires parent { IsDirectoryOf (fs_of self.now).volume.tree new.directory parent.now }
+        requires size { IsSizeOf new.kind new.size }
+        requires made { MayBeMade (fs_of self.now) new.directory new.name.now
+            (first_node new.kind new.size (shown_of shown)) }
+        requires entries { AreEntries (shown_of shown).acl }
+        requires stamp { stamp ≡ next_stamp (fs_of self.now).volume.run (fs_of self.now).changes }
+        ensures tests { IsCheckedInMemory (room_tests (fs_of self.now) (tree_with (fs_of self.now)
+            new.entry.directory new.entry.name.now
+            (first_node new.entry.kind new.entry.size (shown_of shown)) now)) result }
+        ensures planned { IfOk result (λ edits. IsPlanned (fs_of self.now) edits.items) }
+        ensures after { IfOk result (λ edits. edited_by (fs_of self.now).volume edits.items
+            ≡ tree_with (fs_of self.now) new.entry.directory new.entry.name.now
+            (first_node new.entry.kind new.entry.size (shown_of shown)) now) }
+    {
+        let directory_shown = touched(self.alloc, parent, stamp, now)?;
+        let edits = made_edits(self.alloc, new, stamp, shown, directory_shown)?;
+        if !self.volume.fits(&edits) {
+            return Err(Refusal::Status(Status::NoSpc));
+        }
+        if self.changes == u32::MAX {
+            return Err(Refusal::Status(Status::ServerFault));
+        }
+        Ok(edits)
+    }
+
+    /// What a new node of this caller shows.
+    pub(crate) fn new_node(
         &self,
         cred: &Cred,
         parent: &Card,
+        kind: NodeKind,
         settings: Settings,
         stamp: u64,
         now: u64,
     ) -> Result<Shown, AllocError>
-        requires within { AreWithin (fs_of self.now).volume.limits NodeKind.Directory settings }
-        requires listed { IsList (fs_of self.now).volume.limits NodeKind.Directory parent.now.fields.acl }
+        requires within { AreWithin (fs_of self.now).volume.limits kind settings }
+        requires listed { IsList (fs_of self.now).volume.limits NodeKind.Directory
+            parent.now.fields.acl }
         ensures shown { IfOk result (λ child. shown_of child
-            ≡ child_shown cred.now parent.now.fields.acl settings stamp now) }
+            ≡ child_shown cred.now (list_by kind parent.now.fields.acl settings) stamp now) }
         ensures entries { IfOk result (λ child. AreEntries (shown_of child).acl) }
     {
         let (owner, group) = (cred.uid, cred.gid);
-        let parent = parent.inode.acl.as_slice();
-        let acl = list_created(self.alloc, parent, NodeKind::Directory, settings)?;
+        let acl = list_created(self.alloc, parent.inode.acl.as_slice(), kind, settings)?;
         tell_entries(acl.as_slice());
         Ok(Shown {
             owner,

@@ -1,0 +1,166 @@
+-- CREATE of a directory that passed its tests: it may be made, and what the tests of room and stamps say of it is what the definition says.
+use Rattle.std.proofs.Common.{◌≡◌, ◌≤◌, ◌<◌, ◌+◌, ◌^◌, ◌++◌, ℕ, Bool, true, false, List, [], ◌∷◌, Option, Some, None, refl, sym, ap, ◌∙◌, subst, is_some, true≢false, not, arith}
+use Rattle.std.proofs.Math.Logic.{∥∥₁_elim}
+use Rattle.std.proofs.Props.{props}
+use Rattle.std.proofs.lemmas.Bool.{not-false}
+use Rattle.std.specs.Prelude.{IsTrue}
+use Rattle.directory.specs.Listing.{by_stamp}
+use Rattle.layout.specs.Cards.{Card}
+use Rattle.layout.specs.Known.{IsCard}
+use Rattle.edits.proofs.BlankLaws.{at-blanked}
+use Rattle.edits.specs.Outlines.{blank_node}
+use Rattle.model.specs.declared.acl.Ace.{Ace}
+use Rattle.model.specs.declared.acl.Cred.{Cred}
+use Rattle.model.specs.declared.limits.Limits.{Limits}
+use Rattle.model.specs.declared.node.NodeKind.{NodeKind}
+use Rattle.model.specs.declared.node.NodeKind.TheVariants as kind
+use Rattle.model.specs.declared.status.Status.{Status}
+use Rattle.model.specs.declared.status.Status.TheVariants as status
+use Rattle.model.specs.Acl.{is_list_for}
+use Rattle.model.specs.Answer.{Answer}
+use Rattle.model.specs.Attribute.{attribute_refusals, settable_at_creation, is_empty, mode_given, trimmed}
+use Rattle.model.specs.Charge.{fits}
+use Rattle.model.specs.Context.{at_node}
+use Rattle.model.specs.Directory.{change_of, new_directory}
+use Rattle.model.specs.Edit.{Shown}
+use Rattle.model.specs.Inherit.{created}
+use Rattle.model.specs.Keyed.{at}
+use Rattle.model.specs.Limits.{limits_of}
+use Rattle.model.specs.Name.{name_refusals}
+use Rattle.model.specs.Operation.{Attributes}
+use Rattle.model.specs.Refusal.{first_refusal, refused_or}
+use Rattle.model.specs.Stamp.{next_stamp, is_stamp_left}
+use Rattle.model.specs.Step.{State, made, answered, refused, current, stamp_of}
+use Rattle.model.specs.Tree.{Tree, Node, Content, kind_of, is_directory, is_directory_at, names_at, entry_of}
+use Rattle.model.specs.WellFormed.{IsNode}
+use Rattle.model.proofs.StepCases.{none_in_front, none_in_both}
+use Rattle.settings.specs.declared.said.Settings.{Settings}
+use Rattle.settings.specs.Given.{AreSettings, AreWithin}
+use Rattle.fs.specs.OnTree.{new_directory_refusals}
+use Rattle.fs.proofs.Creating as creating
+use Rattle.fs.specs.declared.created.Created.{Created}
+use Rattle.fs.specs.FileSystem.{FileSystem}
+use Rattle.fs.specs.Making.{first_node, room_tests, tree_with, IsDirectoryOf, MayBeMade}
+use Rattle.fs.specs.Operations as operations
+use Rattle.fs.specs.Planned.{IsList, child_shown, list_by}
+use Rattle.fs.specs.Ready.{MayStand}
+use Rattle.fs.proofs.CardViews.{names_are, kind_told}
+use Rattle.fs.proofs.EntryLaws.{created_list}
+use Rattle.fs.proofs.MakingLaws as laws
+use Rattle.volume.specs.Nodes.{IsNodeOf}
+
+nothing : {A : Type 0} (o : Option A) → is_some o ≡ false → o ≡ None
+nothing None told = refl
+nothing (Some x) told = absurd (cc)
+
+not_same : (x y : Status) → (let one : Option Status = Some x in one ≡ Some y) → x ≡ y
+not_same x y same = cc
+
+no_names : (limits : Limits) (shown : Shown) → IsList limits kind.Directory shown.acl → IsNode limits (first_node kind.Directory 0 shown)
+no_names limits shown list = record {
+  entries = list;
+  content = record { rising = tt; named = λ stamp entry is. absurd cc; once = λ name. omega arith };
+}
+
+-- the list of a directory is one that a directory may have
+module _ (fs : FileSystem) (formed : MayStand fs.volume fs.changes) (number : ℕ) (card : Card) (parent : IsDirectoryOf fs.volume.tree number card) where
+  pub listed : IsList fs.volume.limits kind.Directory card.fields.acl
+  listed =
+      let node = parent.node.node in
+      let content = names_are fs.volume.tree number card parent.node parent.directory in
+      ∥∥₁_elim formed.well_formed (Prim.hlevel props) (λ well.
+      let is = well.nodes number node (laws.flat_there fs formed 0 number [] node (by_stamp card.names) parent.node.there content) in
+      subst (λ (acl : List Ace). IsList fs.volume.limits kind.Directory acl) parent.node.acl
+      (subst (λ (of : NodeKind). is_list_for fs.volume.limits.aces_set fs.volume.limits.aces of node.acl ≡ true) (ap kind_of content) is.entries))
+
+module _ (fs : FileSystem) (formed : MayStand fs.volume fs.changes) (limited : fs.volume.limits ≡ limits_of fs.volume.sectors fs.volume.limits.nodes)
+    (cred : Cred) (now number : ℕ) (name : List ℕ) (given : Attributes) (card : Card) (node : IsNodeOf fs.volume.tree number card) (fit : IsCard card)
+    (passed : first_refusal (new_directory_refusals fs.volume.limits fs.volume.tree cred number name given) ≡ None) where
+  pub parent : IsDirectoryOf fs.volume.tree number card
+  parent =
+      let stale = none_in_front _ status.Stale _ passed in
+      let place = none_in_front _ status.NotDir _ stale.1 in
+      record { node = node; fit = fit; directory = kind_told fs.volume.tree number card node (not-false _ place.0) }
+
+  allowed : first_refusal (name_refusals fs.volume.limits name) ≡ None
+  allowed =
+      let stale = none_in_front _ status.Stale _ passed in
+      let place = none_in_front _ status.NotDir _ stale.1 in
+      let parts = none_in_both (name_refusals fs.volume.limits name ++ attribute_refusals fs.volume.limits kind.Directory settable_at_creation given) _ place.1 in
+      (none_in_both (name_refusals fs.volume.limits name) _ parts.0).0
+
+  new : entry_of name (names_at fs.volume.tree number) ≡ None
+  new =
+      let stale = none_in_front _ status.Stale _ passed in
+      let place = none_in_front _ status.NotDir _ stale.1 in
+      let parts = none_in_both (name_refusals fs.volume.limits name ++ attribute_refusals fs.volume.limits kind.Directory settable_at_creation given) _ place.1 in
+      let rights = none_in_front _ status.Access _ parts.1 in
+      nothing _ (none_in_front _ status.Exist None rights.1).0
+
+  list_of_it : (settings : Settings) → AreWithin fs.volume.limits kind.Directory settings → IsList fs.volume.limits kind.Directory (list_by kind.Directory card.fields.acl settings)
+  list_of_it settings within = created_list fs.volume.limits fs.volume.sectors fs.volume.limits.nodes limited kind.Directory card.fields.acl (listed fs formed number card parent) settings within
+
+  abbrev own : ℕ
+  own = next_stamp fs.volume.run fs.changes
+
+  module _ (stamp : ℕ) (settings : Settings) (child : Shown) (set : AreSettings settings given) (within : AreWithin fs.volume.limits kind.Directory settings) (stamp_is : stamp ≡ own)
+      (child_is : child ≡ child_shown cred (list_by kind.Directory card.fields.acl settings) stamp now) where
+    made_is : first_node kind.Directory 0 child ≡ new_directory cred node.node.acl given own now
+    made_is =
+        let by : ℕ → List Ace → Bool → Option ℕ → Option (List Ace) → Node =
+        λ s acl nothing_given mode list. first_node kind.Directory 0 (child_shown cred (created acl kind.Directory nothing_given mode list) s now) in
+        ap (first_node kind.Directory 0) child_is
+        ∙ ap (λ (s : ℕ). by s card.fields.acl settings.is_empty settings.mode settings.acl) stamp_is
+        ∙ ap (λ (acl : List Ace). by own acl settings.is_empty settings.mode settings.acl) (sym node.acl)
+        ∙ ap (λ (b : Bool). by own node.node.acl b settings.mode settings.acl) set.empty
+        ∙ ap (λ (m : Option ℕ). by own node.node.acl (is_empty given.bitmap) m settings.acl) set.mode
+        ∙ ap (by own node.node.acl (is_empty given.bitmap) (mode_given given)) set.acl
+
+    pub may : MayBeMade fs number name (first_node kind.Directory 0 child)
+    may = record {
+      allowed = allowed;
+      new = new;
+      is_node = no_names fs.volume.limits child (subst (λ (s : Shown). IsList fs.volume.limits kind.Directory s.acl) (sym child_is) (list_of_it settings within));
+      change = ap (λ (n : Node). n.change) made_is;
+    }
+
+    abbrev after : Tree
+    after = tree_with fs number name (first_node kind.Directory 0 child) now
+
+    module _ (state : State) (on : operations.IsOn fs cred number state) where
+      is_there : (made state now name given).tree ≡ after
+      is_there = rw (on.is_state.tree_is, on.is_state.cred_is, on.is_state.current_is, on.run, on.changes, node.there, made_is) refl
+
+      passed_there : first_refusal (new_directory_refusals fs.volume.limits state.tree state.context.cred (current state) name given) ≡ None
+      passed_there = rw (on.is_state.tree_is, on.is_state.cred_is, on.is_state.current_is) passed
+
+      refused_by : (fitting left : Bool) → fits fs.volume.limits after ≡ fitting → is_stamp_left fs.changes ≡ left → (reason : Status)
+          → refused_or (not fitting) status.NoSpc (refused_or (not left) status.ServerFault None) ≡ Some reason
+          → operations.does_on fs state now (operations.new_directory name given) ≡ refused state (operations.new_directory name given) reason
+      refused_by false left full is reason told =
+          creating.no_room fs.volume.limits state now name given on.is_state.has_current passed_there (ap (fits fs.volume.limits) is_there ∙ full)
+          ∙ ap (refused state (operations.new_directory name given)) (not_same status.NoSpc reason told)
+      refused_by true false fit none reason told =
+          creating.no_stamp fs.volume.limits state now name given on.is_state.has_current passed_there (ap (fits fs.volume.limits) is_there ∙ fit) (ap is_stamp_left on.changes ∙ none)
+          ∙ ap (refused state (operations.new_directory name given)) (not_same status.ServerFault reason told)
+      refused_by true true fit left reason told = absurd cc
+
+      pub late_refusal : (reason : Status) → first_refusal (room_tests fs after) ≡ Some reason
+          → operations.does_on fs state now (operations.new_directory name given) ≡ refused state (operations.new_directory name given) reason
+      late_refusal reason told = refused_by (fits fs.volume.limits after) (is_stamp_left fs.changes) refl refl reason told
+
+      pub goes_on : first_refusal (room_tests fs after) ≡ None → (before : ℕ) → before ≡ card.fields.change
+          → operations.does_on fs state now (operations.new_directory name given) ≡ operations.created after (fs.changes + 1) state given (record { number = stamp; before = before })
+      goes_on room before before_is =
+          let first = none_in_front (not (fits fs.volume.limits after)) status.NoSpc _ room in
+          let second = none_in_front (not (is_stamp_left fs.changes)) status.ServerFault None first.1 in
+          let shape = λ (t : Tree) (count b n : ℕ). answered
+          (record { tree = t; changes = count; opens = state.opens; context = at_node state.context n })
+          (Answer.Create (record { change = record { is_atomic = true; before = b; after = n }; was_set = trimmed given.bitmap })) in
+          let before_same : change_of (at (current state) state.tree) ≡ before = rw (on.is_state.tree_is, on.is_state.current_is, node.there) (node.change ∙ sym before_is) in
+          let number_same : stamp_of state ≡ stamp = rw (on.run, on.changes) (sym stamp_is) in
+          creating.done fs.volume.limits state now name given on.is_state.has_current passed_there (ap (fits fs.volume.limits) is_there ∙ not-false _ first.0) (ap is_stamp_left on.changes ∙ not-false _ second.0)
+          ∙ ap (λ (t : Tree). shape t (state.changes + 1) (change_of (at (current state) state.tree)) (stamp_of state)) is_there
+          ∙ ap (λ (count : ℕ). shape after (count + 1) (change_of (at (current state) state.tree)) (stamp_of state)) on.changes
+          ∙ ap (λ (b : ℕ). shape after (fs.changes + 1) b (stamp_of state)) before_same
+          ∙ ap (shape after (fs.changes + 1) before) number_same

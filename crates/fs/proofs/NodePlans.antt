@@ -1,0 +1,86 @@
+-- The edits of a node that is made, as code puts them together: what is proved of them, and what refuses them.
+use denote.Ref.{Bor}
+use Rattle.std.proofs.Common.{◌≡◌, ◌<◌, ◌+◌, ◌^◌, ◌++◌, ℕ, Bool, true, false, List, [], ◌∷◌, Option, Some, None, refl, sym, ap, ◌∙◌, subst, not}
+use Rattle.std.specs.Prelude.{IsTrue}
+use Rattle.directory.specs.Listing.{by_stamp}
+use Rattle.draft.specs.declared.nodes.Shown.{Shown}
+use Rattle.draft.specs.Nodes.{shown_of}
+use Rattle.edits.specs.declared.edit.Edit.{Edit}
+use Rattle.edits.specs.declared.edit.Edit.TheVariants as edit
+use Rattle.edits.specs.Edits.{AreEntries, AreDoable}
+use Rattle.layout.specs.Cards.{Card}
+use Rattle.model.specs.declared.limits.Limits.{Limits}
+use Rattle.model.specs.declared.node.NodeKind.{NodeKind}
+use Rattle.model.specs.declared.status.Status.{Status}
+use Rattle.model.specs.declared.status.Status.TheVariants as status
+use Rattle.model.specs.Changes.{touched}
+use Rattle.model.specs.Charge.{fits}
+use Rattle.model.specs.Limits.{limits_of}
+use Rattle.model.specs.Refusal.{first_refusal, refused_or}
+use Rattle.model.specs.Stamp.{next_stamp, is_stamp_left}
+use Rattle.model.specs.Tree.{Tree, Node, Directory}
+use Rattle.fs.specs.FileSystem.{FileSystem}
+use Rattle.fs.specs.Making.{first_node, room_tests, sizing, tree_with, IsDirectoryOf, IsSizeOf, MayBeMade}
+use Rattle.fs.specs.Planned.{IsPlanned, shown_by}
+use Rattle.fs.specs.Ready.{MayStand}
+use Rattle.fs.proofs.CardViews.{names_are}
+use Rattle.fs.proofs.MakingPlans as plans
+use Rattle.fs.proofs.RemovalPlans.{shown_touched, entries_shown}
+use Rattle.volume.specs.Edits.{edited_by}
+
+-- What the tests of room and stamps come to
+
+pub no_room : (fs : FileSystem) (after : Tree) → fits fs.volume.limits after ≡ false → first_refusal (room_tests fs after) ≡ Some status.NoSpc
+no_room fs after full = ap (λ (b : Bool). refused_or (not b) status.NoSpc (refused_or (not (is_stamp_left fs.changes)) status.ServerFault None)) full
+
+pub no_stamp : (fs : FileSystem) (after : Tree) → fits fs.volume.limits after ≡ true → is_stamp_left fs.changes ≡ false → first_refusal (room_tests fs after) ≡ Some status.ServerFault
+no_stamp fs after fit none = ap (λ (b : Bool). refused_or (not b) status.NoSpc (refused_or (not (is_stamp_left fs.changes)) status.ServerFault None)) fit
+    ∙ ap (λ (b : Bool). refused_or (not b) status.ServerFault None) none
+
+pub has_room : (fs : FileSystem) (after : Tree) → fits fs.volume.limits after ≡ true → is_stamp_left fs.changes ≡ true → first_refusal (room_tests fs after) ≡ None
+has_room fs after fit left = ap (λ (b : Bool). refused_or (not b) status.NoSpc (refused_or (not (is_stamp_left fs.changes)) status.ServerFault None)) fit
+    ∙ ap (λ (b : Bool). refused_or (not b) status.ServerFault None) left
+
+module _ (fs : FileSystem) (formed : MayStand fs.volume fs.changes) (counted : fs.changes < 2 ^ 32) (limited : fs.volume.limits ≡ limits_of fs.volume.sectors fs.volume.limits.nodes)
+    (now number : ℕ) (spelled : Bor (List ℕ)) (of : NodeKind) (size : ℕ) (child_shown parent_shown : Shown) (card : Card) (parent : IsDirectoryOf fs.volume.tree number card) (has : IsSizeOf of size)
+    (may : MayBeMade fs number spelled.now (first_node of size (shown_of child_shown))) (entries : AreEntries (shown_of child_shown).acl)
+    (stamp : ℕ) (edits : List Edit) (stamp_is : stamp ≡ next_stamp fs.volume.run fs.changes) (shown_is : shown_of parent_shown ≡ shown_by card.fields stamp now)
+    (edits_are : edits ≡ edit.PutNode stamp of child_shown ∷ (sizing stamp size ++ (edit.PutName number stamp spelled stamp ∷ edit.Show number parent_shown ∷ []))) where
+  abbrev tree : Tree
+  tree = fs.volume.tree
+
+  abbrev own : ℕ
+  own = next_stamp fs.volume.run fs.changes
+
+  abbrev node : Node
+  node = parent.node.node
+
+  content : node.content ≡ Directory (by_stamp card.names)
+  content = names_are tree number card parent.node parent.directory
+
+  abbrev list : List Edit
+  list = plans.list fs formed counted limited now number spelled node (by_stamp card.names) parent.node.there content of child_shown parent_shown size
+
+  list_is : edits ≡ list
+  list_is = edits_are
+      ∙ ap (λ (s : ℕ). edit.PutNode s of child_shown ∷ (sizing s size ++ (edit.PutName number s spelled s ∷ edit.Show number parent_shown ∷ []))) stamp_is
+
+  new_shown : shown_of parent_shown ≡ touched (Some node) own now
+  new_shown = shown_is ∙ ap (λ (s : ℕ). shown_by card.fields s now) stamp_is ∙ shown_touched tree number card parent.node own now
+      ∙ ap (λ (o : Option Node). touched o own now) parent.node.there
+
+  parent_entries : AreEntries (shown_of parent_shown).acl
+  parent_entries = entries_shown card parent.fit parent_shown stamp now shown_is
+
+  pub doable : AreDoable tree edits
+  doable = subst (AreDoable tree) (sym list_is)
+      (plans.list_doable fs formed counted limited now number spelled node (by_stamp card.names) parent.node.there content of child_shown parent_shown new_shown size has may entries parent_entries)
+
+  pub after : edited_by fs.volume edits ≡ tree_with fs number spelled.now (first_node of size (shown_of child_shown)) now
+  after = ap (edited_by fs.volume) list_is
+      ∙ plans.list_after fs formed counted limited now number spelled node (by_stamp card.names) parent.node.there content of child_shown parent_shown new_shown size has
+
+  pub planned : IsTrue (fits fs.volume.limits (edited_by fs.volume edits)) → fs.changes + 1 < 2 ^ 32 → IsPlanned fs edits
+  planned fit left = subst (IsPlanned fs) (sym list_is)
+      (plans.planned fs formed counted limited now number spelled node (by_stamp card.names) parent.node.there content of child_shown parent_shown new_shown size has may entries parent_entries
+      (ap (λ (l : List Edit). fits fs.volume.limits (edited_by fs.volume l)) (sym list_is) ∙ fit) left)

@@ -1,0 +1,71 @@
+-- A node and its name more, whichever operation makes them.
+use Rattle.std.specs.Prelude.{◌≡◌, ◌≤◌, ◌+◌, ◌∷◌, [], ◌++◌, ℕ, zero, suc, not, List, None}
+use Rattle.edits.specs.declared.edit.Edit.{Edit}
+use Rattle.edits.specs.declared.edit.Edit.TheVariants as edit
+use Rattle.edits.specs.Outlines.{zeros}
+use Rattle.layout.specs.Cards.{Card}
+use Rattle.layout.specs.Known.{IsCard}
+use Rattle.model.specs.declared.node.NodeKind.{NodeKind}
+use Rattle.model.specs.declared.node.NodeKind.TheVariants as kind
+use Rattle.model.specs.declared.limits.Limits.{Limits}
+use Rattle.model.specs.declared.status.Status.TheVariants as status
+use Rattle.model.specs.Changes.{made_edits}
+use Rattle.model.specs.Charge.{fits}
+use Rattle.model.specs.Edit.{Shown, edited}
+use Rattle.model.specs.Name.{name_refusals}
+use Rattle.model.specs.Refusal.{Refusals, first_refusal}
+use Rattle.model.specs.Stamp.{next_stamp, is_stamp_left}
+use Rattle.model.specs.Tree.{Tree, Node, Content, File, Directory, entry_of, names_at}
+use Rattle.model.specs.WellFormed.{IsNode}
+use Rattle.volume.specs.Nodes.{IsNodeOf}
+use Rattle.fs.specs.FileSystem.{FileSystem}
+
+-- a file of so many zeros, or a directory without names
+abbrev pub first_content : NodeKind → (size : ℕ) → Content
+first_content kind.File size = File (zeros size)
+first_content kind.Directory size = Directory []
+
+abbrev pub first_node : NodeKind → (size : ℕ) → Shown → Node
+first_node of size shown = record {
+  owner = shown.owner;
+  group = shown.group;
+  acl = shown.acl;
+  change = shown.change;
+  time_modify = shown.time_modify;
+  content = first_content of size;
+}
+
+-- the tests of each change of the tree, behind all others: room, and a stamp that is left
+abbrev pub room_tests : FileSystem → (after : Tree) → Refusals
+room_tests fs after = (not (fits fs.volume.limits after), status.NoSpc)
+    ∷ (not (is_stamp_left fs.changes), status.ServerFault)
+    ∷ []
+
+-- what the next change leaves, where it makes this node under a name
+abbrev pub tree_with : FileSystem → (directory : ℕ) → (name : List ℕ) → Node → (now : ℕ) → Tree
+tree_with fs directory name node now = edited
+    (made_edits fs.volume.tree directory name node (next_stamp fs.volume.run fs.changes) now)
+    fs.volume.tree
+
+-- A node may be made: it may stand in a tree of these limits, and the name in its directory
+pub record MayBeMade (fs : FileSystem) (directory : ℕ) (name : List ℕ) (node : Node) : Type 0 where
+  pub allowed : first_refusal (name_refusals fs.volume.limits name) ≡ None
+  pub new : entry_of name (names_at fs.volume.tree directory) ≡ None
+  pub is_node : IsNode fs.volume.limits node
+  pub change : node.change ≡ next_stamp fs.volume.run fs.changes
+
+-- a directory has no size
+pub record IsSizeOf (of : NodeKind) (size : ℕ) : Type 0 where
+  pub none : of ≡ kind.Directory → size ≡ 0
+  pub low : size ≤ 16777216
+
+-- a size is set where it is not 0
+abbrev pub sizing : (number size : ℕ) → List Edit
+sizing number zero = []
+sizing number (suc size) = edit.SetSize number (suc size) ∷ []
+
+-- the directory of this number, as its card tells
+pub record IsDirectoryOf (tree : Tree) (number : ℕ) (card : Card) : Type 0 where
+  pub node : IsNodeOf tree number card
+  pub fit : IsCard card
+  pub directory : card.fields.kind ≡ kind.Directory
