@@ -43,7 +43,7 @@ regrouped false false true s t u None behind = refl
 regrouped false false false s t u None behind = refl
 
 module _ (limits : Limits) (state : State) (now : ℕ) where
-  does_by : (operation : Argument) (o : Option Status)
+  pub does_by : (operation : Argument) (o : Option Status)
       → or_else (first_refusal (refusals limits state operation)) (first_refusal (change_refusals limits state operation (effect limits state now operation).state.tree)) ≡ o
       → does limits state now operation ≡ unless_refused state operation o (effect limits state now operation)
   unfolding does

@@ -5,6 +5,7 @@ pub mod CardViews
 pub mod ChangeLaws
 pub mod CreatedLaws
 pub mod Creating
+pub mod CurrentOpens
 pub mod EntryLaws
 pub mod FileSteps
 pub mod FlatLaws
@@ -16,6 +17,7 @@ pub mod LookupTests
 pub mod MakingLaws
 pub mod MakingPlans
 pub mod NodePlans
+pub mod OpenSteps
 pub mod PlacedLaws
 pub mod ReadLaws
 pub mod ReadingLaws

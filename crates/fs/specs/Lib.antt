@@ -7,6 +7,7 @@ pub mod FileSystems
 pub mod Files
 pub mod Making
 pub mod OnTree
+pub mod Opening
 pub mod Operations
 pub mod Outline
 pub mod Parents

@@ -1,10 +1,11 @@
 //! Nodes by number, and what their cards tell.
 
-ghost use Rattle.std.specs.Prelude.{◌≡◌, ◌↔◌, IsTrue};
+ghost use Rattle.std.specs.Prelude.{◌≡◌, ◌↔◌, IsTrue, option_map};
+ghost use Rattle.directory.specs.Records.{record_from};
 ghost use Rattle.model.specs.declared.node.NodeKind.TheVariants as kind;
 ghost use Rattle.model.specs.Keyed.{is_key};
 ghost use Rattle.model.specs.Rename.{has_names};
-ghost use Rattle.model.specs.Tree.{is_directory_at};
+ghost use Rattle.model.specs.Tree.{entry_of, is_directory_at, names_at};
 ghost use Rattle.fs.specs.FileSystems.{fs_of};
 
 use crate::fs::Fs;
@@ -36,6 +37,19 @@ impl<D: Device> Fs<D> {
             Some(card) => is_directory(card),
             None => false,
         }
+    }
+
+    /// The stamp and the number of the entry of a name in the directory of this number: none where
+    /// there is no such directory, or the name is not there.
+    pub(crate) fn named_in(&self, directory: u64, name: &[u8]) -> Option<(u64, u64)>
+        ensures { option_map (λ found. record_from found.0 name.now found.1) result
+            ≡ entry_of name.now (names_at (fs_of self.now).volume.tree directory) }
+    {
+        let card = self.volume.node(directory)?;
+        if !is_directory(card) {
+            return None;
+        }
+        card.names.get(name)
     }
 
     /// Whether there is a directory of this number, with names.

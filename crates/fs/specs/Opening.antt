@@ -1,0 +1,159 @@
+-- OPEN, but for the table of opens, of which a call is told whether it is full.
+use Rattle.std.specs.Prelude.{ℕ, Bool, List, [], ◌∷◌, ◌++◌, Result, Ok, Err, ◌≡◌, ◌&&◌, ◌||◌, false, not}
+use Rattle.model.specs.declared.acl.Cred.{Cred}
+use Rattle.model.specs.declared.limits.Limits.{Limits}
+use Rattle.model.specs.declared.status.Status.TheVariants as status
+use Rattle.inode.specs.Fields.{Fields}
+use Rattle.model.specs.Acl.{execute, granted, meets, read_data, write_data}
+use Rattle.model.specs.Answer.{Answer}
+use Rattle.model.specs.Attribute.{trimmed}
+use Rattle.model.specs.Keyed.{at, is_key}
+use Rattle.model.specs.Need.{access_rights, granted_on, opening_rights}
+use Rattle.model.specs.Open.{asked_open, at_opened, creates, given_by, name_opening_refusals, opened_state, share_refusals, size_alone}
+use Rattle.model.specs.Operation.{Argument, OpenArguments, OpenType, NoCreate, Unchecked, Guarded}
+use Rattle.model.specs.Operation as operation
+use Rattle.model.specs.Refusal.{Refusals}
+use Rattle.model.specs.State.{State, Stepped, current, named_refusals, answered}
+use Rattle.model.specs.StateIds.{is_table_full, new_open, opened, read_access, write_access}
+use Rattle.model.specs.Step.{alters, without_rights}
+use Rattle.model.specs.Tree.{Tree, is_directory_at}
+use Rattle.settings.specs.Given.{given_of}
+use Rattle.fs.specs.declared.fault.FsFault.{FsFault}
+use Rattle.fs.specs.declared.opening.How.{How}
+use Rattle.fs.specs.declared.opening.How.TheVariants as how
+use Rattle.fs.specs.declared.opening.OpenEffect.{OpenEffect}
+use Rattle.fs.specs.declared.opening.OpenEffect.TheVariants as effect
+use Rattle.fs.specs.declared.opening.Opened.{Opened}
+use Rattle.fs.specs.declared.opening.Opening.{Opening}
+use Rattle.fs.specs.declared.opening.Share.{Share}
+use Rattle.fs.specs.FileSystem.{FileSystem}
+use Rattle.fs.specs.Operations.{IsOn, does_on, IsNotDone, IsRefused}
+use Rattle.fs.specs.Renaming.{info_of}
+
+-- What is asked, as the definition has it
+
+abbrev pub type_of : How → OpenType
+type_of how.NoCreate = NoCreate
+type_of (how.Unchecked given) = Unchecked (given_of given)
+type_of (how.Guarded given) = Guarded (given_of given)
+
+-- the arguments that a call by a name is made for, and whether the table has no room for their open
+pub record IsOpening (fs : FileSystem) (state : State) (asked : Opening) (is_full : Bool)
+    (arguments : OpenArguments) : Type 0 where
+  pub access_is : arguments.access ≡ asked.share.access
+  pub deny_is : arguments.deny ≡ asked.share.deny
+  pub opening_is :
+      arguments.opening ≡ operation.Opens (type_of asked.how) (operation.ByName asked.name.now)
+  pub full_is :
+      is_table_full fs.volume.limits.opens state.opens (asked_open state arguments) ≡ is_full
+
+-- and those that a call by the filehandle is made for, which may not create a file
+pub record IsOpeningCurrent (fs : FileSystem) (state : State) (share : Share) (is_create is_full : Bool)
+    (arguments : OpenArguments) : Type 0 where
+  pub access_is : arguments.access ≡ share.access
+  pub deny_is : arguments.deny ≡ share.deny
+  pub how : OpenType
+  pub creates_is : creates how ≡ is_create
+  pub opening_is : arguments.opening ≡ operation.Opens how operation.ByHandle
+  pub full_is :
+      is_table_full fs.volume.limits.opens state.opens (asked_open state arguments) ≡ is_full
+
+-- What it leaves
+
+-- which attributes were set
+abbrev pub set_by : OpenEffect → OpenType → List ℕ
+set_by effect.Nothing of = []
+set_by effect.Cut of = size_alone
+set_by effect.Made of = trimmed (given_by of).bitmap
+
+-- the tree and the count of changes behind it, and among the opens the one of this file
+abbrev pub after_open : Tree → (changes : ℕ) → State → OpenArguments → OpenType → Opened → Stepped
+after_open tree changes state arguments of made =
+    let now = opened state.opens
+    (new_open state.context.client arguments.owner made.number arguments.access) in
+    answered
+    (record {
+      tree = tree;
+      changes = changes;
+      opens = now.opens;
+      context = at_opened state.context now.state.number (opened_state state now);
+    })
+    (Answer.Open (record {
+      state = opened_state state now;
+      change = info_of made.directory;
+      flags = 0;
+      was_set = set_by made.effect of;
+    }))
+
+-- where the device keeps its word it is opened as the definition opens it
+abbrev pub OpensFile : (keeps_word : Type 0) → (old new : FileSystem) → State → (now : ℕ) → Opening
+    → OpenArguments → Result Opened FsFault → Type 0
+OpensFile keeps_word old new state now asked arguments (Ok made) = keeps_word
+    → does_on old state now (Argument.Open arguments)
+    ≡ after_open new.volume.tree new.changes state arguments (type_of asked.how) made
+OpensFile keeps_word old new state now asked arguments (Err reason) =
+    IsNotDone old state now (Argument.Open arguments) reason
+
+-- what an OPEN of this caller leaves by the definition. One that neither makes a file nor cuts one
+-- is no change: nothing of it has to last.
+pub record OpensTree (fs : FileSystem) (cred : Cred) (now : ℕ) (asked : Opening) (is_full : Bool)
+    (after : Tree) (lasts : Bool) : Type 0 where
+  pub state : State
+  pub arguments : OpenArguments
+  pub on : IsOn fs cred asked.directory state
+  pub opening : IsOpening fs state asked is_full arguments
+  pub tree : after ≡ (does_on fs state now (Argument.Open arguments)).state.tree
+  pub quiet : alters state (Argument.Open arguments) ≡ false → lasts ≡ false
+
+-- the current file, which changes nothing
+abbrev pub current_opened : (number : ℕ) → Opened
+current_opened number = record {
+  number = number;
+  directory = record { before = 0; after = 0 };
+  effect = effect.Nothing;
+}
+
+abbrev pub OpensCurrent : FileSystem → State → (now number : ℕ) → OpenArguments
+    → Result (Unit {0}) FsFault → Type 0
+OpensCurrent fs state now number arguments (Ok done) = does_on fs state now (Argument.Open arguments)
+    ≡ after_open fs.volume.tree fs.changes state arguments NoCreate (current_opened number)
+OpensCurrent fs state now number arguments (Err reason) =
+    IsRefused fs state now (Argument.Open arguments) reason
+
+-- Its tests, behind that of a current filehandle
+
+-- of the current file
+abbrev pub handle_tests : State → OpenArguments → OpenType → Refusals
+handle_tests state arguments of = (not (is_key (current state) state.tree), status.Stale)
+    ∷ (share_refusals arguments
+    ++ ((creates of, status.Inval)
+    ∷ (is_directory_at state.tree (current state), status.IsDir)
+    ∷ (without_rights state (access_rights (current state) arguments.access), status.Access)
+    ∷ []))
+
+-- of a name, before it is looked up
+abbrev pub place_tests : Limits → State → OpenArguments → (name : List ℕ) → Refusals
+place_tests limits state arguments name = (not (is_key (current state) state.tree), status.Stale)
+    ∷ (share_refusals arguments
+    ++ (named_refusals limits state name
+    ++ ((
+      not (granted_on (at (current state) state.tree) state.context.cred execute),
+      status.Access,
+    ) ∷ [])))
+
+-- and behind that
+abbrev pub file_tests : Limits → State → (access : ℕ) → OpenType → (name : List ℕ) → Refusals
+file_tests limits state access of name = name_opening_refusals limits state of name
+    ++ ((
+      without_rights state (opening_rights state.tree state.context access
+          (operation.Opens of (operation.ByName name))),
+      status.Access,
+    ) ∷ [])
+
+-- What its rights come to, on the file itself
+
+abbrev pub may_use : Fields → Cred → (access : ℕ) → (is_cut : Bool) → Bool
+may_use fields cred access is_cut =
+    (not (meets access read_access) || granted fields.acl fields.owner fields.group cred read_data)
+    && (not (is_cut || meets access write_access)
+    || granted fields.acl fields.owner fields.group cred write_data)

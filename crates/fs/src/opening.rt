@@ -1,0 +1,196 @@
+//! OPEN, but for the table of opens.
+
+ghost use Rattle.std.specs.Prelude.{◌≡◌};
+ghost use Rattle.fs.specs.Opening.{may_use};
+ghost use Rattle.model.specs.Open.{share_refusals};
+ghost use Rattle.model.specs.Operation.{OpenArguments};
+ghost use Rattle.settings.specs.Given.{IsChecked};
+
+use crate::fault::FsFault;
+use crate::fs::Fs;
+use crate::nodes::is_directory;
+use crate::renaming::Change;
+use crate::rights::grants;
+use acl_eval::{Cred, Mask};
+use cards::Card;
+use disk::Device;
+use model::status::Status;
+use settings::Attributes;
+
+/// `OPEN4_SHARE_ACCESS_READ` and `OPEN4_SHARE_ACCESS_WRITE`.
+const READ: u32 = 1;
+
+const WRITE: u32 = 2;
+
+/// How a file is opened by its name (RFC 8881, section 18.16.1, `openflag4`).
+#[derive(Clone, Copy, Debug)]
+pub enum How<'a> {
+    /// It has to be there.
+    NoCreate,
+    /// Where it is not there it is made with these attributes; where it is, it is cut if they give the
+    /// size 0.
+    Unchecked(Attributes<'a>),
+    /// It may not be there, and is made with these attributes.
+    Guarded(Attributes<'a>),
+}
+
+/// What an open asks to do, and to deny to others, as it was sent (RFC 8881, section 18.16.1,
+/// `share_access` and `share_deny`).
+#[derive(Clone, Copy, Debug)]
+pub struct Share {
+    pub access: u32,
+    pub deny: u32,
+}
+
+/// The file that a caller opens by its name.
+#[derive(Clone, Copy, Debug)]
+pub struct Opening<'a> {
+    /// The number of the directory that has it.
+    pub directory: u64,
+    pub name: &'a [u8],
+    pub share: Share,
+    pub how: How<'a>,
+}
+
+/// What an OPEN does to its file.
+#[derive(Clone, Copy, Debug, PartialEq, Eq)]
+pub enum OpenEffect {
+    Nothing,
+    /// It has no bytes then.
+    Cut,
+    Made,
+}
+
+/// A file that was opened.
+#[derive(Clone, Copy, Debug, PartialEq, Eq)]
+pub struct Opened {
+    pub number: u64,
+    /// The directory that has its name; 0 and 0 where it was opened without one.
+    pub directory: Change,
+    pub effect: OpenEffect,
+}
+
+/// The tests of a share reservation (RFC 8881, section 9.7): access to read, write or both, and nothing
+/// denied.
+///
+/// # Errors
+///
+/// `Inval` for another access, then `ShareDenied` to deny something, and `Inval` to deny what there is
+/// not.
+fn check_share(share: Share) -> Result<(), Status>
+    ensures { (arguments : OpenArguments) → arguments.access ≡ share.access
+        → arguments.deny ≡ share.deny → IsChecked (share_refusals arguments) result }
+{
+    if share.access == 0 || 3 < share.access {
+        return Err(Status::Inval);
+    }
+    if 0 < share.deny && share.deny <= 3 {
+        return Err(Status::ShareDenied);
+    }
+    if 3 < share.deny {
+        return Err(Status::Inval);
+    }
+    Ok(())
+}
+
+/// Whether a caller has the rights that an open asks for on its file: to read it, and to write it,
+/// which a cut asks for too.
+fn may_open(card: &Card, cred: &Cred, access: u32, is_cut: bool) -> bool
+    ensures { result ≡ may_use card.now.fields cred.now access is_cut }
+{
+    let reads = access & READ != 0;
+    let writes = is_cut || access & WRITE != 0;
+    (!reads || grants(card, cred, Mask::READ_DATA))
+        && (!writes || grants(card, cred, Mask::WRITE_DATA))
+}
+
+#[tactic(auto, unfolding(crate::specs::FileSystems::fs_of))]
+impl<D: Device> Fs<D> {
+    ghost use Rattle.std.specs.Prelude.{◌≡◌, ℕ, true, IfSome, IsErrOf};
+    ghost use Rattle.model.specs.Open.{creates, file_opened};
+    ghost use Rattle.model.specs.Operation.{OpenType};
+    ghost use Rattle.model.specs.Operation as operation;
+    ghost use Rattle.model.specs.Step.{State};
+    ghost use Rattle.fs.specs.OnTree.{IsState};
+    ghost use Rattle.fs.specs.FileSystems.{fs_of};
+    ghost use Rattle.fs.specs.Opening.{IsOpeningCurrent, OpensCurrent, handle_tests, type_of};
+    ghost use Rattle.fs.specs.Operations.{IsOn};
+
+    /// The number of the file that an OPEN by a name opens where nothing refuses it, by which a caller
+    /// tells whether the table of opens has room: that which the name leads to, or that of the file
+    /// which is made. None behind the last change of the last run.
+    pub fn file_to_open(&self, asked: Opening<'_>) -> Option<u64>
+        ensures { IfSome result (λ number. (state : State) (cred : _)
+            → IsOn (fs_of self.now) cred asked.entry.directory state → file_opened state
+            (operation.Opens (type_of asked.entry.how) (operation.ByName asked.entry.name.now))
+            ≡ number) }
+    {
+        match self.named_in(asked.directory, asked.name) {
+            Some((_, number)) => Some(number),
+            None => self.next_stamp(),
+        }
+    }
+
+    /// OPEN of the current file (RFC 8881, section 18.16, `CLAIM_FH`), which has this number, by this
+    /// caller: nothing changes but the table of opens. `is_create` says whether it may create a file,
+    /// and `is_full` whether the table has no room for it.
+    ///
+    /// # Errors
+    ///
+    /// Refused by the first of these that holds: STALE; INVAL for an access that there is not,
+    /// SHAREDENIED, INVAL for a denial that there is not; INVAL where it may create a file; ISDIR;
+    /// ACCESS without the rights to read or to write, as it asks; DELAY where the table is full.
+    pub fn open_current(
+        &self,
+        cred: &Cred,
+        number: u64,
+        share: Share,
+        is_create: bool,
+        is_full: bool,
+    ) -> Result<(), FsFault>
+        ensures step { (state : State) (now : ℕ) (arguments : _)
+            → IsOn (fs_of self.now) cred.now number state
+            → IsOpeningCurrent (fs_of self.now) state share is_create is_full arguments
+            → OpensCurrent (fs_of self.now) state now number arguments result }
+        ensures down { (fs_of self.now).volume.is_down ≡ true → IsErrOf result FsFault.Down }
+    {
+        if self.is_down() {
+            return Err(FsFault::Down);
+        }
+        self.permit_current(cred, number, share, is_create)?;
+        if is_full {
+            return Err(FsFault::Status(Status::Delay));
+        }
+        Ok(())
+    }
+
+    /// The tests of the current file, but that of the table of opens.
+    fn permit_current(
+        &self,
+        cred: &Cred,
+        number: u64,
+        share: Share,
+        is_create: bool,
+    ) -> Result<(), Status>
+        ensures { (state : State) (arguments : OpenArguments) (how : OpenType)
+            → IsState (fs_of self.now).volume.tree cred.now number state
+            → arguments.access ≡ share.access → arguments.deny ≡ share.deny
+            → creates how ≡ is_create
+            → IsChecked (handle_tests state arguments how) result }
+    {
+        let Some(card) = self.volume.node(number) else {
+            return Err(Status::Stale);
+        };
+        check_share(share)?;
+        if is_create {
+            return Err(Status::Inval);
+        }
+        if is_directory(card) {
+            return Err(Status::IsDir);
+        }
+        if !may_open(card, cred, share.access, false) {
+            return Err(Status::Access);
+        }
+        Ok(())
+    }
+}
