@@ -20,11 +20,11 @@ use Rattle.model.specs.Tree.{is_directory_at}
 use Rattle.settings.proofs.Refusing.{or_else, first-append}
 use Rattle.fs.specs.Files.{IsVerdict, verdict_refusals, file_refusals, permit_refusals}
 
-alone : (b : Bool) → ((b || false) && true) ≡ b
+pub alone : (b : Bool) → ((b || false) && true) ≡ b
 alone true = refl
 alone false = refl
 
-or_none : (o : Option Status) → or_else o None ≡ o
+pub or_none : (o : Option Status) → or_else o None ≡ o
 or_none None = refl
 or_none (Some reason) = refl
 

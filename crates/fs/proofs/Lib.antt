@@ -8,11 +8,13 @@ pub mod Creating
 pub mod CurrentOpens
 pub mod EntryLaws
 pub mod FileSteps
+pub mod FillLaws
 pub mod FlatLaws
 pub mod FlatWrites
 pub mod FrontLaws
 pub mod HandleLaws
 pub mod KeptLaws
+pub mod ListLaws
 pub mod LookupTests
 pub mod MakingLaws
 pub mod MakingPlans

@@ -5,6 +5,7 @@ pub mod Entries
 pub mod FileSystem
 pub mod FileSystems
 pub mod Files
+pub mod Listing
 pub mod Making
 pub mod OnTree
 pub mod Opening

@@ -5,6 +5,7 @@ mod drivers;
 mod given;
 mod lists;
 mod naming;
+mod pages;
 mod rights;
 mod steps;
 mod telling;

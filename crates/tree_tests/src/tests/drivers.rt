@@ -5,7 +5,9 @@ ghost use Rattle.std.specs.Prelude.{◌≤◌, length};
 
 use acl_eval::{Cred, Gids};
 use disk::{Device, MemDevice};
-use fs::{Access, Created, Fs, FsFault, NewDirectory, Removed, Renamed, Renaming, Writing};
+use fs::{
+    Access, Created, Fs, FsFault, Listing, NewDirectory, Page, Removed, Renamed, Renaming, Writing,
+};
 use model::status::Status;
 use settings::Attributes;
 use std::alloc::Global;
@@ -125,6 +127,22 @@ pub(super) fn attributes<D: Device>(
         return Err("another size".into());
     }
     Ok(writer.into_vec())
+}
+
+/// A page of the root's names behind a cookie, of at most so many bytes, without attributes.
+pub(super) fn list<D: Device>(
+    fs: &Fs<D>,
+    cookie: u64,
+    max_count: u32,
+) -> Result<Page<'_>, FsFault> {
+    let listing = Listing {
+        directory: 1,
+        cookie,
+        verifier: [0; 8],
+        max_count,
+        asked: &[],
+    };
+    fs.list(&caller(), listing)
 }
 
 /// Writes to a file with a stateid that passes.

@@ -1,0 +1,240 @@
+//! READDIR.
+
+ghost use Rattle.std.specs.Prelude.{◌≡◌, ◌==◌, ◌&&◌, bytes_eq, not, replicate};
+ghost use Rattle.model.specs.ReadDir.{asks_errors, asks_lists};
+
+use crate::fault::FsFault;
+use crate::fs::Fs;
+use crate::nodes::is_directory;
+use crate::rights::grants;
+use acl_eval::{Cred, Mask};
+use cards::Card;
+use directory::{Entry, ListAfter};
+use disk::Device;
+use model::status::Status;
+use std::alloc::AllocError;
+use wire_attributes::{Attribute, AttributesAnswer, ListedAttributes, ListedEntry, is_asked};
+
+/// What a page takes beside its entries: the verifier, the bool that ends them, and the one that
+/// tells the end.
+const EMPTY_PAGE: usize = 16;
+
+/// What READDIR asks (RFC 8881, section 18.23). Its dircount is not looked at.
+#[derive(Clone, Copy, Debug)]
+pub struct Listing<'a> {
+    /// The directory's number.
+    pub directory: u64,
+    /// The cookie of the last entry that was listed, or 0.
+    pub cookie: u64,
+    /// The verifier that came with the cookie.
+    pub verifier: [u8; 8],
+    /// How many bytes the result may take, behind its status.
+    pub max_count: u32,
+    /// The bitmap of the attributes that are asked of each entry, of any length.
+    pub asked: &'a [u32],
+}
+
+/// A page of a directory: its entries by rising cookie, and whether none is left behind them.
+#[derive(Drop)]
+pub struct Page<'a> {
+    pub entries: Vec<ListedEntry<'a>>,
+    pub is_end: bool,
+}
+
+/// Whether lists are asked.
+fn asks_lists(asked: &[u32]) -> bool
+    ensures { result ≡ asks_lists asked.now }
+{
+    is_asked(asked, Attribute::Acl.number())
+}
+
+/// Whether the list of each entry has to be readable: lists are asked, and it is not to be told of an
+/// entry that its list may not be read.
+fn must_read_lists(asked: &[u32]) -> bool
+    ensures { result ≡ (asks_lists asked.now && not (asks_errors asked.now)) }
+{
+    asks_lists(asked) && !is_asked(asked, Attribute::RdattrError.number())
+}
+
+impl Listing<'_> {
+    /// Whether a cookie comes with a verifier that goes with none.
+    fn has_other_verifier(&self) -> bool
+        ensures { result ≡ (not (self.now.cookie == 0)
+            && not (bytes_eq self.now.verifier (replicate 8 0))) }
+    {
+        self.cookie != 0 && self.verifier != [0; 8]
+    }
+}
+
+#[tactic(auto, unfolding(crate::specs::FileSystems::fs_of))]
+impl<D: Device> Fs<D> {
+    ghost use Rattle.std.specs.Prelude.{true, ℕ, map, IfOk, IsErrOf};
+    ghost use Rattle.std.specs.List.{AllByRecursion, list_all};
+    ghost use Rattle.directory.specs.Listing.{after, by_stamp};
+    ghost use Rattle.directory.specs.Records.{IsRecord};
+    ghost use Rattle.directory.specs.Rest.{record_at, rest_of};
+    ghost use Rattle.fs.specs.FileSystems.{fs_of};
+    ghost use Rattle.fs.specs.Listing.{Lists, PageFits, list_arguments, list_refusals, page_of, page_view};
+    ghost use Rattle.fs.specs.Operations.{IsOn};
+    ghost use Rattle.model.specs.Keyed.{at};
+    ghost use Rattle.model.specs.ReadDir.{entry_attributes, entry_of, may_read_list};
+    ghost use Rattle.model.specs.Step.{State};
+    ghost use Rattle.model.specs.Tree.{names_at};
+    ghost use Rattle.settings.specs.Given.{IsChecked};
+    ghost use Rattle.wire_attributes.specs.Listed.{EntryFits, ListedFits, entry_view, listed_view};
+
+    /// READDIR (RFC 8881, section 18.23): a page of a directory, as many entries behind the cookie as
+    /// the result has room for. The entries borrow the names and the nodes.
+    ///
+    /// # Errors
+    ///
+    /// Refused by the first of these that holds: STALE, NOTDIR, ACCESS without the right to list the
+    /// directory, NOT_SAME where a cookie comes with a verifier that is not 0, ACCESS where lists are
+    /// asked without rdattr_error and that of an entry behind the cookie may not be read, and
+    /// TOOSMALL where there is no room for the first entry, or for a page of none.
+    pub fn list<'a>(&'a self, cred: &Cred, listing: Listing<'a>) -> Result<Page<'a>, FsFault>
+        ensures step { (state : State) (now dir_count : ℕ)
+            → IsOn (fs_of self.entry.now) cred.now listing.entry.directory state
+            → Lists (fs_of self.entry.now) state now (list_arguments listing.entry dir_count)
+            result }
+        ensures fits { IfOk result PageFits }
+        ensures down { (fs_of self.entry.now).volume.is_down ≡ true
+            → IsErrOf result FsFault.Down }
+    {
+        if self.is_down() {
+            return Err(FsFault::Down);
+        }
+        let card = self.permit_list(cred, &listing)?;
+        let bytes = (listing.max_count as usize).min(self.volume.limits().transfer_bytes);
+        if bytes < EMPTY_PAGE {
+            return Err(FsFault::Status(Status::TooSmall));
+        }
+        let names = card.names.list_after(listing.cookie);
+        let page = self.fill(cred, names, listing.asked, bytes - EMPTY_PAGE)?;
+        if page.entries.is_empty() && !page.is_end {
+            return Err(FsFault::Status(Status::TooSmall));
+        }
+        Ok(page)
+    }
+
+    /// The tests before those of the page, and the directory.
+    fn permit_list(&self, cred: &Cred, listing: &Listing<'_>) -> Result<&Card, Status>
+        ensures tests { (dir_count : ℕ) → IsChecked (list_refusals (fs_of self.entry.now).volume.tree
+            cred.now listing.now.directory (list_arguments listing.now dir_count)) result }
+        ensures names { IfOk result (λ card. by_stamp card.now.names
+            ≡ names_at (fs_of self.entry.now).volume.tree listing.now.directory) }
+        ensures each { IfOk result (λ card. AllByRecursion IsRecord card.now.names) }
+    {
+        let Some(card) = self.volume.node(listing.directory) else {
+            return Err(Status::Stale);
+        };
+        if !is_directory(card) {
+            return Err(Status::NotDir);
+        }
+        if !grants(card, cred, Mask::READ_DATA) {
+            return Err(Status::Access);
+        }
+        if listing.has_other_verifier() {
+            return Err(Status::NotSame);
+        }
+        let names = card.names.list_after(listing.cookie);
+        if must_read_lists(listing.asked) && !self.may_read_lists(cred, names) {
+            return Err(Status::Access);
+        }
+        Ok(card)
+    }
+
+    /// Whether a caller may read the list of a node: where it is gone he may not.
+    fn may_read_list(&self, cred: &Cred, number: u64) -> bool
+        ensures { result ≡ may_read_list cred.now (at number (fs_of self.now).volume.tree) }
+    {
+        match self.volume.node(number) {
+            Some(card) => grants(card, cred, Mask::READ_ACL),
+            None => false,
+        }
+    }
+
+    /// Whether a caller may read the list of each of these.
+    fn may_read_lists(&self, cred: &Cred, names: ListAfter<'_>) -> bool
+        ensures { result ≡ list_all (λ name. may_read_list cred.now
+            (at name.1.number (fs_of self.now).volume.tree)) (rest_of names.entry) }
+    {
+        for entry in names {
+            if !self.may_read_list(cred, entry.number) {
+                return false;
+            }
+        }
+        true
+    }
+
+    /// The page of these names that has room in so many bytes.
+    fn fill<'a>(
+        &'a self,
+        cred: &Cred,
+        names: ListAfter<'a>,
+        asked: &'a [u32],
+        room: usize,
+    ) -> Result<Page<'a>, AllocError>
+        requires { AllByRecursion IsRecord (rest_of names) }
+        ensures page { IfOk result (λ page. page_view page ≡ page_of room
+            (map (entry_of (fs_of self.entry.now).volume.limits (fs_of self.entry.now).volume.tree
+            cred.now asked.entry.now) (rest_of names.entry))) }
+        ensures fits { IfOk result PageFits }
+    {
+        let mut room = room;
+        let mut entries = Vec::new(self.alloc);
+        for name in names {
+            let entry = self.listed(cred, name, asked);
+            let size = 4 + entry.size();
+            if room < size {
+                return Ok(Page {
+                    entries,
+                    is_end: false,
+                });
+            }
+            room -= size;
+            entries.push(entry)?;
+        }
+        Ok(Page {
+            entries,
+            is_end: true,
+        })
+    }
+
+    /// The entry of a name.
+    fn listed<'a>(&'a self, cred: &Cred, name: &'a Entry, asked: &'a [u32]) -> ListedEntry<'a>
+        requires { IsRecord (record_at name) }
+        ensures view { entry_view result ≡ entry_of (fs_of self.entry.now).volume.limits
+            (fs_of self.entry.now).volume.tree cred.now asked.entry.now (record_at name.entry) }
+        ensures fits { EntryFits result }
+    {
+        ListedEntry {
+            cookie: name.stamp,
+            name: &name.name,
+            attributes: self.listed_attributes(cred, name.number, asked),
+        }
+    }
+
+    /// The attributes of the node of this number, as an entry shows them.
+    fn listed_attributes<'a>(
+        &'a self,
+        cred: &Cred,
+        number: u64,
+        asked: &'a [u32],
+    ) -> ListedAttributes<'a>
+        ensures view { listed_view result ≡ entry_attributes (fs_of self.entry.now).volume.limits
+            cred.now asked.entry.now number (at number (fs_of self.entry.now).volume.tree) }
+        ensures fits { ListedFits result }
+    {
+        if asks_lists(asked) && !self.may_read_list(cred, number) {
+            return ListedAttributes::Unreadable;
+        }
+        match self.volume.node(number) {
+            Some(card) => ListedAttributes::Shown(AttributesAnswer {
+                node: self.shown(card),
+                asked,
+            }),
+            None => ListedAttributes::Gone,
+        }
+    }
+}
