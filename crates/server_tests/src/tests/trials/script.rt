@@ -243,8 +243,9 @@ fn made_in(
         },
     };
     let made = step(alloc, &limits(), &state, NOW, &Argument::Create(asked))?;
+    let after = made.state;
     match made.outcome {
-        Outcome::Done(_) => Ok(Ok(made.state.tree)),
+        Outcome::Done(_) => Ok(Ok(after.tree)),
         Outcome::Refused(_, status) => Ok(Err(status)),
     }
 }
