@@ -2,6 +2,8 @@ pub mod Changing
 pub mod Creating
 pub mod Current
 pub mod Firsts
+pub mod ListLaws
+pub mod Pages
 pub mod QuietLaws
 pub mod Refusals
 pub mod RemoveLaws

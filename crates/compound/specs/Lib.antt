@@ -1,4 +1,5 @@
 pub mod Operates
+pub mod Pages
 pub mod Runs
 pub mod States
 pub mod Steps

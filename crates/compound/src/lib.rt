@@ -10,6 +10,7 @@ mod clients;
 mod end;
 mod fault;
 mod handles;
+mod listing;
 mod next;
 mod operate;
 mod operated;

@@ -23,7 +23,7 @@ use xdr::{Reader, Refusal};
 const OP_ILLEGAL: u32 = 10044;
 
 /// The operations that are served; another one of the standard's is answered NOTSUPP.
-const SERVED: [Operation; 18] = [
+const SERVED: [Operation; 19] = [
     Operation::Access,
     Operation::Create,
     Operation::GetAttr,
@@ -32,6 +32,7 @@ const SERVED: [Operation; 18] = [
     Operation::LookupParent,
     Operation::PutFh,
     Operation::PutRootFh,
+    Operation::ReadDir,
     Operation::Remove,
     Operation::Rename,
     Operation::RestoreFh,

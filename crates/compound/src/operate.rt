@@ -53,6 +53,7 @@ impl Running<'_> {
             Argument::LookupParent => Ok(self.look_up_parent(fs)),
             Argument::PutFh(handle) => Ok(self.put_handle(fs, handle)),
             Argument::PutRootFh => Ok(self.put_root()),
+            Argument::ReadDir(arguments) => self.list(fs, arguments),
             Argument::Remove(name) => self.remove(fs, now, name),
             Argument::Rename(arguments) => self.rename(fs, now, arguments),
             Argument::RestoreFh => Ok(self.restore_handle()),

@@ -104,6 +104,38 @@ const ASK_NOTHING: &str = "80000078 9 0 2 186a3 4 1 1 14 0 0 7 7 0 0 0 0 1 2
 
 const NOTHING_TOLD: &str = "80000058 9 1 0 0 0 0 2724 0 2 35 0 1 1 0 1 6 0 7 7 0 9 2724";
 
+/// Number 1 of slot 0: PUTROOTFH and CREATE of the directory `a`, the same of `b`, and PUTROOTFH and READDIR of 44 bytes.
+const LIST_THE_FIRST: &str = "800000c8 9 0 2 186a3 4 1 1 14 0 0 7 7 0 0 0 0 1 7
+    35 1 1 0 1 1 0 0 0 18 6 2 1 61000000 0 0 18 6 2 1 62000000 0 0 18 1a 0 0 0 0 0 2c 0";
+
+/// `a`, whose cookie is 1 1, and more behind it.
+const FIRST_LISTED: &str = "800000dc 9 1 0 0 0 0 0 0 7
+    35 0 1 1 0 1 1 0 7 7 0 18 0 6 0 1 0 1 1 1 0 18 0 6 0 1 1 1 1 2 0 18 0 1a 0 0 0 1 1 1 1 61000000 0 0 0 0";
+
+/// Number 2 of slot 0: PUTROOTFH, SAVEFH, RENAME of `a` to `c`, and READDIR of 72 bytes behind the cookie 1 1.
+const LIST_BEHIND_A_RENAME: &str = "800000a8 9 0 2 186a3 4 1 1 14 0 0 7 7 0 0 0 0 1 5
+    35 1 1 0 1 2 0 0 0 18 20 1d 1 61000000 1 63000000 1a 1 1 0 0 0 48 0";
+
+/// `b`, `c` and the end.
+const REST_LISTED: &str = "800000e0 9 1 0 0 0 0 0 0 5
+    35 0 1 1 0 1 2 0 7 7 0 18 0 20 0 1d 0 1 1 2 1 3 1 1 2 1 3
+    1a 0 0 0 1 1 2 1 62000000 0 0 1 1 3 1 63000000 0 0 0 1";
+
+/// Number 3 of slot 0: PUTROOTFH, REMOVE of `b`, READDIR behind its cookie, and the same with a verifier that was not given.
+const LIST_BEHIND_A_REMOVAL: &str = "800000bc 9 0 2 186a3 4 1 1 14 0 0 7 7 0 0 0 0 1 5
+    35 1 1 0 1 3 0 0 0 18 1c 1 62000000 1a 1 2 0 0 0 2c 0 1a 1 2 0 1 0 2c 0";
+
+/// `c` and the end; NOT_SAME.
+const LAST_LISTED: &str = "800000b0 9 1 0 0 0 0 272b 0 5
+    35 0 1 1 0 1 3 0 7 7 0 18 0 1c 0 1 1 3 1 4 1a 0 0 0 1 1 3 1 63000000 0 0 0 1 1a 272b";
+
+/// Number 4 of slot 0: PUTROOTFH, and READDIR of 43 bytes.
+const LIST_NONE: &str = "80000090 9 0 2 186a3 4 1 1 14 0 0 7 7 0 0 0 0 1 3
+    35 1 1 0 1 4 0 0 0 18 1a 0 0 0 0 0 2b 0";
+
+/// TOOSMALL.
+const NONE_LISTED: &str = "80000060 9 1 0 0 0 0 2715 0 3 35 0 1 1 0 1 4 0 7 7 0 18 0 1a 2715";
+
 /// Number 1 of slot 0: GETFH.
 const GET_NO_HANDLE: &str =
     "80000070 9 0 2 186a3 4 1 1 14 0 0 7 7 0 0 0 0 1 2 35 1 1 0 1 1 0 0 0 a";
@@ -150,6 +182,15 @@ const TOLD: [Step; 8] = [
     Asks(0, ASK_NOTHING, 2, NOTHING_TOLD),
 ];
 
+const LISTED: [Step; 6] = [
+    Asks(0, EXCHANGE_ID, 1, EXCHANGED),
+    Asks(0, CREATE_SESSION, 1, CREATED),
+    Asks(0, LIST_THE_FIRST, 7, FIRST_LISTED),
+    Asks(0, LIST_BEHIND_A_RENAME, 5, REST_LISTED),
+    Asks(0, LIST_BEHIND_A_REMOVAL, 5, LAST_LISTED),
+    Asks(0, LIST_NONE, 3, NONE_LISTED),
+];
+
 const WITHOUT_HANDLE: [Step; 3] = [
     Asks(0, EXCHANGE_ID, 1, EXCHANGED),
     Asks(0, CREATE_SESSION, 1, CREATED),
@@ -157,11 +198,12 @@ const WITHOUT_HANDLE: [Step; 3] = [
 ];
 
 /// Whole connections, by what they show.
-pub(super) const ROWS: [(&str, &[Step]); 6] = [
+pub(super) const ROWS: [(&str, &[Step]); 7] = [
     ("first operations are tested in order", &REFUSED_FIRST),
     ("a compound runs once", &RUN_ONCE),
     ("the tree is served", &SERVED),
     ("names move and go", &NAMES),
     ("rights and attributes are told", &TOLD),
+    ("directories are listed between changes", &LISTED),
     ("there is no filehandle at first", &WITHOUT_HANDLE),
 ];

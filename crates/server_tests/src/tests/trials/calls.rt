@@ -4,7 +4,7 @@ use std::alloc::Global;
 use std::test::Fail;
 use wire::{
     Argument, Attributes, Bitmap, CallbackSecurity, Channel, CreateArguments,
-    CreateSessionArguments, ExchangeIdArguments, SequenceArguments,
+    CreateSessionArguments, ExchangeIdArguments, RenameArguments, SequenceArguments,
 };
 use wire_client::write_argument;
 use xdr::{Refusal, Writer};
@@ -114,6 +114,30 @@ pub(super) fn compound(
     for operation in operations {
         operation.write(&mut call)?;
     }
+    record_of(alloc, call)
+}
+
+/// A record with a RENAME, behind a SEQUENCE, in the directory to which these names lead from the root.
+pub(super) fn rename(
+    alloc: Global,
+    caller: Caller,
+    sequence: SequenceArguments,
+    path: &[u8],
+    (old, new): (u8, u8),
+) -> Result<Vec<u8>, Fail> {
+    let count = u32::try_from(path.len())?.saturating_add(4);
+    let mut call = begin_call(alloc, caller, count)?;
+    write_argument(&mut call, &Argument::Sequence(sequence))?;
+    Operation::Root.write(&mut call)?;
+    for name in path {
+        Operation::Lookup(*name).write(&mut call)?;
+    }
+    write_argument(&mut call, &Argument::SaveFh)?;
+    let asked = RenameArguments {
+        old_name: &[old],
+        new_name: &[new],
+    };
+    write_argument(&mut call, &Argument::Rename(asked))?;
     record_of(alloc, call)
 }
 

@@ -1,6 +1,6 @@
-//! Stops before and within each write and each sync of a server that makes directories.
+//! Stops before and within each write and each sync of a server that makes and moves directories.
 
-use super::calls::{Caller, Operation, compound, hello, on_slot, session};
+use super::calls::{self, Caller, Operation, compound, hello, on_slot, session};
 use crate::tests::drivers;
 use acl_eval::{Ace, AceFlags, AceKind, Acl, Cred, Gids, Mask, Who};
 use bitflags::Flags;
@@ -9,7 +9,7 @@ use fs::{Fs, FsFault};
 use model::limits::Limits;
 use model::status::Status;
 use oracle::answers::Outcome;
-use oracle::step::step;
+use oracle::step::{Stepped, step};
 use oracle_refusals::state::{Context, Opens, Place, State};
 use oracle_tree::keyed::is_key;
 use oracle_tree::tree::{Content, Node, Tree, clone_tree};
@@ -17,7 +17,7 @@ use server::{Server, ServerFault, Turn};
 use std::alloc::Global;
 use std::process::Abort;
 use std::test::Fail;
-use wire::{Argument, Attributes, CreateArguments};
+use wire::{Argument, Attributes, CreateArguments, RenameArguments};
 use xdr::Words;
 
 const SECTORS: u32 = 256;
@@ -32,44 +32,75 @@ const CLIENT: u64 = 0x1_0000_0001;
 
 const SESSION: [u8; 16] = [0, 0, 0, 1, 0, 0, 0, 1, 0, 0, 0, 0, 0, 0, 0, 1];
 
-/// A CREATE of a directory, in that to which the path's names lead from the root, and its status.
+/// What is done in a directory.
 #[derive(Clone, Copy)]
-struct Creation {
+enum What {
+    /// CREATE of a directory of this name.
+    Makes(u8),
+    /// RENAME of the first name to the second.
+    Moves(u8, u8),
+}
+
+/// What a caller does in the directory to which the path's names lead from the root, and its status.
+#[derive(Clone, Copy)]
+struct Change {
     uid: u32,
     path: &'static [u8],
-    name: u8,
+    what: What,
     status: Status,
 }
 
-const CREATIONS: [Creation; 5] = [
-    Creation {
+const CREATIONS: [Change; 5] = [
+    Change {
         uid: 7,
         path: b"",
-        name: b'a',
+        what: What::Makes(b'a'),
         status: Status::Ok,
     },
-    Creation {
+    Change {
         uid: 7,
         path: b"a",
-        name: b'b',
+        what: What::Makes(b'b'),
         status: Status::Ok,
     },
-    Creation {
+    Change {
         uid: 7,
         path: b"",
-        name: b'a',
+        what: What::Makes(b'a'),
         status: Status::Exist,
     },
-    Creation {
+    Change {
         uid: 8,
         path: b"a",
-        name: b'c',
+        what: What::Makes(b'c'),
         status: Status::Access,
     },
-    Creation {
+    Change {
         uid: 7,
         path: b"ab",
-        name: b'd',
+        what: What::Makes(b'd'),
+        status: Status::Ok,
+    },
+];
+
+/// The third one replaces an empty directory.
+const REPLACEMENT: [Change; 3] = [
+    Change {
+        uid: 7,
+        path: b"",
+        what: What::Makes(b'a'),
+        status: Status::Ok,
+    },
+    Change {
+        uid: 7,
+        path: b"",
+        what: What::Makes(b'b'),
+        status: Status::Ok,
+    },
+    Change {
+        uid: 7,
+        path: b"",
+        what: What::Moves(b'a', b'b'),
         status: Status::Ok,
     },
 ];
@@ -125,7 +156,7 @@ struct Fronts {
 }
 
 impl Fronts {
-    fn new(alloc: Global) -> Result<Fronts, Fail> {
+    fn new(alloc: Global, script: &[Change]) -> Result<Fronts, Fail> {
         let mut trees = Vec::new(alloc);
         trees.push(fresh(alloc)?)?;
         let mut changes = Vec::new(alloc);
@@ -137,8 +168,8 @@ impl Fronts {
             told: Vec::new(alloc),
             changes,
         };
-        for creation in CREATIONS {
-            fronts.create(alloc, creation)?;
+        for change in script {
+            fronts.add(alloc, *change)?;
         }
         for tree in &fronts.trees {
             fronts.told.push(Told::of(alloc, tree)?)?;
@@ -146,20 +177,20 @@ impl Fronts {
         Ok(fronts)
     }
 
-    fn create(&mut self, alloc: Global, creation: Creation) -> Result<(), Fail> {
+    fn add(&mut self, alloc: Global, change: Change) -> Result<(), Fail> {
         let Some(tree) = self.trees.last() else {
             return Err("no tree".into());
         };
-        let cred = caller(creation.uid);
+        let cred = caller(change.uid);
         let made = self.trees.len().saturating_sub(1);
-        let status = match made_in(alloc, tree, &cred, made, creation)? {
+        let status = match tree_behind(alloc, tree, &cred, made, change)? {
             Ok(next) => {
                 self.trees.push(next)?;
                 Status::Ok
             }
             Err(status) => status,
         };
-        if status != creation.status {
+        if status != change.status {
             return Err("another status".into());
         }
         self.changes.push(self.trees.len().saturating_sub(1))?;
@@ -216,63 +247,107 @@ fn look_up(
     }
 }
 
-/// The tree with the new directory, behind so many changes, or why it is not made.
-fn made_in(
+/// The state in the directory to which these names lead from the root, or why one is not looked up.
+fn state_in<'a>(
     alloc: Global,
     tree: &Tree,
-    cred: &Cred,
+    cred: &'a Cred,
     changes: usize,
-    creation: Creation,
-) -> Result<Result<Tree, Status>, Fail> {
+    path: &[u8],
+) -> Result<Result<State<'a>, Status>, Fail> {
     let mut state = state_at(alloc, tree, cred, changes, 1)?;
-    for name in creation.path {
+    for name in path {
         let looked = step(alloc, &limits(), &state, NOW, &Argument::Lookup(&[*name]))?;
         if let Outcome::Refused(_, status) = looked.outcome {
             return Ok(Err(status));
         }
         state = looked.state;
     }
-    let mut bitmap = Words::new();
-    bitmap.push(0);
-    bitmap.push(2);
-    let asked = CreateArguments::NewDirectory {
-        name: &[creation.name],
-        attributes: Attributes {
-            bitmap,
-            values: &[0, 0, 1, 0xED],
-        },
+    Ok(Ok(state))
+}
+
+/// The tree behind a change, which comes behind so many others, or why it is refused.
+fn tree_behind(
+    alloc: Global,
+    tree: &Tree,
+    cred: &Cred,
+    changes: usize,
+    change: Change,
+) -> Result<Result<Tree, Status>, Fail> {
+    let state = match state_in(alloc, tree, cred, changes, change.path)? {
+        Ok(state) => state,
+        Err(status) => return Ok(Err(status)),
     };
-    let made = step(alloc, &limits(), &state, NOW, &Argument::Create(asked))?;
-    let after = made.state;
-    match made.outcome {
+    let done = match change.what {
+        What::Makes(name) => make(alloc, &state, name)?,
+        What::Moves(old, new) => rename(alloc, &state, old, new)?,
+    };
+    let after = done.state;
+    match done.outcome {
         Outcome::Done(_) => Ok(Ok(after.tree)),
         Outcome::Refused(_, status) => Ok(Err(status)),
     }
 }
 
-/// The script's records: a client makes itself known, takes a session, and creates.
-fn records(alloc: Global) -> Result<Vec<Vec<u8>>, Fail> {
+fn make<'a>(alloc: Global, state: &State<'a>, name: u8) -> Result<Stepped<'a>, Fail> {
+    let mut bitmap = Words::new();
+    bitmap.push(0);
+    bitmap.push(2);
+    let asked = CreateArguments::NewDirectory {
+        name: &[name],
+        attributes: Attributes {
+            bitmap,
+            values: &[0, 0, 1, 0xED],
+        },
+    };
+    Ok(step(alloc, &limits(), state, NOW, &Argument::Create(asked))?)
+}
+
+/// Within the current directory.
+fn rename<'a>(alloc: Global, state: &State<'a>, old: u8, new: u8) -> Result<Stepped<'a>, Fail> {
+    let saved = step(alloc, &limits(), state, NOW, &Argument::SaveFh)?;
+    let asked = RenameArguments {
+        old_name: &[old],
+        new_name: &[new],
+    };
+    Ok(step(
+        alloc,
+        &limits(),
+        &saved.state,
+        NOW,
+        &Argument::Rename(asked),
+    )?)
+}
+
+/// The script's records: a client makes itself known, takes a session, and makes the changes.
+fn records(alloc: Global, script: &[Change]) -> Result<Vec<Vec<u8>>, Fail> {
     let mut records = Vec::new(alloc);
     records.push(hello(alloc, Caller { xid: 1, uid: 7 })?)?;
     records.push(session(alloc, Caller { xid: 2, uid: 7 }, CLIENT)?)?;
-    for (number, creation) in (1..).zip(CREATIONS.iter()) {
-        records.push(creation_record(alloc, number, *creation)?)?;
+    for (number, change) in (1..).zip(script.iter()) {
+        records.push(change_record(alloc, number, *change)?)?;
     }
     Ok(records)
 }
 
-fn creation_record(alloc: Global, number: u32, creation: Creation) -> Result<Vec<u8>, Fail> {
-    let mut operations = Vec::new(alloc);
-    operations.push(Operation::Root)?;
-    for name in creation.path {
-        operations.push(Operation::Lookup(*name))?;
-    }
-    operations.push(Operation::MakeDir(creation.name))?;
+fn change_record(alloc: Global, number: u32, change: Change) -> Result<Vec<u8>, Fail> {
     let caller = Caller {
         xid: number.saturating_add(2),
-        uid: creation.uid,
+        uid: change.uid,
     };
-    compound(alloc, caller, on_slot(SESSION, 0, number), &operations)
+    let sequence = on_slot(SESSION, 0, number);
+    match change.what {
+        What::Makes(name) => {
+            let mut operations = Vec::new(alloc);
+            operations.push(Operation::Root)?;
+            for directory in change.path {
+                operations.push(Operation::Lookup(*directory))?;
+            }
+            operations.push(Operation::MakeDir(name))?;
+            compound(alloc, caller, sequence, &operations)
+        }
+        What::Moves(old, new) => calls::rename(alloc, caller, sequence, change.path, (old, new)),
+    }
 }
 
 /// Sends a record, gives turns up to the reply, and takes it.
@@ -447,35 +522,44 @@ fn mount_steps(alloc: Global, volume: &CrashDevice) -> Result<u64, Fail> {
     Ok(device.steps())
 }
 
-fn expect_statuses(rt: &impl Abort, replies: &[Vec<u8>]) {
-    assert_eq!(rt; replies.len(), 7);
-    for (creation, reply) in CREATIONS.iter().zip(replies.iter().skip(2)) {
-        assert_eq!(rt; status_of(reply), Some(creation.status.code()));
+fn expect_statuses(rt: &impl Abort, script: &[Change], replies: &[Vec<u8>]) {
+    assert_eq!(rt; replies.len(), script.len().saturating_add(2));
+    for (change, reply) in script.iter().zip(replies.iter().skip(2)) {
+        assert_eq!(rt; status_of(reply), Some(change.status.code()));
     }
 }
 
-#[test]
-fn stops_of_five_creations(rt: HostRuntime) -> Result<(), Fail> {
-    let alloc = rt.alloc();
+/// Plays the script with a stop before and within each step behind the mount. Each front is found behind some stop.
+fn try_stops(rt: &impl Abort, alloc: Global, script: &[Change]) -> Result<(), Fail> {
     let volume = volume(alloc)?;
-    let records = records(alloc)?;
+    let records = records(alloc, script)?;
     let mut whole = CrashDevice::new(volume.landed(alloc, &[])?, Stop::Never);
     let replies = serve(alloc, &mut whole, &records)?;
-    expect_statuses(&rt, &replies);
+    expect_statuses(rt, script, &replies);
     let first = mount_steps(alloc, &volume)?;
     let mut trial = Trial {
         volume,
         records,
         replies,
-        fronts: Fronts::new(alloc)?,
+        fronts: Fronts::new(alloc, script)?,
         found: [0; 4],
     };
     for step in first..whole.steps() {
-        trial.stop(&rt, alloc, Stop::Before(step))?;
-        trial.stop(&rt, alloc, Stop::Within(step))?;
+        trial.stop(rt, alloc, Stop::Before(step))?;
+        trial.stop(rt, alloc, Stop::Within(step))?;
     }
     assert!(rt; trial.found.iter().all(|times| *times > 0));
     Ok(())
+}
+
+#[test]
+fn stops_of_five_creations(rt: HostRuntime) -> Result<(), Fail> {
+    try_stops(&rt, rt.alloc(), &CREATIONS)
+}
+
+#[test]
+fn stops_of_a_rename_that_replaces(rt: HostRuntime) -> Result<(), Fail> {
+    try_stops(&rt, rt.alloc(), &REPLACEMENT)
 }
 
 /// Plays the records, takes the device from the server, and begins a second life on it: the device, wherever that ended.
@@ -507,12 +591,12 @@ fn count_behind(rt: &impl Abort, alloc: Global, left: MemDevice, told: &Told) ->
 fn stops_of_a_second_mount(rt: HostRuntime) -> Result<(), Fail> {
     let alloc = rt.alloc();
     let volume = volume(alloc)?;
-    let records = records(alloc)?;
+    let records = records(alloc, &CREATIONS)?;
     let mut first = CrashDevice::new(volume.landed(alloc, &[])?, Stop::Never);
     let _ = serve(alloc, &mut first, &records)?;
     let whole = CrashDevice::new(volume.landed(alloc, &[])?, Stop::Never);
     let whole = two_lives(alloc, whole, &records)?;
-    let fronts = Fronts::new(alloc)?;
+    let fronts = Fronts::new(alloc, &CREATIONS)?;
     let told = fronts.told.last().ok_or("no tree")?;
     let mut found = [0u32; 2];
     for step in first.steps()..whole.steps() {

@@ -45,6 +45,11 @@ returns-in-GetAttr-clause-volume g c =
     quiet_result g.D.Device.keeps_word (shared_of c.args.fs.now c.args.table.now) (fs_failures c.args.fs.now) (in_progress_of c.args.self.now) c.args.now (argument_view c.args.argument.now) c.get_attributes.result
     c.requires.up (rw c.in-GetAttr.is refl) (λ reason is. rw is at c.get_attributes.ensures.err)
 
+pub returns-in-ReadDir-clause-volume : goal.returns-in-ReadDir-clause-volume
+returns-in-ReadDir-clause-volume g c =
+    quiet_result g.D.Device.keeps_word (shared_of c.args.fs.now c.args.table.now) (fs_failures c.args.fs.now) (in_progress_of c.args.self.now) c.args.now (argument_view c.args.argument.now) c.list.result
+    c.requires.up (rw c.in-ReadDir.is refl) (λ reason is. rw is at c.list.ensures.err)
+
 pub returns-in-Lookup-clause-volume : goal.returns-in-Lookup-clause-volume
 returns-in-Lookup-clause-volume g c =
     quiet_changes g.D.Device.keeps_word (shared_of c.args.fs.now c.args.table.now) (fs_failures c.args.fs.now) (in_progress_of c.args.self.now) c.args.now (argument_view c.args.argument.now)
@@ -130,6 +135,10 @@ pub returns-in-GetAttr-clause-gives : goal.returns-in-GetAttr-clause-gives
 returns-in-GetAttr-clause-gives g c = λ keeps. rw c.in-GetAttr.is
     (told_if c.args.now (fs_of c.args.fs.now) (table_of c.args.table.now) (in_progress_of c.args.self.now) _ c.get_attributes.result c.get_attributes.ensures.gives)
 
+pub returns-in-ReadDir-clause-gives : goal.returns-in-ReadDir-clause-gives
+returns-in-ReadDir-clause-gives g c = λ keeps. rw c.in-ReadDir.is
+    (told_if c.args.now (fs_of c.args.fs.now) (table_of c.args.table.now) (in_progress_of c.args.self.now) _ c.list.result c.list.ensures.gives)
+
 pub returns-in-Lookup-clause-gives : goal.returns-in-Lookup-clause-gives
 returns-in-Lookup-clause-gives g c = λ keeps. rw c.in-Lookup.is (c.look_up.ensures.gives c.args.now (table_of c.args.table.now) no_opens)
 
@@ -188,6 +197,10 @@ returns-in-GetFh-clause-kept g c =
 pub returns-in-GetAttr-clause-kept : goal.returns-in-GetAttr-clause-kept
 returns-in-GetAttr-clause-kept g c =
     told_kept c.args.now (fs_of c.args.fs.now) (table_of c.args.table.now) (in_progress_of c.args.self.now) _ c.get_attributes.result c.get_attributes.ensures.gives
+
+pub returns-in-ReadDir-clause-kept : goal.returns-in-ReadDir-clause-kept
+returns-in-ReadDir-clause-kept g c =
+    told_kept c.args.now (fs_of c.args.fs.now) (table_of c.args.table.now) (in_progress_of c.args.self.now) _ c.list.result c.list.ensures.gives
 
 pub returns-in-Lookup-clause-kept : goal.returns-in-Lookup-clause-kept
 returns-in-Lookup-clause-kept g c =

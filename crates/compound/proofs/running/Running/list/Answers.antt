@@ -1,0 +1,90 @@
+use Rattle.std.proofs.Common.{◌≡◌, ℕ, Result, Ok, Err, IfOk, IfErr, sym, subst, refl, ◌∙◌, arith}
+use Rattle.fs.specs.FileSystems.{fs_of}
+use Rattle.fs.specs.Listing.{Lists, list_arguments, page_view}
+use Rattle.model.specs.Answer.{Answer, Refused}
+use Rattle.model.specs.Operation.{Argument, ReadDirArguments}
+use Rattle.model.specs.declared.status.Status.{Status}
+use Rattle.wire.specs.ArgumentViews.{read_dir_view}
+use Rattle.compound.specs.Operates.{GivesIn, IsAnswered, OnlyReads}
+use Rattle.compound.specs.States.{shared}
+use Rattle.compound.specs.Views.{in_progress_of}
+use Rattle.compound.specs.declared.fault.Fault.{Fault}
+use Rattle.compound.specs.declared.fault.Fault.TheVariants.{Memory}
+use Rattle.compound.specs.declared.operated.Operated.{Operated}
+use Rattle.compound.proofs.Changing.{told_spelled}
+use Rattle.compound.proofs.ListLaws.{list_on_tree, lists_up, told_lists, told_memory}
+use Rattle.compound.proofs.Rooms.{gives_refusal}
+use Rattle.compound.proofs.Telling.{tells_ok}
+use Rattle.compound.proofs.Trees.{is_on, is_there, of_request, wants}
+use Rattle.compound.proofs.running.Running.list.Goals as goal
+
+pub returns-in-Err-clause-gives : goal.returns-in-Err-clause-gives
+unfolding in_progress_of
+returns-in-Err-clause-gives g c = λ now table opens.
+    let fs = fs_of c.args.fs.now in
+    let request = in_progress_of c.args.self.now in
+    let kind = Argument.ReadDir (read_dir_view c.args.arguments.now) in
+    c.refuse.ensures.gives now (shared fs table opens) (shared fs table opens) kind
+    (subst (λ (reason : Status). GivesIn now (shared fs table opens) (shared fs table opens) request request kind (Refused 26 reason)) (sym c.in-Err.ensures.err.0)
+    (gives_refusal now (shared fs table opens) (shared fs table opens) request kind 26 _ (wants now fs table opens request kind refl c.in-Err.ensures.err.1)))
+
+pub returns-in_ok-values-in-Ok-list-clause-gives : goal.returns-in_ok-values-in-Ok-list-clause-gives
+unfolding in_progress_of
+returns-in_ok-values-in-Ok-list-clause-gives g c = λ now table opens.
+    let fs = fs_of c.args.fs.now in
+    let request = in_progress_of c.args.self.now in
+    let arguments = read_dir_view c.args.arguments.now in
+    let kind = Argument.ReadDir arguments in
+    let answer = Answer.ReadDir (page_view c.in-Ok-list.page) in
+    c.settle_spelled.ensures.gives now (shared fs table opens) kind answer
+    (record { number_is = refl; values_are = sym c.in_ok-values-in-Ok-list.ensures.ok }) refl
+    (tells_ok now fs table opens request kind (list_on_tree arguments) answer
+    (λ state there. subst (λ (asked : ReadDirArguments). Lists fs state now asked (Ok c.in-Ok-list.page)) c.listing.ensures.arguments
+    (c.in-Ok-list.ensures.step state now c.args.arguments.now.dir_count (is_on fs request _ _ c.requires.run c.in-Ok.ensures.ok.0 (c.in-Ok.ensures.ok.1 ∙ sym c.listing.ensures.directory) there))))
+
+-- Where it is not done
+
+pub tell_fault-requires : goal.tell_fault-requires
+unfolding in_progress_of
+tell_fault-requires g c =
+    let fs = fs_of c.args.fs.now in
+    let request = in_progress_of c.args.self.now in
+    let state = of_request fs request in
+    lists_up fs state 0 (read_dir_view c.args.arguments.now) c.in-Err-list.fault c.requires.up
+    (subst (λ (asked : ReadDirArguments). Lists fs state 0 asked (Err c.in-Err-list.fault)) c.listing.ensures.arguments
+    (c.in-Err-list.ensures.step state 0 c.args.arguments.now.dir_count (is_on fs request _ _ c.requires.run c.in-Ok.ensures.ok.0 (c.in-Ok.ensures.ok.1 ∙ sym c.listing.ensures.directory) (is_there fs request))))
+
+pub returns-in-Err-list-clause-gives : goal.returns-in-Err-list-clause-gives
+unfolding in_progress_of
+returns-in-Err-list-clause-gives g c =
+    let fs = fs_of c.args.fs.now in
+    let request = in_progress_of c.args.self.now in
+    let arguments = read_dir_view c.args.arguments.now in
+    subst (λ (r : Result Operated Fault). IfOk r (OnlyReads fs request (Argument.ReadDir arguments))) (sym c.tell_fault.ensures)
+    (told_lists fs request arguments c.in-Err-list.fault
+    (λ state now there. subst (λ (asked : ReadDirArguments). Lists fs state now asked (Err c.in-Err-list.fault)) c.listing.ensures.arguments
+    (c.in-Err-list.ensures.step state now c.args.arguments.now.dir_count (is_on fs request _ _ c.requires.run c.in-Ok.ensures.ok.0 (c.in-Ok.ensures.ok.1 ∙ sym c.listing.ensures.directory) there))))
+
+pub returns-in-Err-list-clause-answered : goal.returns-in-Err-list-clause-answered
+unfolding in_progress_of
+returns-in-Err-list-clause-answered g c =
+    let fs = fs_of c.args.fs.now in
+    let request = in_progress_of c.args.self.now in
+    let state = of_request fs request in
+    subst (λ (r : Result Operated Fault). IfOk r (IsAnswered request)) (sym c.tell_fault.ensures)
+    (told_spelled request 26 c.in-Err-list.fault (omega arith)
+    (lists_up fs state 0 (read_dir_view c.args.arguments.now) c.in-Err-list.fault c.requires.up
+    (subst (λ (asked : ReadDirArguments). Lists fs state 0 asked (Err c.in-Err-list.fault)) c.listing.ensures.arguments
+    (c.in-Err-list.ensures.step state 0 c.args.arguments.now.dir_count (is_on fs request _ _ c.requires.run c.in-Ok.ensures.ok.0 (c.in-Ok.ensures.ok.1 ∙ sym c.listing.ensures.directory) (is_there fs request))))))
+
+pub returns-in-Err-list-clause-err : goal.returns-in-Err-list-clause-err
+unfolding in_progress_of
+returns-in-Err-list-clause-err g c =
+    let fs = fs_of c.args.fs.now in
+    let request = in_progress_of c.args.self.now in
+    let state = of_request fs request in
+    let arguments = read_dir_view c.args.arguments.now in
+    subst (λ (r : Result Operated Fault). IfErr r (λ reason. reason ≡ Memory)) (sym c.tell_fault.ensures)
+    (told_memory fs state 0 arguments c.in-Err-list.fault c.requires.up
+    (subst (λ (asked : ReadDirArguments). Lists fs state 0 asked (Err c.in-Err-list.fault)) c.listing.ensures.arguments
+    (c.in-Err-list.ensures.step state 0 c.args.arguments.now.dir_count (is_on fs request _ _ c.requires.run c.in-Ok.ensures.ok.0 (c.in-Ok.ensures.ok.1 ∙ sym c.listing.ensures.directory) (is_there fs request)))))

@@ -1,0 +1,126 @@
+//! READDIR (RFC 8881, section 18.23).
+
+ghost use Rattle.std.specs.Prelude.{◌≡◌, All, IfOk, IfErr};
+ghost use Rattle.fs.specs.Listing.{PageFits, list_arguments, page_view};
+ghost use Rattle.model.specs.WireAnswers.{read_dir_answer};
+ghost use Rattle.wire.specs.ArgumentViews.{read_dir_view};
+ghost use Rattle.wire_attributes.specs.Listed.{EntryFits};
+ghost use Rattle.xdr.specs.Clauses.{Wrote};
+ghost use Rattle.compound.specs.Pages.{chain_of, link_of, links_of};
+ghost use Rattle.compound.specs.declared.fault.Fault.TheVariants.{Memory};
+
+use crate::fault::Fault;
+use crate::operated::Operated;
+use crate::running::Running;
+use disk::Device;
+use fs::{Fs, Listing, Page};
+use std::alloc::Global;
+use wire::{Operation, ReadDirArguments};
+use wire_attributes::ListedEntry;
+use xdr::{Refusal, Writer};
+
+/// The room that is taken for a page: as many bytes as the largest one has.
+const PAGE_BYTES: usize = 8_192;
+
+impl Running<'_> {
+    ghost use Rattle.std.specs.Prelude.{◌≡◌, false, IfOk, IfErr};
+    ghost use Rattle.fs.specs.FileSystems.{fs_of};
+    ghost use Rattle.model.specs.Operation as operations;
+    ghost use Rattle.wire.specs.ArgumentViews.{read_dir_view};
+    ghost use Rattle.compound.specs.Operates.{OnlyReads, IsAnswered};
+    ghost use Rattle.compound.specs.Views.{in_progress_of};
+    ghost use Rattle.compound.specs.declared.fault.Fault.TheVariants.{Memory};
+
+    /// READDIR: a page of the current directory, of the entries behind a cookie.
+    pub(crate) fn list<D: Device>(
+        &self,
+        fs: &Fs<D>,
+        arguments: &ReadDirArguments,
+    ) -> Result<Operated, Fault>
+        requires up { (fs_of fs.now).volume.is_down ≡ false }
+        requires run { (in_progress_of self.now).context.run ≡ (fs_of fs.now).volume.run }
+        ensures gives { IfOk result (OnlyReads (fs_of fs.now) (in_progress_of self.now)
+            (operations.Argument.ReadDir (read_dir_view arguments.now))) }
+        ensures answered { IfOk result (IsAnswered (in_progress_of self.now)) }
+        ensures err { IfErr result (λ fault. fault ≡ Memory) }
+    {
+        let directory = match self.current_node() {
+            Ok(number) => number,
+            Err(status) => return Ok(self.refuse(Operation::ReadDir, status)),
+        };
+        match fs.list(&self.cred, listing(directory, arguments)) {
+            Ok(page) => {
+                let values = spelled(self.alloc, &page)?;
+                Ok(self.settle_spelled(Operation::ReadDir, values))
+            }
+            Err(fault) => self.tell_fault(Operation::ReadDir, fault),
+        }
+    }
+}
+
+/// What is asked of the directory of this number.
+fn listing(directory: u64, arguments: &ReadDirArguments) -> Listing<'_>
+    ensures directory { result.directory ≡ directory }
+    ensures arguments { list_arguments result arguments.entry.now.dir_count
+        ≡ read_dir_view arguments.entry.now }
+{
+    Listing {
+        directory,
+        cookie: arguments.cookie,
+        verifier: arguments.verifier,
+        max_count: arguments.max_count,
+        asked: arguments.bitmap.as_slice(),
+    }
+}
+
+/// The page as the result has it.
+fn spelled(alloc: Global, page: &Page<'_>) -> Result<Vec<u8>, Fault>
+    requires { PageFits page.now }
+    ensures ok { IfOk result (λ values.
+        values.items ≡ read_dir_answer.spelling (page_view page.now)) }
+    ensures err { IfErr result (λ fault. fault ≡ Memory) }
+{
+    let mut out = Writer::with_capacity(alloc, PAGE_BYTES)?;
+    write_page(&mut out, page)?;
+    Ok(out.into_vec())
+}
+
+/// Writes a page, with a verifier of zero bytes. A refusal may leave a front of it.
+#[tactic(auto, using(xdr::proofs::Writing::wrote_on, xdr::proofs::Writing::wrote_exit, xdr::proofs::Writing::wrote_end))]
+fn write_page(w: &mut Writer, page: &Page<'_>) -> Result<(), Refusal>
+    requires { PageFits page.now }
+    ensures { Wrote w.old w.new result (read_dir_answer.spelling (page_view page.now)) }
+{
+    w.write_u64(0)?;
+    write_chain(w, &page.entries)?;
+    w.write_bool(page.is_end)
+}
+
+/// Writes entries, with the end of their chain. A refusal may leave a front of them.
+#[tactic(auto, unfolding(crate::specs::Pages::chain_of), using(xdr::proofs::Writing::wrote_on, xdr::proofs::Writing::wrote_exit, xdr::proofs::Writing::wrote_end))]
+fn write_chain(w: &mut Writer, entries: &[ListedEntry<'_>]) -> Result<(), Refusal>
+    requires { All EntryFits entries.now }
+    ensures { Wrote w.old w.new result (chain_of entries.now) }
+{
+    write_links(w, entries)?;
+    w.write_bool(false)
+}
+
+fn write_links(w: &mut Writer, entries: &[ListedEntry<'_>]) -> Result<(), Refusal>
+    requires { All EntryFits entries.now }
+    ensures { Wrote w.old w.new result (links_of entries.now) }
+{
+    for entry in entries {
+        write_link(w, entry)?;
+    }
+    Ok(())
+}
+
+#[tactic(auto, using(xdr::proofs::Writing::wrote_on, xdr::proofs::Writing::wrote_exit, xdr::proofs::Writing::wrote_end))]
+fn write_link(w: &mut Writer, entry: &ListedEntry<'_>) -> Result<(), Refusal>
+    requires { EntryFits entry.now }
+    ensures { Wrote w.old w.new result (link_of entry.now) }
+{
+    w.write_bool(true)?;
+    entry.write(w)
+}
