@@ -1,7 +1,7 @@
 -- The map of records by stamp, and what it has behind a cookie.
-use Rattle.std.proofs.Common.{ℕ, Bool, true, false, List, [], ◌∷◌, ◌++◌, ◌≡◌, ◌≢◌, ◌<◌, ◌≤◌, ◌==◌, ◌∙◌, Option, Some, None, inl, inr, refl, sym, ap, arith, ne_eqb, eq-eqb}
+use Rattle.std.proofs.Common.{ℕ, List, [], ◌∷◌, ◌≡◌, ◌≢◌, ◌<◌, ◌≤◌, ◌∙◌, Some, None, inl, inr, refl, sym, ap, arith, ne_eqb, eq-eqb}
 use Rattle.std.proofs.lemmas.Bool.{cases_order, cases_eq, cases_lt, lt-ltb, le-ltb}
-use Rattle.model.specs.Keyed.{Keyed, at, here_or, with, IsAbove}
+use Rattle.model.specs.Keyed.{Keyed, at, with, IsAbove}
 use Rattle.model.specs.Tree.{DirEntry}
 use Rattle.model.proofs.KeyedLaws.{at-below, at-first, at-rest, at-with_same, at-with_other, IsAbove-with, some≢none}
 use Rattle.directory.specs.Records.{Record}
@@ -98,65 +98,9 @@ after_first cookie key value (entry ∷ rest) rising above is none = elim (cases
   ]
 ]
 
--- The least of the records looked at so far
+-- The record of the least stamp above the cookie
 
-at_push_there : (key : ℕ) (value : DirEntry) (records : List Record) (new : Record) → at key records ≡ Some value → at key (records ++ new ∷ []) ≡ Some value
-at_push_there key value [] new is = absurd (some≢none value (sym is))
-at_push_there key value (first ∷ rest) new is = step (key == first.0) is (λ others. at_push_there key value rest new others)
-  where
-    step : (is_here : Bool) → here_or is_here first.1 (at key rest) ≡ Some value → (at key rest ≡ Some value → at key (rest ++ new ∷ []) ≡ Some value)
-        → here_or is_here first.1 (at key (rest ++ new ∷ [])) ≡ Some value
-    step true is others = is
-    step false is others = others is
-
-at_push_none : (key : ℕ) (records : List Record) (new : Record) → at key records ≡ None → at key (records ++ new ∷ []) ≡ at key (new ∷ [])
-at_push_none key [] new is = refl
-at_push_none key (first ∷ rest) new is = step (key == first.0) is (λ others. at_push_none key rest new others)
-  where
-    step : (is_here : Bool) → here_or is_here first.1 (at key rest) ≡ None → (at key rest ≡ None → at key (rest ++ new ∷ []) ≡ at key (new ∷ []))
-        → here_or is_here first.1 (at key (rest ++ new ∷ [])) ≡ at key (new ∷ [])
-    step true is others = absurd (some≢none first.1 is)
-    step false is others = others is
-
-push_other : (key : ℕ) (records : List Record) (new : Record) → key ≢ new.0 → at key records ≡ None → at key (records ++ new ∷ []) ≡ None
-push_other key records new apart none = at_push_none key records new none ∙ at-rest new.0 key new.1 [] apart
-
--- a record that is not above the cookie changes nothing
-pub least_low : (cookie : ℕ) (records : List Record) (new : Record) (least : Option Record) → new.0 ≤ cookie → IsLeast cookie records least
-    → IsLeast cookie (records ++ new ∷ []) least
-least_low cookie records new None low is = λ key above. push_other key records new (omega arith) (is key above)
-least_low cookie records new (Some least) low is = (
-  is.0,
-  at_push_there least.0 least.1 records new is.1,
-  λ key above below. push_other key records new (omega arith) (is.2 key above below),
-)
-
--- nor does one that is not below the least
-pub least_kept : (cookie : ℕ) (records : List Record) (new least : Record) → least.0 ≤ new.0 → IsLeast cookie records (Some least)
-    → IsLeast cookie (records ++ new ∷ []) (Some least)
-least_kept cookie records new least high is = (
-  is.0,
-  at_push_there least.0 least.1 records new is.1,
-  λ key above below. push_other key records new (omega arith) (is.2 key above below),
-)
-
--- the first one above the cookie, and one below the least, is the least
-pub least_first : (cookie : ℕ) (records : List Record) (new : Record) → cookie < new.0 → IsLeast cookie records None → IsLeast cookie (records ++ new ∷ []) (Some new)
-least_first cookie records new above is = (
-  above,
-  at_push_none new.0 records new (is new.0 above) ∙ at-first new.0 new.0 new.1 [] refl,
-  λ key low below. push_other key records new (omega arith) (is key low),
-)
-
-pub least_new : (cookie : ℕ) (records : List Record) (new least : Record) → cookie < new.0 → new.0 < least.0 → IsLeast cookie records (Some least)
-    → IsLeast cookie (records ++ new ∷ []) (Some new)
-least_new cookie records new least above below is = (
-  above,
-  at_push_none new.0 records new (is.2 new.0 above below) ∙ at-first new.0 new.0 new.1 [] refl,
-  λ key low lower. push_other key records new (omega arith) (is.2 key low (omega arith)),
-)
-
--- the least of all records is the first behind the cookie
+-- is the first behind it
 pub first_behind : (cookie : ℕ) (records : List Record) (least : Record) → IsLeast cookie records (Some least)
     → after cookie (by_stamp records) ≡ least ∷ after least.0 (by_stamp records)
 first_behind cookie records least is =

@@ -51,7 +51,7 @@ found_entry entries name p entry is h at =
 
 module _ (entries : List Entry) (name : List ℕ) (stamp number p : ℕ) (entry changed : Entry) (is : p ≡ place_of name (map record_of entries)) (h : p < length entries) (at : entry ≡ get_or entries p entry)
     (change : record_of changed ≡ record_from stamp entry.name.items number) where
-  set_records : map record_of (set entries p changed) ≡ set (map record_of entries) p (record_from stamp name number)
+  pub set_records : map record_of (set entries p changed) ≡ set (map record_of entries) p (record_from stamp name number)
   set_records =
       map-set record_of entries p changed
       ∙ ap (set (map record_of entries) p) (change ∙ ap (λ (n : List ℕ). record_from stamp n number) (has_name entries name p entry is h at))
@@ -71,7 +71,7 @@ module _ (entries : List Entry) (name : List ℕ) (stamp number p : ℕ) (entry 
 -- ---- put, where it is new
 
 module _ (entries : List Entry) (name : List ℕ) (stamp number p : ℕ) (made : Entry) (is : p ≡ place_of name (map record_of entries)) (past : length entries ≤ p) (made_is : record_of made ≡ record_from stamp name number) where
-  push_records : map record_of (entries ++ made ∷ []) ≡ map record_of entries ++ record_from stamp name number ∷ []
+  pub push_records : map record_of (entries ++ made ∷ []) ≡ map record_of entries ++ record_from stamp name number ∷ []
   push_records = map_push record_of entries made ∙ ap (λ (r : Record). map record_of entries ++ r ∷ []) made_is
 
   pub put_push : map record_of (entries ++ made ∷ []) ≡ with_record (map record_of entries) (record_from stamp name number)

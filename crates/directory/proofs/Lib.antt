@@ -9,3 +9,5 @@ pub mod MapLaws
 pub mod RecordMaps
 pub mod NamedByStamp
 pub mod ReadBack
+pub mod Rising
+pub mod InOrder

@@ -1,4 +1,4 @@
--- The record of the least stamp above a cookie, of those looked at so far.
+-- The record of the least stamp above a cookie.
 use Rattle.std.specs.Prelude.{ℕ, List, Option, Some, None, ◌≡◌, ◌<◌}
 use Rattle.model.specs.Keyed.{at}
 use Rattle.directory.specs.Records.{Record}

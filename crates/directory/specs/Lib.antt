@@ -1,5 +1,6 @@
 pub mod Least
 pub mod Listing
+pub mod Order
 pub mod Reading
 pub mod Records
 pub mod Rest

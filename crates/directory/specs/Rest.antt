@@ -1,5 +1,4 @@
 -- What an iterator over names has left.
-use Rattle.std.specs.Prelude.{map}
 use denote.Ref.{Bor}
 use Rattle.model.specs.Keyed.{Keyed}
 use Rattle.model.specs.Tree.{DirEntry}
@@ -10,7 +9,7 @@ use Rattle.directory.specs.Records.{Record, record_of}
 
 -- the names above its cookie
 abbrev pub rest_of : ListAfter → Keyed DirEntry
-rest_of list = after list.cookie (by_stamp (map record_of list.entries.now))
+rest_of list = after list.cookie (by_stamp list.names.now)
 
 abbrev pub record_at : Bor Entry → Record
 record_at entry = record_of entry.now

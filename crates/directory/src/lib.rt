@@ -6,6 +6,7 @@ mod fault;
 mod laws;
 mod listing;
 mod names;
+mod order;
 mod paging;
 mod sectors;
 

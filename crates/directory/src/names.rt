@@ -1,6 +1,6 @@
 //! The names of a directory.
 
-ghost use Rattle.std.specs.Prelude.{◌≡◌, ◌≢◌, ◌<◌, ◌≤◌, ◌+◌, ℕ, List, [], Option, Some, None, length, map, take, drop, option_map, slice_get, slice_set, IsErrOf, IsTrue, ◌↔◌, IfOk, IfSome, IfNone, OnOk, OnErr};
+ghost use Rattle.std.specs.Prelude.{◌≡◌, ◌≢◌, ◌<◌, ◌≤◌, ◌+◌, ℕ, List, [], ◌∷◌, Option, Some, None, length, map, take, drop, option_map, slice_get, slice_set, IsErrOf, IsTrue, ◌↔◌, IfOk, IfSome, IfNone, OnOk, OnErr, MatchOption};
 ghost use Rattle.std.specs.List.{AllByRecursion};
 ghost use Rattle.model.specs.Tree.{entry_of};
 ghost use Rattle.directory.specs.Spelling.{directory_sector};
@@ -12,17 +12,19 @@ ghost use Rattle.directory.specs.Rest.{rest_of};
 use crate::entry::Entry;
 use crate::fault::DirectoryFault;
 use crate::listing::ListAfter;
+use crate::order::{self, Placed};
 use crate::sectors::{self, RECORDS};
 use std::alloc::{AllocError, Global};
 use std::marker::Model;
 
 /// The names of a directory, at most 1,024, in the order of their records.
 ///
-/// Contracts see the list of the records.
+/// Contracts see the list of the records. `order` has them by rising stamp.
 #[derive(Drop)]
 pub struct Names {
     alloc: Global,
     entries: Vec<Entry>,
+    order: Vec<Placed>,
 }
 
 impl Model for Names {
@@ -31,11 +33,12 @@ impl Model for Names {
 
     ghost Value = { List (ℕ × DirEntry) };
 
-    ghost use Rattle.directory.specs.Records.{record_of, IsDirectory};
+    ghost use Rattle.directory.specs.Records.{record_of};
+    ghost use Rattle.directory.specs.Order.{AreKept};
 
     ghost view = { λ names. map record_of names.entries.items };
 
-    ghost invariant = { λ names. IsDirectory (map record_of names.entries.items) };
+    ghost invariant = { λ names. AreKept (map record_of names.entries.items) names.order.items };
 }
 
 impl Names {
@@ -49,6 +52,7 @@ impl Names {
         Names {
             alloc,
             entries: Vec::new(alloc),
+            order: Vec::new(alloc),
         }
     }
 
@@ -56,14 +60,21 @@ impl Names {
     ///
     /// None exactly where they are no directory's: more than 1,024, two of one name, or a name
     /// without bytes or of more than 255.
-    pub fn from_entries(alloc: Global, entries: Vec<Entry>) -> Option<Names>
-        ensures some { IfSome result (λ names. names ≡ map record_of entries.items) }
-        ensures none { IfNone result (¬ IsDirectory (map record_of entries.items)) }
+    pub fn from_entries(alloc: Global, entries: Vec<Entry>) -> Result<Option<Names>, AllocError>
+        ensures some { IfOk result (λ names.
+            IfSome names (λ names. names ≡ map record_of entries.items)) }
+        ensures none { IfOk result (λ names.
+            IfNone names (¬ IsDirectory (map record_of entries.items))) }
     {
         if entries.len() > Names::MOST || !are_records(&entries) || !are_apart(&entries) {
-            return None;
+            return Ok(None);
         }
-        Some(Names { alloc, entries })
+        let order = order::order_of(alloc, &entries)?;
+        Ok(Some(Names {
+            alloc,
+            entries,
+            order,
+        }))
     }
 
     /// The same names once more, in the same records, in memory of their own.
@@ -73,6 +84,7 @@ impl Names {
         Ok(Names {
             alloc: self.alloc,
             entries: clone_entries(self.alloc, &self.entries)?,
+            order: Vec::from_slice(self.alloc, &self.order)?,
         })
     }
 
@@ -82,9 +94,20 @@ impl Names {
         ensures { rest_of result ≡ after stamp (by_stamp self.entry.now) }
     {
         ListAfter {
-            entries: &self.entries,
+            names: self,
             cookie: stamp,
         }
+    }
+
+    /// The entry of the least stamp above the cookie, the first one of that stamp.
+    pub(crate) fn first_after(&self, cookie: u64) -> Option<&Entry>
+        ensures { MatchOption result (after cookie (by_stamp self.now) ≡ [])
+            (λ entry. after cookie (by_stamp self.now)
+            ≡ record_of entry.now ∷ after entry.now.stamp (by_stamp self.now)) }
+    {
+        let next = self.order.partition_point(|one| one.stamp <= cookie);
+        let place = self.order.get(next)?.place;
+        Some(&self.entries[place])
     }
 
     /// How many names there are.
@@ -140,6 +163,7 @@ impl Names {
     {
         let place = place_in(&self.entries, name);
         if place < self.entries.len() {
+            order::restamp(&mut self.order, &self.entries, place, stamp);
             let entry = &mut self.entries[place];
             entry.stamp = stamp;
             entry.number = number;
@@ -148,11 +172,13 @@ impl Names {
                 return Err(DirectoryFault::Full);
             }
             let name = Vec::from_slice(self.alloc, name)?;
+            self.order.reserve(1)?;
             self.entries.push(Entry {
                 name,
                 stamp,
                 number,
             })?;
+            order::insert(&mut self.order, Placed { stamp, place });
         }
         Ok(place)
     }
@@ -186,6 +212,7 @@ impl Names {
         if place >= self.entries.len() {
             return None;
         }
+        order::swap_remove(&mut self.order, &self.entries, place);
         let entry = self.entries.swap_remove(place);
         Some((place, entry))
     }

@@ -115,7 +115,7 @@ fn names_from(alloc: Global, entries: Vec<Entry>) -> Result<Names, ScanFault>
     if !are_stamped(alloc, &entries)? {
         return Err(ScanFault::Damaged);
     }
-    match Names::from_entries(alloc, entries) {
+    match Names::from_entries(alloc, entries)? {
         Some(names) => Ok(names),
         None => Err(ScanFault::Damaged),
     }

@@ -172,7 +172,7 @@ fn names_of_records(rt: HostRuntime) -> Result<(), Fail> {
         let mut entries = Vec::new(rt.alloc());
         entries.push(entry(rt.alloc(), b"a", 2)?)?;
         entries.push(entry(rt.alloc(), second, 1)?)?;
-        let names = Names::from_entries(rt.alloc(), entries);
+        let names = Names::from_entries(rt.alloc(), entries)?;
         assert_eq!(rt; names.is_some(), there);
         if let Some(names) = names {
             assert_eq!(rt; get(&names, b"a"), Some((2, 102)));

@@ -24,9 +24,9 @@ returns-clause-found c =
 pub returns-in_err-entry-clause-by_stamp : goal.returns-in_err-entry-clause-by_stamp
 returns-in_err-entry-clause-by_stamp c = λ stamped.
     returns-in_err-entry-clause-found c
-    ∙ sym (entry_of-by_stamp c.args.name.now c.args.self.now (subst AreApart c.self.view_is c.self.invariant.apart) stamped.apart)
+    ∙ sym (entry_of-by_stamp c.args.name.now c.args.self.now (subst AreApart c.self.view_is c.self.invariant.directory.apart) stamped.apart)
 
 pub returns-clause-by_stamp : goal.returns-clause-by_stamp
 returns-clause-by_stamp c = λ stamped.
     returns-clause-found c
-    ∙ sym (entry_of-by_stamp c.args.name.now c.args.self.now (subst AreApart c.self.view_is c.self.invariant.apart) stamped.apart)
+    ∙ sym (entry_of-by_stamp c.args.name.now c.args.self.now (subst AreApart c.self.view_is c.self.invariant.directory.apart) stamped.apart)

@@ -2,7 +2,8 @@ use Rattle.std.proofs.Common.{◌≡◌, ◌<◌, length, map, ap, subst, sym, �
 use Rattle.std.proofs.lemmas.List.{length-map}
 use Rattle.model.specs.Tree.{entry_of}
 use Rattle.directory.specs.Listing.{by_stamp, without_entry, RemovesByStamp}
-use Rattle.directory.specs.Records.{record_of, place_of, without_place, AreApart, IsDirectory}
+use Rattle.directory.specs.Order.{IsOrder, AreKept}
+use Rattle.directory.specs.Records.{record_of, place_of, without_place, AreApart}
 use Rattle.directory.proofs.Changes.{found_entry}
 use Rattle.directory.proofs.Kept.{IsDirectory-remove, records_removed}
 use Rattle.directory.proofs.RecordMaps.{absent_name, removed_gone, removed_others, removes_by_stamp}
@@ -11,9 +12,14 @@ use Rattle.directory.proofs.names.Names.remove.Goals as goal
 pub invariant_of-self : goal.invariant_of-self
 invariant_of-self c =
     let entries = c.self.inside.entries.items in
-    let within : c.place_in-place.result < length entries = omega (arith, c.len.ensures, c.self.inside.entries.ok.0) in
-    subst (λ es. IsDirectory (map record_of es)) (sym c.swap_remove-entry.ensures.items)
-    (subst IsDirectory (sym (records_removed entries c.place_in-place.result c.swap_remove-entry.result within)) (IsDirectory-remove (map record_of entries) c.place_in-place.result c.self.invariant (omega (arith, length-map entries record_of))))
+    let place = c.place_in-place.result in
+    let order = c.swap_remove.new.order.items in
+    let within : place < length entries = omega (arith, c.len.ensures, c.self.inside.entries.ok.0) in
+    let removed = records_removed entries place c.swap_remove-entry.result within in
+    let in_order = subst (λ es. IsOrder order (without_place (map record_of es) place)) c.deref-2.ensures.value c.swap_remove.ensures in
+    let kept = IsDirectory-remove (map record_of entries) place c.self.invariant.directory (omega (arith, length-map entries record_of)) in
+    subst (λ es. AreKept (map record_of es) order) (sym c.swap_remove-entry.ensures.items)
+    (subst (λ records. AreKept records order) (sym removed) (record { directory = kept; in_order = in_order }))
 
 pub returns-clause-record : goal.returns-clause-record
 returns-clause-record c =
@@ -50,7 +56,7 @@ returns-clause-gone c =
     c.place_in-place.ensures.place ∙ (ap (λ es. place_of name (map record_of es)) c.deref.ensures.value ∙ ap (place_of name) c.self.view_is) in
     let many : length names ≡ length c.self.inside.entries.items = ap length (sym c.self.view_is) ∙ length-map c.self.inside.entries.items record_of in
     let within : place_of name names < length names = omega (arith, is, many, c.len.ensures, c.self.inside.entries.ok.0) in
-    let apart : AreApart names = subst AreApart c.self.view_is c.self.invariant.apart in
+    let apart : AreApart names = subst AreApart c.self.view_is c.self.invariant.directory.apart in
     ap (entry_of name) (returns-clause-removed c ∙ ap (without_place names) is) ∙ removed_gone name names within apart
 
 pub returns-clause-others : goal.returns-clause-others
@@ -61,7 +67,7 @@ returns-clause-others c = λ other differs.
     c.place_in-place.ensures.place ∙ (ap (λ es. place_of name (map record_of es)) c.deref.ensures.value ∙ ap (place_of name) c.self.view_is) in
     let many : length names ≡ length c.self.inside.entries.items = ap length (sym c.self.view_is) ∙ length-map c.self.inside.entries.items record_of in
     let within : place_of name names < length names = omega (arith, is, many, c.len.ensures, c.self.inside.entries.ok.0) in
-    let apart : AreApart names = subst AreApart c.self.view_is c.self.invariant.apart in
+    let apart : AreApart names = subst AreApart c.self.view_is c.self.invariant.directory.apart in
     ap (entry_of other) (returns-clause-removed c ∙ ap (without_place names) is) ∙ removed_others name names within apart other differs
 
 pub returns-clause-by_stamp : goal.returns-clause-by_stamp
@@ -72,5 +78,5 @@ returns-clause-by_stamp c = λ stamped.
     c.place_in-place.ensures.place ∙ (ap (λ es. place_of name (map record_of es)) c.deref.ensures.value ∙ ap (place_of name) c.self.view_is) in
     let many : length names ≡ length c.self.inside.entries.items = ap length (sym c.self.view_is) ∙ length-map c.self.inside.entries.items record_of in
     let within : place_of name names < length names = omega (arith, is, many, c.len.ensures, c.self.inside.entries.ok.0) in
-    let apart : AreApart names = subst AreApart c.self.view_is c.self.invariant.apart in
+    let apart : AreApart names = subst AreApart c.self.view_is c.self.invariant.directory.apart in
     subst (λ new. RemovesByStamp names new name) (sym (returns-clause-removed c ∙ ap (without_place names) is)) (removes_by_stamp name names within stamped)

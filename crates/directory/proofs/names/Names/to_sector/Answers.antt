@@ -6,7 +6,7 @@ use Rattle.directory.proofs.Sector.{each_part, part_is, same_part}
 use Rattle.directory.proofs.names.Names.to_sector.Goals as goal
 
 pub write-requires-clause-each : goal.write-requires-clause-each
-write-requires-clause-each c = rw c.deref.ensures.value (each_part c.self.inside.entries.items (c.min-to.result - c.min-from.result) c.min-from.result c.self.invariant.each)
+write-requires-clause-each c = rw c.deref.ensures.value (each_part c.self.inside.entries.items (c.min-to.result - c.min-from.result) c.min-from.result c.self.invariant.directory.each)
 
 pub returns : goal.returns
 returns c =
