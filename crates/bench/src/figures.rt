@@ -3,6 +3,7 @@
 use crate::calls::{Kind, Stream, stream_of};
 use crate::copying::Copies;
 use crate::journals::{FIRST_TARGET, Flushes, Held, ReadsListed};
+use crate::listing::{ListsNames, NAMES, full_directory};
 use crate::places::{FillsPlaces, PLACES, TakesFarPlaces, WritesSectors, fill};
 use crate::reading::{ReadsCalls, ReadsRecord, Tally};
 use crate::replies::{REPLIES, WritesReplies};
@@ -26,6 +27,7 @@ pub fn print_figures<R: Clock + Print>(rt: &R, alloc: Global) -> anyhow::Result<
     print_reads(rt, alloc, "SEQUENCE-PUTFH-GETATTR calls", &asks)?;
     print_replies(rt, alloc)?;
     print_places(rt, alloc)?;
+    print_names(rt, alloc)?;
     print_journals(rt, alloc)
 }
 
@@ -98,6 +100,15 @@ fn print_places<R: Clock + Print>(rt: &R, alloc: Global) -> anyhow::Result<()> {
         sector: [0; 4096],
     };
     print_rate(rt, "sector written", &mut writes)
+}
+
+fn print_names<R: Clock + Print>(rt: &R, alloc: Global) -> anyhow::Result<()> {
+    println!(rt; "names: a directory of {NAMES}")?;
+    let mut lists = ListsNames {
+        names: full_directory(alloc)?,
+        sum: 0,
+    };
+    print_rate(rt, "listed", &mut lists)
 }
 
 /// Reads of a sector that waits for a flush, behind one transaction and behind 90, and transactions of 1 and of 48 sectors.

@@ -5,6 +5,7 @@ mod calls;
 mod copying;
 mod figures;
 mod journals;
+mod listing;
 mod places;
 mod reading;
 mod replies;

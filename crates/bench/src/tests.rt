@@ -2,6 +2,7 @@
 
 use crate::calls::{DATA_BYTES, Kind, stream_of};
 use crate::copying::Copies;
+use crate::listing::{ListsNames, full_directory};
 use crate::places::{FillsPlaces, PLACES, TakesFarPlaces, WritesSectors, fill};
 use crate::reading::{ReadsCalls, ReadsRecord, Tally};
 use crate::replies::WritesReplies;
@@ -94,5 +95,16 @@ fn places_are_filled_and_emptied(rt: HostRuntime) -> Result<(), Fail> {
     };
     assert_eq!(rt; writes.turn()?, 2);
     assert!(rt; writes.sector == [0xff; 4096]);
+    Ok(())
+}
+
+#[test]
+fn a_full_directory_is_listed(rt: HostRuntime) -> Result<(), Fail> {
+    let mut lists = ListsNames {
+        names: full_directory(rt.alloc())?,
+        sum: 0,
+    };
+    assert_eq!(rt; lists.turn()?, 1_024);
+    assert_eq!(rt; lists.sum, 523_776);
     Ok(())
 }
