@@ -10,7 +10,8 @@ use Rattle.model.specs.declared.node.NodeKind.TheVariants as kind
 use Rattle.model.specs.Acl.{without, inheritance, are_flags_for, is_entry_for, is_list_for}
 use Rattle.model.specs.Inherit.{created}
 use Rattle.model.specs.Limits.{limits_of}
-use Rattle.model.proofs.FileStepLaws.{list_given}
+use Rattle.model.specs.SetAttr.{list_set}
+use Rattle.model.proofs.FileStepLaws.{list_given, list_is_set}
 use Rattle.model.proofs.LimitLaws.{modes_keep_limits, inheritance_keeps_limits}
 use Rattle.settings.specs.declared.said.Settings.{Settings}
 use Rattle.settings.specs.Given.{AreWithin}
@@ -49,4 +50,12 @@ pub created_list : (limits : Limits) (sectors nodes : ℕ) → limits ≡ limits
 created_list limits sectors nodes limited of parent is settings within =
     let room : limits.aces_set + 5 ≤ limits.aces = subst (λ (l : Limits). l.aces_set + 5 ≤ l.aces) (sym limited) (omega arith) in
     list_given modes_keep_limits inheritance_keeps_limits limits of room parent is settings.is_empty settings.mode settings.acl
+    (λ list said. within.acl (omega (arith, room)) list said)
+
+-- so is the list that a node has where one, or a mode, is set
+pub set_list : (limits : Limits) (sectors nodes : ℕ) → limits ≡ limits_of sectors nodes → (of : NodeKind) (acl : List Ace) → IsList limits of acl
+    → (settings : Settings) → AreWithin limits of settings → IsList limits of (list_set of acl settings.mode settings.acl)
+set_list limits sectors nodes limited of acl is settings within =
+    let room : limits.aces_set + 5 ≤ limits.aces = subst (λ (l : Limits). l.aces_set + 5 ≤ l.aces) (sym limited) (omega arith) in
+    list_is_set modes_keep_limits inheritance_keeps_limits limits of room acl is settings.mode settings.acl
     (λ list said. within.acl (omega (arith, room)) list said)

@@ -29,7 +29,7 @@ or_none None = refl
 or_none (Some reason) = refl
 
 -- the stateid's tests refuse as its verdict says
-verdict_first : (state : State) (access : ℕ) (stateid : StateId) (verdict : Result (Unit {0}) Status) → IsVerdict state access stateid verdict
+pub verdict_first : (state : State) (access : ℕ) (stateid : StateId) (verdict : Result (Unit {0}) Status) → IsVerdict state access stateid verdict
     → first_refusal (state_refusals state.opens state.context access stateid) ≡ first_refusal (verdict_refusals verdict)
 verdict_first state access stateid (Ok done) is = is
 verdict_first state access stateid (Err reason) is = is

@@ -48,7 +48,7 @@ node_flat : (tree : Tree) → blanked tree ≡ tree → (number : ℕ) (node : N
 node_flat tree flat number node is = some_node (blank_node node) node
     (sym (ap (option_map blank_node) is) ∙ sym (at-blanked tree number) ∙ ap (at number) flat ∙ is)
 
-flat_altered : (change : Node → Node) → ((node : Node) → blank_node node ≡ node → blank_node (change node) ≡ change node)
+pub flat_altered : (change : Node → Node) → ((node : Node) → blank_node node ≡ node → blank_node (change node) ≡ change node)
     → (tree : Tree) → blanked tree ≡ tree → (number : ℕ) → blanked (altered change tree number) ≡ altered change tree number
 flat_altered change keeps tree flat number = by_node (at number tree) refl
   where

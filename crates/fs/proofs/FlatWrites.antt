@@ -41,7 +41,7 @@ use Rattle.volume.proofs.SoundLaws.{fits_blanked}
 
 -- Zeros that are written over zeros are zeros
 
-resized_zeros : (n size : ℕ) → resized (zeros n) size ≡ zeros size
+pub resized_zeros : (n size : ℕ) → resized (zeros n) size ≡ zeros size
 resized_zeros n size = by_test (nat_le size n) refl
   where
     by_test : (b : Bool) → nat_le size n ≡ b → resized (zeros n) size ≡ zeros size
@@ -67,7 +67,7 @@ overwritten_zeros n offset k =
     ∙ ap (λ (back : List ℕ). zeros offset ++ back) (replicate-append-replicate k tail 0)
     ∙ replicate-append-replicate offset (k + tail) 0 ∙ ap zeros (sym count)
 
-bytes_blank : (content : Content) → bytes_of (blank content) ≡ zeros (length (bytes_of content))
+pub bytes_blank : (content : Content) → bytes_of (blank content) ≡ zeros (length (bytes_of content))
 bytes_blank (File bytes) = refl
 bytes_blank (Directory names) = refl
 
@@ -88,10 +88,10 @@ zeros_are_bytes (suc k) = zeros_are_bytes k
 
 -- The anonymous stateid passes
 
-abbrev anonymous : StateId
+abbrev pub anonymous : StateId
 anonymous = record { seqid = 0; other = replicate 12 0 }
 
-abbrev on_flat : Tree → (changes run : ℕ) → Cred → (number : ℕ) → State
+abbrev pub on_flat : Tree → (changes run : ℕ) → Cred → (number : ℕ) → State
 on_flat tree changes run cred number = record {
   tree = tree;
   changes = changes;
@@ -99,7 +99,7 @@ on_flat tree changes run cred number = record {
   context = record { cred = cred; client = 0; run = run; current = Some (record { number = number; state = None }); saved = None };
 }
 
-anonymous_passes : (tree : Tree) (changes run : ℕ) (cred : Cred) (number : ℕ)
+pub anonymous_passes : (tree : Tree) (changes run : ℕ) (cred : Cred) (number : ℕ)
     → first_refusal (state_refusals no_opens (on_flat tree changes run cred number).context write_access anonymous) ≡ None
 unfolding found
 anonymous_passes tree changes run cred number = refl

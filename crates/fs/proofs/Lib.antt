@@ -9,7 +9,9 @@ pub mod CurrentOpens
 pub mod EntryLaws
 pub mod FileSteps
 pub mod FillLaws
+pub mod FirstFiles
 pub mod FlatLaws
+pub mod FlatSizes
 pub mod FlatWrites
 pub mod FrontLaws
 pub mod HandleLaws
@@ -18,11 +20,14 @@ pub mod ListLaws
 pub mod LookupTests
 pub mod MakingLaws
 pub mod MakingPlans
+pub mod NamedOpens
 pub mod NodePlans
 pub mod OpenSteps
+pub mod OpenTests
 pub mod PlacedLaws
 pub mod ReadLaws
 pub mod ReadingLaws
+pub mod RefusedLaws
 pub mod RemovalPlans
 pub mod RemoveTests
 pub mod RemovedLaws
@@ -31,4 +36,10 @@ pub mod RenamePlans
 pub mod RenameSteps
 pub mod RenamedLaws
 pub mod RoomLaws
+pub mod SettingFlat
+pub mod SettingLaws
+pub mod SettingPlans
+pub mod SettingSteps
+pub mod SettingTests
+pub mod SizePlans
 pub mod WrittenLaws

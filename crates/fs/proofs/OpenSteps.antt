@@ -21,11 +21,11 @@ use Rattle.settings.proofs.Refusing.{or_else, first-append}
 use Rattle.fs.specs.Opening.{file_tests, handle_tests, place_tests}
 use Rattle.fs.proofs.FileSteps.{does_by}
 
-alone : (b : Bool) → ((b || false) && true) ≡ b
+pub alone : (b : Bool) → ((b || false) && true) ≡ b
 alone true = refl
 alone false = refl
 
-grouped : (first second third : Option Status) → or_else first (or_else second third) ≡ or_else (or_else first second) third
+pub grouped : (first second third : Option Status) → or_else first (or_else second third) ≡ or_else (or_else first second) third
 grouped None second third = refl
 grouped (Some reason) second third = refl
 

@@ -19,4 +19,5 @@ pub mod Refusals
 pub mod Removing
 pub mod RenameTests
 pub mod Renaming
+pub mod Setting
 pub mod Writing

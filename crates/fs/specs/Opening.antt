@@ -1,5 +1,6 @@
 -- OPEN, but for the table of opens, of which a call is told whether it is full.
-use Rattle.std.specs.Prelude.{ℕ, Bool, List, [], ◌∷◌, ◌++◌, Result, Ok, Err, ◌≡◌, ◌&&◌, ◌||◌, false, not}
+use Rattle.std.specs.Prelude.{ℕ, Bool, List, [], ◌∷◌, ◌++◌, ◌+◌, Result, Ok, Err, None, ◌≡◌, ◌&&◌, ◌||◌, true, false, not}
+use Rattle.edits.specs.declared.edit.Edit.{Edit}
 use Rattle.model.specs.declared.acl.Cred.{Cred}
 use Rattle.model.specs.declared.limits.Limits.{Limits}
 use Rattle.model.specs.declared.status.Status.TheVariants as status
@@ -7,12 +8,16 @@ use Rattle.inode.specs.Fields.{Fields}
 use Rattle.model.specs.Acl.{execute, granted, meets, read_data, write_data}
 use Rattle.model.specs.Answer.{Answer}
 use Rattle.model.specs.Attribute.{trimmed}
+use Rattle.model.specs.Changes.{touch}
+use Rattle.model.specs.Directory.{is_named, number_named}
+use Rattle.model.specs.Edit.{SetSize, edited}
 use Rattle.model.specs.Keyed.{at, is_key}
 use Rattle.model.specs.Need.{access_rights, granted_on, opening_rights}
 use Rattle.model.specs.Open.{asked_open, at_opened, creates, given_by, name_opening_refusals, opened_state, share_refusals, size_alone}
 use Rattle.model.specs.Operation.{Argument, OpenArguments, OpenType, NoCreate, Unchecked, Guarded}
 use Rattle.model.specs.Operation as operation
-use Rattle.model.specs.Refusal.{Refusals}
+use Rattle.model.specs.Refusal.{Refusals, first_refusal}
+use Rattle.model.specs.Stamp.{next_stamp}
 use Rattle.model.specs.State.{State, Stepped, current, named_refusals, answered}
 use Rattle.model.specs.StateIds.{is_table_full, new_open, opened, read_access, write_access}
 use Rattle.model.specs.Step.{alters, without_rights}
@@ -29,6 +34,7 @@ use Rattle.fs.specs.declared.opening.Share.{Share}
 use Rattle.fs.specs.FileSystem.{FileSystem}
 use Rattle.fs.specs.Operations.{IsOn, does_on, IsNotDone, IsRefused}
 use Rattle.fs.specs.Renaming.{info_of}
+use Rattle.volume.specs.Edits.{edited_by}
 
 -- What is asked, as the definition has it
 
@@ -149,6 +155,40 @@ file_tests limits state access of name = name_opening_refusals limits state of n
           (operation.Opens of (operation.ByName name))),
       status.Access,
     ) ∷ [])
+
+-- Before it is kept
+
+-- a call by a name, behind the tests of its place
+pub record IsPlaced (fs : FileSystem) (cred : Cred) (asked : Opening) (is_full : Bool)
+    (state : State) (arguments : OpenArguments) : Type 0 where
+  pub on : IsOn fs cred asked.directory state
+  pub opening : IsOpening fs state asked is_full arguments
+  pub passed :
+      first_refusal (place_tests fs.volume.limits state arguments asked.name.now) ≡ None
+
+-- the name leads to this node
+pub record LeadsTo (tree : Tree) (directory : ℕ) (name : List ℕ) (number : ℕ) : Type 0 where
+  pub is_there : is_named tree directory name ≡ true
+  pub number_is : number_named tree directory name ≡ number
+
+-- the tree of a file that is cut
+abbrev pub tree_cut : FileSystem → (number now : ℕ) → Tree
+tree_cut fs number now = edited
+    (SetSize number 0 ∷ touch fs.volume.tree number (next_stamp fs.volume.run fs.changes) now ∷ [])
+    fs.volume.tree
+
+-- what neither makes a file nor cuts one leaves the tree and the count
+pub record StaysOpen (fs : FileSystem) (state : State) (now : ℕ) (arguments : OpenArguments)
+    (of : OpenType) (opened : Opened) : Type 0 where
+  pub quiet : alters state (Argument.Open arguments) ≡ false
+  pub step : does_on fs state now (Argument.Open arguments)
+      ≡ after_open fs.volume.tree fs.changes state arguments of opened
+
+-- anything else comes to these edits
+abbrev pub OpensBy : FileSystem → State → (now : ℕ) → OpenArguments → OpenType → List Edit → Opened
+    → Type 0
+OpensBy fs state now arguments of edits opened = does_on fs state now (Argument.Open arguments)
+    ≡ after_open (edited_by fs.volume edits) (fs.changes + 1) state arguments of opened
 
 -- What its rights come to, on the file itself
 

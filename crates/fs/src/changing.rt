@@ -5,6 +5,7 @@ ghost use Rattle.draft.specs.Nodes.{shown_of};
 ghost use Rattle.edits.specs.declared.edit.Edit.TheVariants as edit;
 ghost use Rattle.fs.specs.Making.{sizing};
 ghost use Rattle.fs.specs.Planned.{shown_by};
+ghost use Rattle.fs.specs.Setting.{resizing};
 
 use crate::fault::FsFault;
 use crate::fs::Fs;
@@ -126,6 +127,24 @@ pub(crate) fn written_edits<'a>(
         number: file,
         shown,
     })?;
+    Ok(edits)
+}
+
+/// The size of a file, where one is set, and what the node shows then.
+pub(crate) fn set_edits<'a>(
+    alloc: Global,
+    number: u64,
+    size: Option<u64>,
+    shown: Shown,
+) -> Result<Vec<Edit<'a>>, AllocError>
+    ensures { IfOk result (λ edits. edits.items
+        ≡ resizing number size ++ (edit.Show number shown ∷ [])) }
+{
+    let mut edits = Vec::new(alloc);
+    if let Some(size) = size {
+        edits.push(Edit::SetSize { file: number, size })?;
+    }
+    edits.push(Edit::Show { number, shown })?;
     Ok(edits)
 }
 

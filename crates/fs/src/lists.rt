@@ -3,9 +3,10 @@
 ghost use Rattle.std.specs.Prelude.{◌≡◌, ◌≤◌, IfOk};
 ghost use Rattle.std.specs.Option.{ForSome};
 ghost use Rattle.model.specs.Inherit.{created};
+ghost use Rattle.model.specs.SetAttr.{list_set};
 
 use acl_eval::{Ace, Acl, NodeKind};
-use acl_set::{Given, at_creation};
+use acl_set::{Given, at_creation, with_mode};
 use settings::Settings;
 use std::alloc::{AllocError, Global};
 
@@ -30,4 +31,25 @@ pub(crate) fn list_created(
         acl: None,
     };
     at_creation(alloc, parent, kind, &given).map_err(|_| AllocError)
+}
+
+/// The list of a node of this kind and list behind a SETATTR (RFC 8881, section 6.4.1): the one that
+/// is set, which passed its tests, else that of the mode that is set.
+pub(crate) fn list_set(
+    alloc: Global,
+    kind: NodeKind,
+    acl: &[Ace],
+    mode: Option<u32>,
+    set: Option<Acl>,
+) -> Result<Acl, AllocError>
+    requires { ForSome mode (λ mode. mode ≤ 511) }
+    ensures { IfOk result (λ list. list ≡ list_set kind acl.now mode set) }
+{
+    if let Some(set) = set {
+        return Ok(set);
+    }
+    match mode {
+        Some(mode) => with_mode(alloc, kind, acl, mode).map_err(|_| AllocError),
+        None => Acl::from_slice(alloc, acl),
+    }
 }

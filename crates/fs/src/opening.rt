@@ -77,7 +77,7 @@ pub struct Opened {
 ///
 /// `Inval` for another access, then `ShareDenied` to deny something, and `Inval` to deny what there is
 /// not.
-fn check_share(share: Share) -> Result<(), Status>
+pub(crate) fn check_share(share: Share) -> Result<(), Status>
     ensures { (arguments : OpenArguments) → arguments.access ≡ share.access
         → arguments.deny ≡ share.deny → IsChecked (share_refusals arguments) result }
 {
@@ -95,7 +95,7 @@ fn check_share(share: Share) -> Result<(), Status>
 
 /// Whether a caller has the rights that an open asks for on its file: to read it, and to write it,
 /// which a cut asks for too.
-fn may_open(card: &Card, cred: &Cred, access: u32, is_cut: bool) -> bool
+pub(crate) fn may_open(card: &Card, cred: &Cred, access: u32, is_cut: bool) -> bool
     ensures { result ≡ may_use card.now.fields cred.now access is_cut }
 {
     let reads = access & READ != 0;

@@ -2,11 +2,13 @@
 
 mod creation;
 mod drivers;
+mod files;
 mod given;
 mod lists;
 mod naming;
 mod pages;
 mod rights;
+mod setting;
 mod steps;
 mod telling;
 mod volumes;

@@ -2,11 +2,14 @@
 //! it promises into the proof of its caller.
 
 ghost use Rattle.std.specs.Prelude.{◌≤◌, length};
+ghost use Rattle.fs.specs.Opening.{type_of};
+ghost use Rattle.model.specs.Open.{given_by};
 
 use acl_eval::{Cred, Gids};
 use disk::{Device, MemDevice};
 use fs::{
-    Access, Created, Fs, FsFault, Listing, NewDirectory, Page, Removed, Renamed, Renaming, Writing,
+    Access, Created, Fs, FsFault, How, Listing, NewDirectory, Opened, Opening, Page, Removed,
+    Renamed, Renaming, Setting, Share, Writing,
 };
 use model::status::Status;
 use settings::Attributes;
@@ -21,6 +24,9 @@ pub(super) const FIRST: u64 = 0x1_0000_0001;
 const MODE: [u32; 2] = [0, 2];
 
 const MODE_755: [u8; 4] = [0, 0, 1, 0xED];
+
+/// The attributes size and mode.
+const SIZE_AND_MODE: [u32; 2] = [0x10, 2];
 
 /// The moment of every change.
 const NOW: u64 = 5;
@@ -112,6 +118,26 @@ pub(super) fn access<D: Device>(
     fs.access(cred, number, asked)
 }
 
+/// Sets attributes of a node with a stateid that passes.
+pub(super) fn set<D: Device>(
+    fs: &mut Fs<D>,
+    cred: &Cred,
+    number: u64,
+    bitmap: [u32; 2],
+    values: &[u8],
+) -> Result<(), FsFault> {
+    let attributes = Attributes {
+        bitmap: &bitmap,
+        values,
+    };
+    let asked = Setting {
+        number,
+        verdict: Ok(()),
+        attributes,
+    };
+    fs.set_attributes(cred, NOW, asked, true)
+}
+
 /// The attributes that are asked, as they are spelled.
 pub(super) fn attributes<D: Device>(
     alloc: Global,
@@ -166,4 +192,64 @@ pub(super) fn read<D: Device>(
 
 pub(super) fn commit<D: Device>(fs: &mut Fs<D>, number: u64) -> Result<(), FsFault> {
     fs.commit(&caller(), number)
+}
+
+/// Opens a file of the root, where the table of opens has room.
+fn open<D: Device>(
+    fs: &mut Fs<D>,
+    cred: &Cred,
+    name: &[u8],
+    access: u32,
+    how: How<'_>,
+) -> Result<Opened, FsFault>
+    requires { length (given_by (type_of how)).bitmap ≤ 8 }
+{
+    let asked = Opening {
+        directory: 1,
+        name,
+        share: Share { access, deny: 0 },
+        how,
+    };
+    fs.open_file(cred, NOW, asked, false, true)
+}
+
+/// Opens a file of the root that is there.
+pub(super) fn must_be<D: Device>(
+    fs: &mut Fs<D>,
+    cred: &Cred,
+    name: &[u8],
+    access: u32,
+) -> Result<Opened, FsFault> {
+    open(fs, cred, name, access, How::NoCreate)
+}
+
+/// Makes a file of mode 755, where there is none.
+pub(super) fn must_be_new<D: Device>(
+    fs: &mut Fs<D>,
+    cred: &Cred,
+    name: &[u8],
+    access: u32,
+) -> Result<Opened, FsFault> {
+    let given = Attributes {
+        bitmap: &MODE,
+        values: &MODE_755,
+    };
+    open(fs, cred, name, access, How::Guarded(given))
+}
+
+/// Opens a file of the root, or makes it with this size, of mode 755.
+pub(super) fn make_or_cut<D: Device>(
+    fs: &mut Fs<D>,
+    cred: &Cred,
+    name: &[u8],
+    access: u32,
+    size: u64,
+) -> Result<Opened, FsFault> {
+    let [a, b, c, d, e, f, g, h] = size.to_be_bytes();
+    let values = [a, b, c, d, e, f, g, h, 0, 0, 1, 0xED];
+    let given = Attributes {
+        bitmap: &SIZE_AND_MODE,
+        values: &values,
+    };
+    open(fs, cred, name, access, How::Unchecked(given))
 }

@@ -5,26 +5,18 @@ use Rattle.layout.specs.Cards.{Card}
 use Rattle.directory.specs.Records.{record_from}
 use Rattle.model.specs.declared.limits.Limits.{Limits}
 use Rattle.model.specs.declared.node.NodeKind.TheVariants as kind
-use Rattle.model.specs.declared.status.Status.{Status}
 use Rattle.model.specs.Acl.{append_data}
 use Rattle.model.specs.Attribute.{attribute_refusals, settable_at_creation}
 use Rattle.model.specs.Name.{name_refusals}
-use Rattle.model.specs.Refusal.{Refusals, first_refusal}
+use Rattle.model.specs.Refusal.{first_refusal}
 use Rattle.model.specs.Tree.{is_directory, names_of, entry_of}
-use Rattle.settings.specs.declared.refusal.Refusal.{Refusal}
-use Rattle.settings.specs.declared.refusal.Refusal.TheVariants as refusal
-use Rattle.settings.specs.Given.{given_of, IsRefusedBy}
+use Rattle.settings.specs.Given.{given_of}
 use Rattle.fs.specs.OnTree.{new_directory_refusals}
 use Rattle.fs.proofs.Creating as creating
 use Rattle.fs.specs.FileSystems.{fs_of}
 use Rattle.fs.proofs.CardViews.{granted_by, names_are, entry_is}
+use Rattle.fs.proofs.RefusedLaws.{carried}
 use Rattle.fs.proofs.fs.Fs.permit_dir.Goals as goal
-
--- what refuses by some tests refuses by others
-carried : (some others : Refusals) → ((reason : Status) → first_refusal some ≡ Some reason → first_refusal others ≡ Some reason)
-    → (refused : Refusal) → IsRefusedBy some refused → IsRefusedBy others refused
-carried some others by (refusal.Status reason) refused = by reason refused
-carried some others by refusal.Memory refused = tt
 
 -- whether something is found does not change with what is seen of it
 mapped : {A B : Type 0} (view : A → B) (found : Option A) → is_some (option_map view found) ≡ is_some found

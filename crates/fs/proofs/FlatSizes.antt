@@ -1,0 +1,144 @@
+-- A file whose size is set, and what it shows then, on the tree with zeros for the bytes of files: the tree behind it may stand, and what fits behind both edits fits behind each.
+use Rattle.std.proofs.Common.{◌≡◌, ◌≤◌, ◌<◌, ◌+◌, ℕ, zero, suc, true, false, List, [], ◌∷◌, Some, length, take, refl, sym, ap, ◌∙◌, arith, subst}
+use Rattle.std.proofs.Math.Logic.{∥∥₁_map, ∥∥₁_elim}
+use Rattle.std.proofs.Props.{props}
+use Rattle.std.specs.Prelude.{IsTrue, option_map, All}
+use Rattle.edits.specs.Outlines.{blank, blank_node, blanked, zeros}
+use Rattle.edits.proofs.BlankLaws.{at-blanked, blanked-with, edits_blanked, length-zeros}
+use Rattle.model.specs.declared.limits.Limits.{Limits}
+use Rattle.model.specs.declared.node.NodeKind.TheVariants as kind
+use Rattle.model.specs.Charge.{fits}
+use Rattle.model.specs.Edit.{Edit, SetSize, Show, Shown, edited, done, showing, with_content, resized}
+use Rattle.model.specs.Keyed.{at, with}
+use Rattle.model.specs.Stamp.{next_stamp}
+use Rattle.model.specs.Tree.{Tree, Node, Content, File, Directory, bytes_of, names_of, is_directory}
+use Rattle.model.specs.WellFormed.{IsWellFormed, IsBefore, IsContent, IsNode}
+use Rattle.model.proofs.ChangeLaws.{IsChanged}
+use Rattle.model.proofs.NodeChangeLaws.{altered-twice, length-resized, resized_bytes, replacement_keeps}
+use Rattle.fs.specs.FileSystem.{FileSystem}
+use Rattle.fs.specs.Planned.{IsList}
+use Rattle.fs.specs.Ready.{MayStand}
+use Rattle.fs.proofs.FlatWrites.{bytes_blank, resized_zeros}
+use Rattle.fs.proofs.RoomLaws.{above_altered, show_room}
+use Rattle.volume.specs.Formed.{IsFormed}
+use Rattle.volume.proofs.EditLaws.{fits_alike}
+use Rattle.volume.proofs.SoundLaws.{fits_blanked}
+
+-- of a tree with zeros as many zeros are left
+resized_blank : (content : Content) (size : ℕ) → resized (bytes_of (blank content)) size ≡ zeros (length (resized (bytes_of content) size))
+resized_blank content size =
+    ap (λ (l : List ℕ). resized l size) (bytes_blank content) ∙ resized_zeros (length (bytes_of content)) size
+    ∙ ap zeros (sym (length-resized (bytes_of content) size))
+
+no_names : (content : Content) → is_directory content ≡ false → names_of (blank content) ≡ []
+no_names (File bytes) file = refl
+no_names (Directory names) file = absurd cc
+
+still_file : (content : Content) → is_directory content ≡ false → is_directory (blank content) ≡ false
+still_file (File bytes) file = refl
+still_file (Directory names) file = absurd cc
+
+few_bytes : (limits : Limits) (content : Content) → is_directory content ≡ false → IsContent limits content
+    → All (λ byte. byte < 256) (bytes_of content) × (length (bytes_of content) ≤ limits.file_bytes)
+few_bytes limits (File bytes) file is = is
+few_bytes limits (Directory names) file is = absurd cc
+
+module _ (fs : FileSystem) (formed : MayStand fs.volume fs.changes) (number : ℕ) (node : Node) (there : at number fs.volume.tree ≡ Some node) (file : is_directory node.content ≡ false)
+    (size : ℕ) (low : size ≤ fs.volume.limits.file_bytes) (shown : Shown) (stamped : shown.change ≡ next_stamp fs.volume.run fs.changes)
+    (listed : IsWellFormed fs.volume.limits (blanked fs.volume.tree) → IsList fs.volume.limits kind.File shown.acl) where
+  abbrev limits : Limits
+  limits = fs.volume.limits
+
+  abbrev tree : Tree
+  tree = fs.volume.tree
+
+  abbrev flat : Tree
+  flat = blanked tree
+
+  abbrev own : ℕ
+  own = next_stamp fs.volume.run fs.changes
+
+  abbrev pub wanted : List Edit
+  wanted = SetSize number size ∷ Show number shown ∷ []
+
+  abbrev pub after : Tree
+  after = edited wanted tree
+
+  abbrev sized : Node → Node
+  sized old = with_content old (File (resized (bytes_of old.content) size))
+
+  flat_there : at number flat ≡ Some (blank_node node)
+  flat_there = at-blanked tree number ∙ ap (option_map blank_node) there
+
+  -- The trees behind the edits
+
+  abbrev last : Node
+  last = showing shown (sized node)
+
+  abbrev last_flat : Node
+  last_flat = showing shown (sized (blank_node node))
+
+  after_is : after ≡ with tree number last
+  after_is = altered-twice sized (showing shown) tree number node there
+
+  flat_is : edited wanted flat ≡ with flat number last_flat
+  flat_is = altered-twice sized (showing shown) flat number (blank_node node) flat_there
+
+  same_node : last_flat ≡ blank_node last
+  same_node = ap (λ (bytes : List ℕ). showing shown (with_content node (File bytes))) (resized_blank node.content size)
+
+  seen : with flat number last_flat ≡ blanked after
+  seen = ap (with flat number) same_node ∙ sym (blanked-with tree number last) ∙ sym (ap blanked after_is)
+
+  fits_flat : fits limits (with flat number last_flat) ≡ fits limits after
+  fits_flat = ap (fits limits) seen ∙ fits_blanked limits after
+
+  -- The tree behind them may stand
+
+  module _ (well : IsWellFormed limits flat) where
+    was : All (λ byte. byte < 256) (bytes_of (blank node.content)) × (length (bytes_of (blank node.content)) ≤ limits.file_bytes)
+    was =
+        let is = well.nodes number (blank_node node) flat_there in
+        few_bytes limits (blank node.content) (still_file node.content file) is.content
+
+    is_node : IsNode limits last_flat
+    is_node = record {
+      entries = listed well;
+      content = (
+        resized_bytes (bytes_of (blank node.content)) size was.0,
+        (let count = length-resized (bytes_of (blank node.content)) size in omega (arith, count, low)),
+      );
+    }
+
+    keeps : IsChanged limits own flat (with flat number last_flat) 0
+    keeps = replacement_keeps limits flat well own formed.before number (blank_node node) flat_there last_flat is_node
+        (sym (still_file node.content file)) (sym (no_names node.content file)) stamped
+
+    -- the file has few bytes before them
+    few_now : length (bytes_of node.content) ≤ limits.file_bytes
+    few_now = (let most = was.1 in omega (arith, most, ap (λ (l : List ℕ). length l) (bytes_blank node.content), length-zeros (length (bytes_of node.content))))
+
+    front_flat : (count : ℕ) → IsTrue (fits limits (edited wanted flat)) → IsTrue (fits limits (edited (take count wanted) flat))
+    front_flat zero fit = well.fitting
+    front_flat (suc zero) fit = sym (show_room limits (done (SetSize number size) flat) number shown (above_altered sized flat number well.numbered)) ∙ fit
+    front_flat (suc (suc zero)) fit = fit
+    front_flat (suc (suc (suc count))) fit = fit
+
+  pub formed_after : fits limits after ≡ true → IsFormed limits (next_stamp fs.volume.run (fs.changes + 1)) after
+  formed_after fit = record {
+    well_formed = ∥∥₁_map formed.well_formed (λ well. subst (IsWellFormed limits) seen ((keeps well).well_formed (fits_flat ∙ fit)));
+    before = ∥∥₁_elim formed.well_formed (Prim.hlevel props)
+        (λ well. subst (IsBefore (next_stamp fs.volume.run (fs.changes + 1))) seen ((keeps well).before (next_stamp fs.volume.run (fs.changes + 1)) (omega arith)));
+  }
+
+  -- Fronts
+
+  alike : (edits : List Edit) → fits limits (edited edits flat) ≡ fits limits (edited edits tree)
+  alike edits = fits_alike limits (edited edits tree) (edited edits flat) (edits_blanked edits tree)
+
+  pub fronts : (count : ℕ) → IsTrue (fits limits after) → IsTrue (fits limits (edited (take count wanted) tree))
+  fronts count fit = ∥∥₁_elim formed.well_formed (Prim.hlevel props) (λ well.
+      sym (alike (take count wanted)) ∙ front_flat well count (alike wanted ∙ fit))
+
+  pub small : length (bytes_of node.content) ≤ limits.file_bytes
+  small = ∥∥₁_elim formed.well_formed (Prim.hlevel props) few_now

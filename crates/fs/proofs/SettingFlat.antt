@@ -1,0 +1,171 @@
+-- SETATTR that passed its tests, on the tree with zeros for the bytes of files: there it sets the same, with as many zeros. So the tree behind it may stand.
+use Rattle.std.proofs.Common.{◌≡◌, ◌<◌, ◌+◌, ◌^◌, ℕ, zero, suc, Bool, true, false, List, [], ◌∷◌, ◌++◌, Option, Some, None, length, take, refl, sym, ap, ◌∙◌, not}
+use Rattle.std.proofs.Math.Logic.{∥∥₁_elim}
+use Rattle.std.proofs.Props.{props}
+use Rattle.std.specs.Prelude.{IsTrue, Result, Ok, option_map, if◌then◌else◌}
+use Rattle.edits.specs.Outlines.{blank, blank_node, blanked, zeros}
+use Rattle.edits.proofs.BlankLaws.{at-blanked, blanked-twice, key-blanked, directory-blanked, edits_blanked, resized-length}
+use Rattle.model.specs.declared.acl.Cred.{Cred}
+use Rattle.model.specs.declared.limits.Limits.{Limits}
+use Rattle.model.specs.declared.node.NodeKind.{NodeKind}
+use Rattle.model.specs.declared.node.NodeKind.TheVariants as kind
+use Rattle.model.specs.declared.status.Status.{Status}
+use Rattle.model.specs.declared.status.Status.TheVariants as status
+use Rattle.model.specs.Attribute.{attribute_refusals, attributes_of, settable_at_setattr, size_given}
+use Rattle.model.specs.Charge.{fits}
+use Rattle.model.specs.Edit.{Edit, SetSize, Show, Shown, edited, done, with_content, resized}
+use Rattle.model.specs.Keyed.{at, is_key}
+use Rattle.model.specs.Limits.{limits_of}
+use Rattle.model.specs.Need.{granted_on}
+use Rattle.model.specs.Operation.{Argument, Attributes, SetAttrArguments}
+use Rattle.model.specs.Refusal.{Refusals, first_refusal}
+use Rattle.model.specs.SetAttr.{kind_at, set_attributes, sets, sets_size, shown_set, size_edits}
+use Rattle.model.specs.Stamp.{next_stamp, is_stamp_left}
+use Rattle.model.specs.Step.{State, does}
+use Rattle.model.specs.Tree.{Tree, Node, Content, File, Directory, bytes_of, kind_of, is_directory_at}
+use Rattle.model.specs.WellFormed.{IsWellFormed}
+use Rattle.model.proofs.StepCases.{none_in_front, none_in_both}
+use Rattle.fs.specs.FileSystem.{FileSystem}
+use Rattle.fs.specs.Files.{verdict_refusals}
+use Rattle.fs.specs.Ready.{MayStand}
+use Rattle.fs.specs.Setting.{may_set, setting_tests, sized_refusals}
+use Rattle.fs.proofs.FlatLaws.{flat_altered, flat_shown}
+use Rattle.fs.proofs.FlatWrites.{anonymous, anonymous_passes, bytes_blank, on_flat, resized_zeros}
+use Rattle.fs.proofs.KeptLaws.{formed_by}
+use Rattle.fs.proofs.RoomLaws.{above_altered, show_room}
+use Rattle.fs.proofs.SettingSteps as steps
+use Rattle.fs.proofs.SettingTests.{tests_are}
+use Rattle.volume.specs.Formed.{IsFormed}
+use Rattle.volume.proofs.EditLaws.{fits_alike}
+use Rattle.volume.proofs.SoundLaws.{fits_blanked}
+
+-- Sizes that are set of zeros leave zeros
+
+abbrev sizing : (size : ℕ) → Node → Node
+sizing size node = with_content node (File (resized (bytes_of node.content) size))
+
+sized_zeros : (size : ℕ) (node : Node) → blank_node node ≡ node → blank_node (sizing size node) ≡ sizing size node
+sized_zeros size node same =
+    let bytes : bytes_of node.content ≡ zeros (length (bytes_of node.content)) = ap (λ (n : Node). bytes_of n.content) (sym same) ∙ bytes_blank node.content in
+    ap (λ (l : List ℕ). with_content node (File l))
+    (ap zeros (resized-length (bytes_of node.content) size)
+    ∙ sym (ap (λ (l : List ℕ). resized l size) bytes ∙ resized_zeros (length (bytes_of node.content)) size))
+
+flat_sized : (tree : Tree) → blanked tree ≡ tree → (number size : ℕ) → blanked (done (SetSize number size) tree) ≡ done (SetSize number size) tree
+flat_sized tree flat number size = flat_altered (sizing size) (sized_zeros size) tree flat number
+
+flat_set : (tree : Tree) → blanked tree ≡ tree → (number : ℕ) (size : Option ℕ) (shown : Shown)
+    → blanked (edited (size_edits number size ++ (Show number shown ∷ [])) tree) ≡ edited (size_edits number size ++ (Show number shown ∷ [])) tree
+flat_set tree flat number None shown = flat_shown tree flat number shown
+flat_set tree flat number (Some size) shown = flat_shown (done (SetSize number size) tree) (flat_sized tree flat number size) number shown
+
+pub kind_blank : (content : Content) → kind_of (blank content) ≡ kind_of content
+kind_blank (File bytes) = refl
+kind_blank (Directory names) = refl
+
+module _ (fs : FileSystem) (formed : MayStand fs.volume fs.changes) (counted : fs.changes < 2 ^ 32) (limited : fs.volume.limits ≡ limits_of fs.volume.sectors fs.volume.limits.nodes)
+    (cred : Cred) (now number : ℕ) (verdict : Result (Unit {0}) Status) (given : Attributes) (node : Node) (there : at number fs.volume.tree ≡ Some node)
+    (passed : first_refusal (setting_tests fs.volume.limits fs.volume.tree cred number verdict given) ≡ None) where
+  abbrev limits : Limits
+  limits = fs.volume.limits
+
+  abbrev tree : Tree
+  tree = fs.volume.tree
+
+  abbrev flat : Tree
+  flat = blanked tree
+
+  abbrev pub own : ℕ
+  own = next_stamp fs.volume.run fs.changes
+
+  abbrev pub shown : Shown
+  shown = shown_set (Some node) given own now
+
+  abbrev pub wanted : List Edit
+  wanted = size_edits number (size_given given) ++ (Show number shown ∷ [])
+
+  abbrev pub after : Tree
+  after = edited wanted tree
+
+  flat_there : at number flat ≡ Some (blank_node node)
+  flat_there = at-blanked tree number ∙ ap (option_map blank_node) there
+
+  -- The tests on the flat tree
+
+  without_verdict : (b d : Bool) → first_refusal (sized_refusals b d verdict) ≡ None → first_refusal (sized_refusals b d (Ok tt)) ≡ None
+  without_verdict false d none = refl
+  without_verdict true d none = (let here = none_in_front d status.IsDir (first_refusal (verdict_refusals verdict)) none in rw here.0 refl)
+
+  abbrev may : Tree → Bool
+  may t = may_set (granted_on (at number t) cred) (attributes_of given.bitmap)
+
+  may_flat : may flat ≡ may tree
+  may_flat = ap (λ (o : Option Node). may_set (granted_on o cred) (attributes_of given.bitmap)) flat_there
+      ∙ ap (λ (o : Option Node). may_set (granted_on o cred) (attributes_of given.bitmap)) (sym there)
+
+  abbrev attributes : NodeKind → Refusals
+  attributes of = attribute_refusals limits of settable_at_setattr given
+
+  kind_flat : kind_at flat number ≡ kind_at tree number
+  kind_flat = ap (λ (b : Bool). if b then kind.Directory else kind.File) (directory-blanked tree number)
+
+  passed_flat : first_refusal (setting_tests limits flat cred number (Ok tt) given) ≡ None
+  passed_flat =
+      let stale = none_in_front (not (is_key number tree)) status.Stale _ passed in
+      let values = none_in_both (attributes (kind_at tree number)) _ stale.1 in
+      let sized = none_in_both (sized_refusals (sets_size given) (is_directory_at tree number) verdict) ((not (may tree), status.Access) ∷ []) values.1 in
+      let right = none_in_front (not (may tree)) status.Access None sized.1 in
+      let size_there : first_refusal (sized_refusals (sets_size given) (is_directory_at flat number) (Ok tt)) ≡ None =
+      ap (λ (d : Bool). first_refusal (sized_refusals (sets_size given) d (Ok tt))) (directory-blanked tree number) ∙ without_verdict (sets_size given) (is_directory_at tree number) sized.0 in
+      tests_are limits flat cred number (Ok tt) given false None None false
+      (ap not (key-blanked tree number) ∙ stale.0) (ap (λ (of : NodeKind). first_refusal (attributes of)) kind_flat ∙ values.0) size_there (ap not may_flat ∙ right.0)
+
+  -- The trees behind the edits
+
+  seen : edited wanted flat ≡ blanked after
+  seen = sym (flat_set flat (blanked-twice tree) number (size_given given) shown) ∙ edits_blanked wanted tree
+
+  fits_flat : fits limits (edited wanted flat) ≡ fits limits after
+  fits_flat = ap (fits limits) seen ∙ fits_blanked limits after
+
+  shown_flat : shown_set (at number flat) given own now ≡ shown
+  shown_flat = ap (λ (o : Option Node). shown_set o given own now) flat_there ∙ rw (kind_blank node.content) refl
+
+  abbrev flat_arguments : SetAttrArguments
+  flat_arguments = record { state = anonymous; attributes = given }
+
+  abbrev on : State
+  on = on_flat flat fs.changes fs.volume.run cred number
+
+  step_tree : (set_attributes true on now flat_arguments).state.tree ≡ edited wanted flat
+  step_tree = ap (λ (s : Shown). edited (size_edits number (size_given given) ++ (Show number s ∷ [])) flat) shown_flat
+
+  module _ (some : sets flat_arguments ≡ true) (fit : fits limits after ≡ true) (left : is_stamp_left fs.changes ≡ true) where
+    goes : does limits on now (Argument.SetAttr flat_arguments) ≡ set_attributes true on now flat_arguments
+    goes = steps.done limits on now refl flat_arguments (Ok tt) (anonymous_passes flat fs.changes fs.volume.run cred number) passed_flat some
+        (ap (fits limits) step_tree ∙ fits_flat ∙ fit) left
+
+    pub formed_after : IsFormed limits (next_stamp fs.volume.run (fs.changes + 1)) after
+    formed_after = formed_by fs formed counted limited on now (Argument.SetAttr flat_arguments) (set_attributes true on now flat_arguments) after refl refl refl goes refl (step_tree ∙ seen)
+
+  -- Fronts
+
+  abbrev edits_with : Option ℕ → List Edit
+  edits_with size = size_edits number size ++ (Show number shown ∷ [])
+
+  front_flat : IsWellFormed limits flat → (size : Option ℕ) (count : ℕ) → IsTrue (fits limits (edited (edits_with size) flat)) → IsTrue (fits limits (edited (take count (edits_with size)) flat))
+  front_flat well None zero fit = well.fitting
+  front_flat well None (suc zero) fit = fit
+  front_flat well None (suc (suc count)) fit = fit
+  front_flat well (Some size) zero fit = well.fitting
+  front_flat well (Some size) (suc zero) fit =
+      sym (show_room limits (done (SetSize number size) flat) number shown (above_altered (sizing size) flat number well.numbered)) ∙ fit
+  front_flat well (Some size) (suc (suc zero)) fit = fit
+  front_flat well (Some size) (suc (suc (suc count))) fit = fit
+
+  alike : (edits : List Edit) → fits limits (edited edits flat) ≡ fits limits (edited edits tree)
+  alike edits = fits_alike limits (edited edits tree) (edited edits flat) (edits_blanked edits tree)
+
+  pub fronts : (count : ℕ) → IsTrue (fits limits after) → IsTrue (fits limits (edited (take count wanted) tree))
+  fronts count fit = ∥∥₁_elim formed.well_formed (Prim.hlevel props) (λ well.
+      sym (alike (take count wanted)) ∙ front_flat well (size_given given) count (alike wanted ∙ fit))

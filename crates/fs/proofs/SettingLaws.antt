@@ -1,0 +1,88 @@
+-- SETATTR in each state of a COMPOUND: what it comes to by the definition, where its tests on a file system are known.
+use Rattle.std.proofs.Common.{◌≡◌, ◌+◌, ℕ, Bool, true, false, List, [], ◌∷◌, ◌++◌, Some, None, refl, ap, ap₂, ◌∙◌, not}
+use Rattle.edits.specs.declared.edit.Edit.{Edit}
+use Rattle.model.specs.declared.acl.Cred.{Cred}
+use Rattle.model.specs.declared.limits.Limits.{Limits}
+use Rattle.model.specs.declared.status.Status.{Status}
+use Rattle.model.specs.declared.status.Status.TheVariants as status
+use Rattle.model.specs.Attribute.{is_empty, size_given}
+use Rattle.model.specs.Charge.{fits}
+use Rattle.model.specs.Edit.{Show, edited}
+use Rattle.model.specs.Keyed.{at}
+use Rattle.model.specs.Operation.{Argument, Attributes, SetAttrArguments}
+use Rattle.model.specs.Refusal.{first_refusal}
+use Rattle.model.specs.SetAttr.{set_attributes, sets, shown_set, size_edits}
+use Rattle.model.specs.Stamp.{next_stamp, is_stamp_left}
+use Rattle.model.specs.Step.{State, Stepped, current, refused}
+use Rattle.model.specs.Tree.{Tree, Node}
+use Rattle.settings.specs.declared.refusal.Refusal.{Refusal}
+use Rattle.settings.specs.declared.refusal.Refusal.TheVariants as refusal
+use Rattle.settings.specs.Given.{IsRefusedBy, given_of}
+use Rattle.fs.specs.declared.setting.Setting.{Setting}
+use Rattle.fs.specs.FileSystem.{FileSystem}
+use Rattle.fs.specs.Operations.{IsOn, IsNotDone, does_on}
+use Rattle.fs.specs.Refusals.{fault_of}
+use Rattle.fs.specs.Setting.{IsSet, IsSetting, SetsTree, StaysSet, after_setting, setting_tests}
+use Rattle.fs.proofs.SettingSteps as steps
+use Rattle.volume.specs.Changes.{IsTree}
+use Rattle.volume.specs.Edits.{edited_by}
+
+module _ (fs : FileSystem) (cred : Cred) (now : ℕ) (asked : Setting) (state : State) (arguments : SetAttrArguments) (on : IsOn fs cred asked.number state) (is : IsSetting state asked arguments) where
+  abbrev limits : Limits
+  limits = fs.volume.limits
+
+  abbrev given : Attributes
+  given = given_of asked.attributes
+
+  first_same : first_refusal (setting_tests limits state.tree state.context.cred (current state) asked.verdict arguments.attributes)
+      ≡ first_refusal (setting_tests limits fs.volume.tree cred asked.number asked.verdict given)
+  first_same = rw (on.is_state.tree_is, on.is_state.cred_is, on.is_state.current_is, is.attributes_are) refl
+
+  sets_same : sets arguments ≡ not (is_empty given.bitmap)
+  sets_same = ap (λ (a : Attributes). not (is_empty a.bitmap)) is.attributes_are
+
+  pub early : (reason : Status) → first_refusal (setting_tests limits fs.volume.tree cred asked.number asked.verdict given) ≡ Some reason
+      → does_on fs state now (Argument.SetAttr arguments) ≡ refused state (Argument.SetAttr arguments) reason
+  early reason first = steps.set_refused limits state now on.is_state.has_current arguments asked.verdict is.verdict_is reason (first_same ∙ first)
+
+  pub refused_by : (reason : Refusal) → IsRefusedBy (setting_tests limits fs.volume.tree cred asked.number asked.verdict given) reason
+      → IsNotDone fs state now (Argument.SetAttr arguments) (fault_of reason)
+  refused_by (refusal.Status reason) first = early reason first
+  refused_by refusal.Memory first = tt
+
+  module _ (passed : first_refusal (setting_tests limits fs.volume.tree cred asked.number asked.verdict given) ≡ None) where
+    pub stays : is_empty given.bitmap ≡ true → StaysSet fs state now arguments
+    stays none = steps.nothing_set limits state now on.is_state.has_current arguments asked.verdict is.verdict_is (first_same ∙ passed) (sets_same ∙ ap not none)
+        ∙ ap₂ (λ (t : Tree) (n : ℕ). after_setting t n state arguments) on.is_state.tree_is on.changes
+
+    module _ (some : is_empty given.bitmap ≡ false) (node : Node) (there : at asked.number fs.volume.tree ≡ Some node) where
+      has : sets arguments ≡ true
+      has = sets_same ∙ ap not some
+
+      abbrev after : Tree
+      after = edited (size_edits asked.number (size_given given) ++ (Show asked.number (shown_set (Some node) given (next_stamp fs.volume.run fs.changes) now) ∷ [])) fs.volume.tree
+
+      state_tree : (set_attributes true state now arguments).state.tree ≡ after
+      state_tree = rw (on.is_state.tree_is, on.is_state.current_is, on.run, on.changes, is.attributes_are, there) refl
+
+      pub full : fits limits after ≡ false → does_on fs state now (Argument.SetAttr arguments) ≡ refused state (Argument.SetAttr arguments) status.NoSpc
+      full none = steps.no_room limits state now on.is_state.has_current arguments asked.verdict is.verdict_is (first_same ∙ passed) has (ap (fits limits) state_tree ∙ none)
+
+      module _ (fit : fits limits after ≡ true) where
+        pub used_up : is_stamp_left fs.changes ≡ false → does_on fs state now (Argument.SetAttr arguments) ≡ refused state (Argument.SetAttr arguments) status.ServerFault
+        used_up none = steps.no_stamp limits state now on.is_state.has_current arguments asked.verdict is.verdict_is (first_same ∙ passed) has (ap (fits limits) state_tree ∙ fit)
+            (ap is_stamp_left on.changes ∙ none)
+
+        pub goes_on : is_stamp_left fs.changes ≡ true → does_on fs state now (Argument.SetAttr arguments) ≡ after_setting after (fs.changes + 1) state arguments
+        goes_on left =
+            steps.done limits state now on.is_state.has_current arguments asked.verdict is.verdict_is (first_same ∙ passed) has (ap (fits limits) state_tree ∙ fit) (ap is_stamp_left on.changes ∙ left)
+            ∙ ap (λ (t : Tree). after_setting t (state.changes + 1) state arguments) state_tree
+            ∙ ap (λ (n : ℕ). after_setting after (n + 1) state arguments) on.changes
+
+-- What it leaves by the definition is what its edits make
+
+pub sets_tree : (fs : FileSystem) (cred : Cred) (now : ℕ) (asked : Setting) (edits : List Edit)
+    → ((state : State) (arguments : SetAttrArguments) → IsOn fs cred asked.number state → IsSetting state asked arguments → IsSet fs state now arguments edits)
+    → (then : Tree) (lasts : Bool) → SetsTree fs cred now asked then lasts → IsTree (edited_by fs.volume edits) then lasts
+sets_tree fs cred now asked edits step then lasts made =
+    made.tree ∙ ap (λ (s : Stepped). s.state.tree) (step made.state made.arguments made.on made.setting)

@@ -1,0 +1,220 @@
+-- SETATTR that passed its tests: its edits are a change that may be kept, and what they leave is what it comes to by the definition.
+use Rattle.std.proofs.Common.{◌≡◌, ◌≤◌, ◌<◌, ◌+◌, ◌^◌, ℕ, Bool, true, false, List, [], ◌∷◌, ◌++◌, Option, Some, None, length, take, refl, sym, ap, ◌∙◌, arith, subst, not, inl, is_some}
+use Rattle.std.proofs.Math.Logic.{∥∥₁_elim}
+use Rattle.std.proofs.Props.{props}
+use Rattle.std.proofs.lemmas.Bool.{lt-ltb}
+use Rattle.std.specs.Option.{ForSome}
+use Rattle.std.specs.Prelude.{IsTrue, option_map}
+use Rattle.draft.specs.declared.nodes.Shown.{Shown}
+use Rattle.draft.specs.Nodes.{shown_of}
+use Rattle.edits.specs.declared.edit.Edit.{Edit}
+use Rattle.edits.specs.declared.edit.Edit.TheVariants as edit
+use Rattle.edits.specs.Edits.{AreEntries, AreDoable, edits_of, size_of}
+use Rattle.edits.specs.Outlines.{blank, blank_node}
+use Rattle.edits.proofs.BlankLaws.{at-blanked, length-zeros}
+use Rattle.inode.specs.Fields.{Fields}
+use Rattle.layout.specs.Cards.{Card}
+use Rattle.model.specs.declared.acl.Ace.{Ace}
+use Rattle.model.specs.declared.acl.Cred.{Cred}
+use Rattle.model.specs.declared.limits.Limits.{Limits}
+use Rattle.model.specs.declared.node.NodeKind.{NodeKind}
+use Rattle.model.specs.declared.node.NodeKind.TheVariants as kind
+use Rattle.model.specs.declared.status.Status.TheVariants as status
+use Rattle.model.specs.Attribute.{attribute_refusals, attributes_of, is_empty, settable_at_setattr, size_given}
+use Rattle.model.specs.Charge.{fits}
+use Rattle.model.specs.Edit.{Show, SetSize, done, edited, with_content, resized}
+use Rattle.model.specs.Edit as model
+use Rattle.model.specs.Keyed.{at, is_key}
+use Rattle.model.specs.Limits.{limits_of}
+use Rattle.model.specs.Need.{granted_on}
+use Rattle.model.specs.Operation.{Argument, Attributes, SetAttrArguments}
+use Rattle.model.specs.Refusal.{first_refusal}
+use Rattle.model.specs.SetAttr.{kind_at, sets_size, shown_set, size_edits}
+use Rattle.model.specs.Stamp.{next_stamp, is_stamp_left}
+use Rattle.model.specs.Step.{State, refused}
+use Rattle.model.specs.Tree.{Tree, Node, Content, File, Directory, bytes_of, kind_of, is_directory_at}
+use Rattle.model.specs.WellFormed.{IsContent}
+use Rattle.model.proofs.KeyedLaws.{at-with_same}
+use Rattle.model.proofs.NodeChangeLaws.{altered-once}
+use Rattle.model.proofs.StepCases.{none_in_front, none_in_both}
+use Rattle.settings.specs.declared.said.Settings.{Settings}
+use Rattle.settings.specs.Given.{AreSettings, AreWithin, given_of}
+use Rattle.fs.specs.declared.setting.Setting.{Setting}
+use Rattle.fs.specs.FileSystem.{FileSystem}
+use Rattle.fs.specs.Files.{verdict_refusals}
+use Rattle.fs.specs.Operations.{IsOn, does_on}
+use Rattle.fs.specs.Planned.{IsList, IsPlanned}
+use Rattle.fs.specs.Ready.{MayStand}
+use Rattle.fs.specs.Setting.{IsSet, IsSetting, after_setting, may_set, resizing, setting_tests, shown_with, sized_refusals}
+use Rattle.fs.proofs.KeptLaws.{planned_by}
+use Rattle.fs.proofs.SettingFlat as flat
+use Rattle.fs.proofs.SettingLaws as laws
+use Rattle.volume.specs.Edits.{edited_by}
+use Rattle.volume.specs.Formed.{IsFormed}
+use Rattle.volume.specs.Nodes.{IsNodeOf, ShowsContent}
+
+-- What a node shows, by its fields and by what is given
+
+same_shown : (settings : Settings) (given : Attributes) → AreSettings settings given → (stamp now : ℕ) (fields : Fields) (node : Node)
+    → node.owner ≡ fields.owner → node.group ≡ fields.group → node.acl ≡ fields.acl → node.time_modify ≡ fields.time_modify → kind_of node.content ≡ fields.kind
+    → shown_with fields settings stamp now ≡ shown_set (Some node) given stamp now
+same_shown settings given are stamp now fields node owner group acl time of =
+    rw (are.size, are.acl, are.mode, are.owner, are.group, owner, group, acl, time, of) refl
+
+-- The list of a node is one that it may have
+
+kind_shown : (of : NodeKind) (card : Card) (content : Content) → ShowsContent of card content → kind_of content ≡ of
+kind_shown kind.File card content shows = ap kind_of shows.file
+kind_shown kind.Directory card content shows = ap kind_of shows
+
+pub listed : (fs : FileSystem) (formed : MayStand fs.volume fs.changes) (number : ℕ) (card : Card) → IsNodeOf fs.volume.tree number card → IsList fs.volume.limits card.fields.kind card.fields.acl
+listed fs formed number card is = ∥∥₁_elim formed.well_formed (Prim.hlevel props) (λ well.
+    let own = (well.nodes number (blank_node is.node) (at-blanked fs.volume.tree number ∙ ap (option_map blank_node) is.there)).entries in
+    subst (λ (acl : List Ace). IsList fs.volume.limits card.fields.kind acl) is.acl
+    (subst (λ (of : NodeKind). IsList fs.volume.limits of is.node.acl) (flat.kind_blank is.node.content ∙ kind_shown card.fields.kind card is.node.content is.content) own))
+
+module _ (fs : FileSystem) (formed : MayStand fs.volume fs.changes) (counted : fs.changes < 2 ^ 32) (limited : fs.volume.limits ≡ limits_of fs.volume.sectors fs.volume.limits.nodes)
+    (cred : Cred) (now : ℕ) (asked : Setting) (card : Card) (is_node : IsNodeOf fs.volume.tree asked.number card)
+    (passed : first_refusal (setting_tests fs.volume.limits fs.volume.tree cred asked.number asked.verdict (given_of asked.attributes)) ≡ None)
+    (settings : Settings) (are : AreSettings settings (given_of asked.attributes)) (within : AreWithin fs.volume.limits card.fields.kind settings) (some : settings.is_empty ≡ false)
+    (stamp : ℕ) (shown : Shown) (edits : List Edit) (stamp_is : stamp ≡ next_stamp fs.volume.run fs.changes)
+    (shown_is : shown_of shown ≡ shown_with card.fields settings stamp now) (entries : AreEntries (shown_of shown).acl)
+    (edits_are : edits ≡ resizing asked.number settings.size ++ (edit.Show asked.number shown ∷ [])) where
+  abbrev limits : Limits
+  limits = fs.volume.limits
+
+  abbrev tree : Tree
+  tree = fs.volume.tree
+
+  abbrev number : ℕ
+  number = asked.number
+
+  abbrev given : Attributes
+  given = given_of asked.attributes
+
+  abbrev own : ℕ
+  own = next_stamp fs.volume.run fs.changes
+
+  abbrev node : Node
+  node = is_node.node
+
+  abbrev wanted_shown : model.Shown
+  wanted_shown = shown_set (Some node) given own now
+
+  not_empty : is_empty given.bitmap ≡ false
+  not_empty = sym are.empty ∙ some
+
+  new_shown : shown_of shown ≡ wanted_shown
+  new_shown = shown_is ∙ ap (λ (n : ℕ). shown_with card.fields settings n now) stamp_is
+      ∙ same_shown settings given are own now card.fields node is_node.owner is_node.group is_node.acl is_node.time_modify (kind_shown card.fields.kind card node.content is_node.content)
+
+  -- The edits, of each size
+
+  abbrev list : Option ℕ → List Edit
+  list size = resizing number size ++ (edit.Show number shown ∷ [])
+
+  abbrev wanted : Option ℕ → List model.Edit
+  wanted size = size_edits number size ++ (Show number wanted_shown ∷ [])
+
+  same_edits : (size : Option ℕ) → edits_of (list size) ≡ wanted size
+  same_edits None = ap (λ (s : model.Shown). Show number s ∷ []) new_shown
+  same_edits (Some size) = ap (λ (s : model.Shown). SetSize number size ∷ Show number s ∷ []) new_shown
+
+  edits_is : edits ≡ list (size_given given)
+  edits_is = edits_are ∙ ap list are.size
+
+  wanted_is : edits_of edits ≡ wanted (size_given given)
+  wanted_is = ap edits_of edits_is ∙ same_edits (size_given given)
+
+  pub after_is : edited_by fs.volume edits ≡ edited (wanted (size_given given)) tree
+  after_is = ap (λ (l : List model.Edit). edited l tree) wanted_is
+
+  most : limits.file_bytes ≡ 16777216
+  most = ap (λ (l : Limits). l.file_bytes) limited
+
+  key : is_key number tree ≡ true
+  key = ap is_some is_node.there
+
+  -- a size is set of a file, which has few bytes before it
+  no_directory : sets_size given ≡ true → is_directory_at tree number ≡ false
+  no_directory sized =
+      let stale = none_in_front (not (is_key number tree)) status.Stale _ passed in
+      let values = none_in_both (attribute_refusals limits (kind_at tree number) settable_at_setattr given) _ stale.1 in
+      let both = none_in_both (sized_refusals (sets_size given) (is_directory_at tree number) asked.verdict) ((not (may_set (granted_on (at number tree) cred) (attributes_of given.bitmap)), status.Access) ∷ []) values.1 in
+      by_size (sets_size given) sized both.0
+    where
+      by_size : (b : Bool) → b ≡ true → first_refusal (sized_refusals b (is_directory_at tree number) asked.verdict) ≡ None → is_directory_at tree number ≡ false
+      by_size true told none = (none_in_front (is_directory_at tree number) status.IsDir (first_refusal (verdict_refusals asked.verdict)) none).0
+      by_size false told none = absurd (cc)
+
+  few_bytes : (content : Content) → IsContent limits (blank content) → length (bytes_of content) ≤ limits.file_bytes
+  few_bytes (File bytes) is = (let low = is.1 in omega (arith, low, length-zeros (length bytes)))
+  few_bytes (Directory names) is = omega arith
+
+  small : size_of (at number tree) ≤ limits.file_bytes
+  small = ∥∥₁_elim formed.well_formed (Prim.hlevel props) (λ well.
+      let is = well.nodes number (blank_node node) (at-blanked tree number ∙ ap (option_map blank_node) is_node.there) in
+      let few = few_bytes node.content is.content in
+      let same : size_of (at number tree) ≡ length (bytes_of node.content) = ap size_of is_node.there in
+      omega (arith, few, same))
+
+  low : (size : ℕ) → size_given given ≡ Some size → size ≤ limits.file_bytes
+  low size said = (subst (λ (o : Option ℕ). ForSome o (λ (n : ℕ). n ≤ limits.file_bytes)) (are.size ∙ said) within.size) size refl
+
+  key_sized : (size : ℕ) → is_key number (done (SetSize number size) tree) ≡ true
+  key_sized size =
+      let sizing : Node → Node = λ old. with_content old (File (resized (bytes_of old.content) size)) in
+      ap is_some (ap (at number) (altered-once sizing tree number node is_node.there) ∙ at-with_same tree number (sizing node))
+
+  doable_with : (size : Option ℕ) → size_given given ≡ size → AreDoable tree (list size)
+  doable_with None said = (record { there = key; entries = entries }, tt)
+  doable_with (Some size) said = (
+    record {
+      there = key;
+      is_file = no_directory (ap is_some said);
+      small = omega (arith, small, most);
+      low = (let within = low size said in omega (arith, within, most));
+    },
+    (record { there = key_sized size; entries = entries }, tt),
+  )
+
+  pub doable : AreDoable tree edits
+  doable = subst (AreDoable tree) (sym edits_is) (doable_with (size_given given) refl)
+
+  abbrev stands : Tree → Type 0
+  stands t = IsFormed limits (next_stamp fs.volume.run (fs.changes + 1)) t
+
+  fit_there : fits limits (edited_by fs.volume edits) ≡ true → fits limits (edited (wanted (size_given given)) tree) ≡ true
+  fit_there fit = ap (fits limits) (sym after_is) ∙ fit
+
+  fronts_by : (l : List Edit) → edits_of l ≡ wanted (size_given given) → (count : ℕ) → IsTrue (fits limits (edited_by fs.volume l)) → IsTrue (fits limits (edited (take count (edits_of l)) tree))
+  fronts_by l same count all =
+      ap (λ (k : List model.Edit). fits limits (edited (take count k) tree)) same
+      ∙ flat.fronts fs formed counted limited cred now number asked.verdict given node is_node.there passed count (ap (λ (k : List model.Edit). fits limits (edited k tree)) (sym same) ∙ all)
+
+  planned_with : (size : Option ℕ) → size_given given ≡ size → AreDoable tree (list size) → edits_of (list size) ≡ wanted (size_given given)
+      → IsTrue (fits limits (edited_by fs.volume (list size))) → fs.changes + 1 < 2 ^ 32 → stands (edited_by fs.volume (list size)) → IsPlanned fs (list size)
+  planned_with None said can same fit left stand = planned_by fs formed counted limited (list None) (omega arith) can (omega arith) (inl refl) (λ n among. absurd (omega (arith, among.1.0))) tt
+      (fronts_by (list None) same) fit left stand
+  planned_with (Some size) said can same fit left stand = planned_by fs formed counted limited (list (Some size)) (omega arith) can (omega arith) (inl refl) (λ n among. absurd (omega (arith, among.1.0))) tt
+      (fronts_by (list (Some size)) same) fit left stand
+
+  pub planned : IsTrue (fits limits (edited_by fs.volume edits)) → fs.changes + 1 < 2 ^ 32 → IsPlanned fs edits
+  planned fit left =
+      let whole = subst stands (sym after_is)
+      (flat.formed_after fs formed counted limited cred now number asked.verdict given node is_node.there passed (ap not not_empty) (fit_there fit) (lt-ltb (fs.changes + 1) (2 ^ 32) left)) in
+      subst (IsPlanned fs) (sym edits_is) (planned_with (size_given given) refl (doable_with (size_given given) refl) (same_edits (size_given given))
+      (ap (λ (l : List Edit). fits limits (edited_by fs.volume l)) (sym edits_is) ∙ fit) left (subst (λ (l : List Edit). stands (edited_by fs.volume l)) edits_is whole))
+
+  -- In each state of the operation
+  module _ (state : State) (arguments : SetAttrArguments) (on : IsOn fs cred number state) (is : IsSetting state asked arguments) where
+    pub plan_full : fits limits (edited_by fs.volume edits) ≡ false → does_on fs state now (Argument.SetAttr arguments) ≡ refused state (Argument.SetAttr arguments) status.NoSpc
+    plan_full none = laws.full fs cred now asked state arguments on is passed not_empty node is_node.there (ap (fits limits) (sym after_is) ∙ none)
+
+    module _ (fit : fits limits (edited_by fs.volume edits) ≡ true) where
+      pub plan_used_up : is_stamp_left fs.changes ≡ false → does_on fs state now (Argument.SetAttr arguments) ≡ refused state (Argument.SetAttr arguments) status.ServerFault
+      plan_used_up none = laws.used_up fs cred now asked state arguments on is passed not_empty node is_node.there (fit_there fit) none
+
+      pub plan_goes_on : is_stamp_left fs.changes ≡ true → IsSet fs state now arguments edits
+      plan_goes_on left = laws.goes_on fs cred now asked state arguments on is passed not_empty node is_node.there (fit_there fit) left
+          ∙ ap (λ (t : Tree). after_setting t (fs.changes + 1) state arguments) (sym after_is)

@@ -1,0 +1,115 @@
+-- The edits of a file whose size is set, as they stand in memory: they are a change that may be kept.
+use Rattle.std.proofs.Common.{◌≡◌, ◌≤◌, ◌<◌, ◌+◌, ◌^◌, ℕ, true, false, List, [], ◌∷◌, length, refl, sym, ap, ◌∙◌, arith, subst, inl, is_some}
+use Rattle.std.specs.Prelude.{IsTrue, option_map}
+use Rattle.draft.specs.declared.nodes.Shown.{Shown}
+use Rattle.draft.specs.Nodes.{shown_of}
+use Rattle.edits.specs.declared.edit.Edit.{Edit}
+use Rattle.edits.specs.declared.edit.Edit.TheVariants as edit
+use Rattle.edits.specs.Edits.{AreDoable, size_of}
+use Rattle.edits.specs.Outlines.{blank, blank_node, blanked}
+use Rattle.edits.proofs.BlankLaws.{at-blanked}
+use Rattle.layout.specs.Cards.{Card}
+use Rattle.layout.specs.Known.{IsCard}
+use Rattle.model.specs.declared.acl.Ace.{Ace}
+use Rattle.model.specs.declared.limits.Limits.{Limits}
+use Rattle.model.specs.declared.node.NodeKind.{NodeKind}
+use Rattle.model.specs.declared.node.NodeKind.TheVariants as kind
+use Rattle.model.specs.Acl.{is_list_for}
+use Rattle.model.specs.Changes.{touched}
+use Rattle.model.specs.Charge.{fits}
+use Rattle.model.specs.Edit.{SetSize, Show, done, edited, with_content, resized}
+use Rattle.model.specs.Edit as model
+use Rattle.model.specs.Keyed.{at, is_key}
+use Rattle.model.specs.Limits.{limits_of}
+use Rattle.model.specs.Stamp.{next_stamp}
+use Rattle.model.specs.Tree.{Tree, Node, Content, File, bytes_of, kind_of, is_directory, is_directory_node}
+use Rattle.model.specs.WellFormed.{IsWellFormed}
+use Rattle.model.proofs.KeyedLaws.{at-with_same}
+use Rattle.model.proofs.NodeChangeLaws.{altered-once}
+use Rattle.fs.specs.FileSystem.{FileSystem}
+use Rattle.fs.specs.Planned.{IsList, IsPlanned, shown_by}
+use Rattle.fs.specs.Ready.{MayStand}
+use Rattle.fs.proofs.FlatSizes as flat
+use Rattle.fs.proofs.KeptLaws.{planned_by}
+use Rattle.fs.proofs.RemovalPlans.{shown_touched, entries_shown}
+use Rattle.volume.specs.Edits.{edited_by}
+use Rattle.volume.specs.Nodes.{IsNodeOf, IsFile, ShowsContent}
+
+module _ (fs : FileSystem) (formed : MayStand fs.volume fs.changes) (counted : fs.changes < 2 ^ 32) (limited : fs.volume.limits ≡ limits_of fs.volume.sectors fs.volume.limits.nodes)
+    (now number : ℕ) (card : Card) (node : IsNodeOf fs.volume.tree number card) (file : card.fields.kind ≡ kind.File) (fit_card : IsCard card) (size : ℕ) (low : size ≤ fs.volume.limits.file_bytes)
+    (stamp : ℕ) (shown : Shown) (edits : List Edit) (stamp_is : stamp ≡ next_stamp fs.volume.run fs.changes) (shown_is : shown_of shown ≡ shown_by card.fields stamp now)
+    (edits_are : edits ≡ edit.SetSize number size ∷ edit.Show number shown ∷ []) where
+  abbrev tree : Tree
+  tree = fs.volume.tree
+
+  abbrev own : ℕ
+  own = next_stamp fs.volume.run fs.changes
+
+  is_file : IsFile card.fields.size node.node.content
+  is_file = subst (λ (of : NodeKind). ShowsContent of card node.node.content) file node.content
+
+  no_directory : is_directory node.node.content ≡ false
+  no_directory = ap is_directory is_file.file
+
+  shown_then : shown_of shown ≡ touched (at number tree) own now
+  shown_then = shown_is ∙ ap (λ (s : ℕ). shown_by card.fields s now) stamp_is ∙ shown_touched tree number card node own now
+
+  stamped : (shown_of shown).change ≡ own
+  stamped = ap (λ (s : model.Shown). s.change) shown_then
+
+  list_is : (shown_of shown).acl ≡ node.node.acl
+  list_is = ap (λ (s : model.Shown). s.acl) shown_is ∙ sym node.acl
+
+  listed : IsWellFormed fs.volume.limits (blanked tree) → IsList fs.volume.limits kind.File (shown_of shown).acl
+  listed well =
+      let is = well.nodes number (blank_node node.node) (at-blanked tree number ∙ ap (option_map blank_node) node.there) in
+      subst (λ (acl : List Ace). IsList fs.volume.limits kind.File acl) (sym list_is)
+      (subst (λ (c : Content). is_list_for fs.volume.limits.aces_set fs.volume.limits.aces (kind_of (blank c)) node.node.acl ≡ true) is_file.file is.entries)
+
+  abbrev list : List Edit
+  list = edit.SetSize number size ∷ edit.Show number shown ∷ []
+
+  abbrev wanted : List model.Edit
+  wanted = SetSize number size ∷ Show number (shown_of shown) ∷ []
+
+  most : fs.volume.limits.file_bytes ≡ 16777216
+  most = ap (λ (l : Limits). l.file_bytes) limited
+
+  few_now : size_of (at number tree) ≤ 16777216
+  few_now =
+      let count : size_of (at number tree) ≡ length (bytes_of node.node.content) = ap size_of node.there in
+      let small = flat.small fs formed number node.node node.there no_directory size low (shown_of shown) stamped listed in
+      omega (arith, count, small, most)
+
+  sized_there : is_key number (done (SetSize number size) tree) ≡ true
+  sized_there =
+      let sized : Node → Node = λ old. with_content old (File (resized (bytes_of old.content) size)) in
+      ap (is_key number) (altered-once sized tree number node.node node.there) ∙ ap is_some (at-with_same tree number (sized node.node))
+
+  list_doable : AreDoable tree list
+  list_doable = (
+    record {
+      there = ap is_some node.there;
+      is_file = ap is_directory_node node.there ∙ no_directory;
+      small = few_now;
+      low = omega (arith, low, most);
+    },
+    (
+      record { there = sized_there; entries = entries_shown card fit_card shown stamp now shown_is },
+      tt,
+    ),
+  )
+
+  pub doable : AreDoable tree edits
+  doable = subst (AreDoable tree) (sym edits_are) list_doable
+
+  pub after : edited_by fs.volume edits ≡ edited (SetSize number size ∷ Show number (touched (at number tree) own now) ∷ []) tree
+  after = ap (edited_by fs.volume) edits_are ∙ ap (λ (s : model.Shown). edited (SetSize number size ∷ Show number s ∷ []) tree) shown_then
+
+  list_planned : IsTrue (fits fs.volume.limits (edited_by fs.volume list)) → fs.changes + 1 < 2 ^ 32 → IsPlanned fs list
+  list_planned fit left = planned_by fs formed counted limited list (omega arith) list_doable (omega arith) (inl refl) (λ n among. absurd (omega (arith, among.1.0))) tt
+      (λ count all. flat.fronts fs formed number node.node node.there no_directory size low (shown_of shown) stamped listed count all)
+      fit left (flat.formed_after fs formed number node.node node.there no_directory size low (shown_of shown) stamped listed fit)
+
+  pub planned : IsTrue (fits fs.volume.limits (edited_by fs.volume edits)) → fs.changes + 1 < 2 ^ 32 → IsPlanned fs edits
+  planned fit left = subst (IsPlanned fs) (sym edits_are) (list_planned (ap (λ (l : List Edit). fits fs.volume.limits (edited_by fs.volume l)) (sym edits_are) ∙ fit) left)

@@ -1,0 +1,43 @@
+use Rattle.std.proofs.Common.{◌≡◌, ◌∙◌, true, false, sym, ap, subst}
+use Rattle.std.proofs.lemmas.Result.{err_from_is_err_and}
+use Rattle.model.specs.Open.{known_refusals}
+use Rattle.model.specs.Tree.{Tree}
+use Rattle.fs.specs.FileSystems.{fs_of}
+use Rattle.fs.specs.Opening.{file_tests, may_use, type_of}
+use Rattle.fs.proofs.OpenTests as tests
+use Rattle.fs.proofs.RefusedLaws.{carried}
+use Rattle.volume.specs.Nodes.{IsNodeOf}
+use Rattle.fs.proofs.fs.Fs.permit_known.Goals as goal
+
+pub returns-in_err-is_cut-clause-tests : goal.returns-in_err-is_cut-clause-tests
+unfolding fs_of
+returns-in_err-is_cut-clause-tests g c state is =
+    let held = (fs_of c.args.self.now).volume in
+    let asked = c.args.asked in
+    let there = subst (λ (t : Tree). IsNodeOf t c.args.number c.in-Some.card.now) (sym is.tree_is) c.in-Some.ensures.some in
+    let p = err_from_is_err_and c.from_residual.result c.from_residual.ensures.1 in
+    rw (p.1, p.2) (carried (known_refusals held.limits state c.args.number (type_of asked.how)) (file_tests held.limits state asked.share.access (type_of asked.how) asked.name.now)
+    (λ reason bad. tests.bad_known held.limits held.tree c.args.cred.now asked.directory asked.name.now state is asked.share.access (type_of asked.how) c.args.number c.requires.leads reason bad)
+    c.in_err-is_cut.field-0.0 (c.in_err-is_cut.ensures.tests state c.args.number is.tree_is there))
+
+pub returns-then-not-may_open-clause-tests : goal.returns-then-not-may_open-clause-tests
+unfolding fs_of
+returns-then-not-may_open-clause-tests g c state is =
+    let held = (fs_of c.args.self.now).volume in
+    let asked = c.args.asked in
+    let card = c.in-Some.card.now in
+    let there = subst (λ (t : Tree). IsNodeOf t c.args.number card) (sym is.tree_is) c.in-Some.ensures.some in
+    tests.by_use held.limits held.tree c.args.cred.now asked.directory asked.name.now state is asked.share.access (type_of asked.how) c.args.number c.requires.leads
+    card c.in-Some.ensures.some (c.in_ok-is_cut.ensures.tests state c.args.number is.tree_is there)
+    false (ap (may_use card.fields c.args.cred.now asked.share.access) (sym c.in_ok-is_cut.ensures.cut) ∙ (sym c.may_open.ensures ∙ c.if-not-may_open.true))
+
+pub returns-clause-tests : goal.returns-clause-tests
+unfolding fs_of
+returns-clause-tests g c state is =
+    let held = (fs_of c.args.self.now).volume in
+    let asked = c.args.asked in
+    let card = c.in-Some.card.now in
+    let there = subst (λ (t : Tree). IsNodeOf t c.args.number card) (sym is.tree_is) c.in-Some.ensures.some in
+    tests.by_use held.limits held.tree c.args.cred.now asked.directory asked.name.now state is asked.share.access (type_of asked.how) c.args.number c.requires.leads
+    card c.in-Some.ensures.some (c.in_ok-is_cut.ensures.tests state c.args.number is.tree_is there)
+    true (ap (may_use card.fields c.args.cred.now asked.share.access) (sym c.in_ok-is_cut.ensures.cut) ∙ (sym c.may_open.ensures ∙ c.if-not-may_open.false))

@@ -1,0 +1,99 @@
+use Rattle.std.proofs.Common.{◌≡◌, ◌+◌, ◌∙◌, ap, sym, rules}
+use Rattle.std.proofs.lemmas.Result.{err_from_is_err_and}
+use Rattle.std.specs.Prelude.{unwrap_or}
+use Rattle.draft.specs.Nodes.{shown_of}
+use Rattle.layout.specs.Cards.{Card}
+use Rattle.model.specs.declared.node.NodeKind.TheVariants as kind
+use Rattle.model.specs.Open.{given_by}
+use Rattle.model.specs.Operation.{Argument}
+use Rattle.model.specs.Tree.{Tree}
+use Rattle.settings.specs.declared.refusal.Refusal.{Refusal}
+use Rattle.settings.specs.declared.refusal.Refusal.TheVariants as refusal
+use Rattle.settings.specs.Given.{IsRefusedBy}
+use Rattle.fs.specs.declared.opening.OpenEffect.TheVariants as effect
+use Rattle.fs.specs.FileSystems.{fs_of}
+use Rattle.fs.specs.Making.{first_node, room_tests, tree_with}
+use Rattle.fs.specs.Opening.{after_open, file_tests, type_of}
+use Rattle.fs.specs.Operations.{IsNotDone}
+use Rattle.fs.specs.Refusals.{fault_of}
+use Rattle.fs.proofs.CreatedLaws as created
+use Rattle.fs.proofs.FirstFiles as files
+use Rattle.fs.proofs.NamedOpens as laws
+use Rattle.fs.proofs.RemovalPlans.{change_shown}
+use Rattle.volume.specs.Volumes.{held_of}
+use Rattle.fs.proofs.fs.Fs.plan_new.Goals as goal
+
+pub returns-in_err-settings-clause-refused : goal.returns-in_err-settings-clause-refused
+returns-in_err-settings-clause-refused g c state arguments placed =
+    let p = err_from_is_err_and c.from_residual.result c.from_residual.ensures.1 in
+    rw (p.1, p.2) (by_reason c.in_err-settings.field-0.0 (c.in_err-settings.ensures.tests state placed.on.is_state))
+  where
+    by_reason : (reason : Refusal) → IsRefusedBy (file_tests (fs_of c.args.self.now).volume.limits state c.args.asked.share.access (type_of c.args.asked.how) c.args.asked.name.now) reason
+        → IsNotDone (fs_of c.args.self.now) state c.args.now (Argument.Open arguments) (fault_of reason)
+    by_reason (refusal.Status reason) bad =
+        laws.refused_file (fs_of c.args.self.now) c.args.cred.now c.args.now c.args.asked c.args.is_full state arguments placed.on placed.opening placed.passed reason bad
+    by_reason refusal.Memory bad = tt
+
+pub returns-then-is_full-clause-refused : goal.returns-then-is_full-clause-refused
+returns-then-is_full-clause-refused g c state arguments placed =
+    laws.table_full (fs_of c.args.self.now) c.args.cred.now c.args.now c.args.asked c.args.is_full state arguments placed.on placed.opening placed.passed
+    (c.in_ok-settings.ensures.tests state placed.on.is_state) c.if-is_full.true
+
+pub new_node-requires-clause-listed : goal.new_node-requires-clause-listed
+unfolding fs_of held_of
+new_node-requires-clause-listed g c =
+    created.listed (fs_of c.args.self.now) (c.args.self.now.ready c.requires.up) c.args.asked.directory c.args.directory.now c.requires.directory
+
+pub plan_node-requires-clause-size : goal.plan_node-requires-clause-size
+unfolding fs_of held_of
+plan_node-requires-clause-size g c =
+    let fs = fs_of c.args.self.now in
+    let size : c.unwrap_or.result ≡ unwrap_or c.in_ok-settings.settings.size 0 = search rules in
+    files.has_size fs (c.args.self.now.ready c.requires.up) c.args.self.now.volume.limited c.args.cred.now c.args.now c.args.asked.directory c.args.asked.name.now (given_by (type_of c.args.asked.how))
+    c.args.directory.now c.requires.directory c.requires.allowed c.requires.lacks c.in_ok-settings.settings c.in_ok-settings.ensures.settings c.in_ok-settings.ensures.within c.unwrap_or.result size
+
+pub plan_node-requires-clause-made : goal.plan_node-requires-clause-made
+unfolding fs_of held_of
+plan_node-requires-clause-made g c =
+    let fs = fs_of c.args.self.now in
+    let size : c.unwrap_or.result ≡ unwrap_or c.in_ok-settings.settings.size 0 = search rules in
+    files.may fs (c.args.self.now.ready c.requires.up) c.args.self.now.volume.limited c.args.cred.now c.args.now c.args.asked.directory c.args.asked.name.now (given_by (type_of c.args.asked.how))
+    c.args.directory.now c.requires.directory c.requires.allowed c.requires.lacks c.in_ok-settings.settings c.in_ok-settings.ensures.settings c.in_ok-settings.ensures.within c.unwrap_or.result size
+    c.in-Some.stamp (shown_of c.in_ok-shown.shown) c.in-Some.ensures c.in_ok-shown.ensures.shown
+
+pub returns-in_err-edits-clause-refused : goal.returns-in_err-edits-clause-refused
+unfolding fs_of held_of
+returns-in_err-edits-clause-refused g c state arguments placed =
+    let p = err_from_is_err_and c.from_residual-in_err-edits.result c.from_residual-in_err-edits.ensures.1 in
+    rw (p.1, p.2) (by_reason c.in_err-edits.field-0.0 c.in_err-edits.ensures.tests)
+  where
+    by_reason : (reason : Refusal)
+        → IsRefusedBy (room_tests (fs_of c.args.self.now) (tree_with (fs_of c.args.self.now) c.args.asked.directory c.args.asked.name.now (first_node kind.File c.unwrap_or.result (shown_of c.in_ok-shown.shown)) c.args.now)) reason
+        → IsNotDone (fs_of c.args.self.now) state c.args.now (Argument.Open arguments) (fault_of reason)
+    by_reason (refusal.Status reason) bad =
+        let fs = fs_of c.args.self.now in
+        let size : c.unwrap_or.result ≡ unwrap_or c.in_ok-settings.settings.size 0 = search rules in
+        let made = files.made_is fs (c.args.self.now.ready c.requires.up) c.args.self.now.volume.limited c.args.cred.now c.args.now c.args.asked.directory c.args.asked.name.now (given_by (type_of c.args.asked.how))
+        c.args.directory.now c.requires.directory c.requires.allowed c.requires.lacks c.in_ok-settings.settings c.in_ok-settings.ensures.settings c.in_ok-settings.ensures.within c.unwrap_or.result size
+        c.in-Some.stamp (shown_of c.in_ok-shown.shown) c.in-Some.ensures c.in_ok-shown.ensures.shown in
+        let before = change_shown fs.volume.tree c.args.asked.directory c.args.directory.now c.requires.directory.node in
+        laws.not_made fs c.args.cred.now c.args.now c.args.asked c.args.is_full state arguments placed.on placed.opening placed.passed
+        (c.in_ok-settings.ensures.tests state placed.on.is_state) c.if-is_full.false c.requires.lacks
+        (first_node kind.File c.unwrap_or.result (shown_of c.in_ok-shown.shown)) made c.in-Some.stamp c.args.directory.now.fields.change c.in-Some.ensures before reason bad
+    by_reason refusal.Memory bad = tt
+
+pub returns-clause-step : goal.returns-clause-step
+unfolding fs_of held_of
+returns-clause-step g c state arguments placed =
+    let fs = fs_of c.args.self.now in
+    let size : c.unwrap_or.result ≡ unwrap_or c.in_ok-settings.settings.size 0 = search rules in
+    let made = files.made_is fs (c.args.self.now.ready c.requires.up) c.args.self.now.volume.limited c.args.cred.now c.args.now c.args.asked.directory c.args.asked.name.now (given_by (type_of c.args.asked.how))
+    c.args.directory.now c.requires.directory c.requires.allowed c.requires.lacks c.in_ok-settings.settings c.in_ok-settings.ensures.settings c.in_ok-settings.ensures.within c.unwrap_or.result size
+    c.in-Some.stamp (shown_of c.in_ok-shown.shown) c.in-Some.ensures c.in_ok-shown.ensures.shown in
+    let before = change_shown fs.volume.tree c.args.asked.directory c.args.directory.now c.requires.directory.node ∙ sym (ap (λ (it : Card). it.fields.change) c.directory.view_is) in
+    laws.is_made fs c.args.cred.now c.args.now c.args.asked c.args.is_full state arguments placed.on placed.opening placed.passed
+    (c.in_ok-settings.ensures.tests state placed.on.is_state) c.if-is_full.false c.requires.lacks
+    (first_node kind.File c.unwrap_or.result (shown_of c.in_ok-shown.shown)) made c.in-Some.stamp c.directory.inside.inode.change c.in-Some.ensures before c.in_ok-edits.ensures.tests
+    ∙ ap (λ (t : Tree). after_open t (fs.changes + 1) state arguments (type_of c.args.asked.how)
+    (record { number = c.in-Some.stamp; directory = record { before = c.directory.inside.inode.change; after = c.in-Some.stamp }; effect = effect.Made }))
+    (sym c.in_ok-edits.ensures.after)

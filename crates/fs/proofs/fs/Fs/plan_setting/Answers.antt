@@ -1,0 +1,75 @@
+use Rattle.std.proofs.Common.{◌≡◌, ◌+◌, ◌^◌, ◌∙◌, sym, subst, arith}
+use Rattle.std.proofs.lemmas.Bool.{le-ltb, lt-ltb}
+use Rattle.std.proofs.lemmas.Result.{err_from_is_err_and}
+use Rattle.edits.specs.Edits.{AreDoable}
+use Rattle.model.specs.Charge.{fits}
+use Rattle.fs.specs.FileSystems.{fs_of}
+use Rattle.fs.proofs.SettingLaws as laws
+use Rattle.fs.proofs.SettingPlans as plans
+use Rattle.volume.specs.Edits.{edited_by}
+use Rattle.volume.specs.Volumes.{held_of}
+use Rattle.fs.proofs.fs.Fs.plan_setting.Goals as goal
+
+pub returns-in_err-card-clause-refused : goal.returns-in_err-card-clause-refused
+returns-in_err-card-clause-refused g c state arguments on is =
+    let p = err_from_is_err_and c.from_residual.result c.from_residual.ensures.1 in
+    rw (p.1, p.2) (laws.refused_by (fs_of c.args.self.now) c.args.cred.now c.args.now c.args.asked state arguments on is c.in_err-card.field-0.0 c.in_err-card.ensures.tests)
+
+pub returns-then-settings-clause-step : goal.returns-then-settings-clause-step
+returns-then-settings-clause-step g c state arguments on is =
+    laws.stays (fs_of c.args.self.now) c.args.cred.now c.args.now c.args.asked state arguments on is c.in_ok-card.ensures.tests
+    (sym c.in_ok-card.ensures.settings.empty ∙ c.if-settings.true)
+
+pub shown_set-requires-clause-listed : goal.shown_set-requires-clause-listed
+unfolding fs_of held_of
+shown_set-requires-clause-listed g c =
+    plans.listed (fs_of c.args.self.now) (c.args.self.now.ready c.requires.up) c.args.asked.number c.in_ok-card.card.now c.in_ok-card.ensures.node
+
+pub fits-requires : goal.fits-requires
+unfolding fs_of held_of
+fits-requires g c =
+    let fs = fs_of c.args.self.now in
+    subst (AreDoable fs.volume.tree) (sym c.deref.ensures.value)
+    (plans.doable fs (c.args.self.now.ready c.requires.up) c.args.self.now.counted c.args.self.now.volume.limited c.args.cred.now c.args.now c.args.asked c.in_ok-card.card.now
+    c.in_ok-card.ensures.node c.in_ok-card.ensures.tests c.in_ok-card.settings c.in_ok-card.ensures.settings c.in_ok-card.ensures.within c.if-settings.false
+    c.in-Some.stamp c.in_ok-shown.shown c.in_ok-edits.edits.items c.in-Some.ensures c.in_ok-shown.ensures.shown c.in_ok-shown.ensures.entries c.in_ok-edits.ensures)
+
+pub returns-then-not-fits-clause-refused : goal.returns-then-not-fits-clause-refused
+unfolding fs_of held_of
+returns-then-not-fits-clause-refused g c state arguments on is =
+    let fs = fs_of c.args.self.now in
+    let told : c.fits.result ≡ fits fs.volume.limits (edited_by fs.volume c.in_ok-edits.edits.items) = rw (← c.deref.ensures.value) c.fits.ensures in
+    plans.plan_full fs (c.args.self.now.ready c.requires.up) c.args.self.now.counted c.args.self.now.volume.limited c.args.cred.now c.args.now c.args.asked c.in_ok-card.card.now
+    c.in_ok-card.ensures.node c.in_ok-card.ensures.tests c.in_ok-card.settings c.in_ok-card.ensures.settings c.in_ok-card.ensures.within c.if-settings.false
+    c.in-Some.stamp c.in_ok-shown.shown c.in_ok-edits.edits.items c.in-Some.ensures c.in_ok-shown.ensures.shown c.in_ok-shown.ensures.entries c.in_ok-edits.ensures
+    state arguments on is (sym told ∙ c.if-not-fits.true)
+
+pub returns-then-self-clause-refused : goal.returns-then-self-clause-refused
+unfolding fs_of held_of
+returns-then-self-clause-refused g c state arguments on is =
+    let fs = fs_of c.args.self.now in
+    let told : c.fits.result ≡ fits fs.volume.limits (edited_by fs.volume c.in_ok-edits.edits.items) = rw (← c.deref.ensures.value) c.fits.ensures in
+    plans.plan_used_up fs (c.args.self.now.ready c.requires.up) c.args.self.now.counted c.args.self.now.volume.limited c.args.cred.now c.args.now c.args.asked c.in_ok-card.card.now
+    c.in_ok-card.ensures.node c.in_ok-card.ensures.tests c.in_ok-card.settings c.in_ok-card.ensures.settings c.in_ok-card.ensures.within c.if-settings.false
+    c.in-Some.stamp c.in_ok-shown.shown c.in_ok-edits.edits.items c.in-Some.ensures c.in_ok-shown.ensures.shown c.in_ok-shown.ensures.entries c.in_ok-edits.ensures
+    state arguments on is (sym told ∙ c.if-not-fits.false) (le-ltb (fs.changes + 1) (2 ^ 32) (omega (arith, c.if-self.true)))
+
+pub returns-clause-planned : goal.returns-clause-planned
+unfolding fs_of held_of
+returns-clause-planned g c =
+    let fs = fs_of c.args.self.now in
+    let told : c.fits.result ≡ fits fs.volume.limits (edited_by fs.volume c.in_ok-edits.edits.items) = rw (← c.deref.ensures.value) c.fits.ensures in
+    plans.planned fs (c.args.self.now.ready c.requires.up) c.args.self.now.counted c.args.self.now.volume.limited c.args.cred.now c.args.now c.args.asked c.in_ok-card.card.now
+    c.in_ok-card.ensures.node c.in_ok-card.ensures.tests c.in_ok-card.settings c.in_ok-card.ensures.settings c.in_ok-card.ensures.within c.if-settings.false
+    c.in-Some.stamp c.in_ok-shown.shown c.in_ok-edits.edits.items c.in-Some.ensures c.in_ok-shown.ensures.shown c.in_ok-shown.ensures.entries c.in_ok-edits.ensures
+    (sym told ∙ c.if-not-fits.false) (omega (arith, c.args.self.now.counted, c.if-self.false))
+
+pub returns-clause-step : goal.returns-clause-step
+unfolding fs_of held_of
+returns-clause-step g c state arguments on is =
+    let fs = fs_of c.args.self.now in
+    let told : c.fits.result ≡ fits fs.volume.limits (edited_by fs.volume c.in_ok-edits.edits.items) = rw (← c.deref.ensures.value) c.fits.ensures in
+    plans.plan_goes_on fs (c.args.self.now.ready c.requires.up) c.args.self.now.counted c.args.self.now.volume.limited c.args.cred.now c.args.now c.args.asked c.in_ok-card.card.now
+    c.in_ok-card.ensures.node c.in_ok-card.ensures.tests c.in_ok-card.settings c.in_ok-card.ensures.settings c.in_ok-card.ensures.within c.if-settings.false
+    c.in-Some.stamp c.in_ok-shown.shown c.in_ok-edits.edits.items c.in-Some.ensures c.in_ok-shown.ensures.shown c.in_ok-shown.ensures.entries c.in_ok-edits.ensures
+    state arguments on is (sym told ∙ c.if-not-fits.false) (lt-ltb (fs.changes + 1) (2 ^ 32) (omega (arith, c.args.self.now.counted, c.if-self.false)))

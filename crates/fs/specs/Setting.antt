@@ -1,0 +1,117 @@
+-- SETATTR, as calls on a file system.
+use Rattle.std.specs.Prelude.{ℕ, Bool, true, false, List, [], ◌∷◌, ◌++◌, Option, Some, None, Result, Ok, Err}
+use Rattle.std.specs.Prelude.{◌+◌, ◌&&◌, ◌||◌, ◌≡◌, not, is_some, unwrap_or, if◌then◌else◌}
+use Rattle.edits.specs.declared.edit.Edit.{Edit}
+use Rattle.edits.specs.declared.edit.Edit.TheVariants as edit
+use Rattle.inode.specs.Fields.{Fields}
+use Rattle.model.specs.declared.acl.Cred.{Cred}
+use Rattle.model.specs.declared.limits.Limits.{Limits}
+use Rattle.model.specs.declared.status.Status.{Status}
+use Rattle.model.specs.declared.status.Status.TheVariants as status
+use Rattle.model.specs.Acl.{write_acl, write_data, write_owner}
+use Rattle.model.specs.Attribute.{acl_number, attribute_refusals, attributes_of, is_among, mode_number, owner_group_number, owner_number, settable_at_setattr, size_number}
+use Rattle.model.specs.Edit.{Shown}
+use Rattle.model.specs.Keyed.{at, is_key}
+use Rattle.model.specs.Need.{granted_on}
+use Rattle.model.specs.Operation.{Argument, Attributes, SetAttrArguments}
+use Rattle.model.specs.Refusal.{Refusals}
+use Rattle.model.specs.SetAttr.{kind_at, list_set, sets_size, was_set}
+use Rattle.model.specs.StateIds.{write_access}
+use Rattle.model.specs.Step.{State, Stepped, alters, answered}
+use Rattle.model.specs.Tree.{Tree, is_directory_at}
+use Rattle.settings.specs.declared.said.Settings.{Settings}
+use Rattle.settings.specs.Given.{given_of}
+use Rattle.fs.specs.declared.fault.FsFault.{FsFault}
+use Rattle.fs.specs.declared.setting.Setting.{Setting}
+use Rattle.fs.specs.FileSystem.{FileSystem}
+use Rattle.fs.specs.Files.{IsVerdict, verdict_refusals}
+use Rattle.fs.specs.Operations.{IsOn, IsNotDone, does_on}
+use Rattle.volume.specs.Edits.{edited_by}
+
+-- the arguments that a call is made for, and the verdict on their stateid
+pub record IsSetting (state : State) (asked : Setting) (arguments : SetAttrArguments) : Type 0 where
+  pub verdict_is : IsVerdict state write_access arguments.state asked.verdict
+  pub attributes_are : arguments.attributes ≡ given_of asked.attributes
+
+-- What it leaves
+
+-- the tree and the count of changes behind it
+abbrev pub after_setting : Tree → (changes : ℕ) → State → SetAttrArguments → Stepped
+after_setting tree changes state arguments =
+    answered (record state { tree = tree; changes = changes }) (was_set arguments)
+
+-- where the device keeps its word they are set as the definition sets them
+abbrev pub SetsAttributes : (keeps_word : Type 0) → (old new : FileSystem) → State → (now : ℕ)
+    → SetAttrArguments → Result (Unit {0}) FsFault → Type 0
+SetsAttributes keeps_word old new state now arguments (Ok done) = keeps_word
+    → does_on old state now (Argument.SetAttr arguments)
+    ≡ after_setting new.volume.tree new.changes state arguments
+SetsAttributes keeps_word old new state now arguments (Err reason) =
+    IsNotDone old state now (Argument.SetAttr arguments) reason
+
+-- what a SETATTR of this caller leaves by the definition. An empty bitmap is no change: nothing of
+-- it has to last.
+pub record SetsTree (fs : FileSystem) (cred : Cred) (now : ℕ) (asked : Setting) (after : Tree)
+    (lasts : Bool) : Type 0 where
+  pub state : State
+  pub arguments : SetAttrArguments
+  pub on : IsOn fs cred asked.number state
+  pub setting : IsSetting state asked arguments
+  pub tree : after ≡ (does_on fs state now (Argument.SetAttr arguments)).state.tree
+  pub quiet : alters state (Argument.SetAttr arguments) ≡ false → lasts ≡ false
+
+-- Before it is kept
+
+-- an empty bitmap leaves the tree and the count
+abbrev pub StaysSet : FileSystem → State → (now : ℕ) → SetAttrArguments → Type 0
+StaysSet fs state now arguments = does_on fs state now (Argument.SetAttr arguments)
+    ≡ after_setting fs.volume.tree fs.changes state arguments
+
+-- another one comes to these edits
+abbrev pub IsSet : FileSystem → State → (now : ℕ) → SetAttrArguments → List Edit → Type 0
+IsSet fs state now arguments edits = does_on fs state now (Argument.SetAttr arguments)
+    ≡ after_setting (edited_by fs.volume edits) (fs.changes + 1) state arguments
+
+-- Its tests, behind that of a current filehandle
+
+-- of a size that is set
+abbrev pub sized_refusals : (is_sized is_directory : Bool) → Result (Unit {0}) Status → Refusals
+sized_refusals false is_directory verdict = []
+sized_refusals true is_directory verdict =
+    (is_directory, status.IsDir) ∷ verdict_refusals verdict
+
+-- whether one who is allowed these masks may set attributes of these numbers
+abbrev pub may_set : (allows : ℕ → Bool) → (attributes : List ℕ) → Bool
+may_set allows attributes =
+    (not (is_among attributes size_number) || allows write_data)
+    && ((not (is_among attributes mode_number || is_among attributes acl_number)
+    || allows write_acl)
+    && (not (is_among attributes owner_number || is_among attributes owner_group_number)
+    || allows write_owner))
+
+abbrev pub setting_tests : Limits → Tree → Cred → (number : ℕ) → Result (Unit {0}) Status
+    → Attributes → Refusals
+setting_tests limits tree cred number verdict given =
+    (not (is_key number tree), status.Stale)
+    ∷ (attribute_refusals limits (kind_at tree number) settable_at_setattr given
+    ++ (sized_refusals (sets_size given) (is_directory_at tree number) verdict
+    ++ ((
+      not (may_set (granted_on (at number tree) cred) (attributes_of given.bitmap)),
+      status.Access,
+    ) ∷ [])))
+
+-- Its edits
+
+-- what a node shows behind it
+abbrev pub shown_with : Fields → Settings → (stamp now : ℕ) → Shown
+shown_with fields settings stamp now = record {
+  owner = unwrap_or settings.owner fields.owner;
+  group = unwrap_or settings.group fields.group;
+  acl = list_set fields.kind fields.acl settings.mode settings.acl;
+  change = stamp;
+  time_modify = if is_some settings.size then now else fields.time_modify;
+}
+
+abbrev pub resizing : (number : ℕ) → Option ℕ → List Edit
+resizing number None = []
+resizing number (Some size) = edit.SetSize number size ∷ []

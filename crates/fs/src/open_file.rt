@@ -1,0 +1,426 @@
+//! OPEN of a file by its name.
+
+use crate::changing::{NewNode, set_edits, touched};
+use crate::fault::FsFault;
+use crate::fs::Fs;
+use crate::nodes::is_directory;
+use crate::opening::{How, OpenEffect, Opened, Opening, check_share, may_open};
+use crate::renaming::Change;
+use crate::rights::grants;
+use acl_eval::{Cred, Mask, NodeKind};
+use cards::Card;
+use disk::Device;
+use edits::Edit;
+use model::status::Status;
+use names::check_name;
+use settings::{Attributes, Refusal, SETTABLE_AT_OPEN, Settings, check_attributes};
+
+/// An open that passed its tests.
+#[derive(Drop)]
+struct Planned<'a> {
+    /// The change that makes its file or cuts it.
+    edits: Option<Vec<Edit<'a>>>,
+    opened: Opened,
+}
+
+#[tactic(auto, unfolding(crate::specs::FileSystems::fs_of, crate::specs::FileSystems::fs_failures))]
+impl<D: Device> Fs<D> {
+    ghost use Rattle.std.specs.Prelude.{◌≡◌, ◌≤◌, true, false, None, length, OnOk, IfOk, IfErr, IsErrOf};
+    ghost use Rattle.std.specs.Prelude.{MatchOption, ⊤};
+    ghost use Rattle.layout.specs.Known.{IsCard};
+    ghost use Rattle.model.specs.declared.node.NodeKind.TheVariants as kind;
+    ghost use Rattle.model.specs.Attribute.{attribute_refusals, settable_at_open};
+    ghost use Rattle.model.specs.Directory.{is_named};
+    ghost use Rattle.model.specs.Name.{name_refusals};
+    ghost use Rattle.model.specs.Open.{cuts, given_by, known_refusals, new_refusals};
+    ghost use Rattle.model.specs.Operation.{Argument, OpenArguments};
+    ghost use Rattle.model.specs.Refusal.{first_refusal};
+    ghost use Rattle.model.specs.Step.{State};
+    ghost use Rattle.settings.specs.Given.{given_of, AreSettings, AreWithin, IsChecked, IsCheckedInMemory};
+    ghost use Rattle.fs.specs.Changes.{fs_ending};
+    ghost use Rattle.fs.specs.FileSystems.{fs_of, Alters};
+    ghost use Rattle.fs.specs.Making.{IsDirectoryOf, room_tests};
+    ghost use Rattle.fs.specs.OnTree.{IsState};
+    ghost use Rattle.fs.specs.Opening.{IsOpening, IsPlaced, LeadsTo, OpensBy, OpensFile, OpensTree, StaysOpen};
+    ghost use Rattle.fs.specs.Opening.{file_tests, place_tests, tree_cut, type_of};
+    ghost use Rattle.fs.specs.Operations.{IsOn, IsNotDone};
+    ghost use Rattle.fs.specs.Planned.{IsPlanned};
+    ghost use Rattle.fs.specs.Refusals.{fault_of};
+    ghost use Rattle.volume.specs.Edits.{edited_by};
+    ghost use Rattle.volume.specs.Nodes.{IsNodeOf};
+
+    /// OPEN of a file by its name (RFC 8881, section 18.16, `CLAIM_NULL`), by this caller at this
+    /// moment, in nanoseconds since 1970. A file that it makes or cuts is kept on the device before
+    /// the answer; anything else changes nothing but the table of opens. `is_full` says whether that
+    /// has no room for it, `has_room` whether the reply has room.
+    ///
+    /// # Errors
+    ///
+    /// Refused by the first of these that holds: STALE; INVAL for an access that there is not,
+    /// SHAREDENIED, INVAL for a denial that there is not; NOTDIR, a name that is none, ACCESS without
+    /// the right to look it up. Of a name that is there: EXIST where it may not be, else ISDIR; of one
+    /// that is not, NOENT where it has to be. Then attributes that may not be set, where some are
+    /// given; ACCESS without the rights to read or to write the file, as it asks and as a cut does, or
+    /// to add a file; DELAY where the table is full; and of a file that is made or cut NOSPC, and
+    /// SERVERFAULT where the run has used up its stamps. Then `NoRoom`. Memory may run out before or
+    /// behind any of them.
+    pub fn open_file(
+        &mut self,
+        cred: &Cred,
+        now: u64,
+        asked: Opening<'_>,
+        is_full: bool,
+        has_room: bool,
+    ) -> Result<Opened, FsFault>
+        requires { length (given_by (type_of asked.how)).bitmap ≤ 8 }
+        ensures step { (state : State) (arguments : OpenArguments)
+            → IsOn (fs_of self.old) cred.now asked.entry.directory state
+            → IsOpening (fs_of self.old) state asked.entry is_full arguments
+            → OpensFile D.keeps_word (fs_of self.old) (fs_of self.new) state now asked.entry
+            arguments result }
+        ensures volume { Alters self.old self.new
+            (OpensTree (fs_of self.old) cred.now now asked.entry is_full) (fs_ending result) }
+        ensures room { OnOk result (has_room ≡ true) }
+        // Refused
+        ensures no_room { IsErrOf result FsFault.NoRoom → has_room ≡ false }
+        ensures down { (fs_of self.old).volume.is_down ≡ true → IsErrOf result FsFault.Down }
+        ensures device_room { IsErrOf result FsFault.Device → has_room ≡ true }
+    {
+        if self.is_down() {
+            return Err(FsFault::Down);
+        }
+        let planned = self.plan_open(cred, now, asked, is_full)?;
+        if !has_room {
+            return Err(FsFault::NoRoom);
+        }
+        let Planned { edits, opened } = planned;
+        let Some(edits) = edits else {
+            return Ok(opened);
+        };
+        self.keep(edits)?;
+        Ok(opened)
+    }
+
+    /// The change of an open, where nothing refuses it but that its reply has no room.
+    fn plan_open<'a>(
+        &self,
+        cred: &Cred,
+        now: u64,
+        asked: Opening<'a>,
+        is_full: bool,
+    ) -> Result<Planned<'a>, Refusal>
+        requires up { (fs_of self.now).volume.is_down ≡ false }
+        requires few { length (given_by (type_of asked.how)).bitmap ≤ 8 }
+        ensures planned { IfOk result (λ planned. MatchOption planned.edits ⊤ (λ edits.
+            IsPlanned (fs_of self.now) edits.items)) }
+        ensures step { (state : State) (arguments : OpenArguments)
+            → IsOn (fs_of self.now) cred.now asked.entry.directory state
+            → IsOpening (fs_of self.now) state asked.entry is_full arguments
+            → IfOk result (λ planned. MatchOption planned.edits
+            (StaysOpen (fs_of self.now) state now arguments (type_of asked.entry.how) planned.opened)
+            (λ edits. OpensBy (fs_of self.now) state now arguments (type_of asked.entry.how)
+            edits.items planned.opened)) }
+        // Refused
+        ensures refused { (state : State) (arguments : OpenArguments)
+            → IsOn (fs_of self.now) cred.now asked.entry.directory state
+            → IsOpening (fs_of self.now) state asked.entry is_full arguments
+            → IfErr result (λ refusal. IsNotDone (fs_of self.now) state now
+            (Argument.Open arguments) (fault_of refusal)) }
+    {
+        let directory = self.permit_place(cred, asked)?;
+        let Some(entry) = directory.names.get(asked.name) else {
+            return self.plan_new(cred, now, asked, is_full, directory);
+        };
+        self.plan_known(cred, now, asked, is_full, directory, entry.1)
+    }
+
+    /// The tests of the place: the directory, the share, the name, and the right to look it up.
+    fn permit_place(&self, cred: &Cred, asked: Opening<'_>) -> Result<&Card, Status>
+        ensures tests { (state : State) (arguments : OpenArguments)
+            → IsState (fs_of self.entry.now).volume.tree cred.now asked.entry.directory state
+            → arguments.access ≡ asked.entry.share.access
+            → arguments.deny ≡ asked.entry.share.deny
+            → IsChecked (place_tests (fs_of self.entry.now).volume.limits state arguments
+            asked.entry.name.now) result }
+        ensures directory { IfOk result (λ card.
+            IsDirectoryOf (fs_of self.entry.now).volume.tree asked.entry.directory card.now) }
+        ensures name { OnOk result (first_refusal (name_refusals
+            (fs_of self.entry.now).volume.limits asked.entry.name.now) ≡ None) }
+    {
+        let Some(card) = self.volume.node(asked.directory) else {
+            return Err(Status::Stale);
+        };
+        check_share(asked.share)?;
+        if !is_directory(card) {
+            return Err(Status::NotDir);
+        }
+        check_name(asked.name, self.volume.limits())?;
+        if !grants(card, cred, Mask::EXECUTE) {
+            return Err(Status::Access);
+        }
+        Ok(card)
+    }
+
+    /// An open of the file that the name leads to, behind the tests of its place.
+    fn plan_known<'a>(
+        &self,
+        cred: &Cred,
+        now: u64,
+        asked: Opening<'a>,
+        is_full: bool,
+        directory: &Card,
+        number: u64,
+    ) -> Result<Planned<'a>, Refusal>
+        requires up { (fs_of self.now).volume.is_down ≡ false }
+        requires few { length (given_by (type_of asked.how)).bitmap ≤ 8 }
+        requires directory { IsDirectoryOf (fs_of self.now).volume.tree asked.directory
+            directory.now }
+        requires leads { LeadsTo (fs_of self.now).volume.tree asked.directory asked.name.now
+            number }
+        ensures planned { IfOk result (λ planned. MatchOption planned.edits ⊤ (λ edits.
+            IsPlanned (fs_of self.now) edits.items)) }
+        ensures step { (state : State) (arguments : OpenArguments)
+            → IsPlaced (fs_of self.now) cred.now asked.entry is_full state arguments
+            → IfOk result (λ planned. MatchOption planned.edits
+            (StaysOpen (fs_of self.now) state now arguments (type_of asked.entry.how) planned.opened)
+            (λ edits. OpensBy (fs_of self.now) state now arguments (type_of asked.entry.how)
+            edits.items planned.opened)) }
+        // Refused
+        ensures refused { (state : State) (arguments : OpenArguments)
+            → IsPlaced (fs_of self.now) cred.now asked.entry is_full state arguments
+            → IfErr result (λ refusal. IsNotDone (fs_of self.now) state now
+            (Argument.Open arguments) (fault_of refusal)) }
+    {
+        let (card, is_cut) = self.permit_known(cred, asked, number)?;
+        if is_full {
+            return Err(Refusal::Status(Status::Delay));
+        }
+        let before = directory.inode.change;
+        let same = Change {
+            before,
+            after: before,
+        };
+        if !is_cut {
+            return Ok(Planned {
+                edits: None,
+                opened: Opened {
+                    number,
+                    directory: same,
+                    effect: OpenEffect::Nothing,
+                },
+            });
+        }
+        let edits = self.plan_cut(card, number, now)?;
+        Ok(Planned {
+            edits: Some(edits),
+            opened: Opened {
+                number,
+                directory: same,
+                effect: OpenEffect::Cut,
+            },
+        })
+    }
+
+    /// The tests of the file that the name leads to, and whether it is to be cut.
+    fn permit_known(
+        &self,
+        cred: &Cred,
+        asked: Opening<'_>,
+        number: u64,
+    ) -> Result<(&Card, bool), Refusal>
+        requires few { length (given_by (type_of asked.how)).bitmap ≤ 8 }
+        requires leads { LeadsTo (fs_of self.now).volume.tree asked.directory asked.name.now
+            number }
+        ensures tests { (state : State)
+            → IsState (fs_of self.entry.now).volume.tree cred.now asked.entry.directory state
+            → IsCheckedInMemory (file_tests (fs_of self.entry.now).volume.limits state
+            asked.entry.share.access (type_of asked.entry.how) asked.entry.name.now) result }
+        ensures node { IfOk result (λ found.
+            IsNodeOf (fs_of self.entry.now).volume.tree number found.0.now) }
+        ensures file { IfOk result (λ found. found.0.now.fields.kind ≡ kind.File) }
+        ensures fit { IfOk result (λ found. IsCard found.0.now) }
+        ensures cut { IfOk result (λ found. found.1 ≡ cuts (type_of asked.entry.how)) }
+    {
+        // a name leads to a node always
+        let Some(card) = self.volume.node(number) else {
+            return Err(Refusal::Memory);
+        };
+        let is_cut = self.check_known(card, asked.how)?;
+        if !may_open(card, cred, asked.share.access, is_cut) {
+            return Err(Refusal::Status(Status::Access));
+        }
+        Ok((card, is_cut))
+    }
+
+    /// The tests of a node that is there, before those of rights, and whether it is to be cut: it
+    /// is a file, and may be there.
+    fn check_known(&self, card: &Card, how: How<'_>) -> Result<bool, Refusal>
+        requires few { length (given_by (type_of how)).bitmap ≤ 8 }
+        ensures tests { (state : State) (number : _) → state.tree ≡ (fs_of self.now).volume.tree
+            → IsNodeOf state.tree number card.now → IsCheckedInMemory (known_refusals
+            (fs_of self.now).volume.limits state number (type_of how.entry)) result }
+        ensures file { OnOk result (card.now.fields.kind ≡ kind.File) }
+        ensures cut { IfOk result (λ is_cut. is_cut ≡ cuts (type_of how.entry)) }
+    {
+        if matches!(how, How::Guarded(_)) {
+            return Err(Refusal::Status(Status::Exist));
+        }
+        if is_directory(card) {
+            return Err(Refusal::Status(Status::IsDir));
+        }
+        let How::Unchecked(given) = how else {
+            return Ok(false);
+        };
+        let settings = self.check_given(given)?;
+        Ok(settings.size == Some(0))
+    }
+
+    /// The tests of attributes that an open gives, and what they set.
+    fn check_given(&self, given: Attributes<'_>) -> Result<Settings, Refusal>
+        requires { length given.bitmap.now ≤ 8 }
+        ensures tests { IsCheckedInMemory (attribute_refusals (fs_of self.now).volume.limits
+            kind.File settable_at_open (given_of given.entry)) result }
+        ensures settings { IfOk result (λ settings.
+            AreSettings settings (given_of given.entry)) }
+        ensures within { IfOk result (λ settings.
+            AreWithin (fs_of self.now).volume.limits kind.File settings) }
+    {
+        check_attributes(
+            self.alloc,
+            self.volume.limits(),
+            NodeKind::File,
+            &SETTABLE_AT_OPEN,
+            given,
+        )
+    }
+
+    /// The change that cuts a file, where the tree has room for it and a stamp is left. NOSPC,
+    /// SERVERFAULT.
+    fn plan_cut<'a>(&self, card: &Card, number: u64, now: u64) -> Result<Vec<Edit<'a>>, Refusal>
+        requires up { (fs_of self.now).volume.is_down ≡ false }
+        requires node { IsNodeOf (fs_of self.now).volume.tree number card.now }
+        requires file { card.now.fields.kind ≡ kind.File }
+        requires fit { IsCard card.now }
+        ensures tests { IsCheckedInMemory (room_tests (fs_of self.now)
+            (tree_cut (fs_of self.now) number now)) result }
+        ensures planned { IfOk result (λ edits. IsPlanned (fs_of self.now) edits.items) }
+        ensures after { IfOk result (λ edits. edited_by (fs_of self.now).volume edits.items
+            ≡ tree_cut (fs_of self.now) number now) }
+    {
+        let Some(stamp) = self.next_stamp() else {
+            return Err(Refusal::Memory);
+        };
+        let shown = touched(self.alloc, card, stamp, now)?;
+        let edits = set_edits(self.alloc, number, Some(0), shown)?;
+        if !self.volume.fits(&edits) {
+            return Err(Refusal::Status(Status::NoSpc));
+        }
+        if self.changes == u32::MAX {
+            return Err(Refusal::Status(Status::ServerFault));
+        }
+        Ok(edits)
+    }
+
+    /// An open that makes its file, behind the tests of its place.
+    fn plan_new<'a>(
+        &self,
+        cred: &Cred,
+        now: u64,
+        asked: Opening<'a>,
+        is_full: bool,
+        directory: &Card,
+    ) -> Result<Planned<'a>, Refusal>
+        requires up { (fs_of self.now).volume.is_down ≡ false }
+        requires few { length (given_by (type_of asked.how)).bitmap ≤ 8 }
+        requires directory { IsDirectoryOf (fs_of self.now).volume.tree asked.directory
+            directory.now }
+        requires allowed { first_refusal (name_refusals (fs_of self.now).volume.limits
+            asked.name.now) ≡ None }
+        requires lacks { is_named (fs_of self.now).volume.tree asked.directory asked.name.now
+            ≡ false }
+        ensures planned { IfOk result (λ planned. MatchOption planned.edits ⊤ (λ edits.
+            IsPlanned (fs_of self.now) edits.items)) }
+        ensures step { (state : State) (arguments : OpenArguments)
+            → IsPlaced (fs_of self.now) cred.now asked.entry is_full state arguments
+            → IfOk result (λ planned. MatchOption planned.edits
+            (StaysOpen (fs_of self.now) state now arguments (type_of asked.entry.how) planned.opened)
+            (λ edits. OpensBy (fs_of self.now) state now arguments (type_of asked.entry.how)
+            edits.items planned.opened)) }
+        // Refused
+        ensures refused { (state : State) (arguments : OpenArguments)
+            → IsPlaced (fs_of self.now) cred.now asked.entry is_full state arguments
+            → IfErr result (λ refusal. IsNotDone (fs_of self.now) state now
+            (Argument.Open arguments) (fault_of refusal)) }
+    {
+        let settings = self.permit_new(cred, asked, directory)?;
+        if is_full {
+            return Err(Refusal::Status(Status::Delay));
+        }
+        let Some(stamp) = self.next_stamp() else {
+            return Err(Refusal::Memory);
+        };
+        let new = NewNode {
+            directory: asked.directory,
+            name: asked.name,
+            kind: NodeKind::File,
+            size: settings.size.unwrap_or(0),
+        };
+        let shown = self.new_node(cred, directory, NodeKind::File, settings, stamp, now)?;
+        let edits = self.plan_node(directory, new, shown, stamp, now)?;
+        Ok(Planned {
+            edits: Some(edits),
+            opened: Opened {
+                number: stamp,
+                directory: Change {
+                    before: directory.inode.change,
+                    after: stamp,
+                },
+                effect: OpenEffect::Made,
+            },
+        })
+    }
+
+    /// The tests of a file that is to be made, and what is set of it.
+    fn permit_new(
+        &self,
+        cred: &Cred,
+        asked: Opening<'_>,
+        directory: &Card,
+    ) -> Result<Settings, Refusal>
+        requires few { length (given_by (type_of asked.how)).bitmap ≤ 8 }
+        requires directory { IsDirectoryOf (fs_of self.now).volume.tree asked.directory
+            directory.now }
+        requires lacks { is_named (fs_of self.now).volume.tree asked.directory asked.name.now
+            ≡ false }
+        ensures tests { (state : State)
+            → IsState (fs_of self.now).volume.tree cred.now asked.entry.directory state
+            → IsCheckedInMemory (file_tests (fs_of self.now).volume.limits state
+            asked.entry.share.access (type_of asked.entry.how) asked.entry.name.now) result }
+        ensures settings { IfOk result (λ settings.
+            AreSettings settings (given_by (type_of asked.entry.how))) }
+        ensures within { IfOk result (λ settings.
+            AreWithin (fs_of self.now).volume.limits kind.File settings) }
+    {
+        let settings = self.check_new(asked.how)?;
+        if !grants(directory, cred, Mask::WRITE_DATA) {
+            return Err(Refusal::Status(Status::Access));
+        }
+        Ok(settings)
+    }
+
+    /// The tests of a file that is to be made, before that of rights, and what is set of it.
+    fn check_new(&self, how: How<'_>) -> Result<Settings, Refusal>
+        requires few { length (given_by (type_of how)).bitmap ≤ 8 }
+        ensures tests { IsCheckedInMemory (new_refusals (fs_of self.now).volume.limits
+            (type_of how.entry)) result }
+        ensures settings { IfOk result (λ settings.
+            AreSettings settings (given_by (type_of how.entry))) }
+        ensures within { IfOk result (λ settings.
+            AreWithin (fs_of self.now).volume.limits kind.File settings) }
+    {
+        match how {
+            How::NoCreate => Err(Refusal::Status(Status::NoEnt)),
+            How::Unchecked(given) | How::Guarded(given) => self.check_given(given),
+        }
+    }
+}

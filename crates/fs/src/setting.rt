@@ -1,0 +1,251 @@
+//! SETATTR.
+
+ghost use Rattle.std.specs.Prelude.{◌≡◌};
+ghost use Rattle.model.specs.Acl.{granted};
+ghost use Rattle.settings.specs.Given.{IsChecked};
+ghost use Rattle.fs.specs.Setting.{may_set, sized_refusals};
+
+use crate::changing::set_edits;
+use crate::entries::tell_entries;
+use crate::fault::FsFault;
+use crate::fs::Fs;
+use crate::lists::list_set;
+use crate::nodes::is_directory;
+use crate::rights::grants;
+use acl_eval::{Cred, Mask};
+use cards::Card;
+use disk::Device;
+use draft::Shown;
+use edits::Edit;
+use model::status::Status;
+use settings::{
+    ACL, Attributes, MODE, OWNER, OWNER_GROUP, Refusal, SETTABLE_AT_SETATTR, SIZE, Settings,
+    check_attributes, is_among,
+};
+use std::alloc::AllocError;
+use wire_attributes::numbers_of;
+
+/// What a caller sets of a node.
+#[derive(Clone, Copy, Debug)]
+pub struct Setting<'a> {
+    /// The node's number.
+    pub number: u64,
+    /// On the stateid, for an open with write access; it is looked at where a size is set.
+    pub verdict: Result<(), Status>,
+    pub attributes: Attributes<'a>,
+}
+
+/// Whether a caller has the rights to set attributes of these numbers on a node.
+fn may_set(card: &Card, cred: &Cred, attributes: &[u32]) -> bool
+    ensures { result ≡ may_set (granted card.now.fields.acl card.now.fields.owner
+        card.now.fields.group cred.now) attributes.now }
+{
+    let sizes = is_among(attributes, SIZE);
+    let lists = is_among(attributes, MODE) || is_among(attributes, ACL);
+    let owners = is_among(attributes, OWNER) || is_among(attributes, OWNER_GROUP);
+    (!sizes || grants(card, cred, Mask::WRITE_DATA))
+        && (!lists || grants(card, cred, Mask::WRITE_ACL))
+        && (!owners || grants(card, cred, Mask::WRITE_OWNER))
+}
+
+/// The tests of a size that is set, where one is: ISDIR of a directory, and the verdict's refusal.
+fn check_sized(
+    is_sized: bool,
+    is_directory: bool,
+    verdict: Result<(), Status>,
+) -> Result<(), Status>
+    ensures { IsChecked (sized_refusals is_sized is_directory verdict) result }
+{
+    if !is_sized {
+        return Ok(());
+    }
+    if is_directory {
+        return Err(Status::IsDir);
+    }
+    verdict
+}
+
+#[tactic(auto, unfolding(crate::specs::FileSystems::fs_of, crate::specs::FileSystems::fs_failures))]
+impl<D: Device> Fs<D> {
+    ghost use Rattle.std.specs.Prelude.{◌≡◌, ◌≤◌, true, false, length, OnOk, IfOk, IfErr, IsErrOf};
+    ghost use Rattle.std.specs.Prelude.{MatchOption};
+    ghost use Rattle.draft.specs.Nodes.{shown_of};
+    ghost use Rattle.edits.specs.Edits.{AreEntries};
+    ghost use Rattle.layout.specs.Known.{IsCard};
+    ghost use Rattle.model.specs.Attribute.{is_empty};
+    ghost use Rattle.model.specs.Operation.{Argument, SetAttrArguments};
+    ghost use Rattle.model.specs.Step.{State};
+    ghost use Rattle.settings.specs.Given.{given_of, AreSettings, AreWithin, IsCheckedInMemory};
+    ghost use Rattle.fs.specs.Changes.{fs_ending};
+    ghost use Rattle.fs.specs.FileSystems.{fs_of, Alters};
+    ghost use Rattle.fs.specs.Operations.{IsOn, IsNotDone};
+    ghost use Rattle.fs.specs.Planned.{IsList, IsPlanned};
+    ghost use Rattle.fs.specs.Refusals.{fault_of};
+    ghost use Rattle.fs.specs.Setting.{IsSet, IsSetting, SetsAttributes, SetsTree, StaysSet};
+    ghost use Rattle.fs.specs.Setting.{setting_tests, shown_with};
+    ghost use Rattle.volume.specs.Nodes.{IsNodeOf};
+
+    /// SETATTR (RFC 8881, section 18.30) of a node, by this caller at this moment, in nanoseconds
+    /// since 1970. It is kept on the device before the answer; `has_room` says whether the reply has
+    /// room for that. A list that is set stands, also where a mode is set beside it.
+    ///
+    /// An empty bitmap is no change, and uses up no stamp.
+    ///
+    /// # Errors
+    ///
+    /// Refused by the first of these that holds: STALE; attributes that may not be set; where a size
+    /// is set, ISDIR of a directory and then the verdict's refusal; ACCESS without the right to write
+    /// for a size, to write the list for a mode or a list, and to write the owner for an owner or a
+    /// group; NOSPC, and SERVERFAULT where the run has used up its stamps; then `NoRoom`. Memory may
+    /// run out before or behind any of them.
+    pub fn set_attributes(
+        &mut self,
+        cred: &Cred,
+        now: u64,
+        asked: Setting<'_>,
+        has_room: bool,
+    ) -> Result<(), FsFault>
+        requires { length asked.attributes.bitmap.now ≤ 8 }
+        ensures step { (state : State) (arguments : SetAttrArguments)
+            → IsOn (fs_of self.old) cred.now asked.entry.number state
+            → IsSetting state asked.entry arguments
+            → SetsAttributes D.keeps_word (fs_of self.old) (fs_of self.new) state now arguments
+            result }
+        ensures volume { Alters self.old self.new
+            (SetsTree (fs_of self.old) cred.now now asked.entry) (fs_ending result) }
+        ensures room { OnOk result (has_room ≡ true) }
+        // Refused
+        ensures no_room { IsErrOf result FsFault.NoRoom → has_room ≡ false }
+        ensures down { (fs_of self.old).volume.is_down ≡ true → IsErrOf result FsFault.Down }
+        ensures device_room { IsErrOf result FsFault.Device → has_room ≡ true }
+    {
+        if self.is_down() {
+            return Err(FsFault::Down);
+        }
+        let planned = self.plan_setting(cred, now, asked)?;
+        if !has_room {
+            return Err(FsFault::NoRoom);
+        }
+        let Some(edits) = planned else {
+            return Ok(());
+        };
+        self.keep(edits)
+    }
+
+    /// The change that sets attributes, where nothing refuses it but that its reply has no room: none
+    /// where no attribute is given.
+    fn plan_setting<'a>(
+        &self,
+        cred: &Cred,
+        now: u64,
+        asked: Setting<'a>,
+    ) -> Result<Option<Vec<Edit<'a>>>, Refusal>
+        requires up { (fs_of self.now).volume.is_down ≡ false }
+        requires few { length asked.attributes.bitmap.now ≤ 8 }
+        ensures planned { IfOk result (λ planned. MatchOption planned
+            (is_empty asked.entry.attributes.bitmap.now ≡ true)
+            (λ edits. IsPlanned (fs_of self.now) edits.items)) }
+        ensures step { (state : State) (arguments : SetAttrArguments)
+            → IsOn (fs_of self.now) cred.now asked.entry.number state
+            → IsSetting state asked.entry arguments
+            → IfOk result (λ planned. MatchOption planned
+            (StaysSet (fs_of self.now) state now arguments)
+            (λ edits. IsSet (fs_of self.now) state now arguments edits.items)) }
+        // Refused
+        ensures refused { (state : State) (arguments : SetAttrArguments)
+            → IsOn (fs_of self.now) cred.now asked.entry.number state
+            → IsSetting state asked.entry arguments
+            → IfErr result (λ refusal. IsNotDone (fs_of self.now) state now
+            (Argument.SetAttr arguments) (fault_of refusal)) }
+    {
+        let (card, settings) = self.permit_setting(cred, asked)?;
+        if settings.is_empty {
+            return Ok(None);
+        }
+        let Some(stamp) = self.next_stamp() else {
+            return Err(Refusal::Memory);
+        };
+        let size = settings.size;
+        let shown = self.shown_set(card, settings, stamp, now)?;
+        let edits = set_edits(self.alloc, asked.number, size, shown)?;
+        if !self.volume.fits(&edits) {
+            return Err(Refusal::Status(Status::NoSpc));
+        }
+        if self.changes == u32::MAX {
+            return Err(Refusal::Status(Status::ServerFault));
+        }
+        Ok(Some(edits))
+    }
+
+    /// The tests before those of room and stamps: the node, and what is set.
+    fn permit_setting(&self, cred: &Cred, asked: Setting<'_>) -> Result<(&Card, Settings), Refusal>
+        requires { length asked.attributes.bitmap.now ≤ 8 }
+        ensures tests { IsCheckedInMemory (setting_tests (fs_of self.entry.now).volume.limits
+            (fs_of self.entry.now).volume.tree cred.now asked.entry.number asked.entry.verdict
+            (given_of asked.entry.attributes)) result }
+        ensures node { IfOk result (λ permitted.
+            IsNodeOf (fs_of self.entry.now).volume.tree asked.entry.number permitted.0.now) }
+        ensures fit { IfOk result (λ permitted. IsCard permitted.0.now) }
+        ensures settings { IfOk result (λ permitted.
+            AreSettings permitted.1 (given_of asked.entry.attributes)) }
+        ensures within { IfOk result (λ permitted. AreWithin
+            (fs_of self.entry.now).volume.limits permitted.0.now.fields.kind permitted.1) }
+    {
+        let Some(card) = self.volume.node(asked.number) else {
+            return Err(Refusal::Status(Status::Stale));
+        };
+        let settings = check_attributes(
+            self.alloc,
+            self.volume.limits(),
+            card.inode.kind,
+            &SETTABLE_AT_SETATTR,
+            asked.attributes,
+        )?;
+        check_sized(settings.size.is_some(), is_directory(card), asked.verdict)?;
+        let attributes = numbers_of(self.alloc, asked.attributes.bitmap)?;
+        if !may_set(card, cred, &attributes) {
+            return Err(Refusal::Status(Status::Access));
+        }
+        Ok((card, settings))
+    }
+
+    /// What a node shows with these settings, which passed their tests.
+    fn shown_set(
+        &self,
+        card: &Card,
+        settings: Settings,
+        stamp: u64,
+        now: u64,
+    ) -> Result<Shown, AllocError>
+        requires within { AreWithin (fs_of self.now).volume.limits card.now.fields.kind settings }
+        requires listed { IsList (fs_of self.now).volume.limits card.now.fields.kind
+            card.now.fields.acl }
+        ensures shown { IfOk result (λ shown.
+            shown_of shown ≡ shown_with card.now.fields settings stamp now) }
+        ensures entries { IfOk result (λ shown. AreEntries (shown_of shown).acl) }
+    {
+        let inode = &card.inode;
+        let owner = settings.owner.unwrap_or(inode.owner);
+        let group = settings.group.unwrap_or(inode.group);
+        let time_modify = if settings.size.is_some() {
+            now
+        } else {
+            inode.time_modify
+        };
+        let acl = list_set(
+            self.alloc,
+            inode.kind,
+            inode.acl.as_slice(),
+            settings.mode,
+            settings.acl,
+        )?;
+        tell_entries(acl.as_slice());
+        Ok(Shown {
+            owner,
+            group,
+            acl,
+            change: stamp,
+            time_modify,
+        })
+    }
+}

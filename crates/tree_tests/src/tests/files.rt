@@ -1,0 +1,97 @@
+//! Files: OPEN by a name, and what is written and read behind it.
+
+use super::drivers::{
+    FIRST, caller, commit, look_up, make, make_or_cut, mount, must_be, must_be_new, read, user,
+    volume, write,
+};
+use fs::{Change, FsFault, OpenEffect, Opened, Writing};
+use model::status::Status;
+use std::test::Fail;
+
+const SECOND: u64 = 0x1_0000_0002;
+
+const THIRD: u64 = 0x1_0000_0003;
+
+const READS: u32 = 1;
+
+const WRITES: u32 = 2;
+
+/// An open in the root, whose change is this behind it.
+fn opened(number: u64, before: u64, after: u64, effect: OpenEffect) -> Opened {
+    Opened {
+        number,
+        directory: Change { before, after },
+        effect,
+    }
+}
+
+#[test]
+fn a_file_is_made_written_read_and_cut(rt: HostRuntime) -> Result<(), Fail> {
+    let mut fs = mount(rt.alloc(), volume(rt.alloc(), 256, 16)?)?;
+    let made = make_or_cut(&mut fs, &caller(), b"f", WRITES, 0);
+    assert_eq!(rt; made, Ok(opened(FIRST, 1, FIRST, OpenEffect::Made)));
+    let hello = Writing {
+        offset: 2,
+        bytes: b"hello",
+        is_stable: true,
+    };
+    assert_eq!(rt; write(&mut fs, FIRST, hello), Ok(5));
+    let mut fs = mount(rt.alloc(), fs.into_device())?;
+    let mut out = Vec::new(rt.alloc());
+    assert_eq!(rt; read(&mut fs, FIRST, Ok(()), &mut out), Ok(true));
+    assert_eq!(rt; out.as_slice(), b"\0\0hello".as_slice());
+    let there = must_be(&mut fs, &caller(), b"f", READS);
+    assert_eq!(rt; there, Ok(opened(FIRST, FIRST, FIRST, OpenEffect::Nothing)));
+    let cut = make_or_cut(&mut fs, &caller(), b"f", READS, 0);
+    assert_eq!(rt; cut, Ok(opened(FIRST, FIRST, FIRST, OpenEffect::Cut)));
+    let mut none = Vec::new(rt.alloc());
+    assert_eq!(rt; read(&mut fs, FIRST, Ok(()), &mut none), Ok(true));
+    assert!(rt; none.is_empty());
+    assert_eq!(rt; commit(&mut fs, FIRST), Ok(()));
+    Ok(())
+}
+
+#[test]
+fn a_file_has_the_size_that_it_is_given(rt: HostRuntime) -> Result<(), Fail> {
+    let mut fs = mount(rt.alloc(), volume(rt.alloc(), 256, 16)?)?;
+    let made = make_or_cut(&mut fs, &caller(), b"f", WRITES, 8200);
+    assert_eq!(rt; made, Ok(opened(FIRST, 1, FIRST, OpenEffect::Made)));
+    let same = make_or_cut(&mut fs, &caller(), b"f", WRITES, 8191);
+    assert_eq!(rt; same, Ok(opened(FIRST, FIRST, FIRST, OpenEffect::Nothing)));
+    let full = make_or_cut(&mut fs, &caller(), b"g", WRITES, 0x100_0000);
+    assert_eq!(rt; full, Err(FsFault::Status(Status::NoSpc)));
+    let high = make_or_cut(&mut fs, &caller(), b"g", WRITES, 0x100_0001);
+    assert_eq!(rt; high, Err(FsFault::Status(Status::FBig)));
+    assert_eq!(rt; look_up(&fs, 1, b"g"), Err(FsFault::Status(Status::NoEnt)));
+    Ok(())
+}
+
+#[test]
+fn a_file_is_refused(rt: HostRuntime) -> Result<(), Fail> {
+    let mut fs = mount(rt.alloc(), volume(rt.alloc(), 256, 16)?)?;
+    make(&mut fs, 1, b"a")?;
+    let none = must_be(&mut fs, &caller(), b"f", READS);
+    assert_eq!(rt; none, Err(FsFault::Status(Status::NoEnt)));
+    let directory = must_be(&mut fs, &caller(), b"a", READS);
+    assert_eq!(rt; directory, Err(FsFault::Status(Status::IsDir)));
+    let taken = must_be_new(&mut fs, &caller(), b"a", READS);
+    assert_eq!(rt; taken, Err(FsFault::Status(Status::Exist)));
+    let made = must_be_new(&mut fs, &caller(), b"f", READS);
+    assert_eq!(rt; made, Ok(opened(SECOND, FIRST, SECOND, OpenEffect::Made)));
+    let again = must_be_new(&mut fs, &caller(), b"f", READS);
+    assert_eq!(rt; again, Err(FsFault::Status(Status::Exist)));
+    let reads = must_be(&mut fs, &user(8), b"f", READS);
+    assert_eq!(rt;
+        reads,
+        Ok(opened(SECOND, SECOND, SECOND, OpenEffect::Nothing))
+    );
+    let writes = must_be(&mut fs, &user(8), b"f", WRITES);
+    assert_eq!(rt; writes, Err(FsFault::Status(Status::Access)));
+    let cuts = make_or_cut(&mut fs, &user(8), b"f", READS, 0);
+    assert_eq!(rt; cuts, Err(FsFault::Status(Status::Access)));
+    let neither = must_be(&mut fs, &caller(), b"f", 0);
+    assert_eq!(rt; neither, Err(FsFault::Status(Status::Inval)));
+    make(&mut fs, 1, b"b")?;
+    assert_eq!(rt; look_up(&fs, 1, b"b"), Ok(THIRD));
+    Ok(())
+}
