@@ -190,6 +190,17 @@ pub(super) fn read<D: Device>(
     fs.read(&caller(), number, verdict, 0, 20, out)
 }
 
+/// Reads a part of a file, with a stateid that passes.
+pub(super) fn read_part<D: Device>(
+    fs: &mut Fs<D>,
+    number: u64,
+    offset: u64,
+    count: u32,
+    out: &mut Vec<u8>,
+) -> Result<bool, FsFault> {
+    fs.read(&caller(), number, Ok(()), offset, count, out)
+}
+
 pub(super) fn commit<D: Device>(fs: &mut Fs<D>, number: u64) -> Result<(), FsFault> {
     fs.commit(&caller(), number)
 }

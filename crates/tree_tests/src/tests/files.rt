@@ -1,8 +1,8 @@
 //! Files: OPEN by a name, and what is written and read behind it.
 
 use super::drivers::{
-    FIRST, caller, commit, look_up, make, make_or_cut, mount, must_be, must_be_new, read, user,
-    volume, write,
+    FIRST, caller, commit, look_up, make, make_or_cut, mount, must_be, must_be_new, read,
+    read_part, set, user, volume, write,
 };
 use fs::{Change, FsFault, OpenEffect, Opened, Writing};
 use model::status::Status;
@@ -11,6 +11,9 @@ use std::test::Fail;
 const SECOND: u64 = 0x1_0000_0002;
 
 const THIRD: u64 = 0x1_0000_0003;
+
+/// The attribute size.
+const SIZE: [u32; 2] = [0x10, 0];
 
 const READS: u32 = 1;
 
@@ -93,5 +96,56 @@ fn a_file_is_refused(rt: HostRuntime) -> Result<(), Fail> {
     assert_eq!(rt; neither, Err(FsFault::Status(Status::Inval)));
     make(&mut fs, 1, b"b")?;
     assert_eq!(rt; look_up(&fs, 1, b"b"), Ok(THIRD));
+    Ok(())
+}
+
+/// The second block is written, the file ends within the first one, and again within the second.
+#[test]
+fn what_was_cut_off_reads_as_zeros(rt: HostRuntime) -> Result<(), Fail> {
+    let mut fs = mount(rt.alloc(), volume(rt.alloc(), 256, 16)?)?;
+    make_or_cut(&mut fs, &caller(), b"f", WRITES, 0)?;
+    let ten = Writing {
+        offset: 8_190,
+        bytes: b"AAAAAAAAAA",
+        is_stable: false,
+    };
+    assert_eq!(rt; write(&mut fs, FIRST, ten), Ok(10));
+    for size in [8_191u64, 8_200] {
+        assert_eq!(rt;
+            set(&mut fs, &caller(), FIRST, SIZE, &size.to_be_bytes()),
+            Ok(())
+        );
+    }
+    let mut fs = mount(rt.alloc(), fs.into_device())?;
+    let mut out = Vec::new(rt.alloc());
+    assert_eq!(rt; read_part(&mut fs, FIRST, 8_188, 20, &mut out), Ok(true));
+    assert_eq!(rt; out.as_slice(), b"\0\0A\0\0\0\0\0\0\0\0\0".as_slice());
+    Ok(())
+}
+
+/// One file of 89 blocks fills a volume of 256 sectors and 16 nodes.
+#[test]
+fn a_file_fills_a_volume(rt: HostRuntime) -> Result<(), Fail> {
+    let mut fs = mount(rt.alloc(), volume(rt.alloc(), 256, 16)?)?;
+    make_or_cut(&mut fs, &caller(), b"f", WRITES, 0)?;
+    let size = 364_543u64.to_be_bytes();
+    assert_eq!(rt; set(&mut fs, &caller(), FIRST, SIZE, &size), Ok(()));
+    let last = Writing {
+        offset: 364_543,
+        bytes: b"1",
+        is_stable: true,
+    };
+    assert_eq!(rt; write(&mut fs, FIRST, last), Ok(1));
+    let beyond = Writing {
+        offset: 364_544,
+        ..last
+    };
+    assert_eq!(rt;
+        write(&mut fs, FIRST, beyond),
+        Err(FsFault::Status(Status::NoSpc))
+    );
+    let mut out = Vec::new(rt.alloc());
+    assert_eq!(rt; read_part(&mut fs, FIRST, 364_543, 2, &mut out), Ok(true));
+    assert_eq!(rt; out.as_slice(), b"1".as_slice());
     Ok(())
 }
