@@ -10,7 +10,7 @@ use Rattle.fs.proofs.ChangeLaws.{changes_by}
 use Rattle.volume.specs.Changes.{Given, Broken}
 use Rattle.model.specs.Answer.{Answer, Outcome, Done, Refused}
 use Rattle.model.specs.Context.{Context}
-use Rattle.model.specs.Opens.{Opens, no_opens}
+use Rattle.model.specs.Opens.{Opens}
 use Rattle.model.specs.Operation.{Argument, operation_of}
 use Rattle.model.specs.Refusal.{first_refusal}
 use Rattle.model.specs.Runs.{is_done}
@@ -22,9 +22,9 @@ use Rattle.model.specs.declared.limits.Limits.{Limits}
 use Rattle.model.specs.declared.status.Status.{Status}
 use Rattle.model.specs.declared.status.Status.TheVariants as status
 use Rattle.wire.specs.Short.{IsRefusal}
-use Rattle.compound.specs.Operates.{RunsTo, GivesIn, IsAnswered, IsKept, ChangesNodes, run_in_room, tree_by}
+use Rattle.compound.specs.Operates.{RunsTo, GivesIn, IsAnswered, IsKept, ChangesOpens, run_in_room, tree_by}
 use Rattle.compound.specs.Runs.{with_rest}
-use Rattle.compound.specs.States.{HasState, shared, without_opens}
+use Rattle.compound.specs.States.{HasState, shared}
 use Rattle.compound.specs.Trees.{IsHere, IsUp, refusal, told}
 use Rattle.compound.specs.Volumes.{OperationGives, ending}
 use Rattle.compound.proofs.QuietLaws.{leaves_all, left_all}
@@ -85,15 +85,15 @@ module _ (now : ℕ) (fs : FileSystem) (request : InProgress) (kind : Argument)
     (on_tree : (world : World) (rest : List ℕ) → run world (with_rest request rest) now kind
     ≡ stepped world (with_rest request rest) (does world.limits.volume (state_of world (with_rest request rest)) now kind)) where
   -- it is done
-  pub done_runs : (new : FileSystem) (table : Table) (left : Context) (answer : Answer)
-      → ((state : State) → IsHere fs request state → state.opens ≡ no_opens → does fs.volume.limits state now kind
-      ≡ answered (record { tree = new.volume.tree; changes = new.changes; opens = no_opens; context = left }) answer)
-      → RunsTo now (without_opens fs table) (without_opens new table) request (record request { context = left }) kind (Done answer)
-  done_runs new table left answer does_so = λ world rest on.
+  pub done_runs : (new : FileSystem) (table : Table) (before after : Opens) (left : Context) (answer : Answer)
+      → ((state : State) → IsHere fs request state → state.opens ≡ before → does fs.volume.limits state now kind
+      ≡ answered (record { tree = new.volume.tree; changes = new.changes; opens = after; context = left }) answer)
+      → RunsTo now (shared fs table before) (shared new table after) request (record request { context = left }) kind (Done answer)
+  done_runs new table before after left answer does_so = λ world rest on.
       on_tree world rest
       ∙ (ap (λ (limits : Limits). stepped world (with_rest request rest) (does limits (state_of world (with_rest request rest)) now kind)) on.volume
-      ∙ (ap (stepped world (with_rest request rest)) (does_so (state_of world (with_rest request rest)) (here world fs table no_opens request rest on) on.opens)
-      ∙ ap (λ (known : Table). Gives (Done answer) (record world { tree = new.volume.tree; changes = new.changes; opens = no_opens; table = known })
+      ∙ (ap (stepped world (with_rest request rest)) (does_so (state_of world (with_rest request rest)) (here world fs table before request rest on) on.opens)
+      ∙ ap (λ (known : Table). Gives (Done answer) (record world { tree = new.volume.tree; changes = new.changes; opens = after; table = known })
       (with_rest (record request { context = left }) rest)) on.table_is))
 
   -- it is refused
@@ -146,20 +146,22 @@ module _ (now : ℕ) (fs : FileSystem) (request : InProgress) (kind : Argument)
     -- What it comes to that the file system did not do
 
     module _ (keeps_word : Type 0) (given : Given) (new : FileSystem) (before after : ℕ) (up : fs.volume.is_down ≡ false) where
-      pub told_gives : (T : Type 0) (why : FsFault) → ((state : State) → IsHere fs request state → IsNotDone fs state now kind why) → (IsErrOf {T = T} (Err why) fault.NoRoom → room ≡ false)
+      pub told_gives : (T : Type 0) (opens left : Opens) (why : FsFault) → left ≡ opens → ((state : State) → IsHere fs request state → IsNotDone fs state now kind why) → (IsErrOf {T = T} (Err why) fault.NoRoom → room ≡ false)
           → Changes keeps_word given fs new before after (fs_ending {T = T} (Err why))
-          → IfOk (told (operation_of kind) why) (ChangesNodes fs new now request kind)
-      told_gives T (fault.Status reason) step no_room changes = λ table.
+          → IfOk (told (operation_of kind) why) (ChangesOpens fs new opens left now request kind)
+      told_gives T opens left (fault.Status reason) stays step no_room changes = λ table.
           let same = left_all keeps_word given fs new before after changes in
-          subst (λ (one : FileSystem). GivesIn now (without_opens fs table) (without_opens one table) request request kind (Refused (operation_of kind) reason)) (sym same)
-          (refused_gives table no_opens reason step)
-      told_gives T fault.NoRoom step no_room changes = λ table.
+          subst (λ (after : Opens). GivesIn now (shared fs table opens) (shared new table after) request request kind (Refused (operation_of kind) reason)) (sym stays)
+          (subst (λ (one : FileSystem). GivesIn now (shared fs table opens) (shared one table opens) request request kind (Refused (operation_of kind) reason)) (sym same)
+          (refused_gives table opens reason step))
+      told_gives T opens left fault.NoRoom stays step no_room changes = λ table.
           let same = left_all keeps_word given fs new before after changes in
-          subst (λ (one : FileSystem). GivesIn now (without_opens fs table) (without_opens one table) request request kind (Refused (operation_of kind) status.RepTooBig)) (sym same)
-          (full table no_opens (no_room refl) step)
-      told_gives T fault.Memory step no_room changes = tt
-      told_gives T fault.Device step no_room changes = tt
-      told_gives T fault.Down step no_room changes = tt
+          subst (λ (after : Opens). GivesIn now (shared fs table opens) (shared new table after) request request kind (Refused (operation_of kind) status.RepTooBig)) (sym stays)
+          (subst (λ (one : FileSystem). GivesIn now (shared fs table opens) (shared one table opens) request request kind (Refused (operation_of kind) status.RepTooBig)) (sym same)
+          (full table opens (no_room refl) step))
+      told_gives T opens left fault.Memory stays step no_room changes = tt
+      told_gives T opens left fault.Device stays step no_room changes = tt
+      told_gives T opens left fault.Down stays step no_room changes = tt
 
       pub told_changes : (T : Type 0) (table : Table) (opens : Opens) (why : FsFault) → ((state : State) → IsHere fs request state → IsNotDone fs state now kind why) → IsUp why
           → (IsErrOf {T = T} (Err why) fault.NoRoom → room ≡ false) → (IsErrOf {T = T} (Err why) fault.Device → room ≡ true) → (room ≡ true → (tree : Tree) (lasts : Bool) → OperationGives (shared fs table opens) request now kind tree lasts → given tree lasts)

@@ -8,7 +8,7 @@ use Rattle.fs.specs.declared.fault.FsFault.{FsFault}
 use Rattle.fs.specs.declared.removing.Removed.{Removed}
 use Rattle.model.specs.Answer.{Done}
 use Rattle.model.specs.Context.{Context, has_current, current_number}
-use Rattle.model.specs.Opens.{Opens, no_opens}
+use Rattle.model.specs.Opens.{Opens}
 use Rattle.model.specs.Operation.{Argument}
 use Rattle.model.specs.Session.{Table}
 use Rattle.model.specs.StateIds.{without_number}
@@ -44,15 +44,15 @@ module _ (now : ℕ) (fs : FileSystem) (request : InProgress) (name : List ℕ) 
   unfolding effect
   sized room is state there = (_, refl, removed_room request 0 0 _ _ room is)
 
-  pub does_remove : (new : FileSystem) (made : Removed) (state : State) → IsHere fs request state → state.opens ≡ no_opens
+  pub does_remove : (new : FileSystem) (made : Removed) (before : Opens) (state : State) → IsHere fs request state → state.opens ≡ before
       → does_on fs state now (Argument.Remove name) ≡ removed new.volume.tree new.changes state made
       → does fs.volume.limits state now (Argument.Remove name)
-      ≡ answered (record { tree = new.volume.tree; changes = new.changes; opens = no_opens; context = request.context }) (removed_answer made.before made.after)
-  does_remove new made state there none is =
+      ≡ answered (record { tree = new.volume.tree; changes = new.changes; opens = without_number made.number before; context = request.context }) (removed_answer made.before made.after)
+  does_remove new made before state there known is =
       is
       ∙ (ap (λ (opens : Opens). answered (record { tree = new.volume.tree; changes = new.changes; opens = without_number made.number opens; context = state.context })
-      (removed_answer made.before made.after)) none
-      ∙ ap (λ (context : Context). answered (record { tree = new.volume.tree; changes = new.changes; opens = no_opens; context = context })
+      (removed_answer made.before made.after)) known
+      ∙ ap (λ (context : Context). answered (record { tree = new.volume.tree; changes = new.changes; opens = without_number made.number before; context = context })
       (removed_answer made.before made.after)) there.context_is)
 
   pub remove_up : (directory : ℕ) (why : FsFault) → fs.volume.is_down ≡ false → request.context.run ≡ fs.volume.run

@@ -1,16 +1,16 @@
 -- RENAME on a world is that on its file system.
-use Rattle.std.proofs.Common.{◌≡◌, ℕ, Bool, true, false, not, List, length, nat_le, Option, Some, None, refl, sym, ap, subst, ◌∙◌, arith, length-append}
+use Rattle.std.proofs.Common.{◌≡◌, ℕ, Bool, true, false, not, List, length, nat_le, Option, Some, None, refl, sym, ap, ap₂, subst, ◌∙◌, arith, length-append}
 use Rattle.xdr.proofs.Sizes.{int_length, hyper_length}
 use Rattle.fs.specs.FileSystem.{FileSystem}
 use Rattle.fs.specs.Operations.{IsNotDone, does_on, current_refusal}
-use Rattle.fs.specs.Renaming.{IsOnBoth, RenamesTree, renamed, opens_behind}
+use Rattle.fs.specs.Renaming.{IsOnBoth, RenamesTree, is_itself, renamed, opens_behind}
 use Rattle.fs.specs.declared.fault.FsFault.{FsFault}
 use Rattle.fs.specs.declared.renaming.Change.{Change}
 use Rattle.fs.specs.declared.renaming.Renamed.{Renamed}
 use Rattle.model.specs.Answer.{Done}
 use Rattle.model.specs.Context.{Context, has_current, has_saved, saved_number, is_same_name}
 use Rattle.model.specs.Keyed.{is_key}
-use Rattle.model.specs.Opens.{Opens, no_opens}
+use Rattle.model.specs.Opens.{Opens}
 use Rattle.model.specs.Operation.{Argument, RenameArguments}
 use Rattle.model.specs.Refusal.{refused_or}
 use Rattle.model.specs.Session.{Table}
@@ -85,11 +85,6 @@ refused_saved limits state now arguments is none =
 
 -- What it leaves
 
-none_open : (same : Bool) (replaced : Option ℕ) → opens_behind same replaced no_opens ≡ no_opens
-none_open true replaced = refl
-none_open false None = refl
-none_open false (Some number) = refl
-
 -- a name that is given to itself does not have to last
 quiet_ran : (world : World) (request : InProgress) (arguments : RenameArguments) (ran : HasRun) → is_same_name request.context arguments ≡ true
     → lasts (executed_by world request (Argument.Rename arguments) ran) ≡ false
@@ -107,17 +102,24 @@ module _ (now : ℕ) (fs : FileSystem) (request : InProgress) (arguments : Renam
   unfolding effect
   sized room is state there = rename_sized (is_same_name state.context arguments) state now arguments request room is
 
-  pub does_rename : (new : FileSystem) (made : Renamed) (state : State) → IsHere fs request state → state.opens ≡ no_opens
+  pub does_rename : (new : FileSystem) (made : Renamed) (before : Opens) (same : Bool) (state : State) → IsHere fs request state → state.opens ≡ before
+      → is_same_name state.context arguments ≡ same
       → does_on fs state now (Argument.Rename arguments) ≡ renamed new.volume.tree new.changes state arguments made
       → does fs.volume.limits state now (Argument.Rename arguments)
-      ≡ answered (record { tree = new.volume.tree; changes = new.changes; opens = no_opens; context = request.context }) (renamed_answer made.source made.target)
-  does_rename new made state there none is =
+      ≡ answered (record { tree = new.volume.tree; changes = new.changes; opens = opens_behind same made.replaced before; context = request.context }) (renamed_answer made.source made.target)
+  does_rename new made before same state there known same_is is =
       is
       ∙ (ap (λ (opens : Opens). answered (record { tree = new.volume.tree; changes = new.changes; opens = opens; context = state.context })
       (renamed_answer made.source made.target))
-      (ap (opens_behind (is_same_name state.context arguments) made.replaced) none ∙ none_open (is_same_name state.context arguments) made.replaced)
-      ∙ ap (λ (context : Context). answered (record { tree = new.volume.tree; changes = new.changes; opens = no_opens; context = context })
+      (ap (opens_behind (is_same_name state.context arguments) made.replaced) known ∙ ap (λ (b : Bool). opens_behind b made.replaced before) same_is)
+      ∙ ap (λ (context : Context). answered (record { tree = new.volume.tree; changes = new.changes; opens = opens_behind same made.replaced before; context = context })
       (renamed_answer made.source made.target)) there.context_is)
+
+  pub same_name : (numbers : ℕ × ℕ) → AreBoth request.context numbers → (state : State) → IsHere fs request state
+      → is_same_name state.context arguments ≡ is_itself numbers.0 numbers.1 arguments
+  same_name numbers both state there =
+      ap (λ (context : Context). is_same_name context arguments) there.context_is
+      ∙ ap₂ (λ (from to : ℕ). is_itself from to arguments) both.saved_is both.current_is
 
   pub is_on_both : (numbers : ℕ × ℕ) → request.context.run ≡ fs.volume.run → AreBoth request.context numbers
       → (state : State) → IsHere fs request state → IsOnBoth fs request.context.cred numbers.0 numbers.1 state

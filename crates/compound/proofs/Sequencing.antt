@@ -2,19 +2,20 @@
 use Rattle.std.proofs.Common.{◌≡◌, ℕ, Bool, true, Option, Some, None, false, if◌then◌else◌, ap, sym, ◌∙◌}
 use Rattle.std.specs.List.{find}
 use Rattle.model.specs.Answer.{Answer, Outcome, SequenceAnswer}
+use Rattle.model.specs.Opens.{Opens}
 use Rattle.model.specs.Operation.{Argument, SequenceArguments}
 use Rattle.model.specs.Session as sessions
 use Rattle.model.specs.Session.{Table, Session, Client, is_client, reclaim_by, is_session, started, sequence_answer}
 use Rattle.model.specs.World.{World, InProgress, Gives, run, begun, started_in, tabled, gives, with_table, of_session}
 use Rattle.model.specs.declared.status.Status.{Status}
 use Rattle.fs.specs.FileSystem.{FileSystem}
-use Rattle.compound.specs.States.{HasState, without_opens}
+use Rattle.compound.specs.States.{HasState, shared}
 
 pub ran_sequence : (world : World) (request : InProgress) (now : ℕ) (arguments : SequenceArguments) (old : Table) (wanted : sessions.Begun)
-    → {fs : FileSystem} → HasState world (without_opens fs old) → sessions.begin request.context.cred.uid request.count arguments old ≡ wanted
+    → {fs : FileSystem} {opens : Opens} → HasState world (shared fs old opens) → sessions.begin request.context.cred.uid request.count arguments old ≡ wanted
     → run world request now (Argument.Sequence arguments) ≡ begun world request arguments wanted
 unfolding run
-ran_sequence world request now arguments old wanted {fs} on is =
+ran_sequence world request now arguments old wanted {fs} {opens} on is =
     ap (begun world request arguments) (ap (sessions.begin request.context.cred.uid request.count arguments) on.table_is ∙ is)
 
 -- the request once the slot of this client's session runs it
@@ -43,10 +44,10 @@ begun_err world request arguments reason old new is same =
     ap (λ (table : Table). Gives (Outcome.Refused 53 reason) (with_table world table) request) (is ∙ sym same)
 
 pub ran_reclaim : (world : World) (request : InProgress) (now : ℕ) (old : Table) (wanted : Option Status × Table)
-    → {fs : FileSystem} → HasState world (without_opens fs old) → sessions.reclaim_complete request.context.client old ≡ wanted
+    → {fs : FileSystem} {opens : Opens} → HasState world (shared fs old opens) → sessions.reclaim_complete request.context.client old ≡ wanted
     → run world request now (Argument.ReclaimComplete false) ≡ tabled world request 58 Answer.ReclaimComplete wanted
 unfolding run
-ran_reclaim world request now old wanted {fs} on is =
+ran_reclaim world request now old wanted {fs} {opens} on is =
     ap (tabled world request 58 Answer.ReclaimComplete) (ap (sessions.reclaim_complete request.context.client) on.table_is ∙ is)
 
 -- a refused RECLAIM_COMPLETE leaves the table

@@ -20,6 +20,8 @@ left_rest effect.Stays request rest = refl
 left_rest (effect.Moves number) request rest = refl
 left_rest effect.Saves request rest = refl
 left_rest effect.Restores request rest = refl
+left_rest (effect.Opens number state) request rest = refl
+left_rest effect.Closes request rest = refl
 left_rest (effect.Joins slot client) request rest = refl
 
 -- nor the results before it
@@ -28,6 +30,8 @@ left_answered effect.Stays request = refl
 left_answered (effect.Moves number) request = refl
 left_answered effect.Saves request = refl
 left_answered effect.Restores request = refl
+left_answered (effect.Opens number state) request = refl
+left_answered effect.Closes request = refl
 left_answered (effect.Joins slot client) request = refl
 
 pub further_from : (before request : InProgress) (done : Stepped) → before.answered ≡ request.answered → GoesFurther before done → GoesFurther request done

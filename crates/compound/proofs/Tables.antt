@@ -1,10 +1,11 @@
 -- The operations on a world are those on its table.
-use Rattle.std.proofs.Common.{◌≡◌, ℕ, Bool, true, false, ◌==◌, if◌then◌else◌, List, [], Option, Some, None, Result, Ok, Err, refl, ap, sym, ◌∙◌}
+use Rattle.std.proofs.Common.{◌≡◌, ℕ, Bool, true, false, ◌==◌, if◌then◌else◌, ◌||◌, List, [], ◌∷◌, map, Option, Some, None, Result, Ok, Err, refl, ap, ap₂, sym, ◌∙◌}
 use Rattle.model.specs.Answer.{Answer, Outcome, ExchangeIdAnswer, CreateSessionAnswer}
 use Rattle.model.specs.Operation.{Argument, ExchangeIdArguments, CreateSessionArguments}
-use Rattle.model.specs.Opens.{Opens, no_opens}
+use Rattle.model.specs.Opens.{Open, Opens}
 use Rattle.model.specs.Session as sessions
-use Rattle.std.specs.List.{find}
+use Rattle.std.specs.List.{find, list_any}
+use Rattle.std.proofs.Math.Path.{fun_ext}
 use Rattle.model.specs.Refusal.{first_refusal}
 use Rattle.model.specs.Session.{Table, SessionLimits, CreateSessionOutcome, Client, create_unless, create_again, create_by, create_refusals, next_number, is_client}
 use Rattle.model.specs.StateIds.{has_opens, without_clients}
@@ -15,41 +16,54 @@ use Rattle.session.specs.Views.{among}
 use Rattle.fs.specs.FileSystem.{FileSystem}
 use Rattle.compound.specs.Operates.{RunsTo}
 use Rattle.compound.specs.Runs.{with_rest}
-use Rattle.compound.specs.States.{HasState, without_opens}
+use Rattle.compound.specs.States.{HasState, shared}
 use Rattle.compound.proofs.Rooms.{state_same}
 
+-- the clients of opens
+
+abbrev pub client_in : ℕ × Open → ℕ
+client_in entry = entry.1.client
+
+abbrev pub clients_of : Opens → List ℕ
+clients_of opens = map client_in opens.known
+
+among_each : (number : ℕ) (known : List (ℕ × Open)) → among (map client_in known) number ≡ list_any (λ (entry : ℕ × Open). entry.1.client == number) known
+among_each number [] = refl
+among_each number (entry ∷ rest) = ap (λ (b : Bool). (entry.1.client == number) || b) (among_each number rest)
+
+among_clients : (opens : Opens) → among (clients_of opens) ≡ has_opens opens
+among_clients opens = fun_ext (λ number. among_each number opens.known)
+
 pub ran_exchange : (world : World) (request : InProgress) (now : ℕ) (arguments : ExchangeIdArguments) (old : Table) (wanted : Result ExchangeIdAnswer Status × Table)
-    → {fs : FileSystem} → HasState world (without_opens fs old) → sessions.exchange_id served (among []) request.context.cred.uid arguments old ≡ wanted
+    → {fs : FileSystem} {opens : Opens} {clients : List ℕ} → HasState world (shared fs old opens) → clients ≡ clients_of opens → sessions.exchange_id served (among clients) request.context.cred.uid arguments old ≡ wanted
     → run world request now (Argument.ExchangeId arguments) ≡ exchanged world request wanted
 unfolding run
-ran_exchange world request now arguments old wanted {fs} on is =
+ran_exchange world request now arguments old wanted {fs} {opens} {clients} on are is =
     let uid = request.context.cred.uid in
     ap (exchanged world request)
     (ap (λ (limits : SessionLimits). sessions.exchange_id limits (has_opens world.opens) uid arguments world.table) on.sessions
-    ∙ (ap (λ (opens : Opens). sessions.exchange_id served (has_opens opens) uid arguments world.table) on.opens
-    ∙ (ap (sessions.exchange_id served (among []) uid arguments) on.table_is ∙ is)))
+    ∙ (ap (λ (known : Opens). sessions.exchange_id served (has_opens known) uid arguments world.table) on.opens
+    ∙ (ap (λ (asks : ℕ → Bool). sessions.exchange_id served asks uid arguments world.table) (sym (ap among are ∙ among_clients opens))
+    ∙ (ap (sessions.exchange_id served (among clients) uid arguments) on.table_is ∙ is))))
 
 pub ran_create : (world : World) (request : InProgress) (now : ℕ) (arguments : CreateSessionArguments) (old : Table)
-    → {fs : FileSystem} → HasState world (without_opens fs old)
+    → {fs : FileSystem} {opens : Opens} → HasState world (shared fs old opens)
     → run world request now (Argument.CreateSession arguments) ≡ created world request (sessions.create_session served request.context.cred.uid arguments old)
 unfolding run
-ran_create world request now arguments old {fs} on =
+ran_create world request now arguments old {fs} {opens} on =
     let uid = request.context.cred.uid in
     ap (created world request)
     (ap (λ (limits : SessionLimits). sessions.create_session limits uid arguments world.table) on.sessions
     ∙ ap (sessions.create_session served uid arguments) on.table_is)
 
--- no opens end where there are none
-no_opens_end : (world : World) (ended : List ℕ) → world.opens ≡ no_opens → without_clients ended world.opens ≡ world.opens
-no_opens_end world ended none = ap (without_clients ended) none ∙ sym none
-
-pub created_ok : (world : World) (request : InProgress) (outcome : CreateSessionOutcome) (answer : CreateSessionAnswer) (new : Table)
-    → world.opens ≡ no_opens → outcome.answer ≡ Ok answer → outcome.table ≡ new
-    → created world request outcome ≡ Gives (Outcome.Done (Answer.CreateSession answer)) (with_table world new) request
-created_ok world request outcome answer new none is table =
+-- the opens of the clients that ended with it end
+pub created_ok : (world : World) (request : InProgress) (outcome : CreateSessionOutcome) (answer : CreateSessionAnswer) (new : Table) (before : Opens) (ended : List ℕ)
+    → world.opens ≡ before → outcome.answer ≡ Ok answer → outcome.ended_clients ≡ ended → outcome.table ≡ new
+    → created world request outcome ≡ Gives (Outcome.Done (Answer.CreateSession answer)) (record world { table = new; opens = without_clients ended before }) request
+created_ok world request outcome answer new before ended known is ends table =
     ap (created_by world request outcome) is
     ∙ (ap (λ (after : Table). gives (record world { table = after; opens = without_clients outcome.ended_clients world.opens }) request (Answer.CreateSession answer)) table
-    ∙ ap (λ (opens : Opens). gives (record world { table = new; opens = opens }) request (Answer.CreateSession answer)) (no_opens_end world outcome.ended_clients none))
+    ∙ ap₂ (λ (clients : List ℕ) (opens : Opens). gives (record world { table = new; opens = without_clients clients opens }) request (Answer.CreateSession answer)) ends known)
 
 -- a refused CREATE_SESSION leaves the table
 abbrev Leaves : Table → CreateSessionOutcome → Type 0
@@ -96,26 +110,36 @@ created_err world request arguments reason old new is left refused =
     ∙ ap (λ (table : Table). Gives (Outcome.Refused 43 reason) (with_table world table) request) (is ∙ (sym same ∙ left))
 
 pub ran_destroy_session : (world : World) (request : InProgress) (now : ℕ) (id : List ℕ) (old : Table) (wanted : Option Status × Table)
-    → {fs : FileSystem} → HasState world (without_opens fs old) → sessions.destroy_session id old ≡ wanted
+    → {fs : FileSystem} {opens : Opens} → HasState world (shared fs old opens) → sessions.destroy_session id old ≡ wanted
     → run world request now (Argument.DestroySession id) ≡ tabled world request 44 Answer.DestroySession wanted
 unfolding run
-ran_destroy_session world request now id old wanted {fs} on is =
+ran_destroy_session world request now id old wanted {fs} {opens} on is =
     ap (tabled world request 44 Answer.DestroySession) (ap (sessions.destroy_session id) on.table_is ∙ is)
 
 pub ran_destroy_client : (world : World) (request : InProgress) (now : ℕ) (client : ℕ) (old : Table) (wanted : Option Status × Table)
-    → {fs : FileSystem} → HasState world (without_opens fs old) → sessions.destroy_client_id (among []) client old ≡ wanted
+    → {fs : FileSystem} {opens : Opens} {clients : List ℕ} → HasState world (shared fs old opens) → clients ≡ clients_of opens → sessions.destroy_client_id (among clients) client old ≡ wanted
     → run world request now (Argument.DestroyClientId client) ≡ tabled world request 57 Answer.DestroyClientId wanted
 unfolding run
-ran_destroy_client world request now client old wanted {fs} on is =
+ran_destroy_client world request now client old wanted {fs} {opens} {clients} on are is =
     ap (tabled world request 57 Answer.DestroyClientId)
-    (ap (λ (opens : Opens). sessions.destroy_client_id (has_opens opens) client world.table) on.opens
-    ∙ (ap (sessions.destroy_client_id (among []) client) on.table_is ∙ is))
+    (ap (λ (known : Opens). sessions.destroy_client_id (has_opens known) client world.table) on.opens
+    ∙ (ap (λ (asks : ℕ → Bool). sessions.destroy_client_id asks client world.table) (sym (ap among are ∙ among_clients opens))
+    ∙ (ap (sessions.destroy_client_id (among clients) client) on.table_is ∙ is)))
 
--- with a file system that is as it was
-pub table_runs : (now : ℕ) (fs : FileSystem) (old new : Table) (request left : InProgress) (kind : Argument) (outcome : Outcome)
-    → ((world : World) (rest : List ℕ) → HasState world (without_opens fs old)
+-- with a file system and opens that are as they were
+pub table_runs : (now : ℕ) (fs : FileSystem) (opens : Opens) (old new : Table) (request left : InProgress) (kind : Argument) (outcome : Outcome)
+    → ((world : World) (rest : List ℕ) → HasState world (shared fs old opens)
     → run world (with_rest request rest) now kind ≡ Gives outcome (with_table world new) (with_rest left rest))
-    → RunsTo now (without_opens fs old) (without_opens fs new) request left kind outcome
-table_runs now fs old new request left kind outcome runs = λ world rest on.
+    → RunsTo now (shared fs old opens) (shared fs new opens) request left kind outcome
+table_runs now fs opens old new request left kind outcome runs = λ world rest on.
     runs world rest on
-    ∙ ap (λ (before : World). Gives outcome (with_table before new) (with_rest left rest)) (sym (state_same world (without_opens fs old) on))
+    ∙ ap (λ (before : World). Gives outcome (with_table before new) (with_rest left rest)) (sym (state_same world (shared fs old opens) on))
+
+-- and with opens that it changes too
+pub clients_run : (now : ℕ) (fs : FileSystem) (before after : Opens) (old new : Table) (request left : InProgress) (kind : Argument) (outcome : Outcome)
+    → ((world : World) (rest : List ℕ) → HasState world (shared fs old before)
+    → run world (with_rest request rest) now kind ≡ Gives outcome (record world { table = new; opens = after }) (with_rest left rest))
+    → RunsTo now (shared fs old before) (shared fs new after) request left kind outcome
+clients_run now fs before after old new request left kind outcome runs = λ world rest on.
+    runs world rest on
+    ∙ ap (λ (known : World). Gives outcome (record known { table = new; opens = after }) (with_rest left rest)) (sym (state_same world (shared fs old before) on))

@@ -3,7 +3,8 @@ use Rattle.std.specs.Prelude.{◌≡◌, ℕ, ◌+◌, ◌≤◌, ◌<◌, ◌^�
 use Rattle.std.specs.Int.{w32}
 use Rattle.fs.specs.FileSystem.{FileSystem}
 use Rattle.model.specs.Answer as model
-use Rattle.model.specs.Context.{at_node, saving, restored}
+use Rattle.model.specs.Context.{at_node, saving, restored, without_stateid}
+use Rattle.model.specs.Open.{at_opened}
 use Rattle.model.specs.Opens.{Opens}
 use Rattle.model.specs.Operation.{Argument, operation_of}
 use Rattle.model.specs.Session.{Table}
@@ -14,10 +15,11 @@ use Rattle.model.specs.World.{World, InProgress, HasRun, run, in_room, outcome_t
 use Rattle.session.specs.Views.{reply_kept}
 use Rattle.wire.specs.Numbers.{number_of}
 use Rattle.wire.specs.OutcomeView.{outcome_view}
+use Rattle.wire.specs.SmallViews.{state_view}
 use Rattle.xdr.specs.Forms.{counted}
 use Rattle.xdr.specs.Grammar.{number}
 use Rattle.compound.specs.Runs.{with_rest}
-use Rattle.compound.specs.States.{SharedState, HasState, with_state, shared, without_opens}
+use Rattle.compound.specs.States.{SharedState, HasState, with_state, shared}
 use Rattle.compound.specs.Views.{slot_of}
 use Rattle.compound.specs.declared.operated.Effect.{Effect}
 use Rattle.compound.specs.declared.operated.Effect.TheVariants as effect
@@ -29,6 +31,8 @@ left_by effect.Stays request = request
 left_by (effect.Moves number) request = record request { context = at_node request.context number }
 left_by effect.Saves request = record request { context = saving request.context }
 left_by effect.Restores request = record request { context = restored request.context }
+left_by (effect.Opens number state) request = record request { context = at_opened request.context number (state_view state) }
+left_by effect.Closes request = record request { context = without_stateid request.context }
 left_by (effect.Joins slot client) request = record request { context = record request.context { client = client }; slot = Some (slot_of slot) }
 
 -- the operation runs, and its result is there if the reply has room for it
@@ -73,20 +77,30 @@ abbrev pub OnlyReads : FileSystem → InProgress → Argument → Operated → T
 OnlyReads files request operation done = (now : ℕ) (table : Table) (opens : Opens)
     → Operates now (shared files table opens) (shared files table opens) request operation done
 
--- it leaves the file system, and nothing is open
+-- it does, where these are the opens
+abbrev pub ReadsBeside : FileSystem → Opens → InProgress → Argument → Operated → Type 0
+ReadsBeside files opens request operation done = (now : ℕ) (table : Table)
+    → Operates now (shared files table opens) (shared files table opens) request operation done
+
+-- it leaves the file system, and what is open
 abbrev pub ChangesTable : (old new : Table) → InProgress → Argument → Operated → Type 0
-ChangesTable old new request operation done = (now : ℕ) (files : FileSystem)
-    → Operates now (without_opens files old) (without_opens files new) request operation done
+ChangesTable old new request operation done = (now : ℕ) (files : FileSystem) (opens : Opens)
+    → Operates now (shared files old opens) (shared files new opens) request operation done
+
+-- it leaves the file system
+abbrev pub ChangesClients : (old new : Table) → (before after : Opens) → InProgress → Argument → Operated → Type 0
+ChangesClients old new before after request operation done = (now : ℕ) (files : FileSystem)
+    → Operates now (shared files old before) (shared files new after) request operation done
 
 -- it leaves the clients, the sessions and the opens
 abbrev pub ChangesFiles : (old new : FileSystem) → (now : ℕ) → InProgress → Argument → Operated → Type 0
 ChangesFiles old new now request operation done = (table : Table) (opens : Opens)
     → Operates now (shared old table opens) (shared new table opens) request operation done
 
--- it leaves the clients and the sessions, and nothing is open: a node that it takes away had no opens
-abbrev pub ChangesNodes : (old new : FileSystem) → (now : ℕ) → InProgress → Argument → Operated → Type 0
-ChangesNodes old new now request operation done = (table : Table)
-    → Operates now (without_opens old table) (without_opens new table) request operation done
+-- it leaves the clients and the sessions
+abbrev pub ChangesOpens : (old new : FileSystem) → (before after : Opens) → (now : ℕ) → InProgress → Argument → Operated → Type 0
+ChangesOpens old new before after now request operation done = (table : Table)
+    → Operates now (shared old table before) (shared new table after) request operation done
 
 -- the tree behind it
 abbrev pub tree_by : World → HasRun → Tree

@@ -3,12 +3,14 @@ use Rattle.std.specs.Prelude.{◌≡◌}
 use Rattle.fs.specs.FileSystem.{FileSystem}
 use Rattle.fs.specs.FileSystems.{fs_of}
 use Rattle.fs.specs.declared.fs.Fs.{Fs}
-use Rattle.model.specs.Opens.{Opens, no_opens}
+use Rattle.model.specs.Opens.{Opens}
 use Rattle.model.specs.Session.{Table}
 use Rattle.model.specs.World.{World}
 use Rattle.session.specs.Limits.{served}
 use Rattle.session.specs.Views.{table_of}
 use Rattle.session.specs.declared.table.Table as code
+use Rattle.opens.specs.Views.{opens_of}
+use Rattle.opens.specs.declared.opens.Opens as known
 
 pub record SharedState : Type 0 where
   pub files : FileSystem
@@ -18,13 +20,9 @@ pub record SharedState : Type 0 where
 abbrev pub shared : FileSystem → Table → Opens → SharedState
 shared files table opens = record { files = files; table = table; opens = opens }
 
--- while nothing is open
-abbrev pub without_opens : FileSystem → Table → SharedState
-without_opens files table = shared files table no_opens
-
--- what stands in memory: no operation that opens is served yet
-abbrev pub shared_of : {D : _} {g : _} → Fs D g → code.Table → SharedState
-shared_of fs table = without_opens (fs_of fs) (table_of table)
+-- what stands in memory
+abbrev pub shared_of : {D : _} {g : _} → Fs D g → code.Table → known.Opens → SharedState
+shared_of fs table opens = shared (fs_of fs) (table_of table) (opens_of opens)
 
 -- a world that has it
 pub record HasState (world : World) (state : SharedState) : Type 0 where

@@ -9,16 +9,18 @@ use Rattle.model.specs.declared.acl.Cred.{Cred}
 use Rattle.rpc.specs.Views.{compound_view}
 use Rattle.xdr.specs.Forms.{counted}
 use Rattle.wire.specs.ArgumentView.{argument_view}
+use Rattle.wire.specs.SmallViews.{state_view}
 use Rattle.compound.specs.declared.running.Running.{Running}
 use Rattle.compound.specs.declared.progress.Progress.{Progress}
+use Rattle.compound.specs.declared.progress.HandlePlace.{HandlePlace}
 use Rattle.compound.specs.declared.progress.SlotId.{SlotId}
 use Rattle.compound.specs.declared.next.Next.{Next}
 use Rattle.compound.specs.declared.next.Next.TheVariants as nexts
 use Rattle.model.specs.declared.status.Status.{Status}
 
--- a filehandle that no operation so far gives a stateid
-abbrev pub place_of : ℕ → Place
-place_of number = record { number = number; state = None }
+-- a filehandle, with the stateid that goes with it
+abbrev pub place_of : HandlePlace → Place
+place_of place = record { number = place.number; state = option_map state_view place.state }
 
 abbrev pub slot_of : SlotId → List ℕ × ℕ
 slot_of id = (id.session, id.slot)

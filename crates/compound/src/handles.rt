@@ -115,7 +115,7 @@ impl Running<'_> {
             × (has_current (in_progress_of self.now).context ≡ false)) }
     {
         match self.progress.current {
-            Some(number) => Ok(number),
+            Some(place) => Ok(place.number),
             None => Err(Status::NoFileHandle),
         }
     }
@@ -132,7 +132,7 @@ impl Running<'_> {
             × (has_saved (in_progress_of self.now).context ≡ false)) }
     {
         match self.progress.saved {
-            Some(number) => Ok(number),
+            Some(place) => Ok(place.number),
             None => Err(Status::NoFileHandle),
         }
     }

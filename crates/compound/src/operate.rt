@@ -5,6 +5,7 @@ use crate::operated::Operated;
 use crate::running::Running;
 use disk::Device;
 use fs::Fs;
+use opens::Opens;
 use session::Table;
 use wire::Argument;
 
@@ -13,6 +14,7 @@ impl Running<'_> {
     ghost use Rattle.fs.specs.FileSystems.{fs_of, Alters};
     ghost use Rattle.model.specs.Operation.{operation_of};
     ghost use Rattle.model.specs.Served.{is_served};
+    ghost use Rattle.opens.specs.Views.{opens_of};
     ghost use Rattle.session.specs.Views.{table_of};
     ghost use Rattle.wire.specs.ArgumentView.{argument_view};
     ghost use Rattle.compound.specs.Operates.{Operates, IsAnswered, IsKept, comes_first};
@@ -28,6 +30,7 @@ impl Running<'_> {
         &self,
         fs: &mut Fs<D>,
         table: &mut Table,
+        opens: &mut Opens,
         now: u64,
         argument: &Argument<'_>,
     ) -> Result<Operated, Fault>
@@ -36,12 +39,13 @@ impl Running<'_> {
         requires served { is_served (operation_of (argument_view argument.now)) ≡ true }
         requires first { comes_first (argument_view argument.now) ≡ true
             → (in_progress_of self.now).answered ≡ 0 }
-        ensures gives { D.keeps_word → IfOk result (Operates now (shared_of fs.old table.old)
-            (shared_of fs.new table.new) (in_progress_of self.now) (argument_view argument.now)) }
+        ensures gives { D.keeps_word → IfOk result (Operates now (shared_of fs.old table.old opens.old)
+            (shared_of fs.new table.new opens.new) (in_progress_of self.now) (argument_view argument.now)) }
         ensures answered { IfOk result (IsAnswered (in_progress_of self.now)) }
         ensures kept { IfOk result (IsKept (table_of table.new)) }
         ensures table { OnErr result (table_of table.new ≡ table_of table.old) }
-        ensures volume { Alters fs.old fs.new (OperationGives (shared_of fs.old table.old)
+        ensures opens { OnErr result (opens_of opens.new ≡ opens_of opens.old) }
+        ensures volume { Alters fs.old fs.new (OperationGives (shared_of fs.old table.old opens.old)
             (in_progress_of self.now) now (argument_view argument.now)) (ending result) }
     {
         match argument {
@@ -54,14 +58,14 @@ impl Running<'_> {
             Argument::PutFh(handle) => Ok(self.put_handle(fs, handle)),
             Argument::PutRootFh => Ok(self.put_root()),
             Argument::ReadDir(arguments) => self.list(fs, arguments),
-            Argument::Remove(name) => self.remove(fs, now, name),
-            Argument::Rename(arguments) => self.rename(fs, now, arguments),
+            Argument::Remove(name) => self.remove(fs, opens, now, name),
+            Argument::Rename(arguments) => self.rename(fs, opens, now, arguments),
             Argument::RestoreFh => Ok(self.restore_handle()),
             Argument::SaveFh => Ok(self.save_handle(fs)),
-            Argument::ExchangeId(arguments) => self.exchange_id(table, arguments),
-            Argument::CreateSession(arguments) => self.create_session(table, arguments),
+            Argument::ExchangeId(arguments) => self.exchange_id(table, opens, arguments),
+            Argument::CreateSession(arguments) => self.create_session(table, opens, arguments),
             Argument::DestroySession(id) => Ok(self.destroy_session(table, id)),
-            Argument::DestroyClientId(client) => Ok(self.destroy_clientid(table, *client)),
+            Argument::DestroyClientId(client) => self.destroy_clientid(table, opens, *client),
             Argument::Sequence(arguments) => Ok(self.sequence(table, arguments)),
             Argument::ReclaimComplete(one_fs) => Ok(self.reclaim(fs, table, *one_fs)),
             _ => unreachable!(),

@@ -1,7 +1,7 @@
 //! What an operation does.
 
 use crate::progress::SlotId;
-use wire::{Operation, Outcome};
+use wire::{Operation, Outcome, StateId};
 
 /// What an operation leaves of its COMPOUND, beside the result.
 #[derive(Clone, Copy, Debug, PartialEq, Eq)]
@@ -10,10 +10,14 @@ pub enum Effect {
     Stays,
     /// The node of this number is the current one.
     Moves(u64),
-    /// The current node is the saved one too.
+    /// The current node is the saved one too, with its stateid.
     Saves,
-    /// The saved node is the current one too.
+    /// The saved node is the current one too, with its stateid.
     Restores,
+    /// The file of this number is the current one, with this stateid.
+    Opens { number: u64, state: StateId },
+    /// The current node keeps no stateid.
+    Closes,
     /// The slot runs the COMPOUND, of the session of this client.
     Joins { slot: SlotId, client: u64 },
 }

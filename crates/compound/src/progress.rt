@@ -2,6 +2,7 @@
 
 ghost use Rattle.std.specs.Prelude.{◌≡◌, ◌≤◌, []};
 
+use wire::StateId;
 use xdr::Writer;
 
 /// The bytes for which each COMPOUND has memory from its begin on: those of its longest result, which a slot keeps.
@@ -15,6 +16,14 @@ pub const RECORD_BUFFER: usize = RESULT_BUFFER + 28;
 pub struct SlotId {
     pub session: [u8; 16],
     pub slot: u32,
+}
+
+/// A filehandle, and the stateid that goes with it (RFC 8881, section 16.2.3.1.2).
+#[derive(Clone, Copy, Debug)]
+pub(crate) struct HandlePlace {
+    /// The number of the node that the filehandle names.
+    pub(crate) number: u64,
+    pub(crate) state: Option<StateId>,
 }
 
 /// How far a COMPOUND has come: what is kept of it from turn to turn, beside its record.
@@ -33,9 +42,9 @@ pub struct Progress {
     pub(crate) client: u64,
     /// The restart count of the server.
     pub(crate) run: u32,
-    /// The numbers of the nodes that the current and the saved filehandle name.
-    pub(crate) current: Option<u64>,
-    pub(crate) saved: Option<u64>,
+    /// The current and the saved filehandle.
+    pub(crate) current: Option<HandlePlace>,
+    pub(crate) saved: Option<HandlePlace>,
     /// The slot that runs it.
     pub(crate) slot: Option<SlotId>,
     ghost first: { answered ≡ 0 → results.bytes ≡ [] },

@@ -13,37 +13,41 @@ use crate::operated::{Effect, Operated};
 use crate::running::Running;
 use disk::Device;
 use fs::Fs;
+use opens::Opens;
 use wire::{Answer, ChangeInfo, Operation, Outcome};
 
 impl Running<'_> {
-    ghost use Rattle.std.specs.Prelude.{◌≡◌, false, nat_le, length, IfOk};
+    ghost use Rattle.std.specs.Prelude.{◌≡◌, false, nat_le, length, IfOk, OnErr};
     ghost use Rattle.fs.specs.FileSystems.{fs_of, Alters};
     ghost use Rattle.model.specs.Answer.{Done};
-    ghost use Rattle.model.specs.Opens.{Opens};
     ghost use Rattle.model.specs.Operation as operations;
     ghost use Rattle.model.specs.Session.{Table};
     ghost use Rattle.model.specs.World.{reply_with};
-    ghost use Rattle.compound.specs.Operates.{ChangesNodes, IsAnswered, IsKept};
+    ghost use Rattle.compound.specs.Operates.{ChangesOpens, IsAnswered, IsKept};
+    ghost use Rattle.opens.specs.Views.{opens_of};
     ghost use Rattle.compound.specs.States.{shared};
     ghost use Rattle.compound.specs.Trees.{removed_answer};
     ghost use Rattle.compound.specs.Views.{in_progress_of};
     ghost use Rattle.compound.specs.Volumes.{OperationGives, ending};
 
-    /// REMOVE: the name is gone, and the node that it led to. Nothing is removed where the reply has no room for the result.
+    /// REMOVE: the name is gone, and the node that it led to with its opens. Nothing is removed where the reply has no room for the result.
     pub(crate) fn remove<D: Device>(
         &self,
         fs: &mut Fs<D>,
+        opens: &mut Opens,
         now: u64,
         name: &[u8],
     ) -> Result<Operated, Fault>
         requires up { (fs_of fs.old).volume.is_down ≡ false }
         requires run { (in_progress_of self.now).context.run ≡ (fs_of fs.old).volume.run }
-        ensures gives { D.keeps_word → IfOk result (ChangesNodes (fs_of fs.old) (fs_of fs.new)
-            now (in_progress_of self.now) (operations.Argument.Remove name.now)) }
+        ensures gives { D.keeps_word → IfOk result (ChangesOpens (fs_of fs.old) (fs_of fs.new)
+            (opens_of opens.old) (opens_of opens.new) now (in_progress_of self.now)
+            (operations.Argument.Remove name.now)) }
         ensures answered { IfOk result (IsAnswered (in_progress_of self.now)) }
         ensures kept { (table : Table) → IfOk result (IsKept table) }
-        ensures volume { (table : Table) (opens : Opens) → Alters fs.old fs.new
-            (OperationGives (shared (fs_of fs.old) table opens) (in_progress_of self.now) now
+        ensures opens { OnErr result (opens_of opens.new ≡ opens_of opens.old) }
+        ensures volume { (table : Table) → Alters fs.old fs.new (OperationGives
+            (shared (fs_of fs.old) table (opens_of opens.old)) (in_progress_of self.now) now
             (operations.Argument.Remove name.now)) (ending result) }
     {
         let directory = match self.current_node() {
@@ -52,10 +56,13 @@ impl Running<'_> {
         };
         let has_room = self.has_removed_room();
         match fs.remove(&self.cred, now, directory, name, has_room) {
-            Ok(gone) => Ok(Operated::Gives {
-                outcome: removed(gone.before, gone.after),
-                effect: Effect::Stays,
-            }),
+            Ok(gone) => {
+                opens.remove_file(gone.number);
+                Ok(Operated::Gives {
+                    outcome: removed(gone.before, gone.after),
+                    effect: Effect::Stays,
+                })
+            }
             Err(fault) => self.tell_fault(Operation::Remove, fault),
         }
     }

@@ -5,6 +5,8 @@ ghost use Rattle.model.specs.Answer.{Done};
 ghost use Rattle.model.specs.World.{outcome_text};
 ghost use Rattle.model.specs.WireAnswers as answers;
 ghost use Rattle.wire.specs.OutcomeView.{outcome_view};
+ghost use Rattle.fs.specs.Renaming.{arguments_of, is_itself, opens_behind};
+ghost use Rattle.opens.specs.Views.{opens_of};
 ghost use Rattle.compound.specs.Trees.{renamed_answer};
 
 use crate::fault::Fault;
@@ -14,6 +16,7 @@ use crate::running::Running;
 use disk::Device;
 use fs::{Change, Fs, Renaming};
 use model::status::Status;
+use opens::Opens;
 use wire::{Answer, Operation, Outcome, RenameAnswer, RenameArguments};
 
 /// What a directory shows where its change value does not matter.
@@ -23,16 +26,16 @@ const NO_CHANGE: Change = Change {
 };
 
 impl Running<'_> {
-    ghost use Rattle.std.specs.Prelude.{◌≡◌, false, nat_le, length, IfOk, IfErr};
+    ghost use Rattle.std.specs.Prelude.{◌≡◌, false, nat_le, length, IfOk, IfErr, OnErr};
     ghost use Rattle.fs.specs.FileSystems.{fs_of, Alters};
     ghost use Rattle.model.specs.Answer.{Done};
-    ghost use Rattle.model.specs.Opens.{Opens};
     ghost use Rattle.model.specs.Operation as operations;
     ghost use Rattle.model.specs.Session.{Table};
     ghost use Rattle.model.specs.World.{reply_with};
     ghost use Rattle.wire.specs.ArgumentViews.{rename_view};
     ghost use Rattle.wire.specs.Short.{IsRefusal};
-    ghost use Rattle.compound.specs.Operates.{ChangesNodes, IsAnswered, IsKept};
+    ghost use Rattle.compound.specs.Operates.{ChangesOpens, IsAnswered, IsKept};
+    ghost use Rattle.opens.specs.Views.{opens_of};
     ghost use Rattle.compound.specs.States.{shared};
     ghost use Rattle.compound.specs.Trees.{AreBoth, RefusesRename, no_change, renamed_answer};
     ghost use Rattle.compound.specs.Views.{in_progress_of};
@@ -43,18 +46,20 @@ impl Running<'_> {
     pub(crate) fn rename<D: Device>(
         &self,
         fs: &mut Fs<D>,
+        opens: &mut Opens,
         now: u64,
         arguments: &RenameArguments<'_>,
     ) -> Result<Operated, Fault>
         requires up { (fs_of fs.old).volume.is_down ≡ false }
         requires run { (in_progress_of self.now).context.run ≡ (fs_of fs.old).volume.run }
-        ensures gives { D.keeps_word → IfOk result (ChangesNodes (fs_of fs.old) (fs_of fs.new)
-            now (in_progress_of self.now)
+        ensures gives { D.keeps_word → IfOk result (ChangesOpens (fs_of fs.old) (fs_of fs.new)
+            (opens_of opens.old) (opens_of opens.new) now (in_progress_of self.now)
             (operations.Argument.Rename (rename_view arguments.now))) }
         ensures answered { IfOk result (IsAnswered (in_progress_of self.now)) }
         ensures kept { (table : Table) → IfOk result (IsKept table) }
-        ensures volume { (table : Table) (opens : Opens) → Alters fs.old fs.new
-            (OperationGives (shared (fs_of fs.old) table opens) (in_progress_of self.now) now
+        ensures opens { OnErr result (opens_of opens.new ≡ opens_of opens.old) }
+        ensures volume { (table : Table) → Alters fs.old fs.new (OperationGives
+            (shared (fs_of fs.old) table (opens_of opens.old)) (in_progress_of self.now) now
             (operations.Argument.Rename (rename_view arguments.now))) (ending result) }
     {
         let (from, to) = match self.both_nodes(fs) {
@@ -69,10 +74,13 @@ impl Running<'_> {
             new_name: arguments.new_name,
         };
         match fs.rename(&self.cred, now, asked, has_room) {
-            Ok(made) => Ok(Operated::Gives {
-                outcome: renamed(made.source, made.target),
-                effect: Effect::Stays,
-            }),
+            Ok(made) => {
+                end_replaced(opens, asked, made.replaced);
+                Ok(Operated::Gives {
+                    outcome: renamed(made.source, made.target),
+                    effect: Effect::Stays,
+                })
+            }
             Err(fault) => self.tell_fault(Operation::Rename, fault),
         }
     }
@@ -100,6 +108,18 @@ impl Running<'_> {
     {
         self.has_room(&renamed(NO_CHANGE, NO_CHANGE))
     }
+}
+
+/// The node that stood under the new name is gone, and its opens with it. A name that is given to itself leaves them.
+fn end_replaced(opens: &mut Opens, asked: Renaming<'_>, replaced: Option<u64>)
+    ensures { opens_of opens.new
+        ≡ opens_behind (is_itself asked.entry.from asked.entry.to (arguments_of asked.entry)) replaced
+        (opens_of opens.old) }
+{
+    if asked.from == asked.to && asked.old_name == asked.new_name {
+        return;
+    }
+    opens.remove_file(replaced.unwrap_or(0));
 }
 
 /// The result of a RENAME: the change values before and after, of the directory that had the node and of the one that has it.

@@ -15,6 +15,7 @@ use wire::{Answer, Operation, Outcome, SequenceArguments};
 impl Running<'_> {
     ghost use Rattle.std.specs.Prelude.{◌≡◌, ◌<◌, ◌^◌, ℕ, true, false, nat_le, length, None};
     ghost use Rattle.fs.specs.FileSystems.{fs_of};
+    ghost use Rattle.model.specs.Opens.{Opens};
     ghost use Rattle.model.specs.Operation as operations;
     ghost use Rattle.model.specs.Answer.{Done, ReclaimComplete as Reclaimed};
     ghost use Rattle.model.specs.Session.{reclaim_complete};
@@ -23,7 +24,7 @@ impl Running<'_> {
     ghost use Rattle.session.specs.Views.{table_of};
     ghost use Rattle.wire.specs.ArgumentViews.{sequence_view};
     ghost use Rattle.compound.specs.Operates.{Operates, OnlyReads, ChangesTable, IsAnswered};
-    ghost use Rattle.compound.specs.States.{shared_of};
+    ghost use Rattle.compound.specs.States.{shared};
     ghost use Rattle.compound.specs.Views.{in_progress_of};
 
     /// SEQUENCE. Where a slot runs the COMPOUND, its client is the session's from then on.
@@ -51,9 +52,10 @@ impl Running<'_> {
     pub(crate) fn reclaim<D: Device>(&self, fs: &Fs<D>, table: &mut Table, one_fs: bool) -> Operated
         requires up { (fs_of fs.now).volume.is_down ≡ false }
         requires run { (in_progress_of self.now).context.run ≡ (fs_of fs.now).volume.run }
-        ensures gives { (now : ℕ)
-            → Operates now (shared_of fs.now table.old) (shared_of fs.now table.new)
-            (in_progress_of self.now) (operations.Argument.ReclaimComplete one_fs) result }
+        ensures gives { (now : ℕ) (opens : Opens)
+            → Operates now (shared (fs_of fs.now) (table_of table.old) opens)
+            (shared (fs_of fs.now) (table_of table.new) opens) (in_progress_of self.now)
+            (operations.Argument.ReclaimComplete one_fs) result }
         ensures answered { IsAnswered (in_progress_of self.now) result }
     {
         if one_fs {

@@ -8,12 +8,13 @@ ghost use Rattle.compound.specs.declared.operated.Operated.TheVariants as operat
 use crate::fault::Fault;
 use crate::next::Next;
 use crate::operated::{Effect, Operated};
-use crate::progress::Progress;
+use crate::progress::{HandlePlace, Progress};
 use crate::running::Running;
 use crate::told::Told;
 use disk::Device;
 use fs::Fs;
 use model::status::Status;
+use opens::Opens;
 use session::Table;
 use wire::Outcome;
 
@@ -37,6 +38,7 @@ pub struct Undone {
 impl Running<'_> {
     ghost use Rattle.std.specs.Prelude.{◌≡◌, ◌≤◌, true, false, length, drop, IfOk, IfErr, OnErr};
     ghost use Rattle.fs.specs.FileSystems.{fs_of, Alters};
+    ghost use Rattle.opens.specs.Views.{opens_of};
     ghost use Rattle.session.specs.Views.{table_of};
     ghost use Rattle.model.specs.Answer as model;
     ghost use Rattle.compound.specs.Operates.{IsAnswered, IsKept, left_by};
@@ -56,25 +58,27 @@ impl Running<'_> {
         self,
         fs: &mut Fs<D>,
         table: &mut Table,
+        opens: &mut Opens,
         now: u64,
     ) -> Result<Stepped, Undone>
         requires up { (fs_of fs.old).volume.is_down ≡ false }
         requires run { (in_progress_of self).context.run ≡ (fs_of fs.old).volume.run }
         // Done
-        ensures step { D.keeps_word → IfOk result (Steps now (shared_of fs.old table.old)
-            (shared_of fs.new table.new) (asked_of self.entry) (in_progress_of self.entry)) }
+        ensures step { D.keeps_word → IfOk result (Steps now (shared_of fs.old table.old opens.old)
+            (shared_of fs.new table.new opens.new) (asked_of self.entry) (in_progress_of self.entry)) }
         ensures stays { IfOk result (StaysInRun (fs_of fs.old).volume.run) }
         ensures further { IfOk result (GoesFurther (in_progress_of self.entry)) }
         ensures fits { IfOk result (λ done. still_fits (asked_of self.entry) done ≡ true) }
         // Not done
         ensures back { IfErr result (λ undone. undone.progress ≡ self.entry.progress) }
         ensures table { OnErr result (table_of table.new ≡ table_of table.old) }
+        ensures opens { OnErr result (opens_of opens.new ≡ opens_of opens.old) }
         // In any case
-        ensures volume { Alters fs.old fs.new (TurnGives (shared_of fs.old table.old)
+        ensures volume { Alters fs.old fs.new (TurnGives (shared_of fs.old table.old opens.old)
             (λ world number. stepped_on world number now (in_progress_of self.entry)))
             (undone_ending result) }
     {
-        let Ran { position, done } = match self.run_next(fs, table, now) {
+        let Ran { position, done } = match self.run_next(fs, table, opens, now) {
             Ok(ran) => ran,
             Err(fault) => return Err(Undone {
                 fault,
@@ -100,18 +104,25 @@ impl Running<'_> {
     }
 
     /// Reads the next operation, tests it and runs it. The COMPOUND itself is not changed yet.
-    fn run_next<D: Device>(&self, fs: &mut Fs<D>, table: &mut Table, now: u64) -> Result<Ran, Fault>
+    fn run_next<D: Device>(
+        &self,
+        fs: &mut Fs<D>,
+        table: &mut Table,
+        opens: &mut Opens,
+        now: u64,
+    ) -> Result<Ran, Fault>
         requires up { (fs_of fs.old).volume.is_down ≡ false }
         requires run { (in_progress_of self.now).context.run ≡ (fs_of fs.old).volume.run }
-        ensures turns { D.keeps_word → IfOk result (λ ran. Turns now (shared_of fs.old table.old)
-            (shared_of fs.new table.new) (in_progress_of self.now)
+        ensures turns { D.keeps_word → IfOk result (λ ran. Turns now (shared_of fs.old table.old opens.old)
+            (shared_of fs.new table.new opens.new) (in_progress_of self.now)
             (drop ran.position self.now.compound.operations.now) ran.done) }
         ensures within { IfOk result (λ ran.
             ran.position ≤ length self.now.compound.operations.now) }
         ensures answered { IfOk result (λ ran. IsAnswered (in_progress_of self.now) ran.done) }
         ensures kept { IfOk result (λ ran. IsKept (table_of table.new) ran.done) }
         ensures table { OnErr result (table_of table.new ≡ table_of table.old) }
-        ensures volume { Alters fs.old fs.new (TurnGives (shared_of fs.old table.old)
+        ensures opens { OnErr result (opens_of opens.new ≡ opens_of opens.old) }
+        ensures volume { Alters fs.old fs.new (TurnGives (shared_of fs.old table.old opens.old)
             (λ world number. stepped_on world number now (in_progress_of self.now)))
             (ending result) }
     {
@@ -121,7 +132,7 @@ impl Running<'_> {
                 done: refused(operation, status),
             }),
             Next::Reads { argument, position } => {
-                let done = self.operate(fs, table, now, &argument)?;
+                let done = self.operate(fs, table, opens, now, &argument)?;
                 Ok(Ran { position, done })
             }
         }
@@ -135,14 +146,39 @@ impl Running<'_> {
     {
         match effect {
             Effect::Stays => {}
-            Effect::Moves(number) => self.progress.current = Some(number),
+            Effect::Moves(number) => self.progress.current = Some(HandlePlace {
+                number,
+                state: None,
+            }),
             Effect::Saves => self.progress.saved = self.progress.current,
             Effect::Restores => self.progress.current = self.progress.saved,
+            Effect::Opens { number, state } => self.progress.current = Some(HandlePlace {
+                number,
+                state: Some(state),
+            }),
+            Effect::Closes => self.drop_stateid(),
             Effect::Joins { slot, client } => {
                 self.progress.slot = Some(slot);
                 self.progress.client = client;
             }
         }
+    }
+
+    /// The current node keeps no stateid. Where there is none it is the node 0, which no node has.
+    #[tactic(auto, unfolding(crate::specs::Views::in_progress_of))]
+    fn drop_stateid(&mut self)
+        ensures asked { asked_of self.new ≡ asked_of self.old }
+        ensures request { in_progress_of self.new
+            ≡ left_by effect.Closes (in_progress_of self.old) }
+    {
+        let number = match self.progress.current {
+            Some(place) => place.number,
+            None => 0,
+        };
+        self.progress.current = Some(HandlePlace {
+            number,
+            state: None,
+        });
     }
 
     /// The COMPOUND behind this result: it goes on, or the reply is there, since this result is the last one or not OK.

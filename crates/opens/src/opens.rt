@@ -21,11 +21,11 @@ pub struct Opens {
 
 #[tactic(auto, unfolding(crate::specs::Views::opens_of, crate::specs::Views::HasRoom, model::specs::StateIds::found, model::specs::StateIds::opened))]
 impl Opens {
-    ghost use Rattle.std.specs.Prelude.{◌≡◌, None, OnOk, IfSome, IfNone};
+    ghost use Rattle.std.specs.Prelude.{◌≡◌, None, map, IfOk, OnOk, IfSome, IfNone};
     ghost use Rattle.model.specs.Context.{Context};
     ghost use Rattle.model.specs.Keyed.{at};
     ghost use Rattle.model.specs.Opens.{no_opens};
-    ghost use Rattle.model.specs.StateIds.{found, has_opens, is_table_full, open_like, open_named, opened, without_clients, without_number, without_open};
+    ghost use Rattle.model.specs.StateIds.{found, is_table_full, open_like, open_named, opened, without_clients, without_number, without_open};
     ghost use Rattle.wire.specs.SmallViews.{state_view};
     ghost use Rattle.opens.specs.Views.{found_of, named_by, open_of, opens_of, CanOpen, HasRoom, IsAt, IsLike, IsNamed, StandsAt};
 
@@ -162,10 +162,14 @@ impl Opens {
             .retain(|entry| !clients.contains(&entry.state.client));
     }
 
-    /// Whether the client has an open.
-    pub fn has_client(&self, client: u64) -> bool
-        ensures { result ≡ has_opens (opens_of self.now) client }
+    /// The client of each open.
+    pub fn clients(&self, alloc: Global) -> Result<Vec<u64>, AllocError>
+        ensures { IfOk result (λ clients.
+            clients.items ≡ map (λ entry. entry.1.client) (opens_of self.now).known) }
     {
-        self.list.iter().any(|entry| entry.state.client == client)
+        self.list
+            .iter()
+            .map(|entry| entry.state.client)
+            .collect(alloc)
     }
 }

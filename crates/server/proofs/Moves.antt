@@ -1,14 +1,15 @@
 -- What the calls of a server do to what a stop may leave.
-use Rattle.std.proofs.Common.{◌≡◌, ◌≤◌, ℕ, List, [], ◌∷◌, length, Bool, false, None, refl, sym, ap, ◌∙◌, subst, inl, ⊎_elim, arith}
+use Rattle.std.proofs.Common.{◌≡◌, ◌≤◌, ℕ, List, [], ◌∷◌, length, Bool, false, None, refl, sym, ap, ap₂, ◌∙◌, subst, inl, ⊎_elim, arith}
 use Rattle.std.specs.List.{IsAmong}
 use Rattle.disk.specs.Moments as moments
 use Rattle.disk.specs.Moments.{Image, Moment, Left, LeftWithin, LeftSince, AddsOnly, moment}
-use Rattle.compound.specs.States.{without_opens}
+use Rattle.compound.specs.States.{shared}
 use Rattle.compound.proofs.QuietLaws.{same_volume}
 use Rattle.fs.specs.FileSystem.{FileSystem}
 use Rattle.volume.specs.Held.{Held, IsSameVolume, StandsForOne, LeavesOne, IsRecent, Holds, MayAdd, AddsTrees}
 use Rattle.volume.specs.Stands.{StandsFor}
 use Rattle.model.specs.Runs.{Serving, Event, MayLeave, executed_of, effect_of}
+use Rattle.model.specs.Opens.{Opens, no_opens}
 use Rattle.model.specs.Tree.{Tree}
 use Rattle.model.specs.Keyed.{Keyed}
 use Rattle.model.specs.Session.{Table, empty_table}
@@ -78,19 +79,19 @@ does_quietly held old new down event said none up is says recent ready = (
 )
 
 -- the world of a server that was just mounted
-pub world_mounted : (fs : FileSystem) (table : Table) (connections : Keyed Connection) → table ≡ empty_table fs.volume.run → connections ≡ [] → fs.changes ≡ 0
-    → world_by (without_opens fs table) connections ≡ mounted_world (server_limits fs.volume.limits) fs.volume.run fs.volume.tree
-world_mounted fs table connections tables none changes =
-    ap (λ (t : Table). world_by (without_opens fs t) connections) tables
-    ∙ (ap (λ (k : Keyed Connection). world_by (without_opens fs (empty_table fs.volume.run)) k) none
-    ∙ ap (λ (n : ℕ). record (world_by (without_opens fs (empty_table fs.volume.run)) []) { changes = n }) changes)
+pub world_mounted : (fs : FileSystem) (table : Table) (opens : Opens) (connections : Keyed Connection) → table ≡ empty_table fs.volume.run → opens ≡ no_opens → connections ≡ [] → fs.changes ≡ 0
+    → world_by (shared fs table opens) connections ≡ mounted_world (server_limits fs.volume.limits) fs.volume.run fs.volume.tree
+world_mounted fs table opens connections tables none_open none changes =
+    ap₂ (λ (t : Table) (o : Opens). world_by (shared fs t o) connections) tables none_open
+    ∙ (ap (λ (k : Keyed Connection). world_by (shared fs (empty_table fs.volume.run) no_opens) k) none
+    ∙ ap (λ (n : ℕ). record (world_by (shared fs (empty_table fs.volume.run) no_opens) []) { changes = n }) changes)
 
 -- a server that was just mounted
-pub mounted_by : (fs : FileSystem) (table : Table) (connections : Keyed Connection) → table ≡ empty_table fs.volume.run → connections ≡ [] → fs.changes ≡ 0 → fs.volume.is_down ≡ false → Holds fs.volume
-    → IsMounted fs.volume.run fs.volume.tree (record { serving = record { world = world_by (without_opens fs table) connections; recent = fs.volume.tree ∷ []; is_down = fs.volume.is_down }; volume = fs.volume })
-mounted_by fs table connections tables none changes up holds = record {
+pub mounted_by : (fs : FileSystem) (table : Table) (opens : Opens) (connections : Keyed Connection) → table ≡ empty_table fs.volume.run → opens ≡ no_opens → connections ≡ [] → fs.changes ≡ 0 → fs.volume.is_down ≡ false → Holds fs.volume
+    → IsMounted fs.volume.run fs.volume.tree (record { serving = record { world = world_by (shared fs table opens) connections; recent = fs.volume.tree ∷ []; is_down = fs.volume.is_down }; volume = fs.volume })
+mounted_by fs table opens connections tables none_open none changes up holds = record {
   serves =
-      ap (λ (w : World). record { world = w; recent = fs.volume.tree ∷ []; is_down = fs.volume.is_down }) (world_mounted fs table connections tables none changes)
+      ap (λ (w : World). record { world = w; recent = fs.volume.tree ∷ []; is_down = fs.volume.is_down }) (world_mounted fs table opens connections tables none_open none changes)
       ∙ ap (λ (b : Bool). record { world = mounted_world (server_limits fs.volume.limits) fs.volume.run fs.volume.tree; recent = fs.volume.tree ∷ []; is_down = b }) up;
   counted = refl;
   begins = refl;

@@ -72,10 +72,10 @@ replied old number reply = record {
 }
 
 -- what the turn of a whole record is, in each world of this run
-abbrev pub Opens : (run : ℕ) → (request : List ℕ) → Opened → Type 0
-Opens run request (opened.Answers reply) =
+abbrev pub OpensTo : (run : ℕ) → (request : List ℕ) → Opened → Type 0
+OpensTo run request (opened.Answers reply) =
     (world : World) (number now : ℕ) → called world number now (read_call request) ≡ replied world number reply.items
-Opens run request (opened.Begins running) =
+OpensTo run request (opened.Begins running) =
     (asked_in request ≡ Some (asked_of running))
     × ((in_progress_of running).context.run ≡ run)
     × ((world : World) (number now : ℕ) → world.run ≡ run

@@ -34,7 +34,7 @@ world_by state connections = record {
 }
 
 unfoldable pub world_of : {D : Type 0} {g : Ghosts D} → Server D g → World
-world_of server = world_by (shared_of server.fs server.table) (connections_of server.connections)
+world_of server = world_by (shared_of server.fs server.table server.opens) (connections_of server.connections)
 
 -- the file system that it serves
 unfoldable pub files_of : {D : Type 0} {g : Ghosts D} → Server D g → FileSystem

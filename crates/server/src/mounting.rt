@@ -3,6 +3,7 @@
 use crate::server::{MOST_CONNECTIONS, Server};
 use disk::Device;
 use fs::{FormatFault, Fs, MountFault, Unmounted};
+use opens::Opens;
 use session::Table;
 use slab::Slab;
 use std::alloc::Global;
@@ -66,10 +67,12 @@ impl<D: Device> Server<D> {
         };
         let fs = Fs::mount(alloc, device)?;
         let table = Table::new(alloc, fs.restart_count());
+        let opens = Opens::new(alloc);
         Ok(Server {
             alloc,
             fs,
             table,
+            opens,
             connections,
         })
     }

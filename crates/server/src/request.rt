@@ -7,18 +7,20 @@ ghost use Rattle.model.specs.Rpc as rpc;
 ghost use Rattle.model.specs.Rpc.{is_call_read, reply_text};
 ghost use Rattle.model.specs.World.{Busy, called};
 ghost use Rattle.rpc.specs.Views.{reply_view, tail_of};
+ghost use Rattle.opens.specs.Views.{opens_of};
 ghost use Rattle.session.specs.Views.{table_of};
 ghost use Rattle.compound.specs.States.{shared_of};
 ghost use Rattle.compound.specs.Steps.{StaysInRun, turn_by};
 ghost use Rattle.compound.specs.Volumes.{TurnGives, ending};
 ghost use Rattle.compound.specs.declared.fault.Fault.TheVariants.{Memory};
 ghost use Rattle.compound.specs.Views.{in_progress_of, asked_of};
-ghost use Rattle.server.specs.Connections.{Opens, Leads};
+ghost use Rattle.server.specs.Connections.{OpensTo, Leads};
 ghost use Rattle.server.specs.Stages.{asked_in, begun, left_by, can_go_on, can_follow};
 
 use compound::{Fault, Progress, Running, Stepped};
 use disk::Device;
 use fs::Fs;
+use opens::Opens;
 use rpc::{CallRead, Reply, Request, read_call, write_reply};
 use session::Table;
 use std::alloc::Global;
@@ -42,23 +44,25 @@ pub fn first_turn<D: Device>(
     request: &[u8],
     fs: &mut Fs<D>,
     table: &mut Table,
+    opens: &mut Opens,
     now: u64,
 ) -> Result<Stepped, Fault>
     requires up { (fs_of fs.old).volume.is_down ≡ false }
     requires call { is_call_read (rpc.read_call request.now) ≡ true }
     ensures turn { D.keeps_word → IfOk result (λ done. Leads (λ world number.
         called world number now (rpc.read_call request.now))
-        (shared_of fs.old table.old) (shared_of fs.new table.new)
+        (shared_of fs.old table.old opens.old) (shared_of fs.new table.new opens.new)
         (left_by (asked_in request.now) done) (turn_by done)) }
     ensures stays { IfOk result (StaysInRun (fs_of fs.old).volume.run) }
     ensures follows { IfOk result (λ done. can_follow (asked_in request.now) done ≡ true) }
     ensures table { OnErr result (table_of table.new ≡ table_of table.old) }
-    ensures volume { Alters fs.old fs.new (TurnGives (shared_of fs.old table.old)
+    ensures opens { OnErr result (opens_of opens.new ≡ opens_of opens.old) }
+    ensures volume { Alters fs.old fs.new (TurnGives (shared_of fs.old table.old opens.old)
         (λ world number. called world number now (rpc.read_call request.now))) (ending result) }
 {
     match open(alloc, fs.restart_count(), request)? {
         Opened::Answers(reply) => Ok(Stepped::Answered(reply)),
-        Opened::Begins(running) => match running.step(fs, table, now) {
+        Opened::Begins(running) => match running.step(fs, table, opens, now) {
             Ok(done) => Ok(done),
             Err(undone) => Err(undone.fault),
         },
@@ -68,7 +72,7 @@ pub fn first_turn<D: Device>(
 /// Reads the call of a whole record, and tests it. All memory for its reply is taken here.
 pub fn open(alloc: Global, run: u32, request: &[u8]) -> Result<Opened<'_>, Fault>
     requires { is_call_read (rpc.read_call request.now) ≡ true }
-    ensures ok { IfOk result (Opens run request.now) }
+    ensures ok { IfOk result (OpensTo run request.now) }
     ensures err { IfErr result (λ fault. fault ≡ Memory) }
 {
     let call = match read_call(request) {

@@ -12,6 +12,7 @@ use crate::fault::ServerFault;
 use crate::turn::Turn;
 use disk::Device;
 use fs::Fs;
+use opens::Opens;
 use session::Table;
 use slab::Slab;
 use std::alloc::Global;
@@ -25,6 +26,7 @@ pub struct Server<D: Device> {
     pub(crate) alloc: Global,
     pub(crate) fs: Fs<D>,
     pub(crate) table: Table,
+    pub(crate) opens: Opens,
     pub(crate) connections: Slab<Connection>,
     ghost few: { slab_len connections ≤ 16 },
     ghost of_run: { (n : ℕ) (connection : world.Connection)
@@ -154,7 +156,7 @@ impl<D: Device> Server<D> {
         if connection.is_closed() {
             return Err(ServerFault::Closed);
         }
-        Ok(connection.turn(&mut self.fs, &mut self.table, now)?)
+        Ok(connection.turn(&mut self.fs, &mut self.table, &mut self.opens, now)?)
     }
 
     /// Drops the connection, and all that it holds. A request that has begun is run to its end first, and its slot keeps the reply.

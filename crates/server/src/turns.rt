@@ -9,6 +9,7 @@ use crate::turn::Turn;
 use compound::{Fault, Progress, Stepped};
 use disk::Device;
 use fs::Fs;
+use opens::Opens;
 use session::Table;
 use std::mem;
 
@@ -17,6 +18,7 @@ impl Connection {
     ghost use Rattle.std.specs.Prelude.{◌≡◌, ℕ, List, Some, true, false, OnOk, IfOk, OnErr};
     ghost use Rattle.fs.specs.FileSystems.{fs_of, Alters};
     ghost use Rattle.model.specs.World.{turned};
+    ghost use Rattle.opens.specs.Views.{opens_of};
     ghost use Rattle.session.specs.Views.{table_of};
     ghost use Rattle.rpc.specs.Assembly.{Holds};
     ghost use Rattle.compound.specs.States.{shared_of};
@@ -30,30 +32,32 @@ impl Connection {
         &mut self,
         fs: &mut Fs<D>,
         table: &mut Table,
+        opens: &mut Opens,
         now: u64,
     ) -> Result<Turn, Fault>
         requires up { (fs_of fs.old).volume.is_down ≡ false }
         requires run { IsOfRun (fs_of fs.old).volume.run (connection_view self.old) }
-        ensures turn { D.keeps_word → IfOk result (Turns now (shared_of fs.old table.old)
-            (shared_of fs.new table.new) (connection_view self.old) (connection_view self.new)) }
+        ensures turn { D.keeps_word → IfOk result (Turns now (shared_of fs.old table.old opens.old)
+            (shared_of fs.new table.new opens.new) (connection_view self.old) (connection_view self.new)) }
         ensures further { OnOk result
             (HasGoneOn (Some (connection_view self.old)) (Some (connection_view self.new))) }
         ensures run { IsOfRun (fs_of fs.old).volume.run (connection_view self.new) }
         ensures back { OnErr result ((connection_view self.new ≡ connection_view self.old)
-            × (table_of table.new ≡ table_of table.old)) }
-        ensures volume { Alters fs.old fs.new (TurnGives (shared_of fs.old table.old)
+            × (table_of table.new ≡ table_of table.old)
+            × (opens_of opens.new ≡ opens_of opens.old)) }
+        ensures volume { Alters fs.old fs.new (TurnGives (shared_of fs.old table.old opens.old)
             (λ world number. turned world number now (Some (connection_view self.old))))
             (ending result) }
     {
         match mem::replace(&mut self.stage, Stage::Receiving) {
             Stage::Receiving => match self.assembler.record() {
-                Some(record) => match first_turn(self.alloc, record, fs, table, now) {
+                Some(record) => match first_turn(self.alloc, record, fs, table, opens, now) {
                     Ok(done) => Ok(self.settle(done)),
                     Err(fault) => Err(fault),
                 },
                 None => Ok(Turn::Idle),
             },
-            Stage::Running(progress) => self.next_turn(progress, fs, table, now),
+            Stage::Running(progress) => self.next_turn(progress, fs, table, opens, now),
             Stage::Replied(reply) => {
                 self.stage = Stage::Replied(reply);
                 Ok(Turn::Idle)
@@ -67,6 +71,7 @@ impl Connection {
         progress: Progress,
         fs: &mut Fs<D>,
         table: &mut Table,
+        opens: &mut Opens,
         now: u64,
     ) -> Result<Turn, Fault>
         requires held { can_go_on (asked_held self.old.assembler) progress ≡ true }
@@ -74,7 +79,7 @@ impl Connection {
         requires run { progress.run ≡ (fs_of fs.old).volume.run }
         ensures turn { D.keeps_word → IfOk result (λ done. Leads (λ world number.
             turned world number now (Some (begun (asked_held self.old.assembler) progress)))
-            (shared_of fs.old table.old) (shared_of fs.new table.new)
+            (shared_of fs.old table.old opens.old) (shared_of fs.new table.new opens.new)
             (connection_view self.new) (turn_view done)) }
         ensures further { OnOk result (HasGoneOn
             (Some (begun (asked_held self.old.assembler) progress))
@@ -82,15 +87,16 @@ impl Connection {
         ensures run { IsOfRun (fs_of fs.old).volume.run (connection_view self.new) }
         ensures back { OnErr result
             ((connection_view self.new ≡ begun (asked_held self.old.assembler) progress)
-            × (table_of table.new ≡ table_of table.old)) }
-        ensures volume { Alters fs.old fs.new (TurnGives (shared_of fs.old table.old)
+            × (table_of table.new ≡ table_of table.old)
+            × (opens_of opens.new ≡ opens_of opens.old)) }
+        ensures volume { Alters fs.old fs.new (TurnGives (shared_of fs.old table.old opens.old)
             (λ world number. turned world number now
             (Some (begun (asked_held self.old.assembler) progress)))) (ending result) }
     {
         let Some(record) = self.assembler.record() else {
             unreachable!();
         };
-        match resume(self.alloc, record, progress).step(fs, table, now) {
+        match resume(self.alloc, record, progress).step(fs, table, opens, now) {
             Ok(done) => Ok(self.settle(done)),
             Err(undone) => {
                 self.stage = Stage::Running(undone.progress);

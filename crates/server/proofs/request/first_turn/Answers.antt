@@ -23,19 +23,19 @@ returns-in_err-reply-clause-volume g c =
 pub returns-in-Answers-clause-volume : goal.returns-in-Answers-clause-volume
 returns-in-Answers-clause-volume g c =
     let opens = rw c.in-Answers.is at c.in_ok-reply.ensures.ok in
-    idle_changes g.D.Device.keeps_word (shared_of c.args.fs.now c.args.table.now) (fs_failures c.args.fs.now) (λ world number. called world number c.args.now (read_call c.args.request.now)) c.requires.up
+    idle_changes g.D.Device.keeps_word (shared_of c.args.fs.now c.args.table.now c.args.opens.now) (fs_failures c.args.fs.now) (λ world number. called world number c.args.now (read_call c.args.request.now)) c.requires.up
     (λ world number served. ap (λ (t : Turned). t.executed) (opens world number c.args.now))
 
 pub returns-in-Ok-clause-volume : goal.returns-in-Ok-clause-volume
 returns-in-Ok-clause-volume g c =
     let opens = rw c.in-Begins.is at c.in_ok-reply.ensures.ok in
-    same_changes g.D.Device.keeps_word (shared_of c.args.fs.now c.args.table.now) (fs_of c.args.fs.now) (fs_of c.step.new.fs) _ _
+    same_changes g.D.Device.keeps_word (shared_of c.args.fs.now c.args.table.now c.args.opens.now) (fs_of c.args.fs.now) (fs_of c.step.new.fs) _ _
     (λ world number. stepped_on world number c.args.now (in_progress_of c.in-Begins.running)) (λ world number. called world number c.args.now (read_call c.args.request.now))
     (λ world number served. opens.2 world number c.args.now (served.run ∙ sym c.restart_count.ensures)) Done c.in-Ok.ensures.volume
 
 pub returns-in-Err-clause-volume : goal.returns-in-Err-clause-volume
 returns-in-Err-clause-volume g c =
     let opens = rw c.in-Begins.is at c.in_ok-reply.ensures.ok in
-    same_changes g.D.Device.keeps_word (shared_of c.args.fs.now c.args.table.now) (fs_of c.args.fs.now) (fs_of c.step.new.fs) _ _
+    same_changes g.D.Device.keeps_word (shared_of c.args.fs.now c.args.table.now c.args.opens.now) (fs_of c.args.fs.now) (fs_of c.step.new.fs) _ _
     (λ world number. stepped_on world number c.args.now (in_progress_of c.in-Begins.running)) (λ world number. called world number c.args.now (read_call c.args.request.now))
     (λ world number served. opens.2 world number c.args.now (served.run ∙ sym c.restart_count.ensures)) (ending_of c.in-Err.undone.fault) c.in-Err.ensures.volume

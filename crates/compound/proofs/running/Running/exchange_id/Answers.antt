@@ -1,10 +1,12 @@
+use Rattle.std.proofs.Common.{◌∙◌}
 use Rattle.model.specs.Answer.{Answer, Done, Refused}
 use Rattle.model.specs.Operation.{Argument}
+use Rattle.opens.specs.Views.{opens_of}
 use Rattle.session.specs.Views.{table_of}
 use Rattle.wire.specs.AnswerViews as answers
 use Rattle.wire.specs.ArgumentViews.{exchange_id_view}
 use Rattle.compound.specs.Runs.{with_rest}
-use Rattle.compound.specs.States.{without_opens}
+use Rattle.compound.specs.States.{shared}
 use Rattle.compound.specs.Views.{in_progress_of}
 use Rattle.compound.proofs.Rooms.{gives_refusal}
 use Rattle.compound.proofs.Tables.{ran_exchange, table_runs}
@@ -13,18 +15,20 @@ use Rattle.compound.proofs.running.Running.exchange_id.Goals as goal
 pub returns-in-Ok-clause-gives : goal.returns-in-Ok-clause-gives
 unfolding in_progress_of
 returns-in-Ok-clause-gives c = λ now fs.
+    let opens = opens_of c.args.opens.now in
     let request = in_progress_of c.args.self.now in
     let kind = Argument.ExchangeId (exchange_id_view c.args.arguments.now) in
-    c.answer_first.ensures.gives now (without_opens fs (table_of c.args.table.now)) (without_opens fs (table_of c.exchange_id.new.self)) kind
-    (table_runs now fs (table_of c.args.table.now) (table_of c.exchange_id.new.self) request request kind (Done (Answer.ExchangeId (answers.exchange_id_view c.in-Ok.answer)))
-    (λ world rest on. ran_exchange world (with_rest request rest) now _ _ _ on c.in-Ok.ensures.answered))
+    c.answer_first.ensures.gives now (shared fs (table_of c.args.table.now) opens) (shared fs (table_of c.exchange_id.new.self) opens) kind
+    (table_runs now fs opens (table_of c.args.table.now) (table_of c.exchange_id.new.self) request request kind (Done (Answer.ExchangeId (answers.exchange_id_view c.in-Ok.answer)))
+    (λ world rest on. ran_exchange world (with_rest request rest) now _ _ _ on (c.deref.ensures.value ∙ c.in_ok-with_opens.ensures) c.in-Ok.ensures.answered))
 
 pub returns-in-Err-Status-clause-gives : goal.returns-in-Err-Status-clause-gives
 unfolding in_progress_of
 returns-in-Err-Status-clause-gives c = λ now fs.
+    let opens = opens_of c.args.opens.now in
     let request = in_progress_of c.args.self.now in
     let kind = Argument.ExchangeId (exchange_id_view c.args.arguments.now) in
-    c.refuse.ensures.gives now (without_opens fs (table_of c.args.table.now)) (without_opens fs (table_of c.exchange_id.new.self)) kind
-    (gives_refusal now (without_opens fs (table_of c.args.table.now)) (without_opens fs (table_of c.exchange_id.new.self)) request kind 42 c.in-Err-Status.status
-    (table_runs now fs (table_of c.args.table.now) (table_of c.exchange_id.new.self) request request kind (Refused 42 c.in-Err-Status.status)
-    (λ world rest on. ran_exchange world (with_rest request rest) now _ _ _ on (rw c.in-Err-Status.field-0-is at c.in-Err-Status.ensures.answered))))
+    c.refuse.ensures.gives now (shared fs (table_of c.args.table.now) opens) (shared fs (table_of c.exchange_id.new.self) opens) kind
+    (gives_refusal now (shared fs (table_of c.args.table.now) opens) (shared fs (table_of c.exchange_id.new.self) opens) request kind 42 c.in-Err-Status.status
+    (table_runs now fs opens (table_of c.args.table.now) (table_of c.exchange_id.new.self) request request kind (Refused 42 c.in-Err-Status.status)
+    (λ world rest on. ran_exchange world (with_rest request rest) now _ _ _ on (c.deref.ensures.value ∙ c.in_ok-with_opens.ensures) (rw c.in-Err-Status.field-0-is at c.in-Err-Status.ensures.answered))))

@@ -1,14 +1,15 @@
 use Rattle.std.proofs.Common.{ℕ, Result, Ok, Err, IfOk, refl, ap, ◌∙◌}
 use Rattle.fs.specs.FileSystems.{fs_of, fs_failures}
-use Rattle.model.specs.Opens.{no_opens}
+use Rattle.model.specs.Opens.{Opens}
 use Rattle.model.specs.Operation.{Argument}
 use Rattle.model.specs.Session.{Table}
 use Rattle.model.specs.World.{InProgress}
+use Rattle.opens.specs.Views.{opens_of}
 use Rattle.session.specs.Views.{table_of, reply_kept}
 use Rattle.wire.specs.ArgumentView.{argument_view}
 use Rattle.fs.specs.FileSystem.{FileSystem}
-use Rattle.compound.specs.Operates.{Operates, OnlyReads, ChangesTable, IsKept}
-use Rattle.compound.specs.States.{SharedState, without_opens, shared_of}
+use Rattle.compound.specs.Operates.{Operates, OnlyReads, ChangesClients, IsKept}
+use Rattle.compound.specs.States.{SharedState, shared, shared_of}
 use Rattle.compound.specs.declared.fault.Fault.{Fault}
 use Rattle.compound.specs.declared.operated.Operated.{Operated}
 use Rattle.compound.specs.declared.operated.Operated.TheVariants as operated
@@ -17,92 +18,92 @@ use Rattle.compound.proofs.VolumeLaws.{quiet_changes, quiet_result}
 use Rattle.compound.proofs.running.Running.operate.Goals as goal
 
 pub returns-in-Create-clause-volume : goal.returns-in-Create-clause-volume
-returns-in-Create-clause-volume g c = rw c.in-Create.is (c.create.ensures.volume (table_of c.args.table.now) no_opens)
+returns-in-Create-clause-volume g c = rw c.in-Create.is (c.create.ensures.volume (table_of c.args.table.now) (opens_of c.args.opens.now))
 
 pub returns-in-Remove-clause-volume : goal.returns-in-Remove-clause-volume
-returns-in-Remove-clause-volume g c = rw c.in-Remove.is (c.remove.ensures.volume (table_of c.args.table.now) no_opens)
+returns-in-Remove-clause-volume g c = rw c.in-Remove.is (c.remove.ensures.volume (table_of c.args.table.now))
 
 pub returns-in-Rename-clause-volume : goal.returns-in-Rename-clause-volume
-returns-in-Rename-clause-volume g c = rw c.in-Rename.is (c.rename.ensures.volume (table_of c.args.table.now) no_opens)
+returns-in-Rename-clause-volume g c = rw c.in-Rename.is (c.rename.ensures.volume (table_of c.args.table.now))
 
 pub returns-in-Access-clause-volume : goal.returns-in-Access-clause-volume
 returns-in-Access-clause-volume g c =
-    quiet_changes g.D.Device.keeps_word (shared_of c.args.fs.now c.args.table.now) (fs_failures c.args.fs.now) (in_progress_of c.args.self.now) c.args.now (argument_view c.args.argument.now)
+    quiet_changes g.D.Device.keeps_word (shared_of c.args.fs.now c.args.table.now c.args.opens.now) (fs_failures c.args.fs.now) (in_progress_of c.args.self.now) c.args.now (argument_view c.args.argument.now)
     c.requires.up (rw c.in-Access.is refl)
 
 pub returns-in-LookupParent-clause-volume : goal.returns-in-LookupParent-clause-volume
 returns-in-LookupParent-clause-volume g c =
-    quiet_changes g.D.Device.keeps_word (shared_of c.args.fs.now c.args.table.now) (fs_failures c.args.fs.now) (in_progress_of c.args.self.now) c.args.now (argument_view c.args.argument.now)
+    quiet_changes g.D.Device.keeps_word (shared_of c.args.fs.now c.args.table.now c.args.opens.now) (fs_failures c.args.fs.now) (in_progress_of c.args.self.now) c.args.now (argument_view c.args.argument.now)
     c.requires.up (rw c.in-LookupParent.is refl)
 
 pub returns-in-GetFh-clause-volume : goal.returns-in-GetFh-clause-volume
 returns-in-GetFh-clause-volume g c =
-    quiet_result g.D.Device.keeps_word (shared_of c.args.fs.now c.args.table.now) (fs_failures c.args.fs.now) (in_progress_of c.args.self.now) c.args.now (argument_view c.args.argument.now) c.get_handle.result
+    quiet_result g.D.Device.keeps_word (shared_of c.args.fs.now c.args.table.now c.args.opens.now) (fs_failures c.args.fs.now) (in_progress_of c.args.self.now) c.args.now (argument_view c.args.argument.now) c.get_handle.result
     c.requires.up (rw c.in-GetFh.is refl) (λ reason is. rw is at c.get_handle.ensures.err)
 
 pub returns-in-GetAttr-clause-volume : goal.returns-in-GetAttr-clause-volume
 returns-in-GetAttr-clause-volume g c =
-    quiet_result g.D.Device.keeps_word (shared_of c.args.fs.now c.args.table.now) (fs_failures c.args.fs.now) (in_progress_of c.args.self.now) c.args.now (argument_view c.args.argument.now) c.get_attributes.result
+    quiet_result g.D.Device.keeps_word (shared_of c.args.fs.now c.args.table.now c.args.opens.now) (fs_failures c.args.fs.now) (in_progress_of c.args.self.now) c.args.now (argument_view c.args.argument.now) c.get_attributes.result
     c.requires.up (rw c.in-GetAttr.is refl) (λ reason is. rw is at c.get_attributes.ensures.err)
 
 pub returns-in-ReadDir-clause-volume : goal.returns-in-ReadDir-clause-volume
 returns-in-ReadDir-clause-volume g c =
-    quiet_result g.D.Device.keeps_word (shared_of c.args.fs.now c.args.table.now) (fs_failures c.args.fs.now) (in_progress_of c.args.self.now) c.args.now (argument_view c.args.argument.now) c.list.result
+    quiet_result g.D.Device.keeps_word (shared_of c.args.fs.now c.args.table.now c.args.opens.now) (fs_failures c.args.fs.now) (in_progress_of c.args.self.now) c.args.now (argument_view c.args.argument.now) c.list.result
     c.requires.up (rw c.in-ReadDir.is refl) (λ reason is. rw is at c.list.ensures.err)
 
 pub returns-in-Lookup-clause-volume : goal.returns-in-Lookup-clause-volume
 returns-in-Lookup-clause-volume g c =
-    quiet_changes g.D.Device.keeps_word (shared_of c.args.fs.now c.args.table.now) (fs_failures c.args.fs.now) (in_progress_of c.args.self.now) c.args.now (argument_view c.args.argument.now)
+    quiet_changes g.D.Device.keeps_word (shared_of c.args.fs.now c.args.table.now c.args.opens.now) (fs_failures c.args.fs.now) (in_progress_of c.args.self.now) c.args.now (argument_view c.args.argument.now)
     c.requires.up (rw c.in-Lookup.is refl)
 
 pub returns-in-PutFh-clause-volume : goal.returns-in-PutFh-clause-volume
 returns-in-PutFh-clause-volume g c =
-    quiet_changes g.D.Device.keeps_word (shared_of c.args.fs.now c.args.table.now) (fs_failures c.args.fs.now) (in_progress_of c.args.self.now) c.args.now (argument_view c.args.argument.now)
+    quiet_changes g.D.Device.keeps_word (shared_of c.args.fs.now c.args.table.now c.args.opens.now) (fs_failures c.args.fs.now) (in_progress_of c.args.self.now) c.args.now (argument_view c.args.argument.now)
     c.requires.up (rw c.in-PutFh.is refl)
 
 pub returns-in-PutRootFh-clause-volume : goal.returns-in-PutRootFh-clause-volume
 returns-in-PutRootFh-clause-volume g c =
-    quiet_changes g.D.Device.keeps_word (shared_of c.args.fs.now c.args.table.now) (fs_failures c.args.fs.now) (in_progress_of c.args.self.now) c.args.now (argument_view c.args.argument.now)
+    quiet_changes g.D.Device.keeps_word (shared_of c.args.fs.now c.args.table.now c.args.opens.now) (fs_failures c.args.fs.now) (in_progress_of c.args.self.now) c.args.now (argument_view c.args.argument.now)
     c.requires.up (rw c.in-PutRootFh.is refl)
 
 pub returns-in-RestoreFh-clause-volume : goal.returns-in-RestoreFh-clause-volume
 returns-in-RestoreFh-clause-volume g c =
-    quiet_changes g.D.Device.keeps_word (shared_of c.args.fs.now c.args.table.now) (fs_failures c.args.fs.now) (in_progress_of c.args.self.now) c.args.now (argument_view c.args.argument.now)
+    quiet_changes g.D.Device.keeps_word (shared_of c.args.fs.now c.args.table.now c.args.opens.now) (fs_failures c.args.fs.now) (in_progress_of c.args.self.now) c.args.now (argument_view c.args.argument.now)
     c.requires.up (rw c.in-RestoreFh.is refl)
 
 pub returns-in-SaveFh-clause-volume : goal.returns-in-SaveFh-clause-volume
 returns-in-SaveFh-clause-volume g c =
-    quiet_changes g.D.Device.keeps_word (shared_of c.args.fs.now c.args.table.now) (fs_failures c.args.fs.now) (in_progress_of c.args.self.now) c.args.now (argument_view c.args.argument.now)
+    quiet_changes g.D.Device.keeps_word (shared_of c.args.fs.now c.args.table.now c.args.opens.now) (fs_failures c.args.fs.now) (in_progress_of c.args.self.now) c.args.now (argument_view c.args.argument.now)
     c.requires.up (rw c.in-SaveFh.is refl)
 
 pub returns-in-DestroySession-clause-volume : goal.returns-in-DestroySession-clause-volume
 returns-in-DestroySession-clause-volume g c =
-    quiet_changes g.D.Device.keeps_word (shared_of c.args.fs.now c.args.table.now) (fs_failures c.args.fs.now) (in_progress_of c.args.self.now) c.args.now (argument_view c.args.argument.now)
+    quiet_changes g.D.Device.keeps_word (shared_of c.args.fs.now c.args.table.now c.args.opens.now) (fs_failures c.args.fs.now) (in_progress_of c.args.self.now) c.args.now (argument_view c.args.argument.now)
     c.requires.up (rw c.in-DestroySession.is refl)
 
 pub returns-in-DestroyClientId-clause-volume : goal.returns-in-DestroyClientId-clause-volume
 returns-in-DestroyClientId-clause-volume g c =
-    quiet_changes g.D.Device.keeps_word (shared_of c.args.fs.now c.args.table.now) (fs_failures c.args.fs.now) (in_progress_of c.args.self.now) c.args.now (argument_view c.args.argument.now)
-    c.requires.up (rw c.in-DestroyClientId.is refl)
+    quiet_result g.D.Device.keeps_word (shared_of c.args.fs.now c.args.table.now c.args.opens.now) (fs_failures c.args.fs.now) (in_progress_of c.args.self.now) c.args.now (argument_view c.args.argument.now) c.destroy_clientid.result
+    c.requires.up (rw c.in-DestroyClientId.is refl) (λ reason is. (rw is at c.destroy_clientid.ensures.err).0)
 
 pub returns-in-Sequence-clause-volume : goal.returns-in-Sequence-clause-volume
 returns-in-Sequence-clause-volume g c =
-    quiet_changes g.D.Device.keeps_word (shared_of c.args.fs.now c.args.table.now) (fs_failures c.args.fs.now) (in_progress_of c.args.self.now) c.args.now (argument_view c.args.argument.now)
+    quiet_changes g.D.Device.keeps_word (shared_of c.args.fs.now c.args.table.now c.args.opens.now) (fs_failures c.args.fs.now) (in_progress_of c.args.self.now) c.args.now (argument_view c.args.argument.now)
     c.requires.up (rw c.in-Sequence.is refl)
 
 pub returns-in-ReclaimComplete-clause-volume : goal.returns-in-ReclaimComplete-clause-volume
 returns-in-ReclaimComplete-clause-volume g c =
-    quiet_changes g.D.Device.keeps_word (shared_of c.args.fs.now c.args.table.now) (fs_failures c.args.fs.now) (in_progress_of c.args.self.now) c.args.now (argument_view c.args.argument.now)
+    quiet_changes g.D.Device.keeps_word (shared_of c.args.fs.now c.args.table.now c.args.opens.now) (fs_failures c.args.fs.now) (in_progress_of c.args.self.now) c.args.now (argument_view c.args.argument.now)
     c.requires.up (rw c.in-ReclaimComplete.is refl)
 
 pub returns-in-ExchangeId-clause-volume : goal.returns-in-ExchangeId-clause-volume
 returns-in-ExchangeId-clause-volume g c =
-    quiet_result g.D.Device.keeps_word (shared_of c.args.fs.now c.args.table.now) (fs_failures c.args.fs.now) (in_progress_of c.args.self.now) c.args.now (argument_view c.args.argument.now) c.exchange_id.result
+    quiet_result g.D.Device.keeps_word (shared_of c.args.fs.now c.args.table.now c.args.opens.now) (fs_failures c.args.fs.now) (in_progress_of c.args.self.now) c.args.now (argument_view c.args.argument.now) c.exchange_id.result
     c.requires.up (rw c.in-ExchangeId.is refl) (λ reason is. (rw is at c.exchange_id.ensures.err).0)
 
 pub returns-in-CreateSession-clause-volume : goal.returns-in-CreateSession-clause-volume
 returns-in-CreateSession-clause-volume g c =
-    quiet_result g.D.Device.keeps_word (shared_of c.args.fs.now c.args.table.now) (fs_failures c.args.fs.now) (in_progress_of c.args.self.now) c.args.now (argument_view c.args.argument.now) c.create_session.result
+    quiet_result g.D.Device.keeps_word (shared_of c.args.fs.now c.args.table.now c.args.opens.now) (fs_failures c.args.fs.now) (in_progress_of c.args.self.now) c.args.now (argument_view c.args.argument.now) c.create_session.result
     c.requires.up (rw c.in-CreateSession.is refl) (λ reason is. (rw is at c.create_session.ensures.err).0)
 
 -- A reply that is sent again is there
@@ -114,67 +115,64 @@ kept_of now old new request operation (operated.Replays slot) runs = (runs.0, ap
 
 -- One that changes nothing, and is refused for memory alone
 
-told_if : (now : ℕ) (files : FileSystem) (table : Table) (request : InProgress) (operation : Argument) (result : Result Operated Fault)
-    → IfOk result (OnlyReads files request operation) → IfOk result (Operates now (without_opens files table) (without_opens files table) request operation)
-told_if now files table request operation (Ok done) reads = reads now table no_opens
-told_if now files table request operation (Err fault) reads = tt
+told_if : (now : ℕ) (files : FileSystem) (table : Table) (opens : Opens) (request : InProgress) (operation : Argument) (result : Result Operated Fault)
+    → IfOk result (OnlyReads files request operation) → IfOk result (Operates now (shared files table opens) (shared files table opens) request operation)
+told_if now files table opens request operation (Ok done) reads = reads now table opens
+told_if now files table opens request operation (Err fault) reads = tt
 
-told_kept : (now : ℕ) (files : FileSystem) (table : Table) (request : InProgress) (operation : Argument) (result : Result Operated Fault)
+told_kept : (now : ℕ) (files : FileSystem) (table : Table) (opens : Opens) (request : InProgress) (operation : Argument) (result : Result Operated Fault)
     → IfOk result (OnlyReads files request operation) → IfOk result (IsKept table)
-told_kept now files table request operation (Ok done) reads = kept_of now (without_opens files table) (without_opens files table) request operation done (reads now table no_opens)
-told_kept now files table request operation (Err fault) reads = tt
+told_kept now files table opens request operation (Ok done) reads = kept_of now (shared files table opens) (shared files table opens) request operation done (reads now table opens)
+told_kept now files table opens request operation (Err fault) reads = tt
 
 pub returns-in-Access-clause-gives : goal.returns-in-Access-clause-gives
-returns-in-Access-clause-gives g c = λ keeps. rw c.in-Access.is (c.access.ensures.gives c.args.now (table_of c.args.table.now) no_opens)
+returns-in-Access-clause-gives g c = λ keeps. rw c.in-Access.is (c.access.ensures.gives c.args.now (table_of c.args.table.now) (opens_of c.args.opens.now))
 
 pub returns-in-GetFh-clause-gives : goal.returns-in-GetFh-clause-gives
 returns-in-GetFh-clause-gives g c = λ keeps. rw c.in-GetFh.is
-    (told_if c.args.now (fs_of c.args.fs.now) (table_of c.args.table.now) (in_progress_of c.args.self.now) Argument.GetFh c.get_handle.result c.get_handle.ensures.gives)
+    (told_if c.args.now (fs_of c.args.fs.now) (table_of c.args.table.now) (opens_of c.args.opens.now) (in_progress_of c.args.self.now) Argument.GetFh c.get_handle.result c.get_handle.ensures.gives)
 
 pub returns-in-GetAttr-clause-gives : goal.returns-in-GetAttr-clause-gives
 returns-in-GetAttr-clause-gives g c = λ keeps. rw c.in-GetAttr.is
-    (told_if c.args.now (fs_of c.args.fs.now) (table_of c.args.table.now) (in_progress_of c.args.self.now) _ c.get_attributes.result c.get_attributes.ensures.gives)
+    (told_if c.args.now (fs_of c.args.fs.now) (table_of c.args.table.now) (opens_of c.args.opens.now) (in_progress_of c.args.self.now) _ c.get_attributes.result c.get_attributes.ensures.gives)
 
 pub returns-in-ReadDir-clause-gives : goal.returns-in-ReadDir-clause-gives
 returns-in-ReadDir-clause-gives g c = λ keeps. rw c.in-ReadDir.is
-    (told_if c.args.now (fs_of c.args.fs.now) (table_of c.args.table.now) (in_progress_of c.args.self.now) _ c.list.result c.list.ensures.gives)
+    (told_if c.args.now (fs_of c.args.fs.now) (table_of c.args.table.now) (opens_of c.args.opens.now) (in_progress_of c.args.self.now) _ c.list.result c.list.ensures.gives)
 
 pub returns-in-Lookup-clause-gives : goal.returns-in-Lookup-clause-gives
-returns-in-Lookup-clause-gives g c = λ keeps. rw c.in-Lookup.is (c.look_up.ensures.gives c.args.now (table_of c.args.table.now) no_opens)
+returns-in-Lookup-clause-gives g c = λ keeps. rw c.in-Lookup.is (c.look_up.ensures.gives c.args.now (table_of c.args.table.now) (opens_of c.args.opens.now))
 
 pub returns-in-LookupParent-clause-gives : goal.returns-in-LookupParent-clause-gives
-returns-in-LookupParent-clause-gives g c = λ keeps. rw c.in-LookupParent.is (c.look_up_parent.ensures.gives c.args.now (table_of c.args.table.now) no_opens)
+returns-in-LookupParent-clause-gives g c = λ keeps. rw c.in-LookupParent.is (c.look_up_parent.ensures.gives c.args.now (table_of c.args.table.now) (opens_of c.args.opens.now))
 
 pub returns-in-PutFh-clause-gives : goal.returns-in-PutFh-clause-gives
-returns-in-PutFh-clause-gives g c = λ keeps. rw c.in-PutFh.is (c.put_handle.ensures.gives c.args.now (table_of c.args.table.now) no_opens)
+returns-in-PutFh-clause-gives g c = λ keeps. rw c.in-PutFh.is (c.put_handle.ensures.gives c.args.now (table_of c.args.table.now) (opens_of c.args.opens.now))
 
 pub returns-in-PutRootFh-clause-gives : goal.returns-in-PutRootFh-clause-gives
-returns-in-PutRootFh-clause-gives g c = λ keeps. rw c.in-PutRootFh.is (c.put_root.ensures.gives (fs_of c.args.fs.now) c.args.now (table_of c.args.table.now) no_opens)
+returns-in-PutRootFh-clause-gives g c = λ keeps. rw c.in-PutRootFh.is (c.put_root.ensures.gives (fs_of c.args.fs.now) c.args.now (table_of c.args.table.now) (opens_of c.args.opens.now))
 
 pub returns-in-RestoreFh-clause-gives : goal.returns-in-RestoreFh-clause-gives
-returns-in-RestoreFh-clause-gives g c = λ keeps. rw c.in-RestoreFh.is (c.restore_handle.ensures.gives (fs_of c.args.fs.now) c.args.now (table_of c.args.table.now) no_opens)
+returns-in-RestoreFh-clause-gives g c = λ keeps. rw c.in-RestoreFh.is (c.restore_handle.ensures.gives (fs_of c.args.fs.now) c.args.now (table_of c.args.table.now) (opens_of c.args.opens.now))
 
 pub returns-in-SaveFh-clause-gives : goal.returns-in-SaveFh-clause-gives
-returns-in-SaveFh-clause-gives g c = λ keeps. rw c.in-SaveFh.is (c.save_handle.ensures.gives c.args.now (table_of c.args.table.now) no_opens)
+returns-in-SaveFh-clause-gives g c = λ keeps. rw c.in-SaveFh.is (c.save_handle.ensures.gives c.args.now (table_of c.args.table.now) (opens_of c.args.opens.now))
 
 pub returns-in-DestroySession-clause-gives : goal.returns-in-DestroySession-clause-gives
-returns-in-DestroySession-clause-gives g c = λ keeps. rw c.in-DestroySession.is (c.destroy_session.ensures.gives c.args.now (fs_of c.args.fs.now))
-
-pub returns-in-DestroyClientId-clause-gives : goal.returns-in-DestroyClientId-clause-gives
-returns-in-DestroyClientId-clause-gives g c = λ keeps. rw c.in-DestroyClientId.is (c.destroy_clientid.ensures.gives c.args.now (fs_of c.args.fs.now))
+returns-in-DestroySession-clause-gives g c = λ keeps. rw c.in-DestroySession.is (c.destroy_session.ensures.gives c.args.now (fs_of c.args.fs.now) (opens_of c.args.opens.now))
 
 pub returns-in-Sequence-clause-gives : goal.returns-in-Sequence-clause-gives
-returns-in-Sequence-clause-gives g c = λ keeps. rw c.in-Sequence.is (c.sequence.ensures.gives c.args.now (fs_of c.args.fs.now))
+returns-in-Sequence-clause-gives g c = λ keeps. rw c.in-Sequence.is (c.sequence.ensures.gives c.args.now (fs_of c.args.fs.now) (opens_of c.args.opens.now))
 
 pub returns-in-ReclaimComplete-clause-gives : goal.returns-in-ReclaimComplete-clause-gives
-returns-in-ReclaimComplete-clause-gives g c = λ keeps. rw c.in-ReclaimComplete.is (c.reclaim.ensures.gives c.args.now)
+returns-in-ReclaimComplete-clause-gives g c = λ keeps. rw c.in-ReclaimComplete.is (c.reclaim.ensures.gives c.args.now (opens_of c.args.opens.now))
 
 -- A reply that is sent again is there
 
-kept_if : (now : ℕ) (files : FileSystem) (old new : Table) (request : InProgress) (operation : Argument) (result : Result Operated Fault)
-    → IfOk result (ChangesTable old new request operation) → IfOk result (IsKept new)
-kept_if now files old new request operation (Ok done) runs = kept_of now (without_opens files old) (without_opens files new) request operation done (runs now files)
-kept_if now files old new request operation (Err fault) runs = tt
+kept_if : (now : ℕ) (files : FileSystem) (old new : Table) (before after : Opens) (request : InProgress) (operation : Argument) (result : Result Operated Fault)
+    → IfOk result (ChangesClients old new before after request operation) → IfOk result (IsKept new)
+kept_if now files old new before after request operation (Ok done) runs = kept_of now (shared files old before) (shared files new after) request operation done (runs now files)
+kept_if now files old new before after request operation (Err fault) runs = tt
 
 pub returns-in-Create-clause-kept : goal.returns-in-Create-clause-kept
 returns-in-Create-clause-kept g c = c.create.ensures.kept (table_of c.args.table.now)
@@ -187,75 +185,74 @@ returns-in-Rename-clause-kept g c = c.rename.ensures.kept (table_of c.args.table
 
 pub returns-in-Access-clause-kept : goal.returns-in-Access-clause-kept
 returns-in-Access-clause-kept g c =
-    kept_of c.args.now (shared_of c.args.fs.now c.args.table.now) (shared_of c.args.fs.now c.args.table.now) (in_progress_of c.args.self.now) _ c.access.result
-    (c.access.ensures.gives c.args.now (table_of c.args.table.now) no_opens)
+    kept_of c.args.now (shared_of c.args.fs.now c.args.table.now c.args.opens.now) (shared_of c.args.fs.now c.args.table.now c.args.opens.now) (in_progress_of c.args.self.now) _ c.access.result
+    (c.access.ensures.gives c.args.now (table_of c.args.table.now) (opens_of c.args.opens.now))
 
 pub returns-in-GetFh-clause-kept : goal.returns-in-GetFh-clause-kept
 returns-in-GetFh-clause-kept g c =
-    told_kept c.args.now (fs_of c.args.fs.now) (table_of c.args.table.now) (in_progress_of c.args.self.now) _ c.get_handle.result c.get_handle.ensures.gives
+    told_kept c.args.now (fs_of c.args.fs.now) (table_of c.args.table.now) (opens_of c.args.opens.now) (in_progress_of c.args.self.now) _ c.get_handle.result c.get_handle.ensures.gives
 
 pub returns-in-GetAttr-clause-kept : goal.returns-in-GetAttr-clause-kept
 returns-in-GetAttr-clause-kept g c =
-    told_kept c.args.now (fs_of c.args.fs.now) (table_of c.args.table.now) (in_progress_of c.args.self.now) _ c.get_attributes.result c.get_attributes.ensures.gives
+    told_kept c.args.now (fs_of c.args.fs.now) (table_of c.args.table.now) (opens_of c.args.opens.now) (in_progress_of c.args.self.now) _ c.get_attributes.result c.get_attributes.ensures.gives
 
 pub returns-in-ReadDir-clause-kept : goal.returns-in-ReadDir-clause-kept
 returns-in-ReadDir-clause-kept g c =
-    told_kept c.args.now (fs_of c.args.fs.now) (table_of c.args.table.now) (in_progress_of c.args.self.now) _ c.list.result c.list.ensures.gives
+    told_kept c.args.now (fs_of c.args.fs.now) (table_of c.args.table.now) (opens_of c.args.opens.now) (in_progress_of c.args.self.now) _ c.list.result c.list.ensures.gives
 
 pub returns-in-Lookup-clause-kept : goal.returns-in-Lookup-clause-kept
 returns-in-Lookup-clause-kept g c =
-    kept_of c.args.now (shared_of c.args.fs.now c.args.table.now) (shared_of c.args.fs.now c.args.table.now) (in_progress_of c.args.self.now) _ c.look_up.result
-    (c.look_up.ensures.gives c.args.now (table_of c.args.table.now) no_opens)
+    kept_of c.args.now (shared_of c.args.fs.now c.args.table.now c.args.opens.now) (shared_of c.args.fs.now c.args.table.now c.args.opens.now) (in_progress_of c.args.self.now) _ c.look_up.result
+    (c.look_up.ensures.gives c.args.now (table_of c.args.table.now) (opens_of c.args.opens.now))
 
 pub returns-in-LookupParent-clause-kept : goal.returns-in-LookupParent-clause-kept
 returns-in-LookupParent-clause-kept g c =
-    kept_of c.args.now (shared_of c.args.fs.now c.args.table.now) (shared_of c.args.fs.now c.args.table.now) (in_progress_of c.args.self.now) _ c.look_up_parent.result
-    (c.look_up_parent.ensures.gives c.args.now (table_of c.args.table.now) no_opens)
+    kept_of c.args.now (shared_of c.args.fs.now c.args.table.now c.args.opens.now) (shared_of c.args.fs.now c.args.table.now c.args.opens.now) (in_progress_of c.args.self.now) _ c.look_up_parent.result
+    (c.look_up_parent.ensures.gives c.args.now (table_of c.args.table.now) (opens_of c.args.opens.now))
 
 pub returns-in-PutFh-clause-kept : goal.returns-in-PutFh-clause-kept
 returns-in-PutFh-clause-kept g c =
-    kept_of c.args.now (shared_of c.args.fs.now c.args.table.now) (shared_of c.args.fs.now c.args.table.now) (in_progress_of c.args.self.now) _ c.put_handle.result
-    (c.put_handle.ensures.gives c.args.now (table_of c.args.table.now) no_opens)
+    kept_of c.args.now (shared_of c.args.fs.now c.args.table.now c.args.opens.now) (shared_of c.args.fs.now c.args.table.now c.args.opens.now) (in_progress_of c.args.self.now) _ c.put_handle.result
+    (c.put_handle.ensures.gives c.args.now (table_of c.args.table.now) (opens_of c.args.opens.now))
 
 pub returns-in-PutRootFh-clause-kept : goal.returns-in-PutRootFh-clause-kept
 returns-in-PutRootFh-clause-kept g c =
-    kept_of c.args.now (shared_of c.args.fs.now c.args.table.now) (shared_of c.args.fs.now c.args.table.now) (in_progress_of c.args.self.now) _ c.put_root.result
-    (c.put_root.ensures.gives (fs_of c.args.fs.now) c.args.now (table_of c.args.table.now) no_opens)
+    kept_of c.args.now (shared_of c.args.fs.now c.args.table.now c.args.opens.now) (shared_of c.args.fs.now c.args.table.now c.args.opens.now) (in_progress_of c.args.self.now) _ c.put_root.result
+    (c.put_root.ensures.gives (fs_of c.args.fs.now) c.args.now (table_of c.args.table.now) (opens_of c.args.opens.now))
 
 pub returns-in-RestoreFh-clause-kept : goal.returns-in-RestoreFh-clause-kept
 returns-in-RestoreFh-clause-kept g c =
-    kept_of c.args.now (shared_of c.args.fs.now c.args.table.now) (shared_of c.args.fs.now c.args.table.now) (in_progress_of c.args.self.now) _ c.restore_handle.result
-    (c.restore_handle.ensures.gives (fs_of c.args.fs.now) c.args.now (table_of c.args.table.now) no_opens)
+    kept_of c.args.now (shared_of c.args.fs.now c.args.table.now c.args.opens.now) (shared_of c.args.fs.now c.args.table.now c.args.opens.now) (in_progress_of c.args.self.now) _ c.restore_handle.result
+    (c.restore_handle.ensures.gives (fs_of c.args.fs.now) c.args.now (table_of c.args.table.now) (opens_of c.args.opens.now))
 
 pub returns-in-SaveFh-clause-kept : goal.returns-in-SaveFh-clause-kept
 returns-in-SaveFh-clause-kept g c =
-    kept_of c.args.now (shared_of c.args.fs.now c.args.table.now) (shared_of c.args.fs.now c.args.table.now) (in_progress_of c.args.self.now) _ c.save_handle.result
-    (c.save_handle.ensures.gives c.args.now (table_of c.args.table.now) no_opens)
+    kept_of c.args.now (shared_of c.args.fs.now c.args.table.now c.args.opens.now) (shared_of c.args.fs.now c.args.table.now c.args.opens.now) (in_progress_of c.args.self.now) _ c.save_handle.result
+    (c.save_handle.ensures.gives c.args.now (table_of c.args.table.now) (opens_of c.args.opens.now))
 
 pub returns-in-DestroySession-clause-kept : goal.returns-in-DestroySession-clause-kept
 returns-in-DestroySession-clause-kept g c =
-    kept_of c.args.now (shared_of c.args.fs.now c.args.table.now) (shared_of c.args.fs.now c.destroy_session.new.table) (in_progress_of c.args.self.now) _ c.destroy_session.result
-    (c.destroy_session.ensures.gives c.args.now (fs_of c.args.fs.now))
+    kept_of c.args.now (shared_of c.args.fs.now c.args.table.now c.args.opens.now) (shared_of c.args.fs.now c.destroy_session.new.table c.args.opens.now) (in_progress_of c.args.self.now) _ c.destroy_session.result
+    (c.destroy_session.ensures.gives c.args.now (fs_of c.args.fs.now) (opens_of c.args.opens.now))
 
 pub returns-in-DestroyClientId-clause-kept : goal.returns-in-DestroyClientId-clause-kept
 returns-in-DestroyClientId-clause-kept g c =
-    kept_of c.args.now (shared_of c.args.fs.now c.args.table.now) (shared_of c.args.fs.now c.destroy_clientid.new.table) (in_progress_of c.args.self.now) _ c.destroy_clientid.result
-    (c.destroy_clientid.ensures.gives c.args.now (fs_of c.args.fs.now))
+    kept_if c.args.now (fs_of c.args.fs.now) (table_of c.args.table.now) (table_of c.destroy_clientid.new.table) (opens_of c.args.opens.now) (opens_of c.args.opens.now) (in_progress_of c.args.self.now) _ c.destroy_clientid.result c.destroy_clientid.ensures.gives
 
 pub returns-in-Sequence-clause-kept : goal.returns-in-Sequence-clause-kept
 returns-in-Sequence-clause-kept g c =
-    kept_of c.args.now (shared_of c.args.fs.now c.args.table.now) (shared_of c.args.fs.now c.sequence.new.table) (in_progress_of c.args.self.now) _ c.sequence.result
-    (c.sequence.ensures.gives c.args.now (fs_of c.args.fs.now))
+    kept_of c.args.now (shared_of c.args.fs.now c.args.table.now c.args.opens.now) (shared_of c.args.fs.now c.sequence.new.table c.args.opens.now) (in_progress_of c.args.self.now) _ c.sequence.result
+    (c.sequence.ensures.gives c.args.now (fs_of c.args.fs.now) (opens_of c.args.opens.now))
 
 pub returns-in-ReclaimComplete-clause-kept : goal.returns-in-ReclaimComplete-clause-kept
 returns-in-ReclaimComplete-clause-kept g c =
-    kept_of c.args.now (shared_of c.args.fs.now c.args.table.now) (shared_of c.args.fs.now c.reclaim.new.table) (in_progress_of c.args.self.now) _ c.reclaim.result
-    (c.reclaim.ensures.gives c.args.now)
+    kept_of c.args.now (shared_of c.args.fs.now c.args.table.now c.args.opens.now) (shared_of c.args.fs.now c.reclaim.new.table c.args.opens.now) (in_progress_of c.args.self.now) _ c.reclaim.result
+    (c.reclaim.ensures.gives c.args.now (opens_of c.args.opens.now))
 
 pub returns-in-ExchangeId-clause-kept : goal.returns-in-ExchangeId-clause-kept
 returns-in-ExchangeId-clause-kept g c =
-    kept_if c.args.now (fs_of c.args.fs.now) (table_of c.args.table.now) (table_of c.exchange_id.new.table) (in_progress_of c.args.self.now) _ c.exchange_id.result c.exchange_id.ensures.gives
+    kept_if c.args.now (fs_of c.args.fs.now) (table_of c.args.table.now) (table_of c.exchange_id.new.table) (opens_of c.args.opens.now) (opens_of c.args.opens.now) (in_progress_of c.args.self.now) _ c.exchange_id.result c.exchange_id.ensures.gives
 
 pub returns-in-CreateSession-clause-kept : goal.returns-in-CreateSession-clause-kept
 returns-in-CreateSession-clause-kept g c =
-    kept_if c.args.now (fs_of c.args.fs.now) (table_of c.args.table.now) (table_of c.create_session.new.table) (in_progress_of c.args.self.now) _ c.create_session.result c.create_session.ensures.gives
+    kept_if c.args.now (fs_of c.args.fs.now) (table_of c.args.table.now) (table_of c.create_session.new.table) (opens_of c.args.opens.now) (opens_of c.create_session.new.opens) (in_progress_of c.args.self.now) _ c.create_session.result c.create_session.ensures.gives

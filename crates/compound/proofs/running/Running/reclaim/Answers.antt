@@ -1,10 +1,9 @@
 use Rattle.fs.specs.FileSystems.{fs_of}
-use Rattle.model.specs.Opens.{no_opens}
 use Rattle.session.specs.Views.{table_of}
 use Rattle.compound.proofs.running.Running.reclaim.Goals as goal
 
 pub returns-then-one_fs-clause-gives : goal.returns-then-one_fs-clause-gives
-returns-then-one_fs-clause-gives g c = λ now. rw c.if-one_fs.true (c.reclaim_one.ensures.gives now (table_of c.args.table.now) no_opens)
+returns-then-one_fs-clause-gives g c = λ now opens. rw c.if-one_fs.true (c.reclaim_one.ensures.gives now (table_of c.args.table.now) opens)
 
 pub returns-else-one_fs-clause-gives : goal.returns-else-one_fs-clause-gives
-returns-else-one_fs-clause-gives g c = λ now. rw c.if-one_fs.false (c.reclaim_all.ensures.gives now (fs_of c.args.fs.now))
+returns-else-one_fs-clause-gives g c = λ now opens. rw c.if-one_fs.false (c.reclaim_all.ensures.gives now (fs_of c.args.fs.now) opens)

@@ -2,11 +2,14 @@ use Rattle.std.proofs.Common.{true, Result, refl, sym, subst, ◌∙◌, arith, 
 use Rattle.fs.specs.FileSystems.{fs_of, fs_failures}
 use Rattle.fs.proofs.ChangeLaws.{changes_by}
 use Rattle.model.specs.Answer.{Outcome, Refused}
-use Rattle.model.specs.Opens.{no_opens}
+use Rattle.model.specs.Opens.{Opens}
 use Rattle.model.specs.Operation.{Argument}
+use Rattle.model.specs.StateIds.{without_number}
+use Rattle.wire.specs.OutcomeView.{outcome_view}
 use Rattle.model.specs.declared.status.Status.{Status}
-use Rattle.compound.specs.Operates.{GivesIn, HasRoom, ChangesNodes, IsAnswered, IsKept}
-use Rattle.compound.specs.States.{shared, without_opens}
+use Rattle.opens.specs.Views.{opens_of}
+use Rattle.compound.specs.Operates.{GivesIn, HasRoom, ChangesOpens, IsAnswered, IsKept}
+use Rattle.compound.specs.States.{shared}
 use Rattle.compound.specs.Volumes.{OperationGives, ending}
 use Rattle.compound.specs.Views.{in_progress_of}
 use Rattle.compound.specs.declared.fault.Fault.{Fault}
@@ -22,15 +25,17 @@ use Rattle.compound.proofs.running.Running.remove.Goals as goal
 
 pub returns-in-Err-clause-gives : goal.returns-in-Err-clause-gives
 returns-in-Err-clause-gives g c = λ keeps table.
+    let opens = opens_of c.args.opens.now in
     let fs = fs_of c.args.fs.now in
     let request = in_progress_of c.args.self.now in
     let kind = Argument.Remove c.args.name.now in
-    c.refuse.ensures.gives c.args.now (without_opens fs table) (without_opens fs table) kind
-    (subst (λ (reason : Status). GivesIn c.args.now (without_opens fs table) (without_opens fs table) request request kind (Refused 28 reason)) (sym c.in-Err.ensures.err.0)
-    (gives_refusal c.args.now (without_opens fs table) (without_opens fs table) request kind 28 _ (wants c.args.now fs table no_opens request kind refl c.in-Err.ensures.err.1)))
+    c.refuse.ensures.gives c.args.now (shared fs table opens) (shared fs table opens) kind
+    (subst (λ (reason : Status). GivesIn c.args.now (shared fs table opens) (shared fs table opens) request request kind (Refused 28 reason)) (sym c.in-Err.ensures.err.0)
+    (gives_refusal c.args.now (shared fs table opens) (shared fs table opens) request kind 28 _ (wants c.args.now fs table opens request kind refl c.in-Err.ensures.err.1)))
 
 pub returns-in-Err-clause-volume : goal.returns-in-Err-clause-volume
-returns-in-Err-clause-volume g c = λ table opens.
+returns-in-Err-clause-volume g c = λ table.
+    let opens = opens_of c.args.opens.now in
     let fs = fs_of c.args.fs.now in
     let request = in_progress_of c.args.self.now in
     let kind = Argument.Remove c.args.name.now in
@@ -43,17 +48,20 @@ returns-in-Err-clause-volume g c = λ table opens.
 pub returns-in-Ok-remove-clause-gives : goal.returns-in-Ok-remove-clause-gives
 unfolding in_progress_of
 returns-in-Ok-remove-clause-gives g c = λ keeps table.
+    let opens = opens_of c.args.opens.now in
     let fs = fs_of c.args.fs.now in
     let new = fs_of c.remove.new.self in
     let request = in_progress_of c.args.self.now in
     let name = c.args.name.now in
     let made = c.in-Ok-remove.gone in
-    subst (λ (outcome : Outcome). GivesIn c.args.now (without_opens fs table) (without_opens new table) request request (Argument.Remove name) outcome) (sym c.removed.ensures.is)
-    (gives_in_room c.args.now (without_opens fs table) (without_opens new table) request request (Argument.Remove name) (removed_answer made.before made.after)
+    let left = without_number made.number opens in
+    subst (λ (after : Opens). GivesIn c.args.now (shared fs table opens) (shared new table after) request request (Argument.Remove name) (outcome_view c.removed.result)) (sym c.remove_file.ensures)
+    (subst (λ (outcome : Outcome). GivesIn c.args.now (shared fs table opens) (shared new table left) request request (Argument.Remove name) outcome) (sym c.removed.ensures.is)
+    (gives_in_room c.args.now (shared fs table opens) (shared new table left) request request (Argument.Remove name) (removed_answer made.before made.after)
     (removed_room request 0 0 made.before made.after true (sym c.in-Ok-remove.ensures.room ∙ c.has_removed_room-has_room.ensures))
-    (done_runs c.args.now fs request (Argument.Remove name) (on_tree c.args.now fs request name) new table request.context (removed_answer made.before made.after)
-    (λ state there none. does_remove c.args.now fs request name new made state there none
-    (c.in-Ok-remove.ensures.step state (is_on fs request _ _ c.requires.run c.in-Ok.ensures.ok.0 c.in-Ok.ensures.ok.1 there) keeps))))
+    (done_runs c.args.now fs request (Argument.Remove name) (on_tree c.args.now fs request name) new table opens left request.context (removed_answer made.before made.after)
+    (λ state there known. does_remove c.args.now fs request name new made opens state there known
+    (c.in-Ok-remove.ensures.step state (is_on fs request _ _ c.requires.run c.in-Ok.ensures.ok.0 c.in-Ok.ensures.ok.1 there) keeps)))))
 
 pub returns-in-Ok-remove-clause-answered : goal.returns-in-Ok-remove-clause-answered
 unfolding in_progress_of
@@ -70,7 +78,8 @@ returns-in-Ok-remove-clause-answered g c =
 
 pub returns-in-Ok-remove-clause-volume : goal.returns-in-Ok-remove-clause-volume
 unfolding in_progress_of
-returns-in-Ok-remove-clause-volume g c = λ table opens.
+returns-in-Ok-remove-clause-volume g c = λ table.
+    let opens = opens_of c.args.opens.now in
     let fs = fs_of c.args.fs.now in
     let request = in_progress_of c.args.self.now in
     changes_by g.D.Device.keeps_word _ _
@@ -93,9 +102,9 @@ returns-in-Err-remove-clause-gives g c = λ keeps.
     let new = fs_of c.remove.new.self in
     let request = in_progress_of c.args.self.now in
     let name = c.args.name.now in
-    subst (λ (r : Result Operated Fault). IfOk r (ChangesNodes fs new c.args.now request (Argument.Remove name))) (sym c.tell_fault.ensures)
+    subst (λ (r : Result Operated Fault). IfOk r (ChangesOpens fs new (opens_of c.args.opens.now) (opens_of c.args.opens.now) c.args.now request (Argument.Remove name))) (sym c.tell_fault.ensures)
     (told_gives c.args.now fs request (Argument.Remove name) (on_tree c.args.now fs request name) _ (sized c.args.now fs request name _ c.has_removed_room-has_room.ensures)
-    g.D.Device.keeps_word _ new _ _ c.requires.up _ c.in-Err-remove.fault
+    g.D.Device.keeps_word _ new _ _ c.requires.up _ (opens_of c.args.opens.now) (opens_of c.args.opens.now) c.in-Err-remove.fault refl
     (λ state there. c.in-Err-remove.ensures.step state (is_on fs request _ _ c.requires.run c.in-Ok.ensures.ok.0 c.in-Ok.ensures.ok.1 there))
     c.in-Err-remove.ensures.no_room c.in-Err-remove.ensures.volume)
 
@@ -113,7 +122,8 @@ returns-in-Err-remove-clause-kept g c = λ table.
 
 pub returns-in-Err-remove-clause-volume : goal.returns-in-Err-remove-clause-volume
 unfolding in_progress_of
-returns-in-Err-remove-clause-volume g c = λ table opens.
+returns-in-Err-remove-clause-volume g c = λ table.
+    let opens = opens_of c.args.opens.now in
     let fs = fs_of c.args.fs.now in
     let new = fs_of c.remove.new.self in
     let request = in_progress_of c.args.self.now in

@@ -2,10 +2,10 @@ use Rattle.std.proofs.Common.{true, Result, refl, sym, subst, ◌∙◌, arith, 
 use Rattle.fs.specs.FileSystems.{fs_of, fs_failures}
 use Rattle.fs.proofs.ChangeLaws.{changes_by}
 use Rattle.model.specs.Answer.{Outcome}
-use Rattle.model.specs.Opens.{no_opens}
 use Rattle.model.specs.Operation.{Argument}
-use Rattle.compound.specs.Operates.{GivesIn, HasRoom, ChangesNodes, IsAnswered, IsKept}
-use Rattle.compound.specs.States.{shared, without_opens}
+use Rattle.opens.specs.Views.{opens_of}
+use Rattle.compound.specs.Operates.{GivesIn, HasRoom, ChangesOpens, IsAnswered, IsKept}
+use Rattle.compound.specs.States.{shared}
 use Rattle.compound.specs.Volumes.{OperationGives, ending}
 use Rattle.compound.specs.Views.{in_progress_of}
 use Rattle.compound.specs.declared.fault.Fault.{Fault}
@@ -15,21 +15,26 @@ use Rattle.compound.proofs.Changing.{done_runs, told_gives, told_changes, told_s
 use Rattle.compound.proofs.Rooms.{gives_in_room}
 use Rattle.wire.specs.ArgumentViews.{rename_view}
 use Rattle.compound.specs.Trees.{no_change, renamed_answer}
-use Rattle.compound.proofs.RenameLaws.{on_tree, sized, does_rename, renamed_room, rename_makes, rename_up, is_on_both}
+use Rattle.fs.specs.Renaming.{is_itself, opens_behind}
+use Rattle.model.specs.Opens.{Opens}
+use Rattle.wire.specs.OutcomeView.{outcome_view}
+use Rattle.compound.proofs.RenameLaws.{same_name, on_tree, sized, does_rename, renamed_room, rename_makes, rename_up, is_on_both}
 use Rattle.compound.proofs.VolumeLaws.{refusal_changes}
 use Rattle.compound.proofs.running.Running.rename.Goals as goal
 
 pub returns-in-Err-clause-gives : goal.returns-in-Err-clause-gives
 returns-in-Err-clause-gives g c = λ keeps table.
+    let opens = opens_of c.args.opens.now in
     let fs = fs_of c.args.fs.now in
     let request = in_progress_of c.args.self.now in
     let arguments = rename_view c.args.arguments.now in
-    c.refuse.ensures.gives c.args.now (without_opens fs table) (without_opens fs table) (Argument.Rename arguments)
-    (refused_gives c.args.now fs request (Argument.Rename arguments) (on_tree c.args.now fs request arguments) table no_opens c.in-Err.status
+    c.refuse.ensures.gives c.args.now (shared fs table opens) (shared fs table opens) (Argument.Rename arguments)
+    (refused_gives c.args.now fs request (Argument.Rename arguments) (on_tree c.args.now fs request arguments) table opens c.in-Err.status
     (λ state there. c.in-Err.ensures.err state c.args.now arguments there))
 
 pub returns-in-Err-clause-volume : goal.returns-in-Err-clause-volume
-returns-in-Err-clause-volume g c = λ table opens.
+returns-in-Err-clause-volume g c = λ table.
+    let opens = opens_of c.args.opens.now in
     let fs = fs_of c.args.fs.now in
     let request = in_progress_of c.args.self.now in
     let arguments = rename_view c.args.arguments.now in
@@ -42,17 +47,21 @@ returns-in-Err-clause-volume g c = λ table opens.
 pub returns-in-Ok-rename-clause-gives : goal.returns-in-Ok-rename-clause-gives
 unfolding in_progress_of
 returns-in-Ok-rename-clause-gives g c = λ keeps table.
+    let opens = opens_of c.args.opens.now in
     let fs = fs_of c.args.fs.now in
     let new = fs_of c.rename.new.self in
     let request = in_progress_of c.args.self.now in
     let arguments = rename_view c.args.arguments.now in
     let made = c.in-Ok-rename.made in
-    subst (λ (outcome : Outcome). GivesIn c.args.now (without_opens fs table) (without_opens new table) request request (Argument.Rename arguments) outcome) (sym c.renamed.ensures.is)
-    (gives_in_room c.args.now (without_opens fs table) (without_opens new table) request request (Argument.Rename arguments) (renamed_answer made.source made.target)
+    let same = is_itself c.in-Ok.numbers.0 c.in-Ok.numbers.1 arguments in
+    let left = opens_behind same made.replaced opens in
+    subst (λ (after : Opens). GivesIn c.args.now (shared fs table opens) (shared new table after) request request (Argument.Rename arguments) (outcome_view c.renamed.result)) (sym c.end_replaced.ensures)
+    (subst (λ (outcome : Outcome). GivesIn c.args.now (shared fs table opens) (shared new table left) request request (Argument.Rename arguments) outcome) (sym c.renamed.ensures.is)
+    (gives_in_room c.args.now (shared fs table opens) (shared new table left) request request (Argument.Rename arguments) (renamed_answer made.source made.target)
     (renamed_room request no_change no_change made.source made.target true (sym c.in-Ok-rename.ensures.room ∙ c.has_renamed_room-has_room.ensures))
-    (done_runs c.args.now fs request (Argument.Rename arguments) (on_tree c.args.now fs request arguments) new table request.context (renamed_answer made.source made.target)
-    (λ state there none. does_rename c.args.now fs request arguments new made state there none
-    (c.in-Ok-rename.ensures.step state (is_on_both c.args.now fs request arguments c.in-Ok.numbers c.requires.run c.in-Ok.ensures.ok state there) keeps))))
+    (done_runs c.args.now fs request (Argument.Rename arguments) (on_tree c.args.now fs request arguments) new table opens left request.context (renamed_answer made.source made.target)
+    (λ state there known. does_rename c.args.now fs request arguments new made opens same state there known (same_name c.args.now fs request arguments c.in-Ok.numbers c.in-Ok.ensures.ok state there)
+    (c.in-Ok-rename.ensures.step state (is_on_both c.args.now fs request arguments c.in-Ok.numbers c.requires.run c.in-Ok.ensures.ok state there) keeps)))))
 
 pub returns-in-Ok-rename-clause-answered : goal.returns-in-Ok-rename-clause-answered
 unfolding in_progress_of
@@ -69,7 +78,8 @@ returns-in-Ok-rename-clause-answered g c =
 
 pub returns-in-Ok-rename-clause-volume : goal.returns-in-Ok-rename-clause-volume
 unfolding in_progress_of
-returns-in-Ok-rename-clause-volume g c = λ table opens.
+returns-in-Ok-rename-clause-volume g c = λ table.
+    let opens = opens_of c.args.opens.now in
     let fs = fs_of c.args.fs.now in
     let request = in_progress_of c.args.self.now in
     changes_by g.D.Device.keeps_word _ _
@@ -92,9 +102,9 @@ returns-in-Err-rename-clause-gives g c = λ keeps.
     let new = fs_of c.rename.new.self in
     let request = in_progress_of c.args.self.now in
     let arguments = rename_view c.args.arguments.now in
-    subst (λ (r : Result Operated Fault). IfOk r (ChangesNodes fs new c.args.now request (Argument.Rename arguments))) (sym c.tell_fault.ensures)
+    subst (λ (r : Result Operated Fault). IfOk r (ChangesOpens fs new (opens_of c.args.opens.now) (opens_of c.args.opens.now) c.args.now request (Argument.Rename arguments))) (sym c.tell_fault.ensures)
     (told_gives c.args.now fs request (Argument.Rename arguments) (on_tree c.args.now fs request arguments) _ (sized c.args.now fs request arguments _ c.has_renamed_room-has_room.ensures)
-    g.D.Device.keeps_word _ new _ _ c.requires.up _ c.in-Err-rename.fault
+    g.D.Device.keeps_word _ new _ _ c.requires.up _ (opens_of c.args.opens.now) (opens_of c.args.opens.now) c.in-Err-rename.fault refl
     (λ state there. c.in-Err-rename.ensures.step state (is_on_both c.args.now fs request arguments c.in-Ok.numbers c.requires.run c.in-Ok.ensures.ok state there))
     c.in-Err-rename.ensures.no_room c.in-Err-rename.ensures.volume)
 
@@ -112,7 +122,8 @@ returns-in-Err-rename-clause-kept g c = λ table.
 
 pub returns-in-Err-rename-clause-volume : goal.returns-in-Err-rename-clause-volume
 unfolding in_progress_of
-returns-in-Err-rename-clause-volume g c = λ table opens.
+returns-in-Err-rename-clause-volume g c = λ table.
+    let opens = opens_of c.args.opens.now in
     let fs = fs_of c.args.fs.now in
     let new = fs_of c.rename.new.self in
     let request = in_progress_of c.args.self.now in

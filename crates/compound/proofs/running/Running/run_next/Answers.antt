@@ -19,7 +19,7 @@ use Rattle.compound.proofs.running.Running.run_next.Goals as goal
 pub returns-in_ok-done-in-Reads-clause-turns : goal.returns-in_ok-done-in-Reads-clause-turns
 returns-in_ok-done-in-Reads-clause-turns g c = λ keeps.
     let next = rw c.in-Reads.is at c.in_ok-operation.ensures.ok in
-    turns_read c.args.now (shared_of c.args.fs.now c.args.table.now) (shared_of c.operate.new.fs c.operate.new.table) (in_progress_of c.args.self.now)
+    turns_read c.args.now (shared_of c.args.fs.now c.args.table.now c.args.opens.now) (shared_of c.operate.new.fs c.operate.new.table c.operate.new.opens) (in_progress_of c.args.self.now)
     (argument_view c.in-Reads.argument) (drop c.in-Reads.position c.args.self.now.compound.operations.now) c.in_ok-done-in-Reads.done next
     (c.in_ok-done-in-Reads.ensures.gives keeps)
 
@@ -52,7 +52,7 @@ returns-in_err-done-in-Reads-clause-volume g c =
     let reason = c.in_err-done-in-Reads.field-0.0 in
     let told = told_err c.from_residual-in_err-done-in-Reads.result reason c.from_residual-in_err-done-in-Reads.ensures.1 in
     rw told (changes_by g.D.Device.keeps_word _ _
-    (read_gives (shared_of c.args.fs.now c.args.table.now) (in_progress_of c.args.self.now) c.args.now (argument_view c.in-Reads.argument)
+    (read_gives (shared_of c.args.fs.now c.args.table.now c.args.opens.now) (in_progress_of c.args.self.now) c.args.now (argument_view c.in-Reads.argument)
     (drop c.in-Reads.position c.args.self.now.compound.operations.now) next)
     _ _ _ _ _ (rw c.in_err-done-in-Reads.was at c.operate.ensures.volume))
 
@@ -60,7 +60,7 @@ pub returns-in_ok-done-in-Reads-clause-volume : goal.returns-in_ok-done-in-Reads
 returns-in_ok-done-in-Reads-clause-volume g c =
     let next = rw c.in-Reads.is at c.in_ok-operation.ensures.ok in
     changes_by g.D.Device.keeps_word _ _
-    (read_gives (shared_of c.args.fs.now c.args.table.now) (in_progress_of c.args.self.now) c.args.now (argument_view c.in-Reads.argument)
+    (read_gives (shared_of c.args.fs.now c.args.table.now c.args.opens.now) (in_progress_of c.args.self.now) c.args.now (argument_view c.in-Reads.argument)
     (drop c.in-Reads.position c.args.self.now.compound.operations.now) next)
     _ _ _ _ _ (rw c.in_ok-done-in-Reads.was at c.operate.ensures.volume)
 
@@ -68,7 +68,7 @@ pub returns-in-Refuses-clause-volume : goal.returns-in-Refuses-clause-volume
 returns-in-Refuses-clause-volume g c =
     let next = rw c.in-Refuses.is at c.in_ok-operation.ensures.ok in
     answers_quietly g.D.Device.keeps_word _ _ _ _ _ refl (omega arith) c.requires.up
-    (refused_turn (shared_of c.args.fs.now c.args.table.now) (in_progress_of c.args.self.now) c.args.now c.in-Refuses.operation c.in-Refuses.status next)
+    (refused_turn (shared_of c.args.fs.now c.args.table.now c.args.opens.now) (in_progress_of c.args.self.now) c.args.now c.in-Refuses.operation c.in-Refuses.status next)
 
 pub returns-in-Refuses-clause-kept : goal.returns-in-Refuses-clause-kept
 returns-in-Refuses-clause-kept g c = subst (IsKept (table_of c.args.table.now)) (sym c.refused.ensures.gives) tt

@@ -17,7 +17,7 @@ returns-in-Gives-clause-step g c = λ keeps.
     let request = in_progress_of c.args.self in
     let rest = drop c.in-Ok.ran.position c.args.self.compound.operations.now in
     let turns = rw c.in-Gives.is at c.in-Ok.ensures.turns keeps in
-    steps_to c.args.now (shared_of c.args.fs.now c.args.table.now) (shared_of c.run_next.new.fs c.run_next.new.table) (table_of c.answer-in-Gives.new.table)
+    steps_to c.args.now (shared_of c.args.fs.now c.args.table.now c.args.opens.now) (shared_of c.run_next.new.fs c.run_next.new.table c.run_next.new.opens) (table_of c.answer-in-Gives.new.table)
     (asked_of c.args.self) (asked_of c.leave.new.self) request (with_rest (left_by c.in-Gives.effect request) rest) (in_progress_of c.leave.new.self)
     (outcome_view c.in-Gives.outcome) c.answer-in-Gives.result turns (c.leave.ensures.asked ∙ c.advance.ensures.asked)
     (c.leave.ensures.request ∙ (ap (left_by c.in-Gives.effect) c.advance.ensures.request ∙ left_rest c.in-Gives.effect request rest)) (c.answer-in-Gives.ensures.stands (outcome_view c.in-Gives.outcome) refl)
@@ -28,7 +28,7 @@ returns-in-GivesSpelled-clause-step g c = λ keeps.
     let rest = drop c.in-Ok.ran.position c.args.self.compound.operations.now in
     let turns = rw c.in-GivesSpelled.is at c.in-Ok.ensures.turns keeps in
     let spells = subst (λ (values : List ℕ). Spells (number_of c.in-GivesSpelled.operation) values turns.0) (sym c.as_slice.ensures.value) turns.1 in
-    steps_to c.args.now (shared_of c.args.fs.now c.args.table.now) (shared_of c.run_next.new.fs c.run_next.new.table) (table_of c.answer.new.table)
+    steps_to c.args.now (shared_of c.args.fs.now c.args.table.now c.args.opens.now) (shared_of c.run_next.new.fs c.run_next.new.table c.run_next.new.opens) (table_of c.answer.new.table)
     (asked_of c.args.self) (asked_of c.advance.new.self) request (with_rest request rest) (in_progress_of c.advance.new.self)
     (model.Done turns.0) c.answer.result turns.2 c.advance.ensures.asked c.advance.ensures.request (c.answer.ensures.stands (model.Done turns.0) (turns.0, refl, spells))
 

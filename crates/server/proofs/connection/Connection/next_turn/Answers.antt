@@ -17,7 +17,7 @@ pub returns-in-Ok-clause-volume : goal.returns-in-Ok-clause-volume
 returns-in-Ok-clause-volume g c =
     let same : begun (asked_held c.args.self.now.assembler) c.args.progress ≡ Busy (in_progress_of c.resume.result) =
     ap (λ (a : Assembly). begun (asked_held a) c.args.progress) c.in-Some.ensures.waits ∙ c.resume.ensures.request in
-    same_changes g.D.Device.keeps_word (shared_of c.args.fs.now c.args.table.now) (fs_of c.args.fs.now) (fs_of c.step.new.fs) _ _
+    same_changes g.D.Device.keeps_word (shared_of c.args.fs.now c.args.table.now c.args.opens.now) (fs_of c.args.fs.now) (fs_of c.step.new.fs) _ _
     (λ world number. stepped_on world number c.args.now (in_progress_of c.resume.result))
     (λ world number. turned world number c.args.now (Some (begun (asked_held c.args.self.now.assembler) c.args.progress)))
     (λ world number served. ap (λ (b : Connection). turned world number c.args.now (Some b)) same) Done c.in-Ok.ensures.volume
@@ -26,7 +26,7 @@ pub returns-in-Err-clause-volume : goal.returns-in-Err-clause-volume
 returns-in-Err-clause-volume g c =
     let same : begun (asked_held c.args.self.now.assembler) c.args.progress ≡ Busy (in_progress_of c.resume.result) =
     ap (λ (a : Assembly). begun (asked_held a) c.args.progress) c.in-Some.ensures.waits ∙ c.resume.ensures.request in
-    same_changes g.D.Device.keeps_word (shared_of c.args.fs.now c.args.table.now) (fs_of c.args.fs.now) (fs_of c.step.new.fs) _ _
+    same_changes g.D.Device.keeps_word (shared_of c.args.fs.now c.args.table.now c.args.opens.now) (fs_of c.args.fs.now) (fs_of c.step.new.fs) _ _
     (λ world number. stepped_on world number c.args.now (in_progress_of c.resume.result))
     (λ world number. turned world number c.args.now (Some (begun (asked_held c.args.self.now.assembler) c.args.progress)))
     (λ world number served. ap (λ (b : Connection). turned world number c.args.now (Some b)) same) (ending_of c.in-Err.undone.fault) c.in-Err.ensures.volume

@@ -36,7 +36,7 @@ returns-in-Ok-clause-turn g c = λ keeps.
     turns_by c.args.now (connection_view c.args.self.now) (λ world number. called world number c.args.now (read_call c.in-Some.record.now))
     (waiting_comes c.args.now (connection_view c.args.self.now) c.in-Some.record.now
     (waits c.args.self.now.assembler c.args.self.now.stage c.in-Some.record.now c.in-Receiving.ensures.value c.in-Some.ensures.waits))
-    (shared_of c.args.fs.now c.args.table.now) (shared_of c.first_turn.new.fs c.first_turn.new.table)
+    (shared_of c.args.fs.now c.args.table.now c.args.opens.now) (shared_of c.first_turn.new.fs c.first_turn.new.table c.first_turn.new.opens)
     (connection_view c.settle.new.self) (left_by (asked_in c.in-Some.record.now) c.in-Ok.done) c.settle.result (turn_by c.in-Ok.done)
     c.settle.ensures.turn (c.settle.ensures.state ∙ ap (λ (a : Assembly). left_by (asked_held a) c.in-Ok.done) c.in-Some.ensures.waits) (c.in-Ok.ensures.turn keeps)
 
@@ -45,7 +45,7 @@ unfolding connection_view
 returns-in-None-clause-turn g c = λ keeps.
     let assembly = c.args.self.now.assembler in
     let before = receiving_before assembly c.args.self.now.stage c.in-Receiving.ensures.value in
-    idle_turn_to c.args.now (connection_view c.args.self.now) (stage_view assembly c.replace.new.dest) (shared_of c.args.fs.now c.args.table.now)
+    idle_turn_to c.args.now (connection_view c.args.self.now) (stage_view assembly c.replace.new.dest) (shared_of c.args.fs.now c.args.table.now c.args.opens.now)
     (before ∙ sym (ap (stage_view assembly) c.in-Receiving.ensures.after))
     (λ world number. ap (λ (b : Connection). turned world number c.args.now (Some b)) before ∙ no_record_comes c.args.now assembly c.in-None.ensures.waits world number)
 
@@ -56,21 +56,21 @@ returns-in-Running-clause-turn g c = λ keeps.
     let before = ap (stage_view assembly) (sym c.in-Running.ensures.value) in
     turns_if c.args.now (connection_view c.args.self.now) (λ world number. turned world number c.args.now (Some (begun (asked_held assembly) c.in-Running.progress)))
     (λ world number. ap (λ (b : Connection). turned world number c.args.now (Some b)) before)
-    (shared_of c.args.fs.now c.args.table.now) (shared_of c.next_turn.new.fs c.next_turn.new.table)
+    (shared_of c.args.fs.now c.args.table.now c.args.opens.now) (shared_of c.next_turn.new.fs c.next_turn.new.table c.next_turn.new.opens)
     (connection_view c.next_turn.new.self) c.next_turn.result (c.next_turn.ensures.turn keeps)
 
 pub returns-in-Replied-clause-turn : goal.returns-in-Replied-clause-turn
 unfolding connection_view
 returns-in-Replied-clause-turn g c = λ keeps.
     let before = ap (stage_view c.args.self.now.assembler) (sym c.in-Replied.ensures.value) in
-    idle_turn_to c.args.now (connection_view c.args.self.now) (Replied c.in-Replied.reply.items) (shared_of c.args.fs.now c.args.table.now)
+    idle_turn_to c.args.now (connection_view c.args.self.now) (Replied c.in-Replied.reply.items) (shared_of c.args.fs.now c.args.table.now c.args.opens.now)
     before (replied_comes c.args.now (connection_view c.args.self.now) c.in-Replied.reply.items before)
 
 pub returns-in-Ok-clause-volume : goal.returns-in-Ok-clause-volume
 unfolding connection_view
 returns-in-Ok-clause-volume g c =
     let before = connection_view c.args.self.now in
-    same_changes g.D.Device.keeps_word (shared_of c.args.fs.now c.args.table.now) (fs_of c.args.fs.now) (fs_of c.first_turn.new.fs) _ _
+    same_changes g.D.Device.keeps_word (shared_of c.args.fs.now c.args.table.now c.args.opens.now) (fs_of c.args.fs.now) (fs_of c.first_turn.new.fs) _ _
     (λ world number. called world number c.args.now (read_call c.in-Some.record.now)) (λ world number. turned world number c.args.now (Some before))
     (λ world number served. waiting_comes c.args.now before c.in-Some.record.now
     (waits c.args.self.now.assembler c.args.self.now.stage c.in-Some.record.now c.in-Receiving.ensures.value c.in-Some.ensures.waits) world number)
@@ -80,7 +80,7 @@ pub returns-in-Err-clause-volume : goal.returns-in-Err-clause-volume
 unfolding connection_view
 returns-in-Err-clause-volume g c =
     let before = connection_view c.args.self.now in
-    same_changes g.D.Device.keeps_word (shared_of c.args.fs.now c.args.table.now) (fs_of c.args.fs.now) (fs_of c.first_turn.new.fs) _ _
+    same_changes g.D.Device.keeps_word (shared_of c.args.fs.now c.args.table.now c.args.opens.now) (fs_of c.args.fs.now) (fs_of c.first_turn.new.fs) _ _
     (λ world number. called world number c.args.now (read_call c.in-Some.record.now)) (λ world number. turned world number c.args.now (Some before))
     (λ world number served. waiting_comes c.args.now before c.in-Some.record.now
     (waits c.args.self.now.assembler c.args.self.now.stage c.in-Some.record.now c.in-Receiving.ensures.value c.in-Some.ensures.waits) world number)
@@ -91,7 +91,7 @@ unfolding connection_view
 returns-in-None-clause-volume g c =
     let assembly = c.args.self.now.assembler in
     let before = receiving_before assembly c.args.self.now.stage c.in-Receiving.ensures.value in
-    idle_changes g.D.Device.keeps_word (shared_of c.args.fs.now c.args.table.now) (fs_failures c.args.fs.now) (λ world number. turned world number c.args.now (Some (connection_view c.args.self.now))) c.requires.up
+    idle_changes g.D.Device.keeps_word (shared_of c.args.fs.now c.args.table.now c.args.opens.now) (fs_failures c.args.fs.now) (λ world number. turned world number c.args.now (Some (connection_view c.args.self.now))) c.requires.up
     (λ world number served. ap (λ (t : Turned). t.executed)
     (ap (λ (b : Connection). turned world number c.args.now (Some b)) before ∙ no_record_comes c.args.now assembly c.in-None.ensures.waits world number))
 
@@ -100,7 +100,7 @@ unfolding connection_view
 returns-in-Running-clause-volume g c =
     let assembly = c.args.self.now.assembler in
     let before = ap (stage_view assembly) (sym c.in-Running.ensures.value) in
-    same_changes g.D.Device.keeps_word (shared_of c.args.fs.now c.args.table.now) (fs_of c.args.fs.now) (fs_of c.next_turn.new.fs) _ _
+    same_changes g.D.Device.keeps_word (shared_of c.args.fs.now c.args.table.now c.args.opens.now) (fs_of c.args.fs.now) (fs_of c.next_turn.new.fs) _ _
     (λ world number. turned world number c.args.now (Some (begun (asked_held assembly) c.in-Running.progress)))
     (λ world number. turned world number c.args.now (Some (connection_view c.args.self.now)))
     (λ world number served. ap (λ (b : Connection). turned world number c.args.now (Some b)) before) (ending c.next_turn.result) c.next_turn.ensures.volume
@@ -109,7 +109,7 @@ pub returns-in-Replied-clause-volume : goal.returns-in-Replied-clause-volume
 unfolding connection_view
 returns-in-Replied-clause-volume g c =
     let before = ap (stage_view c.args.self.now.assembler) (sym c.in-Replied.ensures.value) in
-    idle_changes g.D.Device.keeps_word (shared_of c.args.fs.now c.args.table.now) (fs_failures c.args.fs.now) (λ world number. turned world number c.args.now (Some (connection_view c.args.self.now))) c.requires.up
+    idle_changes g.D.Device.keeps_word (shared_of c.args.fs.now c.args.table.now c.args.opens.now) (fs_failures c.args.fs.now) (λ world number. turned world number c.args.now (Some (connection_view c.args.self.now))) c.requires.up
     (λ world number served. ap (λ (t : Turned). t.executed)
     (replied_comes c.args.now (connection_view c.args.self.now) c.in-Replied.reply.items before world number))
 

@@ -36,7 +36,7 @@ returns-in_err-insert-clause-err g c =
     let s = c.args.self.now in
     let told = told_by c.from_residual-in_err-insert.result faults.Memory c.from_residual-in_err-insert.ensures.1 in
     let failed = rw c.in_err-insert.was at c.insert.ensures.err in
-    rw told (ap (world_by (shared_of s.fs s.table)) (grew s.connections c.insert.new.self failed))
+    rw told (ap (world_by (shared_of s.fs s.table s.opens)) (grew s.connections c.insert.new.self failed))
 
 pub returns-clause-fresh : goal.returns-clause-fresh
 unfolding world_of
@@ -45,7 +45,7 @@ returns-clause-fresh g c =
     let conn = c.in_ok-insert.field-0 in
     let vacant = rw c.in_ok-insert.was at c.insert.ensures.was_vacant in
     let few : slab_len s.connections < 16 = omega arith in
-    can_connect_by (world_by (shared_of s.fs s.table) (connections_of s.connections)) conn (stands_none s.connections conn (sym vacant))
+    can_connect_by (world_by (shared_of s.fs s.table s.opens) (connections_of s.connections)) conn (stands_none s.connections conn (sym vacant))
     (omega (arith, count_of s.connections))
 
 pub returns-clause-ok : goal.returns-clause-ok
@@ -56,11 +56,11 @@ returns-clause-ok g c =
     let updates = rw c.in_ok-insert.was at c.insert.ensures.updates in
     let vacant = rw c.in_ok-insert.was at c.insert.ensures.was_vacant in
     let few : slab_len s.connections < 16 = omega arith in
-    let can = can_connect_by (world_by (shared_of s.fs s.table) (connections_of s.connections)) conn (stands_none s.connections conn (sym vacant))
+    let can = can_connect_by (world_by (shared_of s.fs s.table s.opens) (connections_of s.connections)) conn (stands_none s.connections conn (sym vacant))
     (omega (arith, count_of s.connections)) in
     let up = sym c.if-is_down.ensures in
     λ keeps. does_quietly (fs_of s.fs).volume _ _ _ (runs.Connects conn) _ refl up
-    (connected (shared_of s.fs s.table) (connections_of s.connections) _ conn (connection_view c.in_ok-connection.connection) can
+    (connected (shared_of s.fs s.table s.opens) (connections_of s.connections) _ conn (connection_view c.in_ok-connection.connection) can
     (with_slot s.connections c.insert.new.self conn c.in_ok-connection.connection updates) c.in_ok-connection.ensures)
     refl
 

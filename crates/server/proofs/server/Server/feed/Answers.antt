@@ -38,9 +38,9 @@ returns-in_err-feed-clause-closed g c =
     let all = rw c.in_err-feed.was at c.feed.ensures.closed in
     let up = sym c.if-is_down.ensures in
     λ keeps is. does_quietly (fs_of s.fs).volume _ _ _ (runs.Arrives c.args.conn c.args.piece.now) _ refl up
-    (fed (shared_of s.fs s.table) (connections_of s.connections) _ c.args.conn c.args.piece.now (connection_view before) (connection_view after)
+    (fed (shared_of s.fs s.table s.opens) (connections_of s.connections) _ c.args.conn c.args.piece.now (connection_view before) (connection_view after)
     there (wrote s.connections c.args.conn before after c.in-Some.ensures.value) (all.0 ∙ sym all.1))
-    (ap Took (sym (ap (taken_on (world_by (shared_of s.fs s.table) (connections_of s.connections)) c.args.piece.now) there ∙ all.2)))
+    (ap Took (sym (ap (taken_on (world_by (shared_of s.fs s.table s.opens) (connections_of s.connections)) c.args.piece.now) there ∙ all.2)))
 
 pub returns-in_err-feed-clause-is_none : goal.returns-in_err-feed-clause-is_none
 unfolding world_of
@@ -58,9 +58,9 @@ returns-clause-ok g c =
     let e = rw c.in_ok-feed.was at c.feed.ensures.arrived in
     let up = sym c.if-is_down.ensures in
     λ keeps. does_quietly (fs_of s.fs).volume _ _ _ (runs.Arrives c.args.conn c.args.piece.now) _ refl up
-    (fed (shared_of s.fs s.table) (connections_of s.connections) _ c.args.conn c.args.piece.now (connection_view before) (connection_view after)
+    (fed (shared_of s.fs s.table s.opens) (connections_of s.connections) _ c.args.conn c.args.piece.now (connection_view before) (connection_view after)
     there (wrote s.connections c.args.conn before after c.in-Some.ensures.value) e.0)
-    (ap Took (sym (ap (taken_on (world_by (shared_of s.fs s.table) (connections_of s.connections)) c.args.piece.now) there ∙ e.1)))
+    (ap Took (sym (ap (taken_on (world_by (shared_of s.fs s.table s.opens) (connections_of s.connections)) c.args.piece.now) there ∙ e.1)))
 
 pub returns-clause-is_none : goal.returns-clause-is_none
 unfolding world_of

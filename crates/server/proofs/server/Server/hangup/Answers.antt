@@ -85,7 +85,7 @@ returns-clause-ok g c =
       seen_with mid was.0,
       was.1,
       does_quietly (fs_of mid.fs).volume _ _ _ (runs.HangsUp c.args.conn) _ refl inv.is_up
-          (hung_up (shared_of mid.fs mid.table) (connections_of mid.connections) _ c.args.conn (sym c.is_busy.ensures ∙ c.loop-self-test.false)
+          (hung_up (shared_of mid.fs mid.table mid.opens) (connections_of mid.connections) _ c.args.conn (sym c.is_busy.ensures ∙ c.loop-self-test.false)
           (without_slot mid.connections c.try_remove.new.self c.args.conn c.try_remove.ensures.updates)) refl was.0 was.2,
     )
 

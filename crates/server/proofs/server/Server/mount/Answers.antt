@@ -6,6 +6,7 @@ use Rattle.model.specs.Session.{empty_table}
 use Rattle.session.specs.Views.{table_of}
 use Rattle.server.specs.Connections.{connections_of}
 use Rattle.server.specs.Servers.{world_of, files_of, volume_of, failures_of}
+use Rattle.opens.specs.Views.{opens_of}
 use Rattle.server.proofs.Moves.{mounted_by, world_mounted}
 use Rattle.server.proofs.Refusals.{told_err}
 use Rattle.server.proofs.server.Server.mount.Goals as goal
@@ -14,14 +15,14 @@ pub returns-clause-begins : goal.returns-clause-begins
 unfolding world_of volume_of connections_of
 returns-clause-begins g c =
     let new = c.in_ok-fs.ensures.new in
-    λ keeps. mounted_by (fs_of c.in_ok-fs.fs) (table_of c.new-table.result) (connections_of c.in-Ok.connections)
-    (c.new-table.ensures ∙ ap empty_table c.restart_count.ensures) (rw c.in-Ok.ensures.empty refl) new.no_change new.volume_new.is_up (c.in_ok-fs.ensures.mounted keeps).holds
+    λ keeps. mounted_by (fs_of c.in_ok-fs.fs) (table_of c.new-table.result) (opens_of c.new-opens.result) (connections_of c.in-Ok.connections)
+    (c.new-table.ensures ∙ ap empty_table c.restart_count.ensures) c.new-opens.ensures (rw c.in-Ok.ensures.empty refl) new.no_change new.volume_new.is_up (c.in_ok-fs.ensures.mounted keeps).holds
 
 pub returns-clause-world : goal.returns-clause-world
 unfolding world_of volume_of connections_of
 returns-clause-world g c =
-    world_mounted (fs_of c.in_ok-fs.fs) (table_of c.new-table.result) (connections_of c.in-Ok.connections)
-    (c.new-table.ensures ∙ ap empty_table c.restart_count.ensures) (rw c.in-Ok.ensures.empty refl) c.in_ok-fs.ensures.new.no_change
+    world_mounted (fs_of c.in_ok-fs.fs) (table_of c.new-table.result) (opens_of c.new-opens.result) (connections_of c.in-Ok.connections)
+    (c.new-table.ensures ∙ ap empty_table c.restart_count.ensures) c.new-opens.ensures (rw c.in-Ok.ensures.empty refl) c.in_ok-fs.ensures.new.no_change
 
 pub returns-clause-new : goal.returns-clause-new
 unfolding files_of

@@ -1,5 +1,6 @@
+use Rattle.opens.specs.Views.{opens_of}
 use Rattle.std.proofs.Common.{sym, refl, ap, ◌∙◌, subst, arith}
-use Rattle.compound.specs.States.{shared_of, without_opens}
+use Rattle.compound.specs.States.{shared, shared_of}
 use Rattle.fs.specs.FileSystem.{FileSystem}
 use Rattle.fs.specs.FileSystems.{fs_of}
 use Rattle.model.specs.Runs as runs
@@ -35,7 +36,7 @@ returns-in-Some-clause-ok g c =
     let after = c.take_output.new.self in
     let there = stands s.connections c.args.conn before c.in-Some.ensures.value in
     λ keeps up. does_quietly (fs_of s.fs).volume _ _ _ (runs.Takes c.args.conn) _ refl up
-    (took (shared_of s.fs s.table) (connections_of s.connections) _ c.args.conn (connection_view before) (connection_view after)
+    (took (shared_of s.fs s.table s.opens) (connections_of s.connections) _ c.args.conn (connection_view before) (connection_view after)
     there (wrote s.connections c.args.conn before after c.in-Some.ensures.value) c.take_output.ensures.left)
     (ap Gave (c.take_output.ensures.given ∙ ap reply_in (sym there)))
 
@@ -50,7 +51,7 @@ returns-in-Some-clause-down g c =
     let files : FileSystem = record (fs_of s.fs) { volume = record (fs_of s.fs).volume { tree = tree } } in
     record {
       stays = stays_down _ _ _ _ recent c.args.conn down down
-          (took (without_opens files (table_of s.table)) (connections_of s.connections) _ c.args.conn (connection_view before) (connection_view after)
+          (took (shared files (table_of s.table) (opens_of s.opens)) (connections_of s.connections) _ c.args.conn (connection_view before) (connection_view after)
           there (wrote s.connections c.args.conn before after c.in-Some.ensures.value) c.take_output.ensures.left);
       says = ap Gave (c.take_output.ensures.given ∙ ap reply_in (sym there));
       moves = moves_none _ _ (runs.Takes c.args.conn) (fs_of s.fs).volume leaves;

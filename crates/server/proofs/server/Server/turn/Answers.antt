@@ -1,7 +1,7 @@
-use Rattle.std.proofs.Common.{◌≡◌, ℕ, Some, true, inl, inr, refl, sym, ap, ◌∙◌, subst, arith}
+use Rattle.std.proofs.Common.{◌≡◌, ℕ, Some, true, inl, inr, refl, sym, ap, ap₂, ◌∙◌, subst, arith}
 use Rattle.compound.specs.declared.fault.Fault.TheVariants as turns
 use Rattle.slab.specs.Slab.{with_value}
-use Rattle.compound.specs.States.{shared_of, without_opens}
+use Rattle.compound.specs.States.{shared, shared_of}
 use Rattle.fs.specs.FileSystem.{FileSystem}
 use Rattle.fs.specs.FileSystems.{fs_of}
 use Rattle.model.specs.Runs as runs
@@ -56,7 +56,7 @@ returns-then-is_closed-clause-refused g c =
     let s = c.args.self.now in
     let before = c.in-Some.connection.now in (
       stands s.connections c.args.conn before c.in-Some.ensures.value ∙ ap Some (c.is_closed.ensures.0 c.if-is_closed.true),
-      (ap (world_by (shared_of s.fs s.table)) (rewrote s.connections c.args.conn before before c.in-Some.ensures.value refl), refl),
+      (ap (world_by (shared_of s.fs s.table s.opens)) (rewrote s.connections c.args.conn before before c.in-Some.ensures.value refl), refl),
     )
 
 pub turn-requires-clause-run : goal.turn-requires-clause-run
@@ -92,16 +92,16 @@ returns-in_err-turn-clause-fails g c =
     let device : refusal ≡ turns.Device = device_told refusal (let told_is : turn_fault refusal ≡ faults.Device = cc in told_is) in
     let volume = c.turn.ensures.volume.volume_changes in
     let failed = rw (c.in_err-turn.was, device) at c.turn.ensures.volume in
-    let adds = volume.moments keeps _ _ (gives_one (shared_of s.fs s.table) (connections_of s.connections) c.args.conn c.args.now (connection_view before)
+    let adds = volume.moments keeps _ _ (gives_one (shared_of s.fs s.table s.opens) (connections_of s.connections) c.args.conn c.args.now (connection_view before)
     (stands s.connections c.args.conn before c.in-Some.ensures.value)) in
     λ recent ready. (
       _,
       record {
         fails = failed_from _ _ recent _ _ (runs.Turns c.args.conn c.args.now) ready.newest up failed.volume_changes.ends.down
-            (broken (shared_of s.fs s.table) (shared_of c.turn.new.fs c.turn.new.table) (connections_of s.connections) _ volume.same (failed.no_count broken≢done)
-            (ap (without_opens (fs_of c.turn.new.fs)) back.1) (rewrote s.connections c.args.conn before after c.in-Some.ensures.value back.0) (fs_of s.fs).volume.tree);
+            (broken (shared_of s.fs s.table s.opens) (shared_of c.turn.new.fs c.turn.new.table c.turn.new.opens) (connections_of s.connections) _ volume.same (failed.no_count broken≢done)
+            (ap₂ (shared (fs_of c.turn.new.fs)) back.1 back.2) (rewrote s.connections c.args.conn before after c.in-Some.ensures.value back.0) (fs_of s.fs).volume.tree);
         moves = record {
-          moments = turning_moments (shared_of s.fs s.table) (connections_of s.connections) c.args.conn c.args.now recent _ ready up adds;
+          moments = turning_moments (shared_of s.fs s.table s.opens) (connections_of s.connections) c.args.conn c.args.now recent _ ready up adds;
           leaves = broken_leaves (fs_of s.fs).volume (fs_of c.turn.new.fs).volume _ recent ready adds volume.same;
           same = volume.same;
         };
@@ -133,14 +133,14 @@ returns-in_err-turn-clause-refused g c =
     let told = told_by c.from_residual.result (turn_fault refusal) c.from_residual.ensures.1 in
     let back = rw c.in_err-turn.was at c.turn.ensures.back in
     let here = rewrote s.connections c.args.conn before after c.in-Some.ensures.value back.0 in
-    let stays = ap (without_opens (fs_of c.turn.new.fs)) back.1 in
+    let stays = ap₂ (shared (fs_of c.turn.new.fs)) back.1 back.2 in
     rw told (turn_refused _ _ c.args.conn refusal
     (λ memory.
     let files = left_all _ _ _ _ _ _ (rw (c.in_err-turn.was, memory) at c.turn.ensures.volume) in
-    (undone (shared_of s.fs s.table) (shared_of c.turn.new.fs c.turn.new.table) (connections_of s.connections) _ files stays here, ap (λ (f : FileSystem). f.volume) files))
+    (undone (shared_of s.fs s.table s.opens) (shared_of c.turn.new.fs c.turn.new.table c.turn.new.opens) (connections_of s.connections) _ files stays here, ap (λ (f : FileSystem). f.volume) files))
     (λ device.
     let failed = rw (c.in_err-turn.was, device) at c.turn.ensures.volume in (
-      broken (shared_of s.fs s.table) (shared_of c.turn.new.fs c.turn.new.table) (connections_of s.connections) _ failed.volume_changes.same (failed.no_count broken≢done)
+      broken (shared_of s.fs s.table s.opens) (shared_of c.turn.new.fs c.turn.new.table c.turn.new.opens) (connections_of s.connections) _ failed.volume_changes.same (failed.no_count broken≢done)
           stays here (fs_of c.turn.new.fs).volume.tree,
       inr failed.volume_changes.ends.cause,
     )))
@@ -153,10 +153,10 @@ returns-clause-ok g c =
     let after = c.turn.new.self in
     let there = stands s.connections c.args.conn before c.in-Some.ensures.value in
     let volume = (rw c.in_ok-turn.was at c.turn.ensures.volume).volume_changes in
-    let gives = gives_one (shared_of s.fs s.table) (connections_of s.connections) c.args.conn c.args.now (connection_view before) there in
+    let gives = gives_one (shared_of s.fs s.table s.opens) (connections_of s.connections) c.args.conn c.args.now (connection_view before) there in
     let up = sym c.if-is_down.ensures in
     λ keeps recent ready.
-    let made = turned (shared_of s.fs s.table) (shared_of c.turn.new.fs c.turn.new.table) (connections_of s.connections) _ c.args.conn c.args.now
+    let made = turned (shared_of s.fs s.table s.opens) (shared_of c.turn.new.fs c.turn.new.table c.turn.new.opens) (connections_of s.connections) _ c.args.conn c.args.now
     (connection_view before) (connection_view after) (wrote s.connections c.args.conn before after c.in-Some.ensures.value) c.in_ok-turn.field-0
     ((rw c.in_ok-turn.was at c.turn.ensures.turn) keeps) (numbers_rise s.connections) there volume.same in
     let left = volume.ends.leaves keeps _ _ gives recent ready in (
@@ -165,7 +165,7 @@ returns-clause-ok g c =
         happens = happened_leaving (fs_of c.turn.new.fs).volume _ _ recent left.0 _ _ (runs.Turns c.args.conn c.args.now) ready.newest up volume.ends.still_up made.1 left.1;
         says = ap Turned made.0;
         moves = record {
-          moments = turning_moments (shared_of s.fs s.table) (connections_of s.connections) c.args.conn c.args.now recent _ ready up (volume.moments keeps _ _ gives);
+          moments = turning_moments (shared_of s.fs s.table s.opens) (connections_of s.connections) c.args.conn c.args.now recent _ ready up (volume.moments keeps _ _ gives);
           leaves = left.1.ready.leaves;
           same = volume.same;
         };
@@ -204,7 +204,7 @@ returns-clause-turned g c =
       others = λ other apart. ap (at other) written ∙ at-with_other (connections_of s.connections) c.args.conn other (connection_view after) apart;
       further = gone_on_at (connections_of s.connections) _ c.args.conn (connection_view before) (connection_view after) there written
           (rw c.in_ok-turn.was at c.turn.ensures.further);
-      world = λ keeps. (turned (shared_of s.fs s.table) (shared_of c.turn.new.fs c.turn.new.table) (connections_of s.connections) _ c.args.conn c.args.now
+      world = λ keeps. (turned (shared_of s.fs s.table s.opens) (shared_of c.turn.new.fs c.turn.new.table c.turn.new.opens) (connections_of s.connections) _ c.args.conn c.args.now
           (connection_view before) (connection_view after) written c.in_ok-turn.field-0
           ((rw c.in_ok-turn.was at c.turn.ensures.turn) keeps) (numbers_rise s.connections) there volume.same).1;
     }

@@ -1,0 +1,49 @@
+//! What a stateid means where an operation uses it (RFC 8881, section 8.2.4).
+
+use crate::running::Running;
+use model::status::Status;
+use opens::{Access, Opens, Standing};
+use wire::StateId;
+
+#[tactic(auto, unfolding(crate::specs::Views::in_progress_of))]
+impl Running<'_> {
+    ghost use Rattle.std.specs.Prelude.{◌≡◌, ℕ};
+    ghost use Rattle.fs.specs.Files.{IsVerdict};
+    ghost use Rattle.model.specs.Step.{State};
+    ghost use Rattle.opens.specs.Views.{opens_of, StandsAt};
+    ghost use Rattle.wire.specs.SmallViews.{state_view};
+    ghost use Rattle.compound.specs.Views.{in_progress_of};
+
+    /// Where the next operation uses a stateid.
+    pub(crate) fn standing(&self) -> Standing
+        ensures { StandsAt result (in_progress_of self.now).context }
+    {
+        let (number, state) = match self.progress.current {
+            Some(place) => (place.number, place.state),
+            None => (0, None),
+        };
+        Standing {
+            client: self.progress.client,
+            run: self.progress.run,
+            number,
+            state,
+        }
+    }
+
+    /// The verdict on a stateid, for an open with this access.
+    pub(crate) fn verdict(
+        &self,
+        opens: &Opens,
+        stateid: &StateId,
+        access: Access,
+    ) -> Result<(), Status>
+        ensures { (state : State) → state.opens ≡ opens_of opens.now
+            → state.context ≡ (in_progress_of self.now).context
+            → IsVerdict state access.0 (state_view stateid.now) result }
+    {
+        match opens.find(&self.standing(), stateid).refuse_access(access) {
+            None => Ok(()),
+            Some(status) => Err(status),
+        }
+    }
+}
