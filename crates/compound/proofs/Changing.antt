@@ -98,13 +98,13 @@ module _ (now : ℕ) (fs : FileSystem) (request : InProgress) (kind : Argument)
 
   -- it is refused
   pub refused_runs : (table : Table) (opens : Opens) (reason : Status)
-      → ((state : State) → IsHere fs request state → does fs.volume.limits state now kind ≡ refused state kind reason)
+      → ((state : State) → IsHere fs request state → state.opens ≡ opens → does fs.volume.limits state now kind ≡ refused state kind reason)
       → RunsTo now (shared fs table opens) (shared fs table opens) request request kind (Refused (operation_of kind) reason)
   refused_runs table opens reason does_so = tree_runs now fs table opens request request.context kind (Refused (operation_of kind) reason) on_tree
-      (λ world rest on. does_so (state_of world (with_rest request rest)) (here world fs table opens request rest on))
+      (λ world rest on. does_so (state_of world (with_rest request rest)) (here world fs table opens request rest on) on.opens)
 
   pub refused_gives : (table : Table) (opens : Opens) (reason : Status)
-      → ((state : State) → IsHere fs request state → does fs.volume.limits state now kind ≡ refused state kind reason)
+      → ((state : State) → IsHere fs request state → state.opens ≡ opens → does fs.volume.limits state now kind ≡ refused state kind reason)
       → GivesIn now (shared fs table opens) (shared fs table opens) request request kind (Refused (operation_of kind) reason)
   refused_gives table opens reason does_so =
       gives_refusal now (shared fs table opens) (shared fs table opens) request kind (operation_of kind) reason (refused_runs table opens reason does_so)
@@ -116,7 +116,7 @@ module _ (now : ℕ) (fs : FileSystem) (request : InProgress) (kind : Argument)
 
     -- it would be done, but its reply has no room
     pub full : (table : Table) (opens : Opens) → room ≡ false
-        → ((state : State) → IsHere fs request state → is_done (does fs.volume.limits state now kind).outcome ≡ true)
+        → ((state : State) → IsHere fs request state → state.opens ≡ opens → is_done (does fs.volume.limits state now kind).outcome ≡ true)
         → GivesIn now (shared fs table opens) (shared fs table opens) request request kind (Refused (operation_of kind) status.RepTooBig)
     unfolding does
     full table opens none done = λ world rest on.
@@ -127,7 +127,7 @@ module _ (now : ℕ) (fs : FileSystem) (request : InProgress) (kind : Argument)
         ∙ (ap (λ (limits : Limits). in_room world (with_rest request rest) (operation_of kind) (stepped world (with_rest request rest) (does limits state now kind))) on.volume
         ∙ (full_by (first_refusal (refusals fs.volume.limits state kind ++ change_refusals fs.volume.limits state kind (effect fs.volume.limits state now kind).state.tree))
         world (with_rest request rest) state kind (effect fs.volume.limits state now kind) size.0 size.1
-        (room_of table opens world rest on size.0 size.2 ∙ none) (done state there)
+        (room_of table opens world rest on size.0 size.2 ∙ none) (done state there on.opens)
         ∙ ap (λ (after : World). refuses after (with_rest request rest) (operation_of kind) status.RepTooBig) (sym (state_same world (shared fs table opens) on))))
 
     -- with room the tree behind it is that of the definition
@@ -146,7 +146,7 @@ module _ (now : ℕ) (fs : FileSystem) (request : InProgress) (kind : Argument)
     -- What it comes to that the file system did not do
 
     module _ (keeps_word : Type 0) (given : Given) (new : FileSystem) (before after : ℕ) (up : fs.volume.is_down ≡ false) where
-      pub told_gives : (T : Type 0) (opens left : Opens) (why : FsFault) → left ≡ opens → ((state : State) → IsHere fs request state → IsNotDone fs state now kind why) → (IsErrOf {T = T} (Err why) fault.NoRoom → room ≡ false)
+      pub told_gives : (T : Type 0) (opens left : Opens) (why : FsFault) → left ≡ opens → ((state : State) → IsHere fs request state → state.opens ≡ opens → IsNotDone fs state now kind why) → (IsErrOf {T = T} (Err why) fault.NoRoom → room ≡ false)
           → Changes keeps_word given fs new before after (fs_ending {T = T} (Err why))
           → IfOk (told (operation_of kind) why) (ChangesOpens fs new opens left now request kind)
       told_gives T opens left (fault.Status reason) stays step no_room changes = λ table.
@@ -163,7 +163,7 @@ module _ (now : ℕ) (fs : FileSystem) (request : InProgress) (kind : Argument)
       told_gives T opens left fault.Device stays step no_room changes = tt
       told_gives T opens left fault.Down stays step no_room changes = tt
 
-      pub told_changes : (T : Type 0) (table : Table) (opens : Opens) (why : FsFault) → ((state : State) → IsHere fs request state → IsNotDone fs state now kind why) → IsUp why
+      pub told_changes : (T : Type 0) (table : Table) (opens : Opens) (why : FsFault) → ((state : State) → IsHere fs request state → state.opens ≡ opens → IsNotDone fs state now kind why) → IsUp why
           → (IsErrOf {T = T} (Err why) fault.NoRoom → room ≡ false) → (IsErrOf {T = T} (Err why) fault.Device → room ≡ true) → (room ≡ true → (tree : Tree) (lasts : Bool) → OperationGives (shared fs table opens) request now kind tree lasts → given tree lasts)
           → Changes keeps_word given fs new before after (fs_ending {T = T} (Err why))
           → Changes keeps_word (OperationGives (shared fs table opens) request now kind) fs new before after (ending (told (operation_of kind) why))

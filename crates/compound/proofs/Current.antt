@@ -17,6 +17,7 @@ ran_root world request now = refl
 -- the operations served that take the current filehandle
 abbrev pub takes_current : Argument → Bool
 takes_current (Argument.Access rights) = true
+takes_current (Argument.Commit arguments) = true
 takes_current (Argument.Create arguments) = true
 takes_current (Argument.GetAttr bitmap) = true
 takes_current Argument.GetFh = true
@@ -26,6 +27,7 @@ takes_current (Argument.ReadDir arguments) = true
 takes_current (Argument.Remove name) = true
 takes_current (Argument.Rename arguments) = true
 takes_current Argument.SaveFh = true
+takes_current (Argument.SetAttr arguments) = true
 takes_current (Argument.ReclaimComplete one_fs) = one_fs
 takes_current _ = false
 
@@ -34,6 +36,7 @@ pub wants_current : (world : World) (request : InProgress) (now : ℕ) (operatio
     → run world request now operation ≡ Gives (Outcome.Refused (operation_of operation) status.NoFileHandle) world request
 unfolding run does refusals permitted effect
 wants_current world request now (Argument.Access rights) none takes = rw none refl
+wants_current world request now (Argument.Commit arguments) none takes = rw none refl
 wants_current world request now (Argument.Create (NewDirectory name given)) none takes = rw none refl
 wants_current world request now (Argument.Create (OtherType type_number)) none takes = rw none refl
 wants_current world request now (Argument.GetAttr bitmap) none takes = rw none refl
@@ -44,5 +47,6 @@ wants_current world request now (Argument.ReadDir arguments) none takes = rw non
 wants_current world request now (Argument.Remove name) none takes = rw none refl
 wants_current world request now (Argument.Rename arguments) none takes = rw none refl
 wants_current world request now Argument.SaveFh none takes = rw none refl
+wants_current world request now (Argument.SetAttr arguments) none takes = rw none refl
 wants_current world request now (Argument.ReclaimComplete true) none takes = rw none refl
 wants_current world request now operation none takes = absurd cc

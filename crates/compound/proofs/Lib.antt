@@ -13,10 +13,12 @@ pub mod Resuming
 pub mod Rests
 pub mod Rooms
 pub mod Sequencing
+pub mod SettingLaws
 pub mod Stepping
 pub mod Tables
 pub mod Telling
 pub mod Tellings
 pub mod Trees
 pub mod Turning
+pub mod VerdictLaws
 pub mod VolumeLaws

@@ -108,10 +108,10 @@ tests_status fs state fault.Down up is = down fs.volume.is_down up is
 
 -- Every refusal has a status that is not OK
 
-abbrev is_bad : Status → Bool
+abbrev pub is_bad : Status → Bool
 is_bad reason = not (code_of reason == 0)
 
-abbrev all_bad : Refusals → Bool
+abbrev pub all_bad : Refusals → Bool
 all_bad [] = true
 all_bad (test ∷ rest) = is_bad test.1 && all_bad rest
 
@@ -140,7 +140,7 @@ first_bad (test ∷ rest) reason bad is =
     let each = both (is_bad test.1) (all_bad rest) bad in
     first_bad_by test.0 test.1 reason (first_refusal rest) each.0 (first_bad rest reason each.1) is
 
-append_bad : (front rest : Refusals) → all_bad front ≡ true → all_bad rest ≡ true → all_bad (front ++ rest) ≡ true
+pub append_bad : (front rest : Refusals) → all_bad front ≡ true → all_bad rest ≡ true → all_bad (front ++ rest) ≡ true
 append_bad [] rest bad others = others
 append_bad (test ∷ front) rest bad others =
     let each = both (is_bad test.1) (all_bad front) bad in
@@ -155,7 +155,7 @@ value_bad : (limits : Limits) (kind : NodeKind) (value : Value) → all_bad (val
 value_bad limits kind (Acl entries) = each_bad (entry_refusals kind) (λ entry. refl) entries
 value_bad limits kind value = refl
 
-values_bad : (limits : Limits) (kind : NodeKind) (values : List Value) → all_bad (flat_map (value_refusals limits kind) values) ≡ true
+pub values_bad : (limits : Limits) (kind : NodeKind) (values : List Value) → all_bad (flat_map (value_refusals limits kind) values) ≡ true
 values_bad limits kind values = each_bad (value_refusals limits kind) (value_bad limits kind) values
 
 done≢refused : (answer : Answer) (number : ℕ) (reason : Status) → Done answer ≡ Refused number reason → ⊥

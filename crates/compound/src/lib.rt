@@ -20,6 +20,7 @@ mod renaming;
 mod results;
 mod running;
 mod sequence;
+mod setting;
 mod stateids;
 mod step;
 mod told;

@@ -90,7 +90,8 @@ Commits keeps_word old new state now arguments (Ok done) = keeps_word
 Commits keeps_word old new state now arguments (Err (fault.Status reason)) =
     does_on old state now (Argument.Commit arguments)
     ≡ refused state (Argument.Commit arguments) reason
-Commits keeps_word old new state now arguments (Err fault.NoRoom) = ⊥
+Commits keeps_word old new state now arguments (Err fault.NoRoom) =
+    is_done (does_on old state now (Argument.Commit arguments)).outcome ≡ true
 Commits keeps_word old new state now arguments (Err fault.Memory) = ⊥
 Commits keeps_word old new state now arguments (Err fault.Device) =
     is_done (does_on old state now (Argument.Commit arguments)).outcome ≡ true

@@ -182,23 +182,30 @@ impl<D: Device> Fs<D> {
     }
 
     /// COMMIT (RFC 8881, section 18.3) of the file of this number, by this caller: keeps all changes
-    /// so far, of every file. Whichever part it asks for.
+    /// so far, of every file. Whichever part it asks for. `has_room` says whether the reply has room.
     ///
     /// # Errors
     ///
-    /// STALE, ISDIR; Device where the device failed.
-    pub fn commit(&mut self, cred: &Cred, number: u64) -> Result<(), FsFault>
+    /// STALE, ISDIR; then `NoRoom`, and nothing is kept; Device where the device failed.
+    pub fn commit(&mut self, cred: &Cred, number: u64, has_room: bool) -> Result<(), FsFault>
         ensures step { (state : State) (now : ℕ) (arguments : CommitArguments)
             → IsOn (fs_of self.old) cred.now number state
             → Commits D.keeps_word (fs_of self.old) (fs_of self.new) state now arguments result }
         ensures volume { Alters self.old self.new
             (IsTree (fs_of self.old).volume.tree) (fs_ending result) }
+        ensures room { OnOk result (has_room ≡ true) }
+        // Refused
+        ensures no_room { IsErrOf result FsFault.NoRoom → has_room ≡ false }
         ensures down { (fs_of self.old).volume.is_down ≡ true → IsErrOf result FsFault.Down }
+        ensures device_room { IsErrOf result FsFault.Device → has_room ≡ true }
     {
         if self.is_down() {
             return Err(FsFault::Down);
         }
         self.file(number)?;
+        if !has_room {
+            return Err(FsFault::NoRoom);
+        }
         self.volume.flush()?;
         Ok(())
     }

@@ -202,7 +202,7 @@ pub(super) fn read_part<D: Device>(
 }
 
 pub(super) fn commit<D: Device>(fs: &mut Fs<D>, number: u64) -> Result<(), FsFault> {
-    fs.commit(&caller(), number)
+    fs.commit(&caller(), number, true)
 }
 
 /// Opens a file of the root, where the table of opens has room.

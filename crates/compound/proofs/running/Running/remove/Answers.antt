@@ -105,7 +105,7 @@ returns-in-Err-remove-clause-gives g c = λ keeps.
     subst (λ (r : Result Operated Fault). IfOk r (ChangesOpens fs new (opens_of c.args.opens.now) (opens_of c.args.opens.now) c.args.now request (Argument.Remove name))) (sym c.tell_fault.ensures)
     (told_gives c.args.now fs request (Argument.Remove name) (on_tree c.args.now fs request name) _ (sized c.args.now fs request name _ c.has_removed_room-has_room.ensures)
     g.D.Device.keeps_word _ new _ _ c.requires.up _ (opens_of c.args.opens.now) (opens_of c.args.opens.now) c.in-Err-remove.fault refl
-    (λ state there. c.in-Err-remove.ensures.step state (is_on fs request _ _ c.requires.run c.in-Ok.ensures.ok.0 c.in-Ok.ensures.ok.1 there))
+    (λ state there known. c.in-Err-remove.ensures.step state (is_on fs request _ _ c.requires.run c.in-Ok.ensures.ok.0 c.in-Ok.ensures.ok.1 there))
     c.in-Err-remove.ensures.no_room c.in-Err-remove.ensures.volume)
 
 pub returns-in-Err-remove-clause-answered : goal.returns-in-Err-remove-clause-answered
@@ -132,7 +132,7 @@ returns-in-Err-remove-clause-volume g c = λ table.
     (sym c.tell_fault.ensures)
     (told_changes c.args.now fs request (Argument.Remove name) (on_tree c.args.now fs request name) _ (sized c.args.now fs request name _ c.has_removed_room-has_room.ensures)
     g.D.Device.keeps_word _ new _ _ c.requires.up _ table opens c.in-Err-remove.fault
-    (λ state there. c.in-Err-remove.ensures.step state (is_on fs request _ _ c.requires.run c.in-Ok.ensures.ok.0 c.in-Ok.ensures.ok.1 there))
+    (λ state there known. c.in-Err-remove.ensures.step state (is_on fs request _ _ c.requires.run c.in-Ok.ensures.ok.0 c.in-Ok.ensures.ok.1 there))
     (remove_up c.args.now fs request c.args.name.now _ c.in-Err-remove.fault c.requires.up c.requires.run c.in-Ok.ensures.ok.0 c.in-Ok.ensures.ok.1 c.in-Err-remove.ensures.step) c.in-Err-remove.ensures.no_room c.in-Err-remove.ensures.device_room
     (remove_makes c.args.now fs request name table opens _ c.requires.run c.in-Ok.ensures.ok.0 c.in-Ok.ensures.ok.1 _ c.has_removed_room-has_room.ensures)
     c.in-Err-remove.ensures.volume)

@@ -30,7 +30,7 @@ returns-in-Err-clause-gives g c = λ keeps table.
     let arguments = rename_view c.args.arguments.now in
     c.refuse.ensures.gives c.args.now (shared fs table opens) (shared fs table opens) (Argument.Rename arguments)
     (refused_gives c.args.now fs request (Argument.Rename arguments) (on_tree c.args.now fs request arguments) table opens c.in-Err.status
-    (λ state there. c.in-Err.ensures.err state c.args.now arguments there))
+    (λ state there known. c.in-Err.ensures.err state c.args.now arguments there))
 
 pub returns-in-Err-clause-volume : goal.returns-in-Err-clause-volume
 returns-in-Err-clause-volume g c = λ table.
@@ -40,7 +40,7 @@ returns-in-Err-clause-volume g c = λ table.
     let arguments = rename_view c.args.arguments.now in
     refusal_changes g.D.Device.keeps_word fs fs table opens (fs_failures c.args.fs.now) (fs_failures c.args.fs.now) request c.args.now (Argument.Rename arguments) 29 c.in-Err.status refl (omega arith) c.requires.up
     (refused_gives c.args.now fs request (Argument.Rename arguments) (on_tree c.args.now fs request arguments) table opens c.in-Err.status
-    (λ state there. c.in-Err.ensures.err state c.args.now arguments there))
+    (λ state there known. c.in-Err.ensures.err state c.args.now arguments there))
 
 -- Where it is done
 
@@ -105,7 +105,7 @@ returns-in-Err-rename-clause-gives g c = λ keeps.
     subst (λ (r : Result Operated Fault). IfOk r (ChangesOpens fs new (opens_of c.args.opens.now) (opens_of c.args.opens.now) c.args.now request (Argument.Rename arguments))) (sym c.tell_fault.ensures)
     (told_gives c.args.now fs request (Argument.Rename arguments) (on_tree c.args.now fs request arguments) _ (sized c.args.now fs request arguments _ c.has_renamed_room-has_room.ensures)
     g.D.Device.keeps_word _ new _ _ c.requires.up _ (opens_of c.args.opens.now) (opens_of c.args.opens.now) c.in-Err-rename.fault refl
-    (λ state there. c.in-Err-rename.ensures.step state (is_on_both c.args.now fs request arguments c.in-Ok.numbers c.requires.run c.in-Ok.ensures.ok state there))
+    (λ state there known. c.in-Err-rename.ensures.step state (is_on_both c.args.now fs request arguments c.in-Ok.numbers c.requires.run c.in-Ok.ensures.ok state there))
     c.in-Err-rename.ensures.no_room c.in-Err-rename.ensures.volume)
 
 pub returns-in-Err-rename-clause-answered : goal.returns-in-Err-rename-clause-answered
@@ -132,7 +132,7 @@ returns-in-Err-rename-clause-volume g c = λ table.
     (sym c.tell_fault.ensures)
     (told_changes c.args.now fs request (Argument.Rename arguments) (on_tree c.args.now fs request arguments) _ (sized c.args.now fs request arguments _ c.has_renamed_room-has_room.ensures)
     g.D.Device.keeps_word _ new _ _ c.requires.up _ table opens c.in-Err-rename.fault
-    (λ state there. c.in-Err-rename.ensures.step state (is_on_both c.args.now fs request arguments c.in-Ok.numbers c.requires.run c.in-Ok.ensures.ok state there))
+    (λ state there known. c.in-Err-rename.ensures.step state (is_on_both c.args.now fs request arguments c.in-Ok.numbers c.requires.run c.in-Ok.ensures.ok state there))
     (rename_up c.args.now fs request (rename_view c.args.arguments.now) c.in-Ok.numbers c.in-Err-rename.fault c.requires.up c.requires.run c.in-Ok.ensures.ok c.in-Err-rename.ensures.step) c.in-Err-rename.ensures.no_room c.in-Err-rename.ensures.device_room
     (rename_makes c.args.now fs request arguments table opens c.in-Ok.numbers c.requires.run c.in-Ok.ensures.ok _ c.has_renamed_room-has_room.ensures)
     c.in-Err-rename.ensures.volume)

@@ -24,3 +24,7 @@ pub returns-clause-step : goal.returns-clause-step
 unfolding fs_of
 returns-clause-step g c state now arguments on keeps =
     committed (fs_of c.args.self.now) c.args.cred.now c.args.number state now on arguments c.in_ok-file.ensures.tests _ _ (c.in_ok-flush.ensures.shows.tree_is keeps) refl
+
+pub returns-then-not-has_room-clause-step : goal.returns-then-not-has_room-clause-step
+returns-then-not-has_room-clause-step g c = λ state now arguments on.
+    commit_goes_on (fs_of c.args.self.now) c.args.cred.now c.args.number state now on arguments c.in_ok-file.ensures.tests

@@ -1,0 +1,104 @@
+//! SETATTR (RFC 8881, section 18.30).
+
+ghost use Rattle.std.specs.Prelude.{◌≡◌, ◌<◌, ◌^◌, IsTrue, length};
+ghost use Rattle.xdr.specs.Forms.{is_trimmed};
+ghost use Rattle.model.specs.Answer.{Answer as Answered, Done};
+ghost use Rattle.model.specs.Attribute.{trimmed};
+ghost use Rattle.model.specs.World.{outcome_text};
+ghost use Rattle.model.specs.WireAnswers as answers;
+ghost use Rattle.wire.specs.OutcomeView.{outcome_view};
+
+use crate::fault::Fault;
+use crate::operated::{Effect, Operated};
+use crate::removing::change_info;
+use crate::running::Running;
+use disk::Device;
+use fs::{Fs, Setting};
+use opens::{Access, Opens};
+use settings::Attributes as Given;
+use wire::{Answer, Bitmap, CreateAnswer, Operation, Outcome, SetAttrArguments};
+
+impl Running<'_> {
+    ghost use Rattle.std.specs.Prelude.{◌≡◌, false, nat_le, length, IfOk};
+    ghost use Rattle.fs.specs.FileSystems.{fs_of, Alters};
+    ghost use Rattle.model.specs.Answer.{Answer as Answered, Done};
+    ghost use Rattle.model.specs.Attribute.{trimmed};
+    ghost use Rattle.model.specs.Operation as operations;
+    ghost use Rattle.model.specs.Session.{Table};
+    ghost use Rattle.model.specs.World.{reply_with};
+    ghost use Rattle.opens.specs.Views.{opens_of};
+    ghost use Rattle.wire.specs.ArgumentViews.{set_attr_view};
+    ghost use Rattle.compound.specs.Operates.{ChangesOpens, IsAnswered, IsKept};
+    ghost use Rattle.compound.specs.States.{shared};
+    ghost use Rattle.compound.specs.Views.{in_progress_of};
+    ghost use Rattle.compound.specs.Volumes.{OperationGives, ending};
+
+    /// SETATTR: nothing is set where the reply has no room for the result.
+    pub(crate) fn set_attributes<D: Device>(
+        &self,
+        fs: &mut Fs<D>,
+        opens: &Opens,
+        now: u64,
+        arguments: &SetAttrArguments<'_>,
+    ) -> Result<Operated, Fault>
+        requires up { (fs_of fs.old).volume.is_down ≡ false }
+        requires run { (in_progress_of self.now).context.run ≡ (fs_of fs.old).volume.run }
+        ensures gives { D.keeps_word → IfOk result (ChangesOpens (fs_of fs.old) (fs_of fs.new)
+            (opens_of opens.now) (opens_of opens.now) now (in_progress_of self.now)
+            (operations.Argument.SetAttr (set_attr_view arguments.now))) }
+        ensures answered { IfOk result (IsAnswered (in_progress_of self.now)) }
+        ensures kept { (table : Table) → IfOk result (IsKept table) }
+        ensures volume { (table : Table) → Alters fs.old fs.new (OperationGives
+            (shared (fs_of fs.old) table (opens_of opens.now)) (in_progress_of self.now) now
+            (operations.Argument.SetAttr (set_attr_view arguments.now))) (ending result) }
+    {
+        let number = match self.current_node() {
+            Ok(number) => number,
+            Err(status) => return Ok(self.refuse(Operation::SetAttr, status)),
+        };
+        let has_room = self.has_set_room(&arguments.attributes.bitmap);
+        let verdict = self.verdict(opens, &arguments.state, Access::WRITE);
+        let asked = Setting {
+            number,
+            verdict,
+            attributes: Given {
+                bitmap: arguments.attributes.bitmap.as_slice(),
+                values: arguments.attributes.values,
+            },
+        };
+        match fs.set_attributes(&self.cred, now, asked, has_room) {
+            Ok(()) => Ok(Operated::Gives {
+                outcome: attributes_set(&arguments.attributes.bitmap),
+                effect: Effect::Stays,
+            }),
+            Err(fault) => self.tell_fault(Operation::SetAttr, fault),
+        }
+    }
+
+    /// Whether the reply has room for the result of a SETATTR.
+    fn has_set_room(&self, bitmap: &Bitmap) -> bool
+        ensures { result ≡ nat_le (length (reply_with (in_progress_of self.now)
+            (Done (Answered.SetAttr (trimmed bitmap.now))))) 16368 }
+    {
+        self.has_room(&attributes_set(bitmap))
+    }
+}
+
+/// The result of a SETATTR: which attributes were set.
+fn attributes_set(bitmap: &Bitmap) -> Outcome<'static>
+    ensures is { outcome_view result ≡ Done (Answered.SetAttr (trimmed bitmap.now)) }
+    ensures fits { answers.outcome.Fits (outcome_view result) }
+    ensures small { length (outcome_text (outcome_view result)) < 2 ^ 63 }
+{
+    let outcome = Outcome::Done(Answer::SetAttr(was_set(bitmap)));
+    outcome.tell_fits();
+    outcome
+}
+
+/// The bitmap of what was set, of one that was given: it ends in no zero word.
+fn was_set(given: &Bitmap) -> Bitmap
+    ensures is { result ≡ trimmed given.now }
+    ensures trimmed { IsTrue (is_trimmed result) }
+{
+    CreateAnswer::new(change_info(0, 0), given).was_set
+}
