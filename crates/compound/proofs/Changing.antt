@@ -65,6 +65,15 @@ tree_by_first : (first : Option Status) (world : World) (request : InProgress) (
 tree_by_first None world request state kind after answer done room = ap (tree_by world) (in_room_by world request kind after answer true done room)
 tree_by_first (Some reason) world request state kind after answer done room = refl
 
+ran_by_first : (first : Option Status) (world : World) (request : InProgress) (state : State) (kind : Argument) (after : Stepped) (answer : Answer)
+    → after.outcome ≡ Done answer → has_room world request (Done answer) ≡ true
+    → in_room world request (operation_of kind) (stepped world request (unless_refused state kind first after))
+    ≡ stepped world request (unless_refused state kind first after)
+ran_by_first None world request state kind after answer done room =
+    in_room_by world request kind after answer true done room
+    ∙ ap (λ (o : Outcome). stepped world request (record { outcome = o; state = after.state })) (sym done)
+ran_by_first (Some reason) world request state kind after answer done room = refl
+
 -- answers of one length
 pub same_room : (request : InProgress) (answer other : Answer) (room : Bool)
     → length (outcome_text (Done answer)) ≡ length (outcome_text (Done other))
@@ -140,6 +149,20 @@ module _ (now : ℕ) (fs : FileSystem) (request : InProgress) (kind : Argument)
         ap (λ ran. tree_by world (in_room world (with_rest request rest) (operation_of kind) ran)) (on_tree world rest)
         ∙ (ap (λ (limits : Limits). tree_by world (in_room world (with_rest request rest) (operation_of kind) (stepped world (with_rest request rest) (does limits state now kind)))) on.volume
         ∙ tree_by_first (first_refusal (refusals fs.volume.limits state kind ++ change_refusals fs.volume.limits state kind (effect fs.volume.limits state now kind).state.tree))
+        world (with_rest request rest) state kind (effect fs.volume.limits state now kind) size.0 size.1
+        (room_of table opens world rest on size.0 size.2 ∙ some))
+
+    -- and the operation comes to what the definition gives
+    pub ran_given : (table : Table) (opens : Opens) (world : World) (rest : List ℕ) → room ≡ true → HasState world (shared fs table opens)
+        → run_in_room world (with_rest request rest) now kind
+        ≡ stepped world (with_rest request rest) (does fs.volume.limits (state_of world (with_rest request rest)) now kind)
+    unfolding does
+    ran_given table opens world rest some on =
+        let state = state_of world (with_rest request rest) in
+        let size = sized state (here world fs table opens request rest on) in
+        ap (in_room world (with_rest request rest) (operation_of kind)) (on_tree world rest)
+        ∙ (ap (λ (limits : Limits). in_room world (with_rest request rest) (operation_of kind) (stepped world (with_rest request rest) (does limits state now kind))) on.volume
+        ∙ ran_by_first (first_refusal (refusals fs.volume.limits state kind ++ change_refusals fs.volume.limits state kind (effect fs.volume.limits state now kind).state.tree))
         world (with_rest request rest) state kind (effect fs.volume.limits state now kind) size.0 size.1
         (room_of table opens world rest on size.0 size.2 ∙ some))
 

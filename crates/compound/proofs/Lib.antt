@@ -22,3 +22,4 @@ pub mod Trees
 pub mod Turning
 pub mod VerdictLaws
 pub mod VolumeLaws
+pub mod WriteLaws

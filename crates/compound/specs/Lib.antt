@@ -1,3 +1,4 @@
+pub mod Files
 pub mod Operates
 pub mod Pages
 pub mod Runs

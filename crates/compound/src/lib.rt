@@ -25,6 +25,7 @@ mod stateids;
 mod step;
 mod told;
 mod tree;
+mod writing;
 
 pub use fault::Fault;
 pub use next::Next;

@@ -1,0 +1,166 @@
+use Rattle.std.proofs.Common.{◌≡◌, ℕ, ◌==◌, Bool, not, true, false, Result, refl, sym, ap, subst, ◌∙◌, arith, IfOk}
+use Rattle.fs.proofs.ChangeLaws.{changes_by}
+use Rattle.fs.specs.Changes.{Changes}
+use Rattle.fs.specs.FileSystems.{fs_of, fs_failures}
+use Rattle.fs.specs.Writing.{IsWriting}
+use Rattle.model.specs.Answer.{Outcome, Refused}
+use Rattle.model.specs.Operation.{Argument}
+use Rattle.model.specs.Opens.{Opens}
+use Rattle.model.specs.Step.{State}
+use Rattle.model.specs.declared.status.Status.{Status}
+use Rattle.opens.specs.Views.{opens_of}
+use Rattle.wire.specs.ArgumentViews.{write_view}
+use Rattle.compound.specs.Files.{committed_answer, written_answer}
+use Rattle.compound.specs.Operates.{GivesIn, HasRoom, ChangesOpens, IsAnswered, IsKept}
+use Rattle.compound.specs.States.{shared}
+use Rattle.compound.specs.Trees.{IsHere}
+use Rattle.compound.specs.Volumes.{OperationGives, ending}
+use Rattle.compound.specs.Views.{in_progress_of}
+use Rattle.compound.specs.declared.fault.Fault.{Fault}
+use Rattle.compound.specs.declared.operated.Operated.{Operated}
+use Rattle.compound.proofs.Changing.{done_runs, told_gives, told_changes, told_spelled, told_kept, is_short}
+use Rattle.compound.proofs.Rooms.{gives_in_room, gives_refusal}
+use Rattle.compound.proofs.Trees.{is_on, wants}
+use Rattle.compound.proofs.VolumeLaws.{refusal_changes}
+use Rattle.compound.proofs.WriteLaws.{wants_file, write_on_tree, write_sized, does_write, write_makes, write_up, written_room}
+use Rattle.compound.proofs.running.Running.write.Goals as goal
+
+stable_test : (stable : ℕ) → (stable == 0) ≡ not (not (stable == 0))
+stable_test stable = twice (stable == 0)
+  where
+    twice : (b : Bool) → b ≡ not (not b)
+    twice true = refl
+    twice false = refl
+
+pub returns-in-Err-clause-gives : goal.returns-in-Err-clause-gives
+returns-in-Err-clause-gives g c = λ keeps table.
+    let opens = opens_of c.args.opens.now in
+    let fs = fs_of c.args.fs.now in
+    let request = in_progress_of c.args.self.now in
+    let arguments = write_view c.args.arguments.now in
+    let kind = Argument.Write arguments in
+    c.refuse.ensures.gives c.args.now (shared fs table opens) (shared fs table opens) kind
+    (subst (λ (reason : Status). GivesIn c.args.now (shared fs table opens) (shared fs table opens) request request kind (Refused 38 reason)) (sym c.in-Err.ensures.err.0)
+    (gives_refusal c.args.now (shared fs table opens) (shared fs table opens) request kind 38 _ (wants_file c.args.now fs table opens request arguments c.tell_bytes.ensures c.in-Err.ensures.err.1)))
+
+pub returns-in-Err-clause-volume : goal.returns-in-Err-clause-volume
+returns-in-Err-clause-volume g c = λ table.
+    let opens = opens_of c.args.opens.now in
+    let fs = fs_of c.args.fs.now in
+    let request = in_progress_of c.args.self.now in
+    let arguments = write_view c.args.arguments.now in
+    let kind = Argument.Write arguments in
+    refusal_changes g.D.Device.keeps_word fs fs table opens (fs_failures c.args.fs.now) (fs_failures c.args.fs.now) request c.args.now kind 38 c.in-Err.status refl (omega arith) c.requires.up
+    (subst (λ (reason : Status). GivesIn c.args.now (shared fs table opens) (shared fs table opens) request request kind (Refused 38 reason)) (sym c.in-Err.ensures.err.0)
+    (gives_refusal c.args.now (shared fs table opens) (shared fs table opens) request kind 38 _ (wants_file c.args.now fs table opens request arguments c.tell_bytes.ensures c.in-Err.ensures.err.1)))
+
+-- Where it is done
+
+pub returns-in-Ok-write-clause-gives : goal.returns-in-Ok-write-clause-gives
+unfolding in_progress_of
+returns-in-Ok-write-clause-gives g c = λ keeps table.
+    let opens = opens_of c.args.opens.now in
+    let fs = fs_of c.args.fs.now in
+    let new = fs_of c.write.new.self in
+    let request = in_progress_of c.args.self.now in
+    let arguments = write_view c.args.arguments.now in
+    let kind = Argument.Write arguments in
+    let answer = written_answer request.context.run arguments.stable c.in-Ok-write.count in
+    subst (λ (outcome : Outcome). GivesIn c.args.now (shared fs table opens) (shared new table opens) request request kind outcome) (sym c.written.ensures.is)
+    (gives_in_room c.args.now (shared fs table opens) (shared new table opens) request request kind answer
+    (written_room request request.context.run arguments.stable c.in-Ok-write.count true (sym c.in-Ok-write.ensures.room ∙ c.has_written_room-has_room.ensures))
+    (done_runs c.args.now fs request kind (write_on_tree c.args.now fs request arguments) new table opens opens request.context answer
+    (λ state there known. does_write c.args.now fs request arguments new opens c.in-Ok-write.count state there known
+    (c.in-Ok-write.ensures.step state arguments (is_on fs request _ state c.requires.run c.in-Ok.ensures.ok.0 c.in-Ok.ensures.ok.1 there)
+    (record { verdict_is = c.verdict-verdict.ensures state known there.context_is; offset_is = refl; bytes_are = refl; stable_is = stable_test arguments.stable }) keeps))))
+
+pub returns-in-Ok-write-clause-answered : goal.returns-in-Ok-write-clause-answered
+unfolding in_progress_of
+returns-in-Ok-write-clause-answered g c =
+    let request = in_progress_of c.args.self.now in
+    let arguments = write_view c.args.arguments.now in
+    record {
+      fits = c.written.ensures.fits;
+      small = c.written.ensures.small;
+      room = subst (HasRoom request) (sym c.written.ensures.is)
+          (is_short request (written_answer request.context.run arguments.stable c.in-Ok-write.count)
+          (written_room request request.context.run arguments.stable c.in-Ok-write.count true (sym c.in-Ok-write.ensures.room ∙ c.has_written_room-has_room.ensures)));
+    }
+
+pub returns-in-Ok-write-clause-volume : goal.returns-in-Ok-write-clause-volume
+unfolding in_progress_of
+returns-in-Ok-write-clause-volume g c = λ table.
+    let opens = opens_of c.args.opens.now in
+    let fs = fs_of c.args.fs.now in
+    let request = in_progress_of c.args.self.now in
+    let arguments = write_view c.args.arguments.now in
+    changes_by g.D.Device.keeps_word _ _
+    (write_makes c.args.now fs request arguments table opens _ _ _ c.requires.run c.in-Ok.ensures.ok.0 c.in-Ok.ensures.ok.1
+    (λ state there known. record { verdict_is = c.verdict-verdict.ensures state known there.context_is; offset_is = refl; bytes_are = refl; stable_is = stable_test arguments.stable })
+    _ c.has_written_room-has_room.ensures c.in-Ok-write.ensures.room)
+    _ _ _ _ _ c.in-Ok-write.ensures.volume
+
+-- Where it is not
+
+pub tell_fault-requires : goal.tell_fault-requires
+unfolding in_progress_of
+tell_fault-requires g c =
+    let opens = opens_of c.args.opens.now in
+    let fs = fs_of c.args.fs.now in
+    let request = in_progress_of c.args.self.now in
+    let arguments = write_view c.args.arguments.now in
+    write_up c.args.now fs request arguments opens c.in-Err-write.fault c.requires.up
+    (λ state there known. c.in-Err-write.ensures.step state arguments (is_on fs request _ state c.requires.run c.in-Ok.ensures.ok.0 c.in-Ok.ensures.ok.1 there)
+    (record { verdict_is = c.verdict-verdict.ensures state known there.context_is; offset_is = refl; bytes_are = refl; stable_is = stable_test arguments.stable }))
+
+pub returns-in-Err-write-clause-gives : goal.returns-in-Err-write-clause-gives
+unfolding in_progress_of
+returns-in-Err-write-clause-gives g c = λ keeps.
+    let opens = opens_of c.args.opens.now in
+    let fs = fs_of c.args.fs.now in
+    let new = fs_of c.write.new.self in
+    let request = in_progress_of c.args.self.now in
+    let arguments = write_view c.args.arguments.now in
+    let kind = Argument.Write arguments in
+    subst (λ (r : Result Operated Fault). IfOk r (ChangesOpens fs new opens opens c.args.now request kind)) (sym c.tell_fault.ensures)
+    (told_gives c.args.now fs request kind (write_on_tree c.args.now fs request arguments) _ (write_sized c.args.now fs request arguments _ c.has_written_room-has_room.ensures)
+    g.D.Device.keeps_word _ new _ _ c.requires.up _ opens opens c.in-Err-write.fault refl
+    (λ state there known. c.in-Err-write.ensures.step state arguments (is_on fs request _ state c.requires.run c.in-Ok.ensures.ok.0 c.in-Ok.ensures.ok.1 there)
+    (record { verdict_is = c.verdict-verdict.ensures state known there.context_is; offset_is = refl; bytes_are = refl; stable_is = stable_test arguments.stable }))
+    c.in-Err-write.ensures.no_room c.in-Err-write.ensures.volume)
+
+pub returns-in-Err-write-clause-answered : goal.returns-in-Err-write-clause-answered
+unfolding in_progress_of
+returns-in-Err-write-clause-answered g c =
+    let opens = opens_of c.args.opens.now in
+    let fs = fs_of c.args.fs.now in
+    let request = in_progress_of c.args.self.now in
+    let arguments = write_view c.args.arguments.now in
+    subst (λ (r : Result Operated Fault). IfOk r (IsAnswered request)) (sym c.tell_fault.ensures)
+    (told_spelled request 38 c.in-Err-write.fault (omega arith) (write_up c.args.now fs request arguments opens c.in-Err-write.fault c.requires.up
+    (λ state there known. c.in-Err-write.ensures.step state arguments (is_on fs request _ state c.requires.run c.in-Ok.ensures.ok.0 c.in-Ok.ensures.ok.1 there)
+    (record { verdict_is = c.verdict-verdict.ensures state known there.context_is; offset_is = refl; bytes_are = refl; stable_is = stable_test arguments.stable }))))
+
+pub returns-in-Err-write-clause-kept : goal.returns-in-Err-write-clause-kept
+returns-in-Err-write-clause-kept g c = λ table.
+    subst (λ (r : Result Operated Fault). IfOk r (IsKept table)) (sym c.tell_fault.ensures) (told_kept table 38 c.in-Err-write.fault)
+
+pub returns-in-Err-write-clause-volume : goal.returns-in-Err-write-clause-volume
+unfolding in_progress_of
+returns-in-Err-write-clause-volume g c = λ table.
+    let opens = opens_of c.args.opens.now in
+    let fs = fs_of c.args.fs.now in
+    let new = fs_of c.write.new.self in
+    let request = in_progress_of c.args.self.now in
+    let arguments = write_view c.args.arguments.now in
+    let kind = Argument.Write arguments in
+    let writing = λ (state : State) (there : IsHere fs request state) (known : state.opens ≡ opens). let is : IsWriting state _ _ arguments = record { verdict_is = c.verdict-verdict.ensures state known there.context_is; offset_is = refl; bytes_are = refl; stable_is = stable_test arguments.stable } in is in
+    let step = λ (state : State) (there : IsHere fs request state) (known : state.opens ≡ opens). c.in-Err-write.ensures.step state arguments (is_on fs request _ state c.requires.run c.in-Ok.ensures.ok.0 c.in-Ok.ensures.ok.1 there) (writing state there known) in
+    subst (λ (r : Result Operated Fault). Changes g.D.Device.keeps_word (OperationGives (shared fs table opens) request c.args.now kind) fs new (fs_failures c.args.fs.now) (fs_failures c.write.new.self) (ending r))
+    (sym c.tell_fault.ensures)
+    (told_changes c.args.now fs request kind (write_on_tree c.args.now fs request arguments) _ (write_sized c.args.now fs request arguments _ c.has_written_room-has_room.ensures)
+    g.D.Device.keeps_word _ new _ _ c.requires.up _ table opens c.in-Err-write.fault
+    step
+    (write_up c.args.now fs request arguments opens c.in-Err-write.fault c.requires.up step) c.in-Err-write.ensures.no_room c.in-Err-write.ensures.device_room
+    (write_makes c.args.now fs request arguments table opens _ _ _ c.requires.run c.in-Ok.ensures.ok.0 c.in-Ok.ensures.ok.1 writing _ c.has_written_room-has_room.ensures)
+    c.in-Err-write.ensures.volume)

@@ -1,0 +1,7 @@
+use Rattle.std.proofs.Common.{arith}
+use Rattle.model.specs.World.{outcome_text}
+use Rattle.compound.proofs.writing.written.Goals as goal
+
+pub returns-clause-small : goal.returns-clause-small
+unfolding outcome_text
+returns-clause-small c = omega (arith, c.tell_fits.ensures.bound)

@@ -1,0 +1,17 @@
+-- What the operations on a file's bytes answer.
+use Rattle.std.specs.Prelude.{ℕ}
+use Rattle.std.specs.Int.{w64, to_be_bytes}
+use Rattle.model.specs.Answer.{Answer}
+use Rattle.model.specs.Files.{committed_as}
+
+-- WRITE, in this run of the server: so many bytes were taken
+abbrev pub written_answer : (run stable count : ℕ) → Answer
+written_answer run stable count = Answer.Write (record {
+  count = count;
+  committed = committed_as stable;
+  verifier = to_be_bytes w64 run;
+})
+
+-- COMMIT
+abbrev pub committed_answer : (run : ℕ) → Answer
+committed_answer run = Answer.Commit (to_be_bytes w64 run)

@@ -1,0 +1,158 @@
+//! WRITE (RFC 8881, section 18.32).
+
+ghost use Rattle.std.specs.Prelude.{◌≡◌, ◌<◌, ◌^◌, true, length};
+ghost use Rattle.model.specs.Files.{are_bytes};
+ghost use Rattle.model.specs.Answer.{Done};
+ghost use Rattle.model.specs.World.{outcome_text};
+ghost use Rattle.model.specs.WireAnswers as answers;
+ghost use Rattle.wire.specs.OutcomeView.{outcome_view};
+ghost use Rattle.compound.specs.Files.{committed_answer, written_answer};
+
+use crate::fault::Fault;
+use crate::operated::{Effect, Operated};
+use crate::running::Running;
+use disk::Device;
+use fs::{Fs, Writing};
+use opens::{Access, Opens};
+use wire::{Answer, Operation, Outcome, WriteAnswer, WriteArguments};
+
+/// `UNSTABLE4`: the bytes may be lost until the next COMMIT.
+const UNSTABLE: u32 = 0;
+
+/// `FILE_SYNC4`: the bytes and all of the file's attributes are on the device.
+const FILE_SYNC: u32 = 2;
+
+impl Running<'_> {
+    ghost use Rattle.std.specs.Prelude.{◌≡◌, false, nat_le, length, IfOk};
+    ghost use Rattle.fs.specs.FileSystems.{fs_of, Alters};
+    ghost use Rattle.model.specs.Answer.{Done};
+    ghost use Rattle.model.specs.Operation as operations;
+    ghost use Rattle.model.specs.Session.{Table};
+    ghost use Rattle.model.specs.World.{reply_with};
+    ghost use Rattle.opens.specs.Views.{opens_of};
+    ghost use Rattle.wire.specs.ArgumentViews.{write_view};
+    ghost use Rattle.compound.specs.Files.{committed_answer, written_answer};
+    ghost use Rattle.compound.specs.Operates.{ChangesOpens, IsAnswered, IsKept};
+    ghost use Rattle.compound.specs.States.{shared};
+    ghost use Rattle.compound.specs.Views.{in_progress_of};
+    ghost use Rattle.compound.specs.Volumes.{OperationGives, ending};
+
+    /// WRITE: nothing is written where the reply has no room for the result.
+    pub(crate) fn write<D: Device>(
+        &self,
+        fs: &mut Fs<D>,
+        opens: &Opens,
+        now: u64,
+        arguments: &WriteArguments<'_>,
+    ) -> Result<Operated, Fault>
+        requires up { (fs_of fs.old).volume.is_down ≡ false }
+        requires run { (in_progress_of self.now).context.run ≡ (fs_of fs.old).volume.run }
+        ensures gives { D.keeps_word → IfOk result (ChangesOpens (fs_of fs.old) (fs_of fs.new)
+            (opens_of opens.now) (opens_of opens.now) now (in_progress_of self.now)
+            (operations.Argument.Write (write_view arguments.now))) }
+        ensures answered { IfOk result (IsAnswered (in_progress_of self.now)) }
+        ensures kept { (table : Table) → IfOk result (IsKept table) }
+        ensures volume { (table : Table) → Alters fs.old fs.new (OperationGives
+            (shared (fs_of fs.old) table (opens_of opens.now)) (in_progress_of self.now) now
+            (operations.Argument.Write (write_view arguments.now))) (ending result) }
+    {
+        tell_bytes(arguments.data);
+        let number = match self.current_node() {
+            Ok(number) => number,
+            Err(status) => return Ok(self.refuse(Operation::Write, status)),
+        };
+        let has_room = self.has_written_room();
+        let verdict = self.verdict(opens, &arguments.state, Access::WRITE);
+        let asked = Writing {
+            offset: arguments.offset,
+            bytes: arguments.data,
+            is_stable: arguments.stable != UNSTABLE,
+        };
+        match fs.write(&self.cred, now, number, verdict, asked, has_room) {
+            Ok(count) => Ok(Operated::Gives {
+                outcome: written(self.progress.run, arguments.stable, count),
+                effect: Effect::Stays,
+            }),
+            Err(fault) => self.tell_fault(Operation::Write, fault),
+        }
+    }
+
+    /// Whether the reply has room for the result of a WRITE. What it tells does not matter.
+    fn has_written_room(&self) -> bool
+        ensures { result ≡ nat_le (length (reply_with (in_progress_of self.now)
+            (Done (written_answer 0 0 0)))) 16368 }
+    {
+        self.has_room(&written(0, 0, 0))
+    }
+
+    /// COMMIT (section 18.3): all changes so far are kept. Nothing is where the reply has no room for the result.
+    pub(crate) fn commit<D: Device>(&self, fs: &mut Fs<D>) -> Result<Operated, Fault>
+        requires up { (fs_of fs.old).volume.is_down ≡ false }
+        requires run { (in_progress_of self.now).context.run ≡ (fs_of fs.old).volume.run }
+        ensures gives { (arguments : operations.CommitArguments) (now : _) (opens : _)
+            → D.keeps_word → IfOk result (ChangesOpens (fs_of fs.old) (fs_of fs.new) opens opens
+            now (in_progress_of self.now) (operations.Argument.Commit arguments)) }
+        ensures answered { IfOk result (IsAnswered (in_progress_of self.now)) }
+        ensures kept { (table : Table) → IfOk result (IsKept table) }
+        ensures volume { (arguments : operations.CommitArguments) (now : _) (table : Table)
+            (opens : _) → Alters fs.old fs.new (OperationGives
+            (shared (fs_of fs.old) table opens) (in_progress_of self.now) now
+            (operations.Argument.Commit arguments)) (ending result) }
+    {
+        let number = match self.current_node() {
+            Ok(number) => number,
+            Err(status) => return Ok(self.refuse(Operation::Commit, status)),
+        };
+        let has_room = self.has_committed_room();
+        match fs.commit(&self.cred, number, has_room) {
+            Ok(()) => Ok(Operated::Gives {
+                outcome: committed(self.progress.run),
+                effect: Effect::Stays,
+            }),
+            Err(fault) => self.tell_fault(Operation::Commit, fault),
+        }
+    }
+
+    /// Whether the reply has room for the result of a COMMIT. The run does not matter.
+    fn has_committed_room(&self) -> bool
+        ensures { result ≡ nat_le (length (reply_with (in_progress_of self.now)
+            (Done (committed_answer 0)))) 16368 }
+    {
+        self.has_room(&committed(0))
+    }
+}
+
+/// Bytes are bytes, which the definition asks of numbers.
+fn tell_bytes(data: &[u8])
+    ensures { are_bytes «data».now ≡ true }
+{}
+
+/// The result of a WRITE in this run of the server: how many bytes it took. What is to be stable is on the device.
+fn written(run: u32, stable: u32, count: u32) -> Outcome<'static>
+    ensures is { outcome_view result ≡ Done (written_answer run stable count) }
+    ensures fits { answers.outcome.Fits (outcome_view result) }
+    ensures small { length (outcome_text (outcome_view result)) < 2 ^ 63 }
+{
+    let outcome = Outcome::Done(Answer::Write(WriteAnswer {
+        count,
+        committed: if stable == UNSTABLE {
+            UNSTABLE
+        } else {
+            FILE_SYNC
+        },
+        verifier: u64::from(run).to_be_bytes(),
+    }));
+    outcome.tell_fits();
+    outcome
+}
+
+/// The result of a COMMIT in this run of the server.
+fn committed(run: u32) -> Outcome<'static>
+    ensures is { outcome_view result ≡ Done (committed_answer run) }
+    ensures fits { answers.outcome.Fits (outcome_view result) }
+    ensures small { length (outcome_text (outcome_view result)) < 2 ^ 63 }
+{
+    let outcome = Outcome::Done(Answer::Commit(u64::from(run).to_be_bytes()));
+    outcome.tell_fits();
+    outcome
+}
