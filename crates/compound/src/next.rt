@@ -23,8 +23,9 @@ use xdr::{Reader, Refusal};
 const OP_ILLEGAL: u32 = 10044;
 
 /// The operations that are served; another one of the standard's is answered NOTSUPP.
-const SERVED: [Operation; 19] = [
+const SERVED: [Operation; 22] = [
     Operation::Access,
+    Operation::Commit,
     Operation::Create,
     Operation::GetAttr,
     Operation::GetFh,
@@ -37,6 +38,8 @@ const SERVED: [Operation; 19] = [
     Operation::Rename,
     Operation::RestoreFh,
     Operation::SaveFh,
+    Operation::SetAttr,
+    Operation::Write,
     Operation::ExchangeId,
     Operation::CreateSession,
     Operation::DestroySession,

@@ -50,6 +50,7 @@ impl Running<'_> {
     {
         match argument {
             Argument::Access(asked) => Ok(self.access(fs, *asked)),
+            Argument::Commit(_) => self.commit(fs),
             Argument::Create(arguments) => self.create(fs, now, arguments),
             Argument::GetAttr(asked) => self.get_attributes(fs, asked),
             Argument::GetFh => self.get_handle(fs),
@@ -62,6 +63,8 @@ impl Running<'_> {
             Argument::Rename(arguments) => self.rename(fs, opens, now, arguments),
             Argument::RestoreFh => Ok(self.restore_handle()),
             Argument::SaveFh => Ok(self.save_handle(fs)),
+            Argument::SetAttr(arguments) => self.set_attributes(fs, opens, now, arguments),
+            Argument::Write(arguments) => self.write(fs, opens, now, arguments),
             Argument::ExchangeId(arguments) => self.exchange_id(table, opens, arguments),
             Argument::CreateSession(arguments) => self.create_session(table, opens, arguments),
             Argument::DestroySession(id) => Ok(self.destroy_session(table, id)),

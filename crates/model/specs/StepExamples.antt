@@ -187,8 +187,8 @@ pub record StepExamples : Type 0 where
   pub moved_tree : names_at (does volume (renaming 1) 1000 (rename_to 99)).state.tree 1
       ≡ (4294967298, record { name = 99 ∷ []; number = 4294967297 }) ∷ []
   pub below_itself : (does volume (renaming 4294967297) 1000 (rename_to 99)).outcome ≡ Outcome.Refused 29 status.Inval
-  -- what is not served yet: the test stands around the operation
-  pub not_served : (next : Next) → first_or (later_tests 38) next ≡ Refuses 38 status.NotSupp
+  -- what is not served, as LINK: the test stands around the operation
+  pub not_served : (next : Next) → first_or (later_tests 11) next ≡ Refuses 11 status.NotSupp
   -- charges of 8,200, 364,543, 364,545 and 16,777,216 bytes; the data region
   pub charges : charge_of_blocks (divided_up 8200 4096) ∷ charge_of_blocks (divided_up 364544 4096)
       ∷ charge_of_blocks (divided_up 364545 4096) ∷ charge_of_blocks (divided_up 16777216 4096) ∷ volume.data_sectors ∷ []

@@ -88,7 +88,7 @@ pub fn call<D: Device>(
         verbs.push(operation.verb())?;
     }
     let caller = client.caller();
-    let bytes = call_record(alloc, caller, session, operations)?;
+    let bytes = call_record(alloc, caller, client.name.as_str(), session, operations)?;
     let number = session.number;
     send(
         server,
@@ -247,6 +247,10 @@ fn tell_call<O: Write>(
             Outcome::Done(Answer::GetFh(handle)) => {
                 write!(out, " ")?;
                 write_hex(out, handle)?;
+            }
+            Outcome::Done(Answer::Read(part)) => {
+                write!(out, " ")?;
+                write_hex(out, part.data)?;
             }
             _ => writeln!(out)?,
         }

@@ -3,6 +3,7 @@
 
 mod actions;
 mod client;
+mod file_arguments;
 mod line;
 mod link;
 mod message;

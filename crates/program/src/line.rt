@@ -81,6 +81,14 @@ fn plain_action<'a>(verb: &str) -> Option<Action<'a>> {
     }
 }
 
+/// A number of 64 bits, of decimal digits alone.
+pub fn long_decimal(text: &str) -> Option<u64> {
+    if !text.bytes().all(|byte| byte.is_ascii_digit()) {
+        return None;
+    }
+    text.parse::<u64>().ok()
+}
+
 /// A number of decimal digits alone.
 pub fn decimal(text: &str) -> Option<u32> {
     if !text.bytes().all(|byte| byte.is_ascii_digit()) {

@@ -83,10 +83,11 @@ pub fn session_record(
     record_of(alloc, call)
 }
 
-/// A record with these operations behind a SEQUENCE on slot 0.
+/// A record with these operations behind a SEQUENCE on slot 0. Files are opened under the owner's name.
 pub fn call_record(
     alloc: Global,
     caller: Caller,
+    owner: &str,
     session: Session,
     operations: &[Operation<'_>],
 ) -> Result<Vec<u8>, Refused> {
@@ -104,7 +105,7 @@ pub fn call_record(
     };
     write_argument(&mut call, &Argument::Sequence(sequence))?;
     for operation in operations {
-        operation.write(&mut call)?;
+        operation.write(&mut call, owner)?;
     }
     record_of(alloc, call)
 }

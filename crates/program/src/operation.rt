@@ -3,11 +3,12 @@
 ghost use Rattle.std.specs.Prelude.{◌≤◌, length, IfOk};
 ghost use Rattle.wire_client.specs.ArgumentFits.{CreateFits, RenameFits};
 
-use crate::line::decimal;
+use crate::file_arguments::{closing, opening, reading, setting_mode, setting_size, writing};
+use crate::line::{decimal, long_decimal};
 use crate::refused::Refused;
 use hex::{FromHexError, decode};
 use std::alloc::{AllocError, Global};
-use wire::{Argument, Attributes, Bitmap, CreateArguments, RenameArguments};
+use wire::{Argument, Attributes, Bitmap, CommitArguments, CreateArguments, RenameArguments};
 use wire_client::write_argument;
 use xdr::Writer;
 
@@ -48,6 +49,30 @@ pub enum Operation<'a> {
     Access(u32),
     /// GETFH.
     GetHandle,
+    /// SETATTR of a mode, and of a size.
+    SetMode(u32),
+    SetSize(u64),
+    /// OPEN by a name, to read and to write: of a file that may be made, with this mode, or has to be there.
+    CreateFile {
+        name: &'a str,
+        mode: u32,
+    },
+    OpenFile(&'a str),
+    /// CLOSE of the current stateid.
+    Close,
+    /// READ of so many bytes from an offset on.
+    Read {
+        offset: u64,
+        count: u32,
+    },
+    /// WRITE of bytes at an offset; how stable they are to be is the standard's `stable_how4`.
+    Write {
+        offset: u64,
+        stable: u32,
+        bytes: Vec<u8>,
+    },
+    /// COMMIT of the whole file.
+    Commit,
 }
 
 /// The word for an operation.
@@ -65,6 +90,14 @@ pub enum Verb {
     Rename,
     Access,
     GetHandle,
+    SetMode,
+    SetSize,
+    CreateFile,
+    OpenFile,
+    Close,
+    Read,
+    Write,
+    Commit,
 }
 
 impl Verb {
@@ -83,6 +116,14 @@ impl Verb {
             Verb::Rename => "rename",
             Verb::Access => "access",
             Verb::GetHandle => "getfh",
+            Verb::SetMode => "mode",
+            Verb::SetSize => "size",
+            Verb::CreateFile => "create",
+            Verb::OpenFile => "open",
+            Verb::Close => "close",
+            Verb::Read => "read",
+            Verb::Write => "write",
+            Verb::Commit => "commit",
         }
     }
 }
@@ -102,11 +143,19 @@ impl Operation<'_> {
             Operation::Rename { .. } => Verb::Rename,
             Operation::Access(_) => Verb::Access,
             Operation::GetHandle => Verb::GetHandle,
+            Operation::SetMode(_) => Verb::SetMode,
+            Operation::SetSize(_) => Verb::SetSize,
+            Operation::CreateFile { .. } => Verb::CreateFile,
+            Operation::OpenFile(_) => Verb::OpenFile,
+            Operation::Close => Verb::Close,
+            Operation::Read { .. } => Verb::Read,
+            Operation::Write { .. } => Verb::Write,
+            Operation::Commit => Verb::Commit,
         }
     }
 
-    /// Writes its number and its arguments.
-    pub fn write(&self, out: &mut Writer) -> Result<(), Refused> {
+    /// Writes its number and its arguments. Whoever opens a file has this name.
+    pub fn write(&self, out: &mut Writer, owner: &str) -> Result<(), Refused> {
         match self {
             Operation::Root => write_argument(out, &Argument::PutRootFh)?,
             Operation::PutHandle(handle) => {
@@ -125,8 +174,36 @@ impl Operation<'_> {
             }
             Operation::Access(bits) => write_argument(out, &Argument::Access(*bits))?,
             Operation::GetHandle => write_argument(out, &Argument::GetFh)?,
+            _ => self.write_of_files(out, owner)?,
         }
         Ok(())
+    }
+
+    /// Those that set attributes, or are on a file.
+    fn write_of_files(&self, out: &mut Writer, owner: &str) -> Result<(), Refused> {
+        match self {
+            Operation::SetMode(mode) => setting_mode(out, *mode),
+            Operation::SetSize(size) => setting_size(out, *size),
+            Operation::CreateFile { name, mode } => {
+                opening(out, owner, name_bytes(name)?, Some(*mode))
+            }
+            Operation::OpenFile(name) => opening(out, owner, name_bytes(name)?, None),
+            Operation::Close => closing(out),
+            Operation::Read { offset, count } => reading(out, *offset, *count),
+            Operation::Write {
+                offset,
+                stable,
+                bytes,
+            } => writing(out, *offset, *stable, bytes),
+            Operation::Commit => {
+                let whole = CommitArguments {
+                    offset: 0,
+                    count: 0,
+                };
+                Ok(write_argument(out, &Argument::Commit(whole))?)
+            }
+            _ => Ok(()),
+        }
     }
 }
 
@@ -201,6 +278,9 @@ fn operation_of<'a>(alloc: Global, words: &[&'a str]) -> Result<Option<Operation
         [verb, digits] if *verb == "fh" => put_handle(alloc, *digits),
         [verb, name] => Ok(operation_on(*verb, *name)),
         [verb, name, word] => Ok(operation_with(*verb, *name, *word)),
+        [verb, offset, how, digits] if *verb == "write" => {
+            write_bytes(alloc, *offset, *how, *digits)
+        }
         _ => Ok(None),
     }
 }
@@ -213,6 +293,8 @@ fn plain_operation<'a>(verb: &str) -> Option<Operation<'a>> {
         "save" => Some(Operation::Save),
         "restore" => Some(Operation::Restore),
         "getfh" => Some(Operation::GetHandle),
+        "close" => Some(Operation::Close),
+        "commit" => Some(Operation::Commit),
         _ => None,
     }
 }
@@ -223,6 +305,9 @@ fn operation_on<'a>(verb: &str, name: &'a str) -> Option<Operation<'a>> {
         "lookup" => Some(Operation::Lookup(name)),
         "remove" => Some(Operation::Remove(name)),
         "access" => Some(Operation::Access(decimal(name)?)),
+        "mode" => Some(Operation::SetMode(octal(name)?)),
+        "size" => Some(Operation::SetSize(long_decimal(name)?)),
+        "open" => Some(Operation::OpenFile(name)),
         _ => None,
     }
 }
@@ -238,6 +323,14 @@ fn operation_with<'a>(verb: &str, name: &'a str, word: &'a str) -> Option<Operat
             old_name: name,
             new_name: word,
         }),
+        "create" => Some(Operation::CreateFile {
+            name,
+            mode: octal(word)?,
+        }),
+        "read" => Some(Operation::Read {
+            offset: long_decimal(name)?,
+            count: decimal(word)?,
+        }),
         _ => None,
     }
 }
@@ -252,6 +345,39 @@ fn put_handle<'a>(alloc: Global, digits: &str) -> Result<Option<Operation<'a>>, 
         Err(FromHexError::OutOfMemory) => Err(AllocError),
         Err(_) => Ok(None),
     }
+}
+
+/// WRITE of the bytes that hexadecimal digits spell, at least one.
+fn write_bytes<'a>(
+    alloc: Global,
+    offset: &str,
+    how: &str,
+    digits: &str,
+) -> Result<Option<Operation<'a>>, AllocError> {
+    let (Some(offset), Some(stable)) = (long_decimal(offset), stable_of(how)) else {
+        return Ok(None);
+    };
+    if digits.is_empty() {
+        return Ok(None);
+    }
+    match decode(alloc, digits) {
+        Ok(bytes) => Ok(Some(Operation::Write {
+            offset,
+            stable,
+            bytes,
+        })),
+        Err(FromHexError::OutOfMemory) => Err(AllocError),
+        Err(_) => Ok(None),
+    }
+}
+
+/// `UNSTABLE4` 0, `DATA_SYNC4` 1 or `FILE_SYNC4` 2.
+fn stable_of(how: &str) -> Option<u32> {
+    let stable = decimal(how)?;
+    if stable > 2 {
+        return None;
+    }
+    Some(stable)
 }
 
 /// A number of octal digits alone.

@@ -5,6 +5,7 @@
 mod calls;
 mod cuts;
 mod ends;
+mod modes;
 mod operations;
 mod sessions;
 mod volumes;
@@ -115,7 +116,12 @@ fn play<R: AllocGlobal + Abort>(rt: &R, row: &[Step]) -> Result<(), Fail> {
 
 #[test]
 fn connections_are_answered(rt: HostRuntime) -> Result<(), Fail> {
-    for rows in [calls::ROWS.as_slice(), &operations::ROWS, &sessions::ROWS] {
+    for rows in [
+        calls::ROWS.as_slice(),
+        &modes::ROWS,
+        &operations::ROWS,
+        &sessions::ROWS,
+    ] {
         for (_shows, row) in rows {
             play(&rt, row)?;
         }

@@ -8,7 +8,7 @@ use Rattle.opens.specs.Views.{opens_of}
 use Rattle.session.specs.Views.{table_of, reply_kept}
 use Rattle.wire.specs.ArgumentView.{argument_view}
 use Rattle.fs.specs.FileSystem.{FileSystem}
-use Rattle.compound.specs.Operates.{Operates, OnlyReads, ChangesClients, IsKept}
+use Rattle.compound.specs.Operates.{Operates, OnlyReads, ChangesClients, ChangesOpens, IsKept}
 use Rattle.compound.specs.States.{SharedState, shared, shared_of}
 use Rattle.compound.specs.declared.fault.Fault.{Fault}
 use Rattle.compound.specs.declared.operated.Operated.{Operated}
@@ -25,6 +25,15 @@ returns-in-Remove-clause-volume g c = rw c.in-Remove.is (c.remove.ensures.volume
 
 pub returns-in-Rename-clause-volume : goal.returns-in-Rename-clause-volume
 returns-in-Rename-clause-volume g c = rw c.in-Rename.is (c.rename.ensures.volume (table_of c.args.table.now))
+
+pub returns-in-SetAttr-clause-volume : goal.returns-in-SetAttr-clause-volume
+returns-in-SetAttr-clause-volume g c = rw c.in-SetAttr.is (c.set_attributes.ensures.volume (table_of c.args.table.now))
+
+pub returns-in-Write-clause-volume : goal.returns-in-Write-clause-volume
+returns-in-Write-clause-volume g c = rw c.in-Write.is (c.write.ensures.volume (table_of c.args.table.now))
+
+pub returns-in-Commit-clause-volume : goal.returns-in-Commit-clause-volume
+returns-in-Commit-clause-volume g c = rw c.in-Commit.is (c.commit.ensures.volume _ c.args.now (table_of c.args.table.now) (opens_of c.args.opens.now))
 
 pub returns-in-Access-clause-volume : goal.returns-in-Access-clause-volume
 returns-in-Access-clause-volume g c =
@@ -125,6 +134,16 @@ told_kept : (now : ℕ) (files : FileSystem) (table : Table) (opens : Opens) (re
 told_kept now files table opens request operation (Ok done) reads = kept_of now (shared files table opens) (shared files table opens) request operation done (reads now table opens)
 told_kept now files table opens request operation (Err fault) reads = tt
 
+changed_if : (now : ℕ) (old new : FileSystem) (table : Table) (before after : Opens) (request : InProgress) (operation : Argument) (result : Result Operated Fault)
+    → IfOk result (ChangesOpens old new before after now request operation) → IfOk result (Operates now (shared old table before) (shared new table after) request operation)
+changed_if now old new table before after request operation (Ok done) changes = changes table
+changed_if now old new table before after request operation (Err fault) changes = tt
+
+pub returns-in-Commit-clause-gives : goal.returns-in-Commit-clause-gives
+returns-in-Commit-clause-gives g c = λ keeps. rw c.in-Commit.is
+    (changed_if c.args.now (fs_of c.args.fs.now) (fs_of c.commit.new.fs) (table_of c.args.table.now) (opens_of c.args.opens.now) (opens_of c.args.opens.now) (in_progress_of c.args.self.now) _ c.commit.result
+    (c.commit.ensures.gives _ c.args.now (opens_of c.args.opens.now) keeps))
+
 pub returns-in-Access-clause-gives : goal.returns-in-Access-clause-gives
 returns-in-Access-clause-gives g c = λ keeps. rw c.in-Access.is (c.access.ensures.gives c.args.now (table_of c.args.table.now) (opens_of c.args.opens.now))
 
@@ -182,6 +201,15 @@ returns-in-Remove-clause-kept g c = c.remove.ensures.kept (table_of c.args.table
 
 pub returns-in-Rename-clause-kept : goal.returns-in-Rename-clause-kept
 returns-in-Rename-clause-kept g c = c.rename.ensures.kept (table_of c.args.table.now)
+
+pub returns-in-SetAttr-clause-kept : goal.returns-in-SetAttr-clause-kept
+returns-in-SetAttr-clause-kept g c = c.set_attributes.ensures.kept (table_of c.args.table.now)
+
+pub returns-in-Write-clause-kept : goal.returns-in-Write-clause-kept
+returns-in-Write-clause-kept g c = c.write.ensures.kept (table_of c.args.table.now)
+
+pub returns-in-Commit-clause-kept : goal.returns-in-Commit-clause-kept
+returns-in-Commit-clause-kept g c = c.commit.ensures.kept (table_of c.args.table.now)
 
 pub returns-in-Access-clause-kept : goal.returns-in-Access-clause-kept
 returns-in-Access-clause-kept g c =
