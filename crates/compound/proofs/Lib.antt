@@ -4,7 +4,9 @@ pub mod Current
 pub mod Firsts
 pub mod ListLaws
 pub mod Pages
+pub mod Parts
 pub mod QuietLaws
+pub mod ReadLaws
 pub mod Refusals
 pub mod RemoveLaws
 pub mod RenameLaws

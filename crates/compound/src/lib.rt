@@ -15,6 +15,7 @@ mod next;
 mod operate;
 mod operated;
 mod progress;
+mod read;
 mod removing;
 mod renaming;
 mod results;

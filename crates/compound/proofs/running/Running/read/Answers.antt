@@ -1,0 +1,110 @@
+use Rattle.std.proofs.Common.{◌<◌, ◌^◌, Bool, length, min, drop, Result, IfOk, refl, sym, subst, arith, length-take}
+use Rattle.fs.specs.Changes.{Changes}
+use Rattle.fs.specs.FileSystem.{FileSystem}
+use Rattle.fs.specs.FileSystems.{fs_of, fs_failures}
+use Rattle.fs.specs.Reading.{part_at}
+use Rattle.volume.specs.Changes.{IsTree}
+use Rattle.model.specs.Answer.{Answer, Refused}
+use Rattle.model.specs.Files.{bytes_at}
+use Rattle.model.specs.Operation.{Argument}
+use Rattle.model.specs.declared.status.Status.{Status}
+use Rattle.opens.specs.Views.{opens_of}
+use Rattle.wire.specs.ArgumentViews.{read_view}
+use Rattle.compound.specs.Operates.{Operates, GivesIn, ChangesOpens, IsAnswered}
+use Rattle.compound.specs.States.{shared}
+use Rattle.compound.specs.Views.{in_progress_of}
+use Rattle.compound.specs.Volumes.{OperationGives, ending}
+use Rattle.compound.specs.declared.fault.Fault.{Fault}
+use Rattle.compound.specs.declared.operated.Operated.{Operated}
+use Rattle.compound.proofs.Changing.{told_spelled}
+use Rattle.compound.proofs.QuietLaws.{left_all}
+use Rattle.compound.proofs.ReadLaws.{read_wants, read_ok, read_up, told_reads, told_changes}
+use Rattle.compound.proofs.Rooms.{gives_refusal}
+use Rattle.compound.proofs.Trees.{is_on}
+use Rattle.compound.proofs.running.Running.read.Goals as goal
+
+pub returns-in-Err-clause-gives : goal.returns-in-Err-clause-gives
+unfolding in_progress_of
+returns-in-Err-clause-gives g c = λ now keeps table.
+    let fs = fs_of c.args.fs.now in
+    let opens = opens_of c.args.opens.now in
+    let request = in_progress_of c.args.self.now in
+    let arguments = read_view c.args.arguments.now in
+    let kind = Argument.Read arguments in
+    c.refuse.ensures.gives now (shared fs table opens) (shared fs table opens) kind
+    (subst (λ (reason : Status). GivesIn now (shared fs table opens) (shared fs table opens) request request kind (Refused 25 reason)) (sym c.in-Err.ensures.err.0)
+    (gives_refusal now (shared fs table opens) (shared fs table opens) request kind 25 _ (read_wants now fs table opens request arguments c.in-Err.ensures.err.1)))
+
+-- Where it is done
+
+pub returns-in_ok-finish-in-Ok-read-clause-gives : goal.returns-in_ok-finish-in-Ok-read-clause-gives
+unfolding in_progress_of
+returns-in_ok-finish-in-Ok-read-clause-gives g c = λ now keeps table.
+    let fs = fs_of c.args.fs.now in
+    let new = fs_of c.read.new.self in
+    let opens = opens_of c.args.opens.now in
+    let request = in_progress_of c.args.self.now in
+    let arguments = read_view c.args.arguments.now in
+    let kind = Argument.Read arguments in
+    let part = part_at fs c.in-Ok.number arguments.offset arguments.count in
+    let few : length part < 2 ^ 32 =
+    omega (arith, c.in_ok-values.ensures.count, length-take (min arguments.count fs.volume.limits.transfer_bytes) (drop arguments.offset (bytes_at fs.volume.tree c.in-Ok.number))) in
+    let answer = Answer.Read (record { is_end = c.in-Ok-read.is_end; data_bytes = part }) in
+    subst (λ (one : FileSystem). Operates now (shared fs table opens) (shared one table opens) request kind c.settle_spelled.result)
+    (sym (left_all g.D.Device.keeps_word (IsTree fs.volume.tree) fs new (fs_failures c.args.fs.now) (fs_failures c.read.new.self) c.in-Ok-read.ensures.volume))
+    (c.settle_spelled.ensures.gives now (shared fs table opens) kind answer
+    (record { number_is = refl; values_are = sym (c.in_ok-finish-in-Ok-read.ensures.ok c.in_ok-values.values.items part (c.in-Ok-read.ensures.bytes keeps) c.in_ok-values.ensures.ok few) }) refl
+    (read_ok now fs opens request arguments table answer
+    (λ state there known. c.in-Ok-read.ensures.step state now arguments.state (is_on fs request c.in-Ok.number state c.requires.run c.in-Ok.ensures.ok.0 c.in-Ok.ensures.ok.1 there)
+    (c.verdict-verdict.ensures state known there.context_is))))
+
+-- Where it is not
+
+pub tell_fault-requires : goal.tell_fault-requires
+unfolding in_progress_of
+tell_fault-requires g c =
+    let fs = fs_of c.args.fs.now in
+    let request = in_progress_of c.args.self.now in
+    let arguments = read_view c.args.arguments.now in
+    read_up 0 fs (opens_of c.args.opens.now) request arguments c.in-Err-read.fault c.requires.up
+    (λ state there known. c.in-Err-read.ensures.step state 0 arguments.state (is_on fs request c.in-Ok.number state c.requires.run c.in-Ok.ensures.ok.0 c.in-Ok.ensures.ok.1 there)
+    (c.verdict-verdict.ensures state known there.context_is))
+
+pub returns-in-Err-read-clause-gives : goal.returns-in-Err-read-clause-gives
+unfolding in_progress_of
+returns-in-Err-read-clause-gives g c = λ now keeps.
+    let fs = fs_of c.args.fs.now in
+    let new = fs_of c.read.new.self in
+    let opens = opens_of c.args.opens.now in
+    let request = in_progress_of c.args.self.now in
+    let arguments = read_view c.args.arguments.now in
+    subst (λ (r : Result Operated Fault). IfOk r (ChangesOpens fs new opens opens now request (Argument.Read arguments))) (sym c.tell_fault.ensures)
+    (told_reads now fs opens request arguments g.D.Device.keeps_word new _ _ Bool c.in-Err-read.fault
+    (λ state there known. c.in-Err-read.ensures.step state now arguments.state (is_on fs request c.in-Ok.number state c.requires.run c.in-Ok.ensures.ok.0 c.in-Ok.ensures.ok.1 there)
+    (c.verdict-verdict.ensures state known there.context_is)) c.in-Err-read.ensures.volume)
+
+pub returns-in-Err-read-clause-answered : goal.returns-in-Err-read-clause-answered
+unfolding in_progress_of
+returns-in-Err-read-clause-answered g c =
+    let fs = fs_of c.args.fs.now in
+    let request = in_progress_of c.args.self.now in
+    let arguments = read_view c.args.arguments.now in
+    subst (λ (r : Result Operated Fault). IfOk r (IsAnswered request)) (sym c.tell_fault.ensures)
+    (told_spelled request 25 c.in-Err-read.fault (omega arith)
+    (read_up 0 fs (opens_of c.args.opens.now) request arguments c.in-Err-read.fault c.requires.up
+    (λ state there known. c.in-Err-read.ensures.step state 0 arguments.state (is_on fs request c.in-Ok.number state c.requires.run c.in-Ok.ensures.ok.0 c.in-Ok.ensures.ok.1 there)
+    (c.verdict-verdict.ensures state known there.context_is))))
+
+pub returns-in-Err-read-clause-volume : goal.returns-in-Err-read-clause-volume
+unfolding in_progress_of
+returns-in-Err-read-clause-volume g c = λ now table.
+    let fs = fs_of c.args.fs.now in
+    let new = fs_of c.read.new.self in
+    let opens = opens_of c.args.opens.now in
+    let request = in_progress_of c.args.self.now in
+    let arguments = read_view c.args.arguments.now in
+    subst (λ (r : Result Operated Fault). Changes g.D.Device.keeps_word (OperationGives (shared fs table opens) request now (Argument.Read arguments)) fs new (fs_failures c.args.fs.now) (fs_failures c.read.new.self) (ending r))
+    (sym c.tell_fault.ensures)
+    (told_changes now fs opens request arguments g.D.Device.keeps_word new _ _ Bool table c.in-Err-read.fault c.requires.up
+    (λ state there known. c.in-Err-read.ensures.step state now arguments.state (is_on fs request c.in-Ok.number state c.requires.run c.in-Ok.ensures.ok.0 c.in-Ok.ensures.ok.1 there)
+    (c.verdict-verdict.ensures state known there.context_is)) c.in-Err-read.ensures.volume)

@@ -1,0 +1,129 @@
+//! READ (RFC 8881, section 18.22).
+
+ghost use Rattle.std.specs.Prelude.{◌≡◌, ◌≤◌, ◌<◌, ◌^◌, ◌++◌, List, ℕ, length, drop, replicate, IfOk, IfErr, OnOk};
+ghost use Rattle.std.specs.Int.{w32};
+ghost use Rattle.model.specs.WireAnswers.{read_answer};
+ghost use Rattle.xdr.specs.Forms.{code_of, padding};
+ghost use Rattle.xdr.specs.Grammar.{number};
+ghost use Rattle.compound.specs.declared.fault.Fault.TheVariants.{Memory};
+
+use crate::fault::Fault;
+use crate::operated::Operated;
+use crate::running::Running;
+use disk::Device;
+use fs::Fs;
+use opens::{Access, Opens};
+use std::alloc::Global;
+use wire::{Operation, ReadArguments};
+
+/// The bytes of the values before those of the file: whether its end was reached, and how many there are.
+const FRONT: usize = 8;
+
+/// The most bytes of a file that room is taken for: as many as one READ gives.
+const PART_BYTES: usize = 8_192;
+
+/// The most zero bytes behind those of the file.
+const MOST_PAD: usize = 3;
+
+impl Running<'_> {
+    ghost use Rattle.std.specs.Prelude.{◌≡◌, ℕ, false, IfOk};
+    ghost use Rattle.fs.specs.FileSystems.{fs_of, Alters};
+    ghost use Rattle.model.specs.Operation as operations;
+    ghost use Rattle.model.specs.Session.{Table};
+    ghost use Rattle.opens.specs.Views.{opens_of};
+    ghost use Rattle.wire.specs.ArgumentViews.{read_view};
+    ghost use Rattle.compound.specs.Operates.{ChangesOpens, IsAnswered, IsKept};
+    ghost use Rattle.compound.specs.States.{shared};
+    ghost use Rattle.compound.specs.Views.{in_progress_of};
+    ghost use Rattle.compound.specs.Volumes.{OperationGives, ending};
+
+    /// READ: bytes of the current file. They are put where the result has them, and copied no more.
+    pub(crate) fn read<D: Device>(
+        &self,
+        fs: &mut Fs<D>,
+        opens: &Opens,
+        arguments: &ReadArguments,
+    ) -> Result<Operated, Fault>
+        requires up { (fs_of fs.old).volume.is_down ≡ false }
+        requires run { (in_progress_of self.now).context.run ≡ (fs_of fs.old).volume.run }
+        ensures gives { (now : ℕ) → D.keeps_word → IfOk result (ChangesOpens (fs_of fs.old)
+            (fs_of fs.new) (opens_of opens.now) (opens_of opens.now) now (in_progress_of self.now)
+            (operations.Argument.Read (read_view arguments.now))) }
+        ensures answered { IfOk result (IsAnswered (in_progress_of self.now)) }
+        ensures kept { (table : Table) → IfOk result (IsKept table) }
+        ensures volume { (now : ℕ) (table : Table) → Alters fs.old fs.new (OperationGives
+            (shared (fs_of fs.old) table (opens_of opens.now)) (in_progress_of self.now) now
+            (operations.Argument.Read (read_view arguments.now))) (ending result) }
+    {
+        let number = match self.current_node() {
+            Ok(number) => number,
+            Err(status) => return Ok(self.refuse(Operation::Read, status)),
+        };
+        let verdict = self.verdict(opens, &arguments.state, Access::READ);
+        let ReadArguments { offset, count, .. } = *arguments;
+        let mut values = room_for(self.alloc, count)?;
+        match fs.read(&self.cred, number, verdict, offset, count, &mut values) {
+            Ok(is_end) => {
+                finish(&mut values, is_end)?;
+                Ok(self.settle_spelled(Operation::Read, values))
+            }
+            Err(fault) => self.tell_fault(Operation::Read, fault),
+        }
+    }
+}
+
+/// Memory for the values of a READ, with zeros in place of what stands before the bytes.
+fn room_for(alloc: Global, count: u32) -> Result<Vec<u8>, Fault>
+    ensures count { count < 2 ^ 32 }
+    ensures ok { IfOk result (λ values. length values.items ≡ 8) }
+    ensures err { IfErr result (λ fault. fault ≡ Memory) }
+{
+    let most = (count as usize).min(PART_BYTES);
+    let mut values = Vec::with_capacity(alloc, FRONT + most + MOST_PAD)?;
+    values.extend_from_slice(&[0; FRONT])?;
+    Ok(values)
+}
+
+/// Writes what stands before the bytes of the file, and the zeros behind them.
+fn finish(values: &mut Vec<u8>, is_end: bool) -> Result<(), Fault>
+    ensures ok { OnOk result ((front part : List ℕ) → values.old.items ≡ front ++ part
+        → length front ≡ 8 → length part < 2 ^ 32
+        → values.new.items ≡ read_answer.spelling (record { is_end = is_end; data_bytes = part })) }
+    ensures err { IfErr result (λ fault. fault ≡ Memory) }
+{
+    let len = values.len().saturating_sub(FRONT);
+    let front = front_of(is_end, len.min(u32::MAX as usize) as u32);
+    put_front(values.as_mut_slice(), &front);
+    pad(values, len)
+}
+
+/// The words before this many bytes of a file.
+fn front_of(is_end: bool, len: u32) -> [u8; 8]
+    ensures { result ≡ number w32 (code_of is_end) ++ number w32 len }
+{
+    let truth: u32 = if is_end { 1 } else { 0 };
+    let mut front = [0; FRONT];
+    front[..4].copy_from_slice(&truth.to_be_bytes());
+    front[4..].copy_from_slice(&len.to_be_bytes());
+    front
+}
+
+/// Puts these bytes over the first ones.
+fn put_front(values: &mut [u8], front: &[u8; 8])
+    ensures { 8 ≤ length values.old → values.new ≡ front.now ++ drop 8 values.old }
+{
+    if values.len() >= FRONT {
+        values[..FRONT].copy_from_slice(front);
+    }
+}
+
+/// Zeros behind this many bytes.
+fn pad(values: &mut Vec<u8>, len: usize) -> Result<(), Fault>
+    ensures ok { OnOk result (values.new.items
+        ≡ values.old.items ++ replicate (padding len) 0) }
+    ensures err { IfErr result (λ fault. fault ≡ Memory) }
+{
+    let count = (4 - len % 4) % 4;
+    values.extend_from_slice(&[0; MOST_PAD][..count])?;
+    Ok(())
+}
