@@ -1,4 +1,6 @@
+pub mod BesideLaws
 pub mod Changing
+pub mod CloseLaws
 pub mod Creating
 pub mod Current
 pub mod Firsts

@@ -1,3 +1,4 @@
+pub mod Beside
 pub mod Files
 pub mod Operates
 pub mod Pages

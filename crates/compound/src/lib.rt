@@ -7,6 +7,7 @@ mod access;
 mod attributes;
 mod begin;
 mod clients;
+mod closing;
 mod end;
 mod fault;
 mod handles;

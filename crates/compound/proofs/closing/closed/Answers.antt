@@ -1,0 +1,6 @@
+use Rattle.std.proofs.Common.{arith}
+use Rattle.compound.proofs.CloseLaws.{closed_length}
+use Rattle.compound.proofs.closing.closed.Goals as goal
+
+pub returns-clause-small : goal.returns-clause-small
+returns-clause-small c = omega (arith, closed_length)

@@ -1,0 +1,118 @@
+//! CLOSE (RFC 8881, section 18.2).
+
+ghost use Rattle.std.specs.Prelude.{◌≡◌, ◌<◌, ◌^◌, length};
+ghost use Rattle.model.specs.Answer.{Done};
+ghost use Rattle.model.specs.World.{outcome_text};
+ghost use Rattle.model.specs.WireAnswers as answers;
+ghost use Rattle.wire.specs.OutcomeView.{outcome_view};
+ghost use Rattle.compound.specs.Beside.{closed_answer};
+
+use crate::operated::{Effect, Operated};
+use crate::running::Running;
+use disk::Device;
+use fs::Fs;
+use model::status::Status;
+use opens::{Found, Opens};
+use wire::{Answer, CloseArguments, Operation, Outcome, StateId};
+
+/// What a CLOSE answers: a stateid that no operation takes.
+const CLOSED: StateId = StateId {
+    seqid: u32::MAX,
+    other: [0; 12],
+};
+
+impl Running<'_> {
+    ghost use Rattle.std.specs.Prelude.{◌≡◌, ℕ, false, nat_le, length, IfErr};
+    ghost use Rattle.fs.specs.FileSystems.{fs_of};
+    ghost use Rattle.model.specs.Answer.{Done};
+    ghost use Rattle.model.specs.Operation as operations;
+    ghost use Rattle.model.specs.StateIds.{found};
+    ghost use Rattle.model.specs.World.{reply_with};
+    ghost use Rattle.opens.specs.Views.{opens_of};
+    ghost use Rattle.wire.specs.ArgumentViews.{close_view};
+    ghost use Rattle.wire.specs.Short.{IsRefusal};
+    ghost use Rattle.wire.specs.SmallViews.{state_view};
+    ghost use Rattle.compound.specs.Beside.{Closes, EndsOpen, closed_answer};
+    ghost use Rattle.compound.specs.Operates.{ChangesOpens, IsAnswered};
+    ghost use Rattle.compound.specs.Views.{in_progress_of};
+
+    /// CLOSE: the open that the stateid names has ended, and the current filehandle keeps no stateid. Nothing ends where the reply
+    /// has no room for the result.
+    pub(crate) fn close<D: Device>(
+        &self,
+        fs: &Fs<D>,
+        opens: &mut Opens,
+        arguments: &CloseArguments,
+    ) -> Operated
+        requires up { (fs_of fs.now).volume.is_down ≡ false }
+        requires run { (in_progress_of self.now).context.run ≡ (fs_of fs.now).volume.run }
+        ensures gives { (now : ℕ) → ChangesOpens (fs_of fs.now) (fs_of fs.now)
+            (opens_of opens.old) (opens_of opens.new) now (in_progress_of self.now)
+            (operations.Argument.Close (close_view arguments.now)) result }
+        ensures answered { IsAnswered (in_progress_of self.now) result }
+    {
+        let serial = match self.open_to_close(fs, opens, arguments) {
+            Ok(serial) => serial,
+            Err(status) => return self.refuse(Operation::Close, status),
+        };
+        if !self.has_closed_room() {
+            return self.refuse(Operation::Close, Status::RepTooBig);
+        }
+        opens.close(serial);
+        Operated::Gives {
+            outcome: closed(),
+            effect: Effect::Closes,
+        }
+    }
+
+    /// The serial of the open that ends, behind all tests but that of the room of the reply.
+    fn open_to_close<D: Device>(
+        &self,
+        fs: &Fs<D>,
+        opens: &Opens,
+        arguments: &CloseArguments,
+    ) -> Result<u64, Status>
+        requires up { (fs_of fs.now).volume.is_down ≡ false }
+        requires run { (in_progress_of self.now).context.run ≡ (fs_of fs.now).volume.run }
+        ensures step { Closes (fs_of fs.now) (opens_of opens.now) (in_progress_of self.now)
+            (close_view arguments.now) result }
+        ensures refused { IfErr result IsRefusal }
+    {
+        self.check_current(fs)?;
+        self.open_of_state(opens, &arguments.state)
+    }
+
+    /// The serial of the open that a stateid names where the next operation uses it.
+    fn open_of_state(&self, opens: &Opens, stateid: &StateId) -> Result<u64, Status>
+        ensures { EndsOpen (found (opens_of opens.now) (in_progress_of self.now).context
+            (state_view stateid.now)) result }
+    {
+        let found = opens.find(&self.standing(), stateid);
+        if let Some(status) = found.refuse_close() {
+            return Err(status);
+        }
+        match found {
+            Found::Names(entry) => Ok(entry.serial),
+            _ => unreachable!(),
+        }
+    }
+
+    /// Whether the reply has room for the result of a CLOSE.
+    fn has_closed_room(&self) -> bool
+        ensures { result ≡ nat_le
+            (length (reply_with (in_progress_of self.now) (Done closed_answer))) 16368 }
+    {
+        self.has_room(&closed())
+    }
+}
+
+/// The result of a CLOSE.
+fn closed() -> Outcome<'static>
+    ensures is { outcome_view result ≡ Done closed_answer }
+    ensures fits { answers.outcome.Fits (outcome_view result) }
+    ensures small { length (outcome_text (outcome_view result)) < 2 ^ 63 }
+{
+    let outcome = Outcome::Done(Answer::Close(CLOSED));
+    outcome.tell_fits();
+    outcome
+}
