@@ -13,4 +13,5 @@ pub mod Phases
 pub mod Recovers
 pub mod Stages
 pub mod Superblocks
+pub mod Viewing
 pub mod First

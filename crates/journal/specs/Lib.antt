@@ -9,3 +9,5 @@ pub mod Journal
 pub mod Recover
 pub mod MountAnswers
 pub mod Format
+pub mod Viewed
+pub mod Views

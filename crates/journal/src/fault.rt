@@ -44,7 +44,7 @@ impl From<AllocError> for JournalFault {
     }
 }
 
-/// A mount that was refused, with the device as it is now.
+/// A mount or a view that was refused, with the device as it is now.
 #[derive(Drop)]
 pub struct MountFault<D> {
     /// The device.

@@ -11,7 +11,7 @@ ghost use Rattle.journal.specs.Phase.{FailsCounted};
 ghost use Rattle.journal.specs.Transactions.{FitTogether, gathered, sectors_of};
 
 use crate::layout::{self, MAX_UPDATES, PAYLOAD_SECTORS, SUPERBLOCK};
-use crate::{JournalFault, MountFault, commit, list, phase, recover};
+use crate::{JournalFault, MountFault, View, commit, list, phase, recover};
 use disk::{Device, DiskFault, SECTOR, Update};
 use std::alloc::Global;
 
@@ -38,6 +38,8 @@ pub struct Journal<D: Device> {
 #[tactic(auto, unfolding(crate::specs::Journal::log_of, crate::specs::Journal::failures_of))]
 impl<D: Device> Journal<D> {
     ghost use Rattle.journal.specs.Journal.{log_of, failures_of};
+    ghost use Rattle.journal.specs.Viewed.{HasNoForm, HasViewed, IsUnread};
+    ghost use Rattle.journal.specs.Views.{view_of, view_failures, name_of};
 
     /// Formats a device: zeros, with this sector 0 and these updates. Until sector 0 is written,
     /// last of all, a stop leaves what was there before or a sector 0 of zeros.
@@ -114,6 +116,46 @@ impl<D: Device> Journal<D> {
             }),
             Err(fault) => Err(MountFault { device, fault }),
         }
+    }
+
+    /// What a mount would begin with, read without one: an open gate is read through, and nothing is
+    /// written.
+    ///
+    /// # Errors
+    ///
+    /// As [`Journal::mount`], with the device: `Damaged` where the gate has no form, `Fault` where
+    /// the device failed, and `Memory`.
+    pub fn view(alloc: Global, device: &mut D) -> Result<View<'_, D>, MountFault<&mut D>>
+        requires { 256 ≤ D.size device.old }
+        ensures new { IfOk result (λ view. IsNew (D.size device.old) (D.failed device.old)
+            (view_of view) (view_failures view)) }
+        ensures viewed { D.keeps_word → IfOk result (λ view.
+            HasViewed (D.size device.old) (D.history device.old) (view_of view)) }
+        // Nothing is written, on any device
+        ensures untouched { IfOk result (λ view. (view_of view).history ≡ D.history device.old) }
+        ensures same_device { IfOk result (λ view. name_of view ≡ device.entry.ghost_name) }
+        // Refused
+        ensures back { IfErr result (λ refused. IsUnread D.size D.failed D.history
+            device.old refused.device.now refused.fault) }
+        ensures same_back { IfErr result (λ refused.
+            refused.device.ghost_name ≡ device.entry.ghost_name) }
+        ensures damaged { D.keeps_word → IfErr result (λ refused.
+            refused.fault ≡ JournalFault.Damaged
+            → HasNoForm (D.size device.old) (D.history device.old)) }
+    {
+        let mut named = match Vec::with_capacity(alloc, PAYLOAD_SECTORS) {
+            Ok(named) => named,
+            Err(_) => {
+                return Err(MountFault {
+                    device,
+                    fault: JournalFault::Memory,
+                });
+            }
+        };
+        if let Err(fault) = recover::read_gate(device, &mut named) {
+            return Err(MountFault { device, fault });
+        }
+        Ok(View::new(device, &named))
     }
 
     /// The device, as it is now. What was applied and not flushed is lost.

@@ -9,6 +9,8 @@ mod layout;
 mod list;
 mod phase;
 mod recover;
+mod view;
 
 pub use fault::{JournalFault, MountFault};
 pub use journal::Journal;
+pub use view::View;

@@ -1,7 +1,8 @@
 //! What a mount does to a device before anything else.
 
-ghost use Rattle.std.specs.Prelude.{◌≡◌, ◌≤◌, [], OnOk, IsErrOf, vec_capacity};
+ghost use Rattle.std.specs.Prelude.{◌≡◌, ◌≤◌, ℕ, List, [], OnOk, IsErrOf, length, vec_capacity};
 ghost use Rattle.disk.specs.Moments.{AddsOnly, seen};
+ghost use Rattle.journal.specs.Layout.{AreTargets, NamesTargets, gate};
 ghost use Rattle.journal.specs.Settled.{SettlesAs};
 ghost use Rattle.journal.specs.Recover.{Recovers, LeavesOnlySynced, IsClosed, WritesNothing, FaultsCounted};
 
@@ -39,5 +40,31 @@ pub(crate) fn recover<D: Device>(device: &mut D, named: &mut Vec<u32>) -> Result
     }
     commit::replay(device, named)?;
     named.clear();
+    Ok(())
+}
+
+/// Reads the gate: where it has a form, `named` holds what it names.
+pub(crate) fn read_gate<D: Device>(device: &mut D, named: &mut Vec<u32>) -> Result<(), JournalFault>
+    requires large { 256 ≤ D.size device.old }
+    requires room { 96 ≤ vec_capacity named.old }
+    ensures few { OnOk result (length named.new.items ≤ 96) }
+    ensures fit { OnOk result (AreTargets (D.size device.old) named.new.items) }
+    ensures gate_is { D.keeps_word
+        → OnOk result (seen (D.history device.old).now 1 ≡ gate named.new.items) }
+    ensures capacity { vec_capacity named.new ≡ vec_capacity named.old }
+    // It only reads
+    ensures history { D.history device.new ≡ D.history device.old }
+    ensures size { D.size device.new ≡ D.size device.old }
+    // Refused
+    ensures damaged { D.keeps_word → IsErrOf result JournalFault.Damaged → (to : List ℕ)
+        → NamesTargets (D.size device.old) (seen (D.history device.old).now 1) to → ⊥ }
+    ensures failures { FaultsCounted (D.failed device.old) (D.failed device.new) result }
+{
+    let sectors = device.sectors();
+    let mut sector = [0; SECTOR];
+    device.read(layout::GATE, &mut sector)?;
+    if !gate::decode(&sector, sectors, named) {
+        return Err(JournalFault::Damaged);
+    }
     Ok(())
 }

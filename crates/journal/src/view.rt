@@ -1,0 +1,102 @@
+//! A volume that is read as a mount would find it. Nothing is written.
+
+ghost use Rattle.std.specs.Prelude.{◌≡◌, ◌≤◌, ◌<◌, ◌⊎◌, take, length};
+ghost use Rattle.journal.specs.Layout.{home};
+
+use crate::JournalFault;
+use crate::layout::{PAYLOAD, PAYLOAD_SECTORS};
+use disk::{Device, SECTOR};
+
+/// What the journal of a device has in its base, without a mount.
+///
+/// A target of an open gate is read in the payload, where its content stands, and each other sector
+/// at its own place.
+#[derive(Drop)]
+pub struct View<'a, D: Device> {
+    device: &'a mut D,
+    targets: [u32; PAYLOAD_SECTORS],
+    /// How many of these the gate names.
+    count: usize,
+    is_down: bool,
+    ghost large: { 256 ≤ D.size device.now },
+    ghost few: { count ≤ 96 },
+}
+
+/// The targets of a gate, and zeros behind them.
+fn padded(targets: &[u32]) -> [u32; PAYLOAD_SECTORS]
+    requires { length targets.now ≤ 96 }
+    ensures { take (length targets.now) result ≡ targets.now }
+{
+    let mut named = [0; PAYLOAD_SECTORS];
+    named[..targets.len()].copy_from_slice(targets);
+    named
+}
+
+/// Where sector `n` stands, behind a gate that names these targets.
+fn place_of(named: &[u32], n: u32) -> u32
+    requires { length named.now ≤ 96 }
+    ensures place { result ≡ home named.now 2 n }
+    ensures within { (result < 98) ⊎ (result ≡ n) }
+{
+    for (i, target) in named.iter().enumerate() {
+        if *target == n {
+            return PAYLOAD + i as u32;
+        }
+    }
+    n
+}
+
+#[tactic(auto, unfolding(crate::specs::Views::view_of, crate::specs::Views::view_failures, crate::specs::Views::name_of))]
+impl<'a, D: Device> View<'a, D> {
+    ghost use Rattle.std.specs.Prelude.{OnOk, IfErr, IsErrOf};
+    ghost use Rattle.journal.specs.Log.{Answers};
+    ghost use Rattle.journal.specs.Viewed.{viewed};
+    ghost use Rattle.journal.specs.Views.{view_of, view_failures, name_of};
+
+    /// A view of a device behind a gate of these targets.
+    pub(crate) fn new(device: &'a mut D, targets: &[u32]) -> View<'a, D>
+        requires large { 256 ≤ D.size device.old }
+        requires few { length targets.now ≤ 96 }
+        ensures view { view_of result
+            ≡ viewed targets.now (D.size device.old) (D.history device.old) }
+        ensures failures { view_failures result ≡ D.failed device.old }
+        ensures same_reference { name_of result ≡ device.entry.ghost_name }
+    {
+        View {
+            device,
+            targets: padded(targets),
+            count: targets.len(),
+            is_down: false,
+        }
+    }
+
+    /// Puts into `content` what sector `n` of the base holds. After `Fault` it may hold anything.
+    ///
+    /// # Errors
+    ///
+    /// [`JournalFault::Fault`] where the device failed, and [`JournalFault::Down`] from then on.
+    pub fn read(&mut self, n: u32, content: &mut [u8; SECTOR]) -> Result<(), JournalFault>
+        requires { n < (view_of self.old).size }
+        ensures ok { D.keeps_word → OnOk result (content.new ≡ (view_of self.old).base n) }
+        // It only reads, on the device that it has
+        ensures view { view_of self.new ≡ record (view_of self.old)
+            { is_down = (view_of self.new).is_down } }
+        ensures same_reference { name_of self.new ≡ name_of self.old }
+        // Refused
+        ensures untouched { IsErrOf result JournalFault.Down → content.new ≡ content.old }
+        ensures answers { Answers (view_of self.old) (view_of self.new)
+            (view_failures self.old) (view_failures self.new) result }
+        ensures refuses { IfErr result
+            (λ fault. (fault ≡ JournalFault.Fault) ⊎ (fault ≡ JournalFault.Down)) }
+    {
+        if self.is_down {
+            return Err(JournalFault::Down);
+        }
+        let place = place_of(&self.targets[..self.count], n);
+        if self.device.read(place, content).is_err() {
+            self.is_down = true;
+            return Err(JournalFault::Fault);
+        }
+        Ok(())
+    }
+}
