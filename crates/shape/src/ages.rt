@@ -1,6 +1,6 @@
-//! Whether all stamps of a volume are from before one.
+//! Whether no stamp of a volume is past a last one.
 
-ghost use Rattle.std.specs.Prelude.{◌≡◌, ◌↔◌, IsTrue, map};
+ghost use Rattle.std.specs.Prelude.{◌≡◌, ◌+◌, ◌↔◌, IsTrue, map};
 ghost use Rattle.std.specs.List.{AllByRecursion};
 ghost use Rattle.directory.specs.Records.{record_of};
 ghost use Rattle.shape.specs.Ages.{AreBefore, AreNamesBefore, IsCardBefore};
@@ -8,32 +8,32 @@ ghost use Rattle.shape.specs.Ages.{AreBefore, AreNamesBefore, IsCardBefore};
 use cards::{Card, Table};
 use directory::Entry;
 
-fn are_names_before(entries: &[Entry], stamp: u64) -> bool
-    ensures { IsTrue result ↔ AreNamesBefore stamp (map record_of entries.now) }
+fn are_names_before(entries: &[Entry], last: u64) -> bool
+    ensures { IsTrue result ↔ AreNamesBefore (last + 1) (map record_of entries.now) }
 {
     for entry in entries {
-        if entry.stamp >= stamp {
+        if entry.stamp > last {
             return false;
         }
     }
     true
 }
 
-fn is_card_before(card: &Card, stamp: u64) -> bool
-    ensures { IsTrue result ↔ IsCardBefore stamp card.now }
+fn is_card_before(card: &Card, last: u64) -> bool
+    ensures { IsTrue result ↔ IsCardBefore (last + 1) card.now }
 {
-    card.inode.number < stamp
-        && card.inode.change < stamp
-        && are_names_before(card.names.entries(), stamp)
+    card.inode.number <= last
+        && card.inode.change <= last
+        && are_names_before(card.names.entries(), last)
 }
 
-/// Whether all that a volume's nodes have of stamps is from before this one: numbers, change values and stamps of names.
-pub fn are_before(table: &Table, stamp: u64) -> bool
-    ensures { IsTrue result ↔ AreBefore stamp table.now }
+/// Whether nothing that a volume's nodes have of stamps is past this last one: numbers, change values and stamps of names.
+pub fn are_before(table: &Table, last: u64) -> bool
+    ensures { IsTrue result ↔ AreBefore (last + 1) table.now }
 {
     for place in 0..table.places() {
         if let Some(card) = table.card(place) {
-            if !is_card_before(card, stamp) {
+            if !is_card_before(card, last) {
                 return false;
             }
         }

@@ -1,6 +1,6 @@
 //! Whether a volume's nodes are a well-formed tree.
 
-ghost use Rattle.std.specs.Prelude.{◌↔◌, IsTrue, IfOk};
+ghost use Rattle.std.specs.Prelude.{◌+◌, ◌↔◌, IsTrue, IfOk};
 ghost use Rattle.shape.specs.WellFormed.{AreWellFormed, DoFit};
 
 use crate::ages::are_before;
@@ -17,8 +17,8 @@ fn do_fit(table: &Table, limits: &Limits) -> bool
     table.charge() <= limits.data_sectors as u64 && table.count() as usize <= limits.nodes
 }
 
-/// Whether a volume's nodes are a well-formed tree from before a stamp: they make one tree within the limits, of nodes that the
-/// limits allow, no stamp stands at two names, and all stamps are below this one.
+/// Whether a volume's nodes are a well-formed tree with no stamp past a last one: they make one tree within the limits, of nodes
+/// that the limits allow, no stamp stands at two names, and none is above this last one.
 ///
 /// # Errors
 ///
@@ -27,11 +27,11 @@ pub fn are_well_formed(
     alloc: Global,
     table: &Table,
     limits: &Limits,
-    stamp: u64,
+    last: u64,
 ) -> Result<bool, AllocError>
-    ensures { IfOk result (λ are. IsTrue are ↔ AreWellFormed limits.now stamp table.now) }
+    ensures { IfOk result (λ are. IsTrue are ↔ AreWellFormed limits.now (last + 1) table.now) }
 {
-    if !do_fit(table, limits) || !are_nodes_allowed(table, limits) || !are_before(table, stamp) {
+    if !do_fit(table, limits) || !are_nodes_allowed(table, limits) || !are_before(table, last) {
         return Ok(false);
     }
     Ok(is_one_tree(alloc, table)? && are_stamps_apart(alloc, table)?)
