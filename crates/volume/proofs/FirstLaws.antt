@@ -83,3 +83,13 @@ none_on_few sectors sector few =
 pub not_volume_on_few : (sectors : ℕ) (sector : List ℕ) → sectors < 256 → verdict sectors sector ≡ NotVolume
 unfolding verdict
 not_volume_on_few sectors sector few = cond-true (not (is_volume sectors sector)) _ _ (ap not (none_on_few sectors sector few))
+
+-- what is a volume of this version has its size
+
+some_volume : (volume worn same : Bool) → (cond (not volume) NotVolume (cond worn Worn (cond same Sound Damaged)) ≡ NotVolume → ⊥) → volume ≡ true
+some_volume true worn same is = refl
+some_volume false worn same is = absurd (is refl)
+
+pub seen_size : (sectors : ℕ) (sector : List ℕ) → (verdict sectors sector ≡ NotVolume → ⊥) → IsTrue (is_size sectors (word 16 sector))
+unfolding verdict
+seen_size sectors sector is = size_of sectors sector (some_volume (is_volume sectors sector) _ _ is)

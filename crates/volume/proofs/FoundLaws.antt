@@ -55,7 +55,7 @@ module _ (size nodes run : ℕ) (tree : Tree) (seen : Image) (base : IsBase size
   pub run_is : word 20 (seen 0) ≡ run
   run_is = ap (word 20) first_is ∙ word_run size nodes run base.stands.counted
 
-  spelled : seen 0 ≡ superblock size (word 16 (seen 0)) (word 20 (seen 0))
+  pub spelled : seen 0 ≡ superblock size (word 16 (seen 0)) (word 20 (seen 0))
   spelled = first_is ∙ (ap (λ (n : ℕ). superblock size n run) (sym nodes_is) ∙ ap (λ (r : ℕ). superblock size (word 16 (seen 0)) r) (sym run_is))
 
   never_damaged : (volume worn same : Bool) → same ≡ true → cond (not volume) NotVolume (cond worn Worn (cond same Sound Damaged)) ≡ Damaged → ⊥

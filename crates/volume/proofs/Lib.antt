@@ -1,6 +1,7 @@
 pub mod ApplyLaws
 pub mod BeginLaws
 pub mod ChangeLaws
+pub mod CheckLaws
 pub mod EditLaws
 pub mod FirstLaws
 pub mod FormatLaws

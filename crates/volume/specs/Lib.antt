@@ -1,9 +1,11 @@
 pub mod Changes
+pub mod Checks
 pub mod Edits
 pub mod Formats
 pub mod Formed
 pub mod Fronts
 pub mod Held
+pub mod Kept
 pub mod Known
 pub mod KnownProps
 pub mod Loads

@@ -1,6 +1,6 @@
 -- What reading the nodes of a volume finds.
-use Rattle.std.specs.Prelude.{◌≡◌, ◌≤◌, ◌<◌, ◌+◌, ℕ, Bool, List, Option}
-use Rattle.disk.specs.Moments.{IsSector}
+use Rattle.std.specs.Prelude.{◌≡◌, ◌<◌, ◌+◌, ℕ, Bool, List, Option}
+use Rattle.disk.specs.Moments.{Image, IsSector}
 use Rattle.journal.specs.Log.{Log}
 use Rattle.layout.specs.Cards.{Card, tree_of, cards_in}
 use Rattle.layout.specs.Health.{Health, Reads}
@@ -12,20 +12,27 @@ use Rattle.volume.specs.Mounts.{StandsOn}
 use Rattle.volume.specs.Superblock.{superblock}
 use Rattle.volume.specs.declared.mount.Superblock.{Superblock}
 
--- the base begins with the first sector that was found, and its sectors are bytes
-pub record HoldsBase (found : Superblock) (log : Log) : Type 0 where
-  pub first : log.base 0 ≡ superblock found.sectors found.nodes found.run
-  pub sectors : (n : ℕ) → n < log.size → IsSector (log.base n)
+-- the sectors begin with the first one that was found, and are bytes
+pub record HoldsVolume (found : Superblock) (size : ℕ) (image : Image) : Type 0 where
+  pub first : image 0 ≡ superblock found.sectors found.nodes found.run
+  pub sectors : (n : ℕ) → n < size → IsSector (image n)
 
--- The cards are those of the base, and a tree stands there
-pub record IsLoaded (keeps_word : Type 0) (found : Superblock) (log : Log)
+abbrev pub HoldsBase : Superblock → Log → Type 0
+HoldsBase found log = HoldsVolume found log.size log.base
+
+-- The cards are those of the sectors, and a tree stands there
+pub record AreLoaded (keeps_word : Type 0) (found : Superblock) (image : Image)
     (cards : List (Option Card)) (places : List Bool)
     : Type 0 where
   pub known : IsKnown found.sectors found.nodes cards places
   pub well_formed : ∥ AreWellFormed (limits_of found.sectors found.nodes)
       (stamp (found.run + 1) 0) cards ∥₁
-  pub read : keeps_word → cards ≡ cards_in found.nodes log.base
-  pub stood : keeps_word → ∥ StandsOn found log.base (tree_of log.base cards) ∥₁
+  pub read : keeps_word → cards ≡ cards_in found.nodes image
+  pub stood : keeps_word → ∥ StandsOn found image (tree_of image cards) ∥₁
+
+abbrev pub IsLoaded : (keeps_word : Type 0) → Superblock → Log → List (Option Card) → List Bool
+    → Type 0
+IsLoaded keeps_word found log cards places = AreLoaded keeps_word found log.base cards places
 
 -- the journal is as it was, but where the device failed it is down and counted that
 abbrev health : Log → (failures : ℕ) → Health

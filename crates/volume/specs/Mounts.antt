@@ -1,9 +1,7 @@
 -- What a mount finds on the base of a journal.
-use Rattle.std.specs.Prelude.{ℕ, ⊤, Bool, false, [], Result, Ok, Err, ◌≡◌, ◌<◌, ◌≤◌, ◌+◌, ◌^◌, ◌⊎◌, List, IsTrue}
-use Rattle.disk.specs.Cause.{IsCounted}
-use Rattle.disk.specs.Moments.{Image, History, AddsOnly, put}
+use Rattle.std.specs.Prelude.{ℕ, ⊤, false, [], Result, Ok, Err, ◌≡◌, ◌<◌, ◌≤◌, ◌+◌, ◌^◌, ◌⊎◌, List, IsTrue}
+use Rattle.disk.specs.Moments.{Image, History, AddsOnly}
 use Rattle.journal.specs.Log.{Log, IsSettled}
-use Rattle.journal.specs.Settled.{AreSame}
 use Rattle.layout.specs.Superblock.{is_size}
 use Rattle.model.specs.Tree.{Tree}
 use Rattle.volume.specs.Held.{Held, Holds}
@@ -13,6 +11,12 @@ use Rattle.volume.specs.declared.fault.MountFault.{MountFault}
 use Rattle.volume.specs.declared.fault.MountFault.TheVariants as mounts
 use Rattle.volume.specs.declared.mount.Superblock.{Superblock}
 use Rattle.volume.specs.declared.superblock.Verdict.TheVariants as verdicts
+
+-- a volume by its first sector, whose count may be full
+pub record HasSize (sectors : ℕ) (found : Superblock) : Type 0 where
+  pub size : found.sectors ≡ sectors
+  pub sized : IsTrue (is_size found.sectors found.nodes)
+  pub counted : found.run < 2 ^ 32
 
 -- a volume by its first sector: one more mount of it can be counted
 pub record IsVolumeOf (sectors : ℕ) (found : Superblock) : Type 0 where

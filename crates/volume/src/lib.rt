@@ -4,6 +4,7 @@
 
 mod ancestry;
 mod change;
+mod checking;
 mod fault;
 mod file_bytes;
 mod formatting;
@@ -12,8 +13,10 @@ mod load;
 mod mount;
 mod store;
 pub mod superblock;
+mod view_store;
 mod volume;
 
+pub use checking::{Checked, check};
 pub use fault::{FormatFault, MountFault, VolumeFault};
 pub use formatting::format;
 pub use laws::{one_tree_stands, superblock_tells};

@@ -4,8 +4,9 @@ ghost use Rattle.std.specs.Prelude.{◌≡◌, ◌⊎◌, IfOk, IfErr, IsErrOf, 
 ghost use Rattle.journal.specs.Journal.{log_of, failures_of};
 ghost use Rattle.model.specs.Tree.{Tree as NumberedTree};
 ghost use Rattle.parents.specs.Parents.{AreParents};
-ghost use Rattle.volume.specs.Loads.{HoldsBase, IsLoaded, Loads};
-ghost use Rattle.volume.specs.Mounts.{IsVolumeOf, IsAtRest, StandsOn};
+ghost use Rattle.layout.specs.Health.{Reads};
+ghost use Rattle.volume.specs.Loads.{AreLoaded, HoldsBase, HoldsVolume, IsLoaded, Loads};
+ghost use Rattle.volume.specs.Mounts.{HasSize, IsVolumeOf, IsAtRest, StandsOn};
 ghost use Rattle.volume.specs.Superblock.{superblock};
 
 use crate::fault::MountFault;
@@ -14,6 +15,7 @@ use crate::store::Store;
 use cards::Table;
 use disk::Device;
 use freemap::Bitmap;
+use layout::sectors::Sectors;
 use model::limits::Limits;
 use parents::Parents;
 use scan::read_volume;
@@ -28,7 +30,45 @@ pub(crate) struct Loaded {
     pub(crate) parents: Parents,
 }
 
-/// Reads the nodes of a volume that was found: Damaged exactly where no tree stands.
+/// Reads the nodes of a volume that was found, whatever keeps its sectors: Damaged exactly where no
+/// tree stands.
+pub(crate) fn read_nodes<S: Sectors>(
+    alloc: Global,
+    sectors: &mut S,
+    found: Superblock,
+) -> Result<Loaded, MountFault>
+    requires volume { HasSize (S.size (S.kept sectors.old)) found }
+    requires base { S.keeps_word → HoldsVolume found
+        (S.size (S.kept sectors.old)) (S.image (S.kept sectors.old)) }
+    ensures loaded { IfOk result (λ loaded. AreLoaded S.keeps_word found
+        (S.image (S.kept sectors.old)) loaded.table loaded.places) }
+    ensures parents { IfOk result (λ loaded. AreParents loaded.table loaded.parents) }
+    // It only reads
+    ensures kept { S.kept sectors.new ≡ S.kept sectors.old }
+    ensures health { Reads (S.health sectors.old) (S.health sectors.new)
+        (IsErrOf result MountFault.Device) }
+    // Refused
+    ensures damaged { S.keeps_word → IsErrOf result MountFault.Damaged → (tree : NumberedTree)
+        → StandsOn found (S.image (S.kept sectors.old)) tree → ⊥ }
+    ensures only { IfErr result (λ fault. (fault ≡ MountFault.Device)
+        ⊎ ((fault ≡ MountFault.Damaged) ⊎ (fault ≡ MountFault.Memory))) }
+{
+    let limits = Limits::of_volume(found.sectors as usize, found.nodes as usize);
+    let contents = read_volume(alloc, sectors, found.sectors, found.nodes)?;
+    let table = Table::from_cards(alloc, contents.cards)?;
+    let last_stamp = u64::from(found.run) * 0x1_0000_0000 + 0xFFFF_FFFF;
+    if !are_well_formed(alloc, &table, &limits, last_stamp)? {
+        return Err(MountFault::Damaged);
+    }
+    let parents = Parents::from_table(alloc, &table)?;
+    Ok(Loaded {
+        table,
+        places: contents.places,
+        parents,
+    })
+}
+
+/// Reads the nodes of a volume that is mounted.
 pub(crate) fn load<D: Device>(
     alloc: Global,
     store: &mut Store<D>,
@@ -50,17 +90,6 @@ pub(crate) fn load<D: Device>(
     ensures only { IfErr result (λ fault. (fault ≡ MountFault.Device)
         ⊎ ((fault ≡ MountFault.Damaged) ⊎ (fault ≡ MountFault.Memory))) }
 {
-    let limits = Limits::of_volume(found.sectors as usize, found.nodes as usize);
-    let contents = read_volume(alloc, store, found.sectors, found.nodes)?;
-    let table = Table::from_cards(alloc, contents.cards)?;
-    let stamp = u64::from(found.run + 1) * 0x1_0000_0000;
-    if !are_well_formed(alloc, &table, &limits, stamp)? {
-        return Err(MountFault::Damaged);
-    }
-    let parents = Parents::from_table(alloc, &table)?;
-    Ok(Loaded {
-        table,
-        places: contents.places,
-        parents,
-    })
+    let loaded = read_nodes(alloc, store, found)?;
+    Ok(loaded)
 }

@@ -1,10 +1,11 @@
 //! Finding a volume, and raising its restart count.
 
-ghost use Rattle.std.specs.Prelude.{◌≡◌, ◌≤◌, IfOk, OnOk, OnErr, IsErrOf};
+ghost use Rattle.std.specs.Prelude.{◌≡◌, ◌≤◌, ◌<◌, ◌⊎◌, IfOk, IfErr, OnOk, OnErr, IsErrOf};
 ghost use Rattle.disk.specs.Cause.{IsCounted};
 ghost use Rattle.disk.specs.Moments.{seen};
 ghost use Rattle.journal.specs.Journal.{log_of, failures_of};
-ghost use Rattle.volume.specs.Mounts.{AddsRaised, IsVolumeOf, IsAtRest, IsTold, IsRaised};
+ghost use Rattle.volume.specs.Checks.{IsSeen};
+ghost use Rattle.volume.specs.Mounts.{AddsRaised, HasSize, IsVolumeOf, IsAtRest, IsTold, IsRaised};
 ghost use Rattle.volume.specs.Superblock.{superblock};
 
 use crate::fault::MountFault;
@@ -24,7 +25,32 @@ pub(crate) struct Superblock {
     pub(crate) run: u32,
 }
 
-/// Reads the first sector of a device.
+/// Reads the first sector of a device, which is no volume where it has too few sectors for one.
+fn read_first<D: Device>(device: &mut D) -> Result<[u8; SECTOR], MountFault>
+    ensures first { D.keeps_word
+        → IfOk result (λ first. first ≡ seen (D.history device.old).now 0) }
+    ensures few { IsErrOf result MountFault.NotVolume → D.size device.old < 256 }
+    ensures only { IfErr result (λ fault.
+        (fault ≡ MountFault.NotVolume) ⊎ (fault ≡ MountFault.Device)) }
+    // It only reads
+    ensures history { D.history device.new ≡ D.history device.old }
+    ensures same_size { D.size device.new ≡ D.size device.old }
+    // The device fails in it
+    ensures later { D.failed device.old ≤ D.failed device.new }
+    ensures cause { IsErrOf result MountFault.Device
+        → IsCounted (D.failed device.old) (D.failed device.new) }
+{
+    if device.sectors() < FEWEST_SECTORS {
+        return Err(MountFault::NotVolume);
+    }
+    let mut first = [0; SECTOR];
+    if device.read(0, &mut first).is_err() {
+        return Err(MountFault::Device);
+    }
+    Ok(first)
+}
+
+/// Finds a volume that can be mounted, by the first sector of its device.
 #[tactic(auto, using(crate::proofs::FirstLaws::sound_size, crate::proofs::FirstLaws::sound_run, crate::proofs::FirstLaws::sound_first, crate::proofs::FirstLaws::not_volume_on_few))]
 pub(crate) fn find<D: Device>(device: &mut D) -> Result<Superblock, MountFault>
     ensures volume { IfOk result (IsVolumeOf (D.size device.old)) }
@@ -39,14 +65,11 @@ pub(crate) fn find<D: Device>(device: &mut D) -> Result<Superblock, MountFault>
         → IsCounted (D.failed device.old) (D.failed device.new) }
     ensures no_memory { IsErrOf result MountFault.Memory → ⊥ }
 {
+    let first = match read_first(device) {
+        Ok(first) => first,
+        Err(fault) => return Err(fault),
+    };
     let sectors = device.sectors();
-    if sectors < FEWEST_SECTORS {
-        return Err(MountFault::NotVolume);
-    }
-    let mut first = [0; SECTOR];
-    if device.read(0, &mut first).is_err() {
-        return Err(MountFault::Device);
-    }
     match judge(sectors, &first) {
         Verdict::NotVolume => Err(MountFault::NotVolume),
         Verdict::Worn => Err(MountFault::Worn),
@@ -57,6 +80,42 @@ pub(crate) fn find<D: Device>(device: &mut D) -> Result<Superblock, MountFault>
             run: run_of(&first),
         }),
     }
+}
+
+/// Finds a volume by the first sector of its device, whether it can be mounted once more or not.
+#[tactic(auto, using(crate::proofs::FirstLaws::not_volume_on_few, crate::proofs::FirstLaws::seen_size))]
+pub(crate) fn look<D: Device>(device: &mut D) -> Result<Superblock, MountFault>
+    ensures volume { IfOk result (HasSize (D.size device.old)) }
+    ensures seen { D.keeps_word
+        → IsSeen (D.size device.old) (seen (D.history device.old).now 0) result }
+    // It only reads
+    ensures history { D.history device.new ≡ D.history device.old }
+    ensures same_size { D.size device.new ≡ D.size device.old }
+    // The device fails in it
+    ensures later { D.failed device.old ≤ D.failed device.new }
+    ensures cause { IsErrOf result MountFault.Device
+        → IsCounted (D.failed device.old) (D.failed device.new) }
+    ensures no_memory { IsErrOf result MountFault.Memory → ⊥ }
+    ensures never_worn { IsErrOf result MountFault.Worn → ⊥ }
+{
+    let first = match read_first(device) {
+        Ok(first) => first,
+        Err(fault) => return Err(fault),
+    };
+    let sectors = device.sectors();
+    if judge(sectors, &first) == Verdict::NotVolume {
+        return Err(MountFault::NotVolume);
+    }
+    let nodes = nodes_of(&first);
+    let run = run_of(&first);
+    if first != superblock_of(sectors, nodes, run) {
+        return Err(MountFault::Damaged);
+    }
+    Ok(Superblock {
+        sectors,
+        nodes,
+        run,
+    })
 }
 
 /// Raises the restart count of a volume, by its first sector.

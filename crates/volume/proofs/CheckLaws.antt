@@ -1,0 +1,93 @@
+-- How a check answers, by what its parts find.
+use Rattle.std.proofs.Common.{◌≡◌, ◌≢◌, ◌<◌, ◌⊎◌, ◌^◌, ℕ, Bool, List, Option, Err, ⊎_elim, refl, sym, ◌∙◌, subst}
+use Rattle.std.proofs.Math.Logic.{∥∥₁_map}
+use Rattle.disk.specs.Moments.{Image, History, seen}
+use Rattle.journal.specs.Log.{Log}
+use Rattle.journal.specs.Settled.{Settles}
+use Rattle.journal.specs.Viewed.{HasNoForm, HasViewed}
+use Rattle.journal.specs.declared.fault.JournalFault.{JournalFault}
+use Rattle.journal.specs.declared.fault.JournalFault.TheVariants as journals
+use Rattle.journal.proofs.First.{first_kept}
+use Rattle.layout.specs.Cards.{Card, tree_of}
+use Rattle.model.specs.Tree.{Tree}
+use Rattle.volume.specs.Checks.{IsSeen, HasChecked, FailsCheck}
+use Rattle.volume.specs.Loads.{AreLoaded, HoldsVolume}
+use Rattle.volume.specs.MountAnswers.{first_verdict}
+use Rattle.volume.specs.Mounts.{StandsOn}
+use Rattle.volume.specs.Refusals.{gate_fault}
+use Rattle.volume.specs.Stands.{Stands, StandsFor}
+use Rattle.volume.specs.Superblock.{superblock}
+use Rattle.volume.specs.declared.checking.Checked.{Checked}
+use Rattle.volume.specs.declared.fault.MountFault.{MountFault}
+use Rattle.volume.specs.declared.fault.MountFault.TheVariants as mounts
+use Rattle.volume.specs.declared.mount.Superblock.{Superblock}
+use Rattle.volume.specs.declared.superblock.Verdict.TheVariants as verdicts
+use Rattle.volume.proofs.FirstLaws.{not_volume_on_few}
+use Rattle.volume.proofs.FoundLaws.{found_stands, is_volume_there, spelled}
+
+-- the first sector was not read
+pub first_seen : (sectors : ℕ) (sector : List ℕ) (fault : MountFault) → (fault ≡ mounts.NotVolume → sectors < 256)
+    → (fault ≡ mounts.NotVolume) ⊎ (fault ≡ mounts.Device) → IsSeen sectors sector (Err fault)
+first_seen sectors sector fault few only = ⊎_elim
+    (λ (none : fault ≡ mounts.NotVolume). subst (λ (f : MountFault). IsSeen sectors sector (Err f)) (sym none) (not_volume_on_few sectors sector (few none)))
+    (λ (failed : fault ≡ mounts.Device). subst (λ (f : MountFault). IsSeen sectors sector (Err f)) (sym failed) tt)
+    only
+
+-- refused by the first sector
+pub look_fails : (sectors : ℕ) (old : History) (fault : MountFault) → IsSeen sectors (seen old.now 0) (Err fault) → FailsCheck sectors old fault
+look_fails sectors old mounts.NotVolume is = (is, λ nodes run tree base. is_volume_there sectors nodes run tree (seen old.now) base is)
+look_fails sectors old mounts.Damaged is = (is.0, λ nodes run tree base. is.1 (spelled sectors nodes run tree (seen old.now) base))
+look_fails sectors old mounts.Worn is = absurd is
+look_fails sectors old mounts.Memory is = absurd is
+look_fails sectors old mounts.Device is = tt
+
+-- refused by the gate
+pub gate_fails : (sectors : ℕ) (old : History) (fault : JournalFault) → first_verdict sectors old ≢ verdicts.NotVolume
+    → (fault ≡ journals.Damaged → HasNoForm sectors old) → FailsCheck sectors old (gate_fault fault)
+gate_fails sectors old journals.Memory volume damaged = tt
+gate_fails sectors old journals.Damaged volume damaged = (volume, λ nodes run tree base. damaged refl base.base base.settles)
+gate_fails sectors old journals.Fault volume damaged = tt
+gate_fails sectors old journals.TooMany volume damaged = tt
+gate_fails sectors old journals.Down volume damaged = tt
+
+-- what is viewed of a volume
+pub view_holds : (sectors : ℕ) (old : History) (log : Log) (found : Superblock) → 0 < sectors → HasViewed sectors old log → log.size ≡ sectors
+    → seen old.now 0 ≡ superblock found.sectors found.nodes found.run → HoldsVolume found log.size log.base
+view_holds sectors old log found some viewed size first = record {
+  first = first_kept sectors (seen old.now) log.base some viewed.base ∙ first;
+  sectors = λ n within. viewed.sectors n (subst (λ (s : ℕ). n < s) size within);
+}
+
+module _ (sectors : ℕ) (old : History) (found : Superblock) (base : Image) (sectors_is : found.sectors ≡ sectors) (few : found.nodes < 2 ^ 32) (counted : found.run < 2 ^ 32)
+    (volume : first_verdict sectors old ≢ verdicts.NotVolume) (first : seen old.now 0 ≡ superblock found.sectors found.nodes found.run)
+    (settles : Settles sectors (seen old.now) base) where
+  -- refused by its nodes
+  pub nodes_fail : (fault : MountFault) → (fault ≡ mounts.Damaged → (tree : Tree) → StandsOn found base tree → ⊥)
+      → (fault ≡ mounts.Device) ⊎ ((fault ≡ mounts.Damaged) ⊎ (fault ≡ mounts.Memory)) → FailsCheck sectors old fault
+  nodes_fail fault none only = ⊎_elim
+      (λ (device : fault ≡ mounts.Device). subst (FailsCheck sectors old) (sym device) tt)
+      (λ (rest : (fault ≡ mounts.Damaged) ⊎ (fault ≡ mounts.Memory)). ⊎_elim
+      (λ (damaged : fault ≡ mounts.Damaged). subst (FailsCheck sectors old) (sym damaged) (
+        volume,
+        λ nodes run tree stands. none damaged tree
+            (found_stands sectors nodes run tree (seen old.now) stands base settles found.sectors found.nodes found.run sectors_is few counted first),
+      ))
+      (λ (memory : fault ≡ mounts.Memory). subst (FailsCheck sectors old) (sym memory) tt)
+      rest)
+      only
+
+  -- the tree of its nodes stands
+  pub has_checked : (keeps_word : Type 0) → keeps_word → (cards : List (Option Card)) (places : List Bool) → AreLoaded keeps_word found base cards places
+      → (checked : Checked) → checked.sectors ≡ found.sectors → checked.nodes ≡ found.nodes → checked.count ≡ found.run → HasChecked sectors old checked
+  has_checked keeps_word k cards places loaded checked same_sectors same_nodes same_run = record {
+    first = volume;
+    sectors_are = same_sectors ∙ sectors_is;
+    tree = tree_of base cards;
+    stands = subst (λ (n : ℕ). StandsFor sectors n checked.count (tree_of base cards) (seen old.now)) (sym same_nodes)
+        (subst (λ (r : ℕ). StandsFor sectors found.nodes r (tree_of base cards) (seen old.now)) (sym same_run)
+        (∥∥₁_map (loaded.stood k) (λ stands. record {
+          base = base;
+          settles = settles;
+          stands = subst (λ (s : ℕ). Stands s found.nodes base found.run (tree_of base cards)) sectors_is stands;
+        })));
+  }

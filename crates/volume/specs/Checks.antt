@@ -1,0 +1,44 @@
+-- What a check of a volume says by its answer: what a mount finds, and nothing is written.
+use Rattle.std.specs.Prelude.{ℕ, ⊤, List, Result, Ok, Err, ◌≡◌, ◌≢◌}
+use Rattle.disk.specs.Moments.{History, seen}
+use Rattle.model.specs.Tree.{Tree}
+use Rattle.volume.specs.MountAnswers.{first_verdict, NoTree}
+use Rattle.volume.specs.Stands.{StandsFor}
+use Rattle.volume.specs.Superblock.{superblock, verdict, word}
+use Rattle.volume.specs.declared.checking.Checked.{Checked}
+use Rattle.volume.specs.declared.fault.MountFault.{MountFault}
+use Rattle.volume.specs.declared.fault.MountFault.TheVariants as mounts
+use Rattle.volume.specs.declared.mount.Superblock.{Superblock}
+use Rattle.volume.specs.declared.superblock.Verdict.TheVariants as verdicts
+
+-- what the first sector says of a volume, whether one more mount of it can be counted or not
+abbrev pub IsSeen : (sectors : ℕ) → (sector : List ℕ) → Result Superblock MountFault → Type 0
+IsSeen sectors sector (Ok found) =
+    (verdict sectors sector ≢ verdicts.NotVolume)
+    × (sector ≡ superblock found.sectors found.nodes found.run)
+IsSeen sectors sector (Err mounts.NotVolume) = verdict sectors sector ≡ verdicts.NotVolume
+IsSeen sectors sector (Err mounts.Damaged) =
+    (verdict sectors sector ≢ verdicts.NotVolume)
+    × (sector ≢ superblock sectors (word 16 sector) (word 20 sector))
+IsSeen sectors sector (Err mounts.Worn) = ⊥
+IsSeen sectors sector (Err mounts.Memory) = ⊥
+IsSeen sectors sector (Err mounts.Device) = ⊤
+
+-- A tree stands for what the device settles to, of these numbers of sectors and nodes, and under
+-- this restart count, which may be full.
+pub record HasChecked (sectors : ℕ) (old : History) (checked : Checked) : Type 0 where
+  pub first : first_verdict sectors old ≢ verdicts.NotVolume
+  pub sectors_are : checked.sectors ≡ sectors
+  pub tree : Tree
+  pub stands : StandsFor sectors checked.nodes checked.count tree (seen old.now)
+
+-- A check that is refused: no count is too full for it. Damaged comes behind NotVolume, by the first
+-- sector or by what is behind it.
+abbrev pub FailsCheck : (sectors : ℕ) → (old : History) → MountFault → Type 0
+FailsCheck sectors old mounts.NotVolume =
+    (first_verdict sectors old ≡ verdicts.NotVolume) × NoTree sectors old
+FailsCheck sectors old mounts.Damaged =
+    (first_verdict sectors old ≢ verdicts.NotVolume) × NoTree sectors old
+FailsCheck sectors old mounts.Worn = ⊥
+FailsCheck sectors old mounts.Memory = ⊤
+FailsCheck sectors old mounts.Device = ⊤

@@ -1,0 +1,66 @@
+//! Whether a tree stands on a volume, told without a mount.
+
+ghost use Rattle.std.specs.Prelude.{◌≡◌, ◌≤◌, IfOk, IfErr, IsErrOf};
+ghost use Rattle.disk.specs.Cause.{IsCounted};
+ghost use Rattle.volume.specs.Checks.{FailsCheck, HasChecked};
+
+use crate::fault::MountFault;
+use crate::load::read_nodes;
+use crate::mount::look;
+use crate::view_store::ViewStore;
+use disk::Device;
+use journal::Journal;
+use std::alloc::Global;
+
+/// A volume on which a tree stands.
+#[derive(Clone, Copy, Debug, PartialEq, Eq)]
+pub struct Checked {
+    /// How many sectors it has.
+    pub sectors: u32,
+    /// How many nodes it may have.
+    pub nodes: u32,
+    /// How often it was mounted.
+    pub count: u32,
+}
+
+/// Reads what a mount would find, behind an open gate, and writes nothing: whether a tree stands
+/// there. A full restart count is told as any other.
+///
+/// # Errors
+///
+/// NotVolume, by the first sector, as a mount; then Damaged exactly where no tree stands; Device
+/// where the device failed, and Memory; never Worn.
+#[tactic(auto, unfolding(journal::specs::Views::view_of, journal::specs::Views::view_failures, journal::specs::Views::name_of))]
+pub fn check<D: Device>(alloc: Global, device: &mut D) -> Result<Checked, MountFault>
+    ensures checked { D.keeps_word → IfOk result
+        (HasChecked (D.size device.old) (D.history device.old)) }
+    // It only reads, on any device
+    ensures untouched { D.history device.new ≡ D.history device.old }
+    ensures same_size { D.size device.new ≡ D.size device.old }
+    // Refused
+    ensures refused { D.keeps_word → IfErr result
+        (FailsCheck (D.size device.old) (D.history device.old)) }
+    ensures never_worn { IsErrOf result MountFault.Worn → ⊥ }
+    ensures later { D.failed device.old ≤ D.failed device.new }
+    ensures cause { IsErrOf result MountFault.Device
+        → IsCounted (D.failed device.old) (D.failed device.new) }
+{
+    let found = match look(device) {
+        Ok(found) => found,
+        Err(fault) => return Err(fault),
+    };
+    let view = match Journal::view(alloc, device) {
+        Ok(view) => view,
+        Err(refused) => return Err(refused.fault.into()),
+    };
+    let mut store = ViewStore { view };
+    let _loaded = match read_nodes(alloc, &mut store, found) {
+        Ok(loaded) => loaded,
+        Err(fault) => return Err(fault),
+    };
+    Ok(Checked {
+        sectors: found.sectors,
+        nodes: found.nodes,
+        count: found.run,
+    })
+}
