@@ -6,7 +6,7 @@ ghost use Rattle.volume.specs.Volumes.{held_of};
 
 use disk::Device;
 use std::alloc::Global;
-use volume::{FormatFault, Unmounted, Volume};
+use volume::{Checked, FormatFault, MountFault, Unmounted, Volume};
 
 /// A mounted file system.
 #[derive(Drop)]
@@ -25,6 +25,7 @@ impl<D: Device> Fs<D> {
     ghost use Rattle.fs.specs.FileSystem.{IsNew};
     ghost use Rattle.fs.specs.FileSystems.{fs_of, fs_failures};
     ghost use Rattle.layout.specs.Superblock.{is_size};
+    ghost use Rattle.volume.specs.Checks.{FailsCheck, HasChecked};
     ghost use Rattle.volume.specs.Formats.{AddsFresh, LeavesFresh};
     ghost use Rattle.volume.specs.MountAnswers.{HasMounted, IsRefused, ComesBack};
 
@@ -76,6 +77,29 @@ impl<D: Device> Fs<D> {
             volume,
             changes: 0,
         })
+    }
+
+    /// Whether a tree stands on the volume of a device, which nothing is written to: `volume::check`.
+    ///
+    /// # Errors
+    ///
+    /// NotVolume, by the first sector, as a mount; then Damaged exactly where no tree stands; Device
+    /// where the device failed, and Memory; never Worn.
+    pub fn check(alloc: Global, device: &mut D) -> Result<Checked, MountFault>
+        ensures checked { D.keeps_word → IfOk result
+            (HasChecked (D.size device.old) (D.history device.old)) }
+        // It only reads, on any device
+        ensures untouched { D.history device.new ≡ D.history device.old }
+        ensures same_size { D.size device.new ≡ D.size device.old }
+        // Refused
+        ensures refused { D.keeps_word → IfErr result
+            (FailsCheck (D.size device.old) (D.history device.old)) }
+        ensures never_worn { IsErrOf result MountFault.Worn → ⊥ }
+        ensures later { D.failed device.old ≤ D.failed device.new }
+        ensures cause { IsErrOf result MountFault.Device
+            → IsCounted (D.failed device.old) (D.failed device.new) }
+    {
+        volume::check(alloc, device)
     }
 
     /// The run of this mount: the restart count that it wrote.
