@@ -1,0 +1,5 @@
+pub mod Client
+pub mod Requests
+pub mod Rests
+pub mod Views
+pub mod Replies

@@ -1,0 +1,32 @@
+-- What is spelled behind the first fields of longer forms.
+use Rattle.std.specs.Prelude.{ℕ, Option, None, Some, List, [], ◌∷◌, ◌++◌}
+use Rattle.std.specs.Int.{w32}
+use Rattle.xdr.specs.Grammar.{number}
+use Rattle.xdr.specs.Forms.{elements}
+use Rattle.model.specs.declared.acl.Cred.{Cred}
+use Rattle.model.specs.Rpc.{opaque_auth}
+use Rattle.model.specs.Operation.{operation_of}
+use Rattle.model.specs.OperationNumber.{OP_SEQUENCE}
+use Rattle.wire.specs.declared.argument.Argument.{Argument}
+use Rattle.client.specs.declared.sent.Session.{Session}
+use Rattle.wire.specs.ArgumentView.{argument_view}
+
+-- behind the machine's name
+abbrev pub ids_text : Cred → List ℕ
+ids_text cred = number w32 cred.uid ++ (number w32 cred.gid ++ elements (λ n. number w32 n) cred.gids)
+
+-- the credential and the verifier of a call
+abbrev pub auths_text : (credential : List ℕ) → List ℕ
+auths_text credential = opaque_auth.spelling (1, credential) ++ opaque_auth.spelling (0, [])
+
+-- behind the version of RPC
+abbrev pub procedure_text : (credential : List ℕ) → List ℕ
+procedure_text credential = number w32 100003 ++ (number w32 4 ++ (number w32 1 ++ auths_text credential))
+
+-- the number of an operation, and that of SEQUENCE where it stands before them
+abbrev pub number_asked : Argument → ℕ
+number_asked a = operation_of (argument_view a)
+
+abbrev pub sequence_number : Option Session → List ℕ
+sequence_number None = []
+sequence_number (Some session) = OP_SEQUENCE ∷ []

@@ -1,0 +1,124 @@
+//! A client: what it sends, and what it knows from the replies.
+
+ghost use Rattle.std.specs.Prelude.{◌≡◌, ◌≤◌, ◌⊎◌, Some, None, [], length, map, All, IsSome, OnOk, OnErr, IfOk, IfErr, MatchResult, MatchOption};
+ghost use Rattle.model.specs.Operation.{operation_of};
+ghost use Rattle.wire.specs.ArgumentView.{argument_view};
+ghost use Rattle.wire_client.specs.ArgumentFits.{ArgumentFits};
+ghost use Rattle.client.specs.Requests.{new_client, requested, bytes_kept};
+ghost use Rattle.client.specs.declared.fault.ClientFault.TheVariants.{Memory, Pending};
+
+use crate::call::credential_body;
+use crate::fault::ClientFault;
+use crate::sent::{Sent, Session, is_alone, make_record};
+use model::acl::Cred;
+use std::alloc::Global;
+use std::marker::Model;
+use wire::Argument;
+
+/// A client. In a contract it is what it knows: its caller and tag, the next xid, the session, and the last record.
+#[derive(Drop)]
+pub struct Client {
+    alloc: Global,
+    credential: Vec<u8>,
+    tag: Vec<u8>,
+    xid: u32,
+    session: Option<Session>,
+    sent: Option<Sent>,
+}
+
+impl Model for Client {
+    ghost use Rattle.std.specs.Prelude.{◌≤◌, length};
+    ghost use Rattle.std.specs.Option.{option_map};
+    ghost use Rattle.client.specs.Client.{Client as Known};
+    ghost use Rattle.client.specs.Views.{session_of, sent_of};
+
+    ghost Value = { Known };
+
+    ghost view = { λ c. record {
+      credential = c.credential.items;
+      tag = c.tag.items;
+      xid = c.xid;
+      session = option_map session_of c.session;
+      sent = option_map sent_of c.sent;
+    } };
+
+    ghost invariant = { λ c. (length c.credential.items ≤ 400) × (length c.tag.items ≤ 255) };
+}
+
+impl Client {
+    /// A client of this caller and tag, whose first record has this xid.
+    pub fn new(
+        alloc: Global,
+        cred: &Cred,
+        tag: &[u8],
+        xid: u32,
+    ) -> Result<Client, ClientFault<'static>>
+        requires { length tag.now ≤ 255 }
+        ensures ok { IfOk result (λ client. client ≡ new_client cred.now tag.now xid) }
+        ensures err { IfErr result (λ e. e ≡ Memory) }
+    {
+        let Ok(credential) = credential_body(alloc, cred) else {
+            return Err(ClientFault::Memory);
+        };
+        Ok(Client {
+            alloc,
+            credential,
+            tag: Vec::from_slice(alloc, tag)?,
+            xid,
+            session: None,
+            sent: None,
+        })
+    }
+
+    /// Makes the record of these operations, behind a SEQUENCE on slot 0 unless they are EXCHANGE_ID, CREATE_SESSION,
+    /// DESTROY_SESSION or DESTROY_CLIENTID alone. The client keeps it, and `retry` gives it.
+    ///
+    /// `Pending` while a record waits for its reply, and where there is no session yet that the operations need.
+    #[tactic(auto, unfolding(crate::specs::Requests::requested))]
+    pub fn request(&mut self, operations: &[Argument<'_>]) -> Result<(), ClientFault<'static>>
+        requires { All ArgumentFits operations.now }
+        ensures ok { OnOk result
+            (requested self.old (map argument_view operations.now) ≡ Some self.new) }
+        ensures refused { IfErr result (λ e. MatchOption
+            (requested self.old (map argument_view operations.now)) (e ≡ Pending) (λ _. e ≡ Memory)) }
+        ensures err { OnErr result (self.new ≡ self.old) }
+    {
+        if let Some(sent) = &self.sent {
+            if !sent.is_answered {
+                return Err(ClientFault::Pending);
+            }
+        }
+        let mut session = None;
+        if !is_alone(operations) {
+            if self.session.is_none() {
+                return Err(ClientFault::Pending);
+            }
+            session = self.session;
+        }
+        let made = make_record(
+            self.alloc,
+            self.xid,
+            &self.credential,
+            &self.tag,
+            session,
+            operations,
+        );
+        let Ok(sent) = made else {
+            return Err(ClientFault::Memory);
+        };
+        self.sent = Some(sent);
+        self.xid = self.xid.wrapping_add(1);
+        Ok(())
+    }
+
+    /// The kept record, its header included: to be sent, for the first time or again, over this stream or a new one.
+    pub fn retry(&self) -> Result<&[u8], ClientFault<'static>>
+        ensures { MatchResult result (λ bytes. bytes_kept self.now.sent ≡ Some bytes.now)
+            (λ e. (self.now.sent ≡ None) × (e ≡ Pending)) }
+    {
+        match &self.sent {
+            Some(sent) => Ok(&sent.bytes),
+            None => Err(ClientFault::Pending),
+        }
+    }
+}

@@ -1,0 +1,11 @@
+//! The client's end of NFS version 4.1 over TCP (RFC 8881, RFC 5531): what is asked becomes one record, and a reply's record
+//! the results of what was asked.
+#![tactic(auto)]
+
+mod call;
+mod client;
+mod fault;
+mod sent;
+
+pub use client::Client;
+pub use fault::ClientFault;
