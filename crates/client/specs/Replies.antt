@@ -9,11 +9,11 @@ use Rattle.xdr.specs.Forms.{opaque, array}
 use Rattle.model.specs.declared.status.Status.{Status}
 use Rattle.model.specs.declared.status.Status.TheVariants as status
 use Rattle.model.specs.Status.{code_of}
-use Rattle.model.specs.Answer.{Answer, Outcome, Done, Refused, operation_of}
+use Rattle.model.specs.Answer.{Answer, Outcome, Done, Refused}
 use Rattle.model.specs.OperationNumber.{OP_SEQUENCE}
 use Rattle.model.specs.Rpc.{Reply, Success, is_empty, tag_limit}
 use Rattle.model.specs.RpcGrammar.{read_reply}
-use Rattle.model.specs.WireAnswers.{outcome}
+use Rattle.model.specs.WireAnswers.{outcome_told, outcome}
 use Rattle.client.specs.Client.{Client, Session, Sent}
 
 -- COMPOUND4res: the status of the last result, the tag, and the results
@@ -22,9 +22,9 @@ compound_result = unsigned_int & opaque tag_limit & array (2 ^ 32 - 1) outcome
 
 -- The results of the operations of a record
 
+-- its operation's number
 abbrev pub number_of : Outcome → ℕ
-number_of (Done answer) = operation_of answer
-number_of (Refused operation reason) = operation
+number_of one = (outcome_told one).number
 
 abbrev pub status_of : Outcome → Status
 status_of (Done answer) = status.Ok
@@ -59,28 +59,44 @@ gives_by results code None = NoReply
 gives_by results code (Some last) = if code_of last == code then Gives results last else NoReply
 
 -- behind an accepted reply's head: nothing may follow the results
-abbrev pub result_by : (tag : List ℕ) → Sent → Result ((ℕ × (List ℕ × List Outcome)) × List ℕ) Refusal → ReplyRead
-result_by tag sent (Err fault) = NoReply
-result_by tag sent (Ok read) =
-    if is_empty read.1 && bytes_eq read.0.1.0 tag then gives_by read.0.1.1 read.0.0 (ending sent.operations read.0.1.1) else NoReply
+abbrev pub result_by : (tag operations : List ℕ) → Result ((ℕ × (List ℕ × List Outcome)) × List ℕ) Refusal → ReplyRead
+result_by tag operations (Err fault) = NoReply
+result_by tag operations (Ok read) =
+    if is_empty read.1 && bytes_eq read.0.1.0 tag then gives_by read.0.1.1 read.0.0 (ending operations read.0.1.1) else NoReply
 
-abbrev pub reply_by : (tag : List ℕ) → Sent → Reply → ReplyRead
-reply_by tag sent (Success result) = result_by tag sent (compound_result.read result)
-reply_by tag sent _ = Rejects
+-- the result that a reply tells; none where the call was denied or not accepted
+abbrev pub result_in : Reply → Option (List ℕ)
+result_in (Success result) = Some result
+result_in _ = None
 
-abbrev pub message_by : (tag : List ℕ) → Sent → Option (ℕ × Reply) → ReplyRead
+abbrev pub told_by : Option (ℕ × Reply) → Option (ℕ × Option (List ℕ))
+told_by None = None
+told_by (Some read) = Some (read.0, result_in read.1)
+
+abbrev pub results_by : (tag : List ℕ) → Sent → Option (List ℕ) → ReplyRead
+results_by tag sent None = Rejects
+results_by tag sent (Some result) = result_by tag sent.operations (compound_result.read result)
+
+-- a reply to another record is none to this one
+abbrev pub reply_by : (tag : List ℕ) → Sent → Option (ℕ × Option (List ℕ)) → ReplyRead
+reply_by tag sent None = NoReply
+reply_by tag sent (Some told) = if told.0 == sent.xid then results_by tag sent told.1 else NoReply
+
+abbrev pub message_by : (tag : List ℕ) → Sent → Option (List ℕ) → ReplyRead
 message_by tag sent None = NoReply
-message_by tag sent (Some read) = if read.0 == sent.xid then reply_by tag sent read.1 else NoReply
+message_by tag sent (Some message) = reply_by tag sent (told_by (read_reply message))
 
--- the header of a record of one fragment
-abbrev pub behind_header : (tag : List ℕ) → Sent → Result (ℕ × List ℕ) Refusal → ReplyRead
-behind_header tag sent (Err fault) = NoReply
-behind_header tag sent (Ok read) =
-    if read.0 == 2 ^ 31 + length read.1 then message_by tag sent (read_reply read.1) else NoReply
+-- the bytes behind the header of a record of one fragment
+abbrev pub behind_header : Result (ℕ × List ℕ) Refusal → Option (List ℕ)
+behind_header (Err fault) = None
+behind_header (Ok read) = if read.0 == 2 ^ 31 + length read.1 then Some read.1 else None
+
+unfoldable pub message_of : List ℕ → Option (List ℕ)
+message_of bytes = behind_header (number_at w32 bytes)
 
 -- what the bytes, a record of one fragment with its header, are as a reply to what was sent
 unfoldable pub reply_read : (tag : List ℕ) → Sent → List ℕ → ReplyRead
-reply_read tag sent bytes = behind_header tag sent (number_at w32 bytes)
+reply_read tag sent bytes = message_by tag sent (message_of bytes)
 
 -- What the client knows then
 
@@ -114,16 +130,45 @@ next_request session = record session { number = (session.number + 1) % 2 ^ 32 }
 abbrev pub counted : Sent → List Outcome → Option Session → Option Session
 counted sent results session = if is_run results && not sent.is_counted then option_map next_request session else session
 
+abbrev pub session_known : Sent → List Outcome → Option Session → Option Session
+session_known sent results session = fold session_behind (counted sent results session) results
+
+abbrev pub sent_known : Sent → List Outcome → Sent
+sent_known sent results = record sent { is_answered = true; is_counted = sent.is_counted || is_run results }
+
+abbrev pub session_learnt : Option Sent → List Outcome → Option Session → Option Session
+session_learnt None results session = session
+session_learnt (Some sent) results session = session_known sent results session
+
+abbrev pub sent_learnt : Option Sent → List Outcome → Option Sent
+sent_learnt None results = None
+sent_learnt (Some sent) results = Some (sent_known sent results)
+
 abbrev pub with_results : Client → Sent → List Outcome → Client
 with_results client sent results =
     if is_delayed results then client
-    else record client {
-      session = fold session_behind (counted sent results client.session) results;
-      sent = Some (record sent { is_answered = true; is_counted = sent.is_counted || is_run results });
-    }
+    else record client { session = session_known sent results client.session; sent = Some (sent_known sent results) }
+
+abbrev pub reply_to_sent : (tag : List ℕ) → Option Sent → List ℕ → ReplyRead
+reply_to_sent tag None bytes = NoReply
+reply_to_sent tag (Some sent) bytes = reply_read tag sent bytes
+
+-- what the bytes are to the client's last record: none answers a client that sent none
+abbrev pub reply_to : Client → List ℕ → ReplyRead
+reply_to client bytes = reply_to_sent client.tag client.sent bytes
+
+abbrev pub answered_sent : Sent → Sent
+answered_sent sent = record sent { is_answered = true }
+
+abbrev pub replied_sent : Client → Sent → ReplyRead → Client
+replied_sent client sent NoReply = client
+replied_sent client sent Rejects = record client { sent = Some (answered_sent sent) }
+replied_sent client sent (Gives results last) = with_results client sent results
 
 -- the client behind a reply to its record
-abbrev pub replied : Client → Sent → ReplyRead → Client
-replied client sent NoReply = client
-replied client sent Rejects = record client { sent = Some (record sent { is_answered = true }) }
-replied client sent (Gives results last) = with_results client sent results
+abbrev pub replied_by : Client → Option Sent → ReplyRead → Client
+replied_by client None read = client
+replied_by client (Some sent) read = replied_sent client sent read
+
+unfoldable pub replied : Client → ReplyRead → Client
+replied client read = replied_by client client.sent read

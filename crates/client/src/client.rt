@@ -5,15 +5,20 @@ ghost use Rattle.model.specs.Operation.{operation_of};
 ghost use Rattle.wire.specs.ArgumentView.{argument_view};
 ghost use Rattle.wire_client.specs.ArgumentFits.{ArgumentFits};
 ghost use Rattle.client.specs.Requests.{new_client, requested, bytes_kept};
+ghost use Rattle.wire.specs.OutcomeView.{outcome_view};
+ghost use Rattle.client.specs.Replies.{reply_to};
+ghost use Rattle.client.specs.Views.{Answers, Refuses, known};
 ghost use Rattle.client.specs.declared.fault.ClientFault.TheVariants.{Memory, Pending};
 
 use crate::call::credential_body;
 use crate::fault::ClientFault;
+use crate::known::{is_delayed, learn, was_answered};
+use crate::reply::{ReplyRead, read_reply, results_or_status};
 use crate::sent::{Sent, Session, is_alone, make_record};
 use model::acl::Cred;
 use std::alloc::Global;
 use std::marker::Model;
-use wire::Argument;
+use wire::{Argument, Outcome};
 
 /// A client. In a contract it is what it knows: its caller and tag, the next xid, the session, and the last record.
 #[derive(Drop)]
@@ -119,6 +124,40 @@ impl Client {
         match &self.sent {
             Some(sent) => Ok(&sent.bytes),
             None => Err(ClientFault::Pending),
+        }
+    }
+
+    /// The results in a reply's record, of one fragment with its header, where every operation ended well.
+    ///
+    /// `Garbled` where it is no reply to the last record; `Rpc` where the call was denied or not accepted; `Status` where an
+    /// operation was refused. The record is answered then, but by `Garbled`, and by DELAY at its SEQUENCE.
+    #[tactic(auto, unfolding(crate::specs::Replies::replied))]
+    pub fn reply<'a>(&mut self, bytes: &'a [u8]) -> Result<Vec<Outcome<'a>>, ClientFault<'a>>
+        ensures ok { IfOk result (λ results.
+            Answers (reply_to self.old bytes.now) (map outcome_view results.items)) }
+        ensures refused { IfErr result (λ e. (e ≡ Memory) ⊎ Refuses (reply_to self.old bytes.now) e) }
+        ensures known { self.new ≡ known self.old (reply_to self.old bytes.now) result }
+    {
+        let Some(sent) = &self.sent else {
+            return Err(ClientFault::Garbled);
+        };
+        let Ok(read) = read_reply(self.alloc, &self.tag, sent, bytes) else {
+            return Err(ClientFault::Memory);
+        };
+        match read {
+            ReplyRead::NoReply => Err(ClientFault::Garbled),
+            ReplyRead::Rejects => {
+                self.sent = was_answered(self.sent.take());
+                Err(ClientFault::Rpc)
+            }
+            ReplyRead::Gives(results, last) => {
+                if !is_delayed(&results) {
+                    let (session, sent) = learn(self.session, self.sent.take(), &results);
+                    self.session = session;
+                    self.sent = sent;
+                }
+                results_or_status(results, last)
+            }
         }
     }
 }

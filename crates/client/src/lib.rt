@@ -5,6 +5,10 @@
 mod call;
 mod client;
 mod fault;
+mod head;
+mod known;
+mod reply;
+mod results;
 mod sent;
 
 pub use client::Client;
