@@ -3,13 +3,11 @@
 mod files;
 mod scripts;
 
-use program::command;
+use program::{Machine, command};
 use std::alloc::AllocError;
-use std::fs::File;
 use std::io;
 use std::io::{ErrorKind, Write};
 use std::process::Abort;
-use std::rt::Files;
 
 /// What a run of the program left.
 #[derive(Debug, PartialEq, Eq, Drop)]
@@ -19,7 +17,7 @@ struct Outcome {
     err: Vec<u8>,
 }
 
-fn run<R: Files<File = File> + AllocGlobal>(rt: &R, words: &[&str], input: &str) -> Outcome {
+fn run<R: Machine>(rt: &R, words: &[&str], input: &str) -> Outcome {
     let mut out = Vec::new(rt.alloc());
     let mut err = Vec::new(rt.alloc());
     let mut lines = input.as_bytes();
@@ -28,7 +26,7 @@ fn run<R: Files<File = File> + AllocGlobal>(rt: &R, words: &[&str], input: &str)
 }
 
 /// What a run is to leave.
-fn expect_run<R: Files<File = File> + AllocGlobal + Abort>(
+fn expect_run<R: Machine + Abort>(
     rt: &R,
     words: &[&str],
     input: &str,
@@ -42,7 +40,7 @@ fn expect_run<R: Files<File = File> + AllocGlobal + Abort>(
     assert_eq!(rt; left.err.as_slice(), err.as_bytes(), "{words:?} {input:?}");
 }
 
-const NO_FORMS: [&[&str]; 20] = [
+const NO_FORMS: [&[&str]; 19] = [
     &["format"],
     &["format", "u.img", "256"],
     &["format", "u.img", "256", "16", "x"],
@@ -58,7 +56,6 @@ const NO_FORMS: [&[&str]; 20] = [
     &["run"],
     &["run", "u.img"],
     &["check", "u.img"],
-    &["serve", "u.img", "0", "0"],
     &["help"],
     &["--help"],
     &["--version"],

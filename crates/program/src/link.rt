@@ -1,11 +1,11 @@
-//! The server's calls as a script makes them: each stands here once, so that what is above need not see all that the server promises.
+//! The server's calls as the program makes them: each stands here once, so that what is above need not see all that the server promises.
 
 use crate::refused::Refused;
 use disk::Device;
 use server::{Server, Turn};
 use std::alloc::Global;
 
-/// The moment that every turn is handed.
+/// The moment that every turn of a script is handed.
 const MOMENT: u64 = 0;
 
 /// Makes the device a new volume.
@@ -35,9 +35,14 @@ pub fn feed<D: Device>(
     Ok(server.feed(conn, bytes)?)
 }
 
-/// What the connection's turn did.
+/// What the connection's turn in a script did.
 pub fn turn<D: Device>(server: &mut Server<D>, conn: usize) -> Result<Turn, Refused> {
-    Ok(server.turn(conn, MOMENT)?)
+    turn_at(server, conn, MOMENT)
+}
+
+/// What the connection's turn at this moment did.
+pub fn turn_at<D: Device>(server: &mut Server<D>, conn: usize, now: u64) -> Result<Turn, Refused> {
+    Ok(server.turn(conn, now)?)
 }
 
 /// The connection's reply, if there is one.
@@ -48,7 +53,12 @@ pub fn take_output<D: Device>(
     Ok(server.take_output(conn)?)
 }
 
-/// Ends the connection.
+/// Ends the connection in a script.
 pub fn hangup<D: Device>(server: &mut Server<D>, conn: usize) -> Result<(), Refused> {
-    Ok(server.hangup(conn, MOMENT)?)
+    hangup_at(server, conn, MOMENT)
+}
+
+/// Ends the connection at this moment.
+pub fn hangup_at<D: Device>(server: &mut Server<D>, conn: usize, now: u64) -> Result<(), Refused> {
+    Ok(server.hangup(conn, now)?)
 }

@@ -1,8 +1,10 @@
 //! One run of the program, apart from the process around it.
 
 use crate::link;
+use crate::machine::Machine;
 use crate::refused::Refused;
 use crate::script::script;
+use crate::serve::serve;
 use crate::words::{Request, read_words};
 use disk::{FileDevice, MemDevice};
 use server::is_volume_size;
@@ -27,7 +29,7 @@ const MEMORY_NODES: u32 = 16;
 /// `err` by name, 2 where the words have no form.
 pub fn command<R, S, I, O, E>(rt: &R, words: &[S], input: &mut I, out: &mut O, err: &mut E) -> u8
 where
-    R: Files<File = File> + AllocGlobal,
+    R: Machine,
     S: AsStr,
     I: BufRead,
     O: Write,
@@ -37,11 +39,11 @@ where
         Ok(Request::Usage) => {
             let _ = writeln!(
                 err,
-                "usage: nfs41 [format FILE SECTORS NODES | run FILE SCRIPT]"
+                "usage: nfs41 [format FILE SECTORS NODES | run FILE SCRIPT | serve FILE PORT COUNT]"
             );
             return USAGE;
         }
-        Ok(request) => serve_request(rt, request, input, out),
+        Ok(request) => do_request(rt, request, input, out),
         Err(error) => Err(error.into()),
     };
     match outcome {
@@ -53,14 +55,14 @@ where
     }
 }
 
-fn serve_request<R, I, O>(
+fn do_request<R, I, O>(
     rt: &R,
     request: Request<'_>,
     input: &mut I,
     out: &mut O,
 ) -> Result<(), Refused>
 where
-    R: Files<File = File> + AllocGlobal,
+    R: Machine,
     I: BufRead,
     O: Write,
 {
@@ -73,6 +75,9 @@ where
             nodes,
         } => format_file(rt, file, sectors, nodes, out),
         Request::Run { file, script } => run_file(rt, file, script, out),
+        Request::Serve { file, port, count } => {
+            serve(rt, open_volume(rt, file)?, port, count, out)
+        }
     }
 }
 
@@ -117,12 +122,18 @@ where
         Ok(text) => text,
         Err(error) => return Err(read_refusal(error.kind())),
     };
-    let mut device = FileDevice::open(rt, file)?;
+    let mut device = open_volume(rt, file)?;
+    let mut lines = text.as_bytes();
+    script(rt.alloc(), &mut device, &mut lines, out)
+}
+
+/// The device over a file of whole sectors.
+fn open_volume<R: Files<File = File>>(rt: &R, file: &str) -> Result<FileDevice, Refused> {
+    let device = FileDevice::open(rt, file)?;
     if !device.is_whole() {
         return Err(Refused::NotVolume);
     }
-    let mut lines = text.as_bytes();
-    script(rt.alloc(), &mut device, &mut lines, out)
+    Ok(device)
 }
 
 /// Why a script is not read.

@@ -22,6 +22,12 @@ pub enum Request<'a> {
         file: &'a str,
         script: &'a str,
     },
+    /// Serve the volume in a file to so many connections on this port.
+    Serve {
+        file: &'a str,
+        port: u16,
+        count: u32,
+    },
     /// The words have no form.
     Usage,
 }
@@ -31,7 +37,8 @@ pub fn read_words<'a, S: AsStr>(alloc: Global, words: &'a [S]) -> Result<Request
     let command = Command::new(alloc, "nfs41")
         .no_binary_name(true)
         .subcommand(format_command(alloc)?)?
-        .subcommand(run_command(alloc)?)?;
+        .subcommand(run_command(alloc)?)?
+        .subcommand(serve_command(alloc)?)?;
     match command.try_get_matches_from(words) {
         Ok(matches) => Ok(request_of(&matches)),
         Err(error) => match error.kind() {
@@ -54,12 +61,22 @@ fn run_command<'a>(alloc: Global) -> Result<Command<'a>, AllocError> {
         .arg(Arg::new(alloc, "SCRIPT").required(true))
 }
 
+fn serve_command<'a>(alloc: Global) -> Result<Command<'a>, AllocError> {
+    Command::new(alloc, "serve")
+        .arg(Arg::new(alloc, "FILE").required(true))?
+        .arg(Arg::new(alloc, "PORT").required(true))?
+        .arg(Arg::new(alloc, "COUNT").required(true))
+}
+
 fn request_of<'a>(matches: &ArgMatches<'a>) -> Request<'a> {
     if let Some(words) = matches.subcommand_matches("format") {
         return format_of(words).unwrap_or(Request::Usage);
     }
     if let Some(words) = matches.subcommand_matches("run") {
         return run_of(words).unwrap_or(Request::Usage);
+    }
+    if let Some(words) = matches.subcommand_matches("serve") {
+        return serve_of(words).unwrap_or(Request::Usage);
     }
     Request::Script
 }
@@ -81,5 +98,14 @@ fn run_of<'a>(words: &ArgMatches<'a>) -> Option<Request<'a>> {
     Some(Request::Run {
         file: words.get_str("FILE")?,
         script: words.get_str("SCRIPT")?,
+    })
+}
+
+fn serve_of<'a>(words: &ArgMatches<'a>) -> Option<Request<'a>> {
+    let port = decimal(words.get_str("PORT")?)?;
+    Some(Request::Serve {
+        file: words.get_str("FILE")?,
+        port: u16::try_from(port).ok()?,
+        count: decimal(words.get_str("COUNT")?)?,
     })
 }

@@ -1,13 +1,12 @@
 //! Volumes in files.
 
 use super::{expect_run, run};
+use program::Machine;
 use std::fs;
-use std::fs::File;
 use std::process::Abort;
-use std::rt::Files;
 use std::test::Fail;
 
-fn format_file<R: Files<File = File> + AllocGlobal + Abort>(rt: &R, file: &str) {
+pub(super) fn format_file<R: Machine + Abort>(rt: &R, file: &str) {
     expect_run(rt, &["format", file, "256", "16"], "", 0, "formatted\n", "");
 }
 

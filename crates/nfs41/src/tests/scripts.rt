@@ -1,6 +1,8 @@
 //! Scripts on a volume in memory.
 
 use super::{expect_run, run};
+use program::Machine;
+use std::process::Abort;
 use std::test::Fail;
 
 /// Two clients whose turns interleave, a retry, and what is there behind a restart: lines and what they tell.
@@ -220,10 +222,7 @@ const REFUSED_CALLS: [&str; 29] = [
     " access 4294967296",
 ];
 
-fn expect_lines<R: std::rt::Files<File = std::fs::File> + AllocGlobal + std::process::Abort>(
-    rt: &R,
-    rows: &[(&str, &str)],
-) -> Result<(), Fail> {
+fn expect_lines<R: Machine + Abort>(rt: &R, rows: &[(&str, &str)]) -> Result<(), Fail> {
     let mut script = String::new(rt.alloc());
     let mut told = String::new(rt.alloc());
     for (line, out) in rows {

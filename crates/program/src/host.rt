@@ -1,0 +1,164 @@
+//! A server and its peers, one after the other: a peer's bytes go to the server piece by piece, and each reply goes back in one write.
+
+use crate::link;
+use crate::moment::moment;
+use crate::refused::Refused;
+use disk::Device;
+use server::{Server, Turn};
+use std::alloc::Global;
+use std::io::{BufRead, BufReader, ErrorKind, Read, Write};
+use std::time::{Clock, Duration};
+use std::{io, thread};
+
+/// The most bytes of a piece. The longest record of a request fits, with the headers of all its fragments.
+const PIECE_BYTES: usize = 32_768;
+/// How often a call of the server is made for which there is no memory, and the pause behind each.
+const TRIES: u32 = 8;
+
+const PAUSE_MILLIS: u64 = 10;
+
+/// A mounted volume, and the one connection over which it is served.
+#[derive(Drop)]
+pub struct Host<D: Device> {
+    server: Server<D>,
+    /// The connection of the peer, or of the one before, where it could not be hung up for want of memory.
+    conn: Option<usize>,
+}
+
+/// Why a peer is served no further.
+#[derive(Drop)]
+enum Parting {
+    /// The peer's bytes or its stream, or want of memory: the next peer can be served.
+    Peer,
+    /// What ends the program.
+    Program(Refused),
+}
+
+impl From<io::Error> for Parting {
+    fn from(_: io::Error) -> Parting {
+        Parting::Peer
+    }
+}
+
+impl From<Refused> for Parting {
+    fn from(refused: Refused) -> Parting {
+        match refused {
+            Refused::Device | Refused::Io => Parting::Program(refused),
+            _ => Parting::Peer,
+        }
+    }
+}
+
+impl<D: Device> Host<D> {
+    /// Mounts the device's volume.
+    pub fn mount(alloc: Global, device: D) -> Result<Host<D>, Refused> {
+        Ok(Host {
+            server: link::mount(alloc, device)?,
+            conn: None,
+        })
+    }
+
+    /// Serves a peer up to its end, and hangs it up. What ends a peer is no refusal: that is a failure of the device or the clock.
+    pub fn serve<R, S>(&mut self, rt: &R, peer: S) -> Result<(), Refused>
+    where
+        R: Clock + AllocGlobal,
+        S: Read + Write + Drop,
+    {
+        match self.meet(rt, peer) {
+            Ok(()) | Err(Parting::Peer) => Ok(()),
+            Err(Parting::Program(refused)) => Err(refused),
+        }
+    }
+
+    fn meet<R, S>(&mut self, rt: &R, peer: S) -> Result<(), Parting>
+    where
+        R: Clock + AllocGlobal,
+        S: Read + Write + Drop,
+    {
+        self.hang_up(rt)?;
+        let mut stream = BufReader::with_capacity(rt.alloc(), PIECE_BYTES, peer)?;
+        let conn = link::connect(&mut self.server)?;
+        self.conn = Some(conn);
+        let parting = self.converse(rt, conn, &mut stream);
+        self.hang_up(rt)?;
+        parting
+    }
+
+    /// Takes what the peer sends, and answers it, until the peer's bytes end. What the server does not take of a piece is offered
+    /// again behind the reply.
+    fn converse<C, S>(
+        &mut self,
+        clock: &C,
+        conn: usize,
+        stream: &mut BufReader<S>,
+    ) -> Result<(), Parting>
+    where
+        C: Clock,
+        S: Read + Write,
+    {
+        for _ in 0..u64::MAX {
+            let piece = match stream.fill_buf() {
+                Ok(piece) => piece,
+                Err(error) if error.kind() == ErrorKind::Interrupted => continue,
+                Err(_) => break,
+            };
+            if piece.is_empty() {
+                break;
+            }
+            let taken = link::feed(&mut self.server, conn, piece)?;
+            stream.consume(taken);
+            self.answer(clock, conn, stream.get_mut())?;
+        }
+        Ok(())
+    }
+
+    /// Runs the request that waits, if there is one, and writes its reply.
+    fn answer<C, W>(&mut self, clock: &C, conn: usize, out: &mut W) -> Result<(), Parting>
+    where
+        C: Clock,
+        W: Write,
+    {
+        for _ in 0..u64::MAX {
+            if self.turn(clock, conn)? != Turn::Ran {
+                break;
+            }
+        }
+        if let Some(reply) = link::take_output(&mut self.server, conn)? {
+            out.write_all(&reply)?;
+            out.flush()?;
+        }
+        Ok(())
+    }
+
+    /// A turn. For want of memory it leaves all as it was, so it is tried again.
+    fn turn<C: Clock>(&mut self, clock: &C, conn: usize) -> Result<Turn, Refused> {
+        for _ in 0..TRIES {
+            let outcome = link::turn_at(&mut self.server, conn, moment(clock)?);
+            if outcome != Err(Refused::Memory) {
+                return outcome;
+            }
+            pause(clock);
+        }
+        Err(Refused::Memory)
+    }
+
+    /// Ends the connection, if there is one. A request of it that has begun is run to its end, so that may want memory too.
+    fn hang_up<C: Clock>(&mut self, clock: &C) -> Result<(), Refused> {
+        let Some(conn) = self.conn else {
+            return Ok(());
+        };
+        for _ in 0..TRIES {
+            let outcome = link::hangup_at(&mut self.server, conn, moment(clock)?);
+            if outcome != Err(Refused::Memory) {
+                self.conn = None;
+                return outcome;
+            }
+            pause(clock);
+        }
+        Err(Refused::Memory)
+    }
+}
+
+fn pause<C: Clock>(clock: &C) {
+    thread::sleep(clock, Duration::from_millis(PAUSE_MILLIS));
+}
