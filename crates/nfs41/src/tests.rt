@@ -1,6 +1,7 @@
 //! The program as its user meets it: words, files, scripts, exit statuses and texts.
 
 mod files;
+mod peers;
 mod scripts;
 
 use program::{Machine, command};
@@ -40,7 +41,7 @@ fn expect_run<R: Machine + Abort>(
     assert_eq!(rt; left.err.as_slice(), err.as_bytes(), "{words:?} {input:?}");
 }
 
-const NO_FORMS: [&[&str]; 19] = [
+const NO_FORMS: [&[&str]; 30] = [
     &["format"],
     &["format", "u.img", "256"],
     &["format", "u.img", "256", "16", "x"],
@@ -56,6 +57,17 @@ const NO_FORMS: [&[&str]; 19] = [
     &["run"],
     &["run", "u.img"],
     &["check", "u.img"],
+    &["serve"],
+    &["serve", "u.img", "0"],
+    &["serve", "u.img", "0", "0", "x"],
+    &["serve", "u.img", "65536", "0"],
+    &["serve", "u.img", "+1", "0"],
+    &["serve", "u.img", "-1", "0"],
+    &["serve", "u.img", "0x1", "0"],
+    &["serve", "u.img", "", "0"],
+    &["serve", "u.img", "0", "+1"],
+    &["serve", "u.img", "0", "4294967296"],
+    &["serve", "u.img", "0", ""],
     &["help"],
     &["--help"],
     &["--version"],
