@@ -1,6 +1,5 @@
 -- READ, by the call that reads a file.
-use Rattle.std.proofs.Common.{◌≡◌, ℕ, Bool, true, false, if◌then◌else◌, ◌==◌, ◌&&◌, ◌||◌, nat_lt, drop, ◌∷◌, Option, Some, None, Err, IfOk, refl, sym, ap, subst, ◌∙◌}
-use Rattle.std.specs.Int.{w64, from_be_bytes}
+use Rattle.std.proofs.Common.{◌≡◌, ℕ, Bool, true, false, if◌then◌else◌, ◌∷◌, Option, Some, None, Err, IfOk, refl, sym, ap, subst, ◌∙◌}
 use Rattle.fs.specs.Changes.{Changes}
 use Rattle.fs.specs.FileSystem.{FileSystem}
 use Rattle.fs.specs.Operations.{does_on}
@@ -11,11 +10,10 @@ use Rattle.fs.proofs.ChangeLaws.{changes_by}
 use Rattle.model.specs.Answer.{Answer, Done, Refused}
 use Rattle.model.specs.Context.{Context, has_current, current_number}
 use Rattle.model.specs.Need.{permitted, need_first, need_then}
-use Rattle.model.specs.Opens.{Opens, Open}
-use Rattle.model.specs.Operation.{Argument, ReadArguments, StateId}
+use Rattle.model.specs.Opens.{Opens}
+use Rattle.model.specs.Operation.{Argument, ReadArguments}
 use Rattle.model.specs.Session.{Table}
-use Rattle.model.specs.StateIds.{Found, found, state_refusals, read_access, access_refusals, by_meaning, by_open, by_seqid, meant, open_named, is_anonymous}
-use Rattle.model.specs.StateIds as states
+use Rattle.model.specs.StateIds.{state_refusals, read_access}
 use Rattle.model.specs.Step.{State, answered, does, effect, refused, refusals, unless_refused, without_rights, late}
 use Rattle.model.specs.Tree.{Tree}
 use Rattle.model.specs.World.{World, InProgress, Gives, run, stepped, state_of, in_room, refuses}
@@ -34,6 +32,7 @@ use Rattle.compound.proofs.QuietLaws.{leaves_all, left_all, answers_quietly}
 use Rattle.compound.proofs.Rooms.{gives_refusal, state_same}
 use Rattle.compound.proofs.Telling.{OnTree}
 use Rattle.compound.proofs.Trees.{all_bad, append_bad, does_bad, here, tree_runs}
+use Rattle.compound.proofs.VerdictLaws.{verdict_bad}
 use Rattle.compound.proofs.VolumeLaws.{quiet_gives}
 
 pub read_on_tree : (arguments : ReadArguments) → OnTree (Argument.Read arguments)
@@ -67,32 +66,6 @@ read_tree fs table opens request now arguments after lasts gives =
     gives.tree ∙ (tree_kept gives.world (with_rest request gives.rest) now arguments ∙ gives.has.tree)
 
 -- It is refused with a status that is not OK
-
-abbrev IsFine : (access : ℕ) → Found → Type 0
-IsFine access found = all_bad (access_refusals access found) ≡ true
-
-either_fine : (access : ℕ) (test : Bool) (one other : Found) → IsFine access one → IsFine access other → IsFine access (if test then one else other)
-either_fine access true one other first second = first
-either_fine access false one other first second = second
-
-open_fine : (access : ℕ) (context : Context) (state : StateId) (known : Option Open) → IsFine access (by_open context state known)
-open_fine access context state None = refl
-open_fine access context state (Some known) =
-    let old = states.Refused status.OldStateId in
-    let bad = states.Refused status.BadStateId in
-    either_fine access (known.client == context.client && known.number == current_number context) (by_seqid state known) bad
-    (either_fine access (state.seqid == 0 || state.seqid == known.seqid) (states.Names (from_be_bytes w64 (drop 4 state.other)) known)
-    (if nat_lt state.seqid known.seqid then old else bad) refl
-    (either_fine access (nat_lt state.seqid known.seqid) old bad refl refl)) refl
-
-meaning_fine : (access : ℕ) (opens : Opens) (context : Context) (meaning : Option StateId) → IsFine access (by_meaning opens context meaning)
-meaning_fine access opens context None = refl
-meaning_fine access opens context (Some state) =
-    either_fine access (is_anonymous state) states.Anonymous _ refl (open_fine access context state (open_named opens context.run state.other))
-
-verdict_bad : (access : ℕ) (opens : Opens) (context : Context) (state : StateId) → all_bad (state_refusals opens context access state) ≡ true
-unfolding found
-verdict_bad access opens context state = meaning_fine access opens context (meant context state)
 
 pub read_bad : (limits : Limits) (state : State) (now : ℕ) (arguments : ReadArguments) (reason : Status)
     → does limits state now (Argument.Read arguments) ≡ refused state (Argument.Read arguments) reason → IsRefusal reason

@@ -189,8 +189,36 @@ const REFUSED_LINES: [&str; 18] = [
     "A call root\n",
 ];
 
+/// A directory that its owner shares with everybody, and takes back: lines and what they tell.
+const SHARING: [(&str, &str); 18] = [
+    ("A hello 7 7", "A client 4294967297 1\n"),
+    ("A session", "A session 00000001000000010000000000000001\n"),
+    ("B hello 8 8", "B client 4294967298 1\n"),
+    ("B session", "B session 00000001000000020000000000000002\n"),
+    ("A call root ; mkdir d 700 ; mkdir e 755", ""),
+    ("A take", "A sequence 0\nA root 0\nA mkdir 0\nA mkdir 0\n"),
+    ("B call root ; lookup d ; lookup e", ""),
+    (
+        "B take",
+        "B sequence 0\nB root 0\nB lookup 0\nB lookup 13\n",
+    ),
+    ("A call root ; lookup d ; mode 711", ""),
+    ("A take", "A sequence 0\nA root 0\nA lookup 0\nA mode 0\n"),
+    ("B call fh 0000000100000001 ; lookup e ; getfh", ""),
+    (
+        "B take",
+        "B sequence 0\nB fh 0\nB lookup 0\nB getfh 0 0000000100000002\n",
+    ),
+    ("A call root ; lookup d ; mode 700", ""),
+    ("A take", "A sequence 0\nA root 0\nA lookup 0\nA mode 0\n"),
+    ("B call fh 0000000100000001 ; lookup e", ""),
+    ("B take", "B sequence 0\nB fh 0\nB lookup 13\n"),
+    ("A call root ; lookup d ; mode 1000", ""),
+    ("A take", "A sequence 0\nA root 0\nA lookup 0\nA mode 22\n"),
+];
+
 /// Calls of no form.
-const REFUSED_CALLS: [&str; 29] = [
+const REFUSED_CALLS: [&str; 42] = [
     "",
     " root ;",
     " ; root",
@@ -220,6 +248,19 @@ const REFUSED_CALLS: [&str; 29] = [
     " access",
     " access x",
     " access 4294967296",
+    " mode",
+    " mode 8",
+    " size x",
+    " size 18446744073709551616",
+    " create f",
+    " create f 9",
+    " open",
+    " close 1",
+    " read 0",
+    " write 0 0",
+    " write 0 3 00",
+    " write 0 0 0",
+    " commit 1",
 ];
 
 fn expect_lines<R: Machine + Abort>(rt: &R, rows: &[(&str, &str)]) -> Result<(), Fail> {
@@ -253,6 +294,11 @@ fn names_move_and_go(rt: HostRuntime) -> Result<(), Fail> {
 #[test]
 fn rights_are_told(rt: HostRuntime) -> Result<(), Fail> {
     expect_lines(&rt, &RIGHTS)
+}
+
+#[test]
+fn what_is_shared_is_taken_back(rt: HostRuntime) -> Result<(), Fail> {
+    expect_lines(&rt, &SHARING)
 }
 
 #[test]
