@@ -5,6 +5,7 @@ pub mod Creating
 pub mod Current
 pub mod Firsts
 pub mod ListLaws
+pub mod OpenLaws
 pub mod Pages
 pub mod Parts
 pub mod QuietLaws
