@@ -1,11 +1,11 @@
 -- What the operations of a COMPOUND see of a file system, and of what is open beside it.
-use Rattle.std.specs.Prelude.{◌≡◌, ℕ, Some, Result, Ok, Err}
+use Rattle.std.specs.Prelude.{◌≡◌, ℕ, List, Some, Result, Ok, Err}
 use Rattle.fs.specs.FileSystem.{FileSystem}
 use Rattle.fs.specs.Operations.{does_on}
 use Rattle.model.specs.Answer.{Answer}
 use Rattle.model.specs.Context.{without_stateid}
 use Rattle.model.specs.Opens.{Open, Opens}
-use Rattle.model.specs.Operation.{Argument, CloseArguments}
+use Rattle.model.specs.Operation.{Argument, ChangeInfo, CloseArguments, StateId}
 use Rattle.model.specs.Refusal.{first_refusal}
 use Rattle.model.specs.Step.{State, answered, refused}
 use Rattle.model.specs.StateIds.{Found, Names, close_refusals, closed_state, without_open}
@@ -35,3 +35,9 @@ Closes fs opens request arguments (Ok serial) = (state : State) (now : ℕ) → 
     ≡ answered (record { tree = fs.volume.tree; changes = fs.changes; opens = without_open serial opens; context = without_stateid request.context }) closed_answer
 Closes fs opens request arguments (Err reason) = (state : State) (now : ℕ) → IsBeside fs opens request state
     → does_on fs state now (Argument.Close arguments) ≡ refused state (Argument.Close arguments) reason
+
+-- OPEN
+
+-- what it answers, of its directory and of the attributes that were set
+abbrev pub opened_answer : StateId → ChangeInfo → (was_set : List ℕ) → Answer
+opened_answer state change was_set = Answer.Open (record { state = state; change = change; flags = 0; was_set = was_set })

@@ -1,11 +1,20 @@
 //! OPEN (RFC 8881, section 18.16).
 
+ghost use Rattle.std.specs.Prelude.{◌≡◌, ◌<◌, ◌^◌, IsTrue, length};
+ghost use Rattle.xdr.specs.Forms.{is_trimmed};
+ghost use Rattle.model.specs.Answer.{Done};
+ghost use Rattle.model.specs.World.{outcome_text};
+ghost use Rattle.model.specs.WireAnswers as answers;
+ghost use Rattle.wire.specs.OutcomeView.{outcome_view};
+ghost use Rattle.wire.specs.SmallViews.{change_view, state_view};
+ghost use Rattle.compound.specs.Beside.{opened_answer};
+
 use crate::operated::Operated;
 use crate::running::Running;
 use disk::Device;
 use fs::Fs;
 use model::status::Status;
-use wire::Operation;
+use wire::{Answer, Bitmap, ChangeInfo, OpenAnswer, Operation, Outcome, StateId};
 
 impl Running<'_> {
     ghost use Rattle.std.specs.Prelude.{◌≡◌, Some, false};
@@ -33,4 +42,23 @@ impl Running<'_> {
             Err(status) => self.refuse(Operation::Open, status),
         }
     }
+}
+
+/// The result of an OPEN: its stateid, its directory's change, and which attributes were set.
+#[tactic(auto, unfolding(model::specs::World::outcome_text))]
+pub(crate) fn opened(state: StateId, change: ChangeInfo, was_set: Bitmap) -> Outcome<'static>
+    requires { IsTrue (is_trimmed was_set) }
+    ensures is { outcome_view result
+        ≡ Done (opened_answer (state_view state) (change_view change) was_set) }
+    ensures fits { answers.outcome.Fits (outcome_view result) }
+    ensures small { length (outcome_text (outcome_view result)) < 2 ^ 63 }
+{
+    let outcome = Outcome::Done(Answer::Open(OpenAnswer {
+        state,
+        change,
+        flags: 0,
+        was_set,
+    }));
+    outcome.tell_fits();
+    outcome
 }
