@@ -77,11 +77,6 @@ abbrev pub OnlyReads : FileSystem → InProgress → Argument → Operated → T
 OnlyReads files request operation done = (now : ℕ) (table : Table) (opens : Opens)
     → Operates now (shared files table opens) (shared files table opens) request operation done
 
--- it does, where these are the opens
-abbrev pub ReadsBeside : FileSystem → Opens → InProgress → Argument → Operated → Type 0
-ReadsBeside files opens request operation done = (now : ℕ) (table : Table)
-    → Operates now (shared files table opens) (shared files table opens) request operation done
-
 -- it leaves the file system, and what is open
 abbrev pub ChangesTable : (old new : Table) → InProgress → Argument → Operated → Type 0
 ChangesTable old new request operation done = (now : ℕ) (files : FileSystem) (opens : Opens)
