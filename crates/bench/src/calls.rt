@@ -1,16 +1,34 @@
 //! Records of calls as a client sends them (RFC 5531, sections 9 and 11; RFC 8881, section 16.2).
 
+ghost use Rattle.std.specs.Prelude.{◌≡◌, ◌≤◌, length, All, IfOk};
+ghost use Rattle.wire_client.specs.ArgumentFits.{ArgumentFits};
+
+use crate::replies::reply_of;
+use anyhow::anyhow;
+use client::{Client, ClientFault};
+use model::acl::{Cred, Gids};
 use std::alloc::Global;
-use wire::{Argument, Bitmap, SequenceArguments, StateId, WriteArguments};
-use wire_client::write_argument;
-use xdr::{Refusal, Writer};
+use wire::{
+    Answer, Argument, Bitmap, Channel, CreateSessionAnswer, CreateSessionArguments,
+    ExchangeIdAnswer, ExchangeIdArguments, Outcome, StateId, WriteArguments,
+};
 
 /// How many calls a stream has.
 pub const CALLS: u32 = 32;
 /// The bytes of a WRITE.
 pub const DATA_BYTES: usize = 8192;
-/// The mark of a record's last fragment.
-const LAST_FRAGMENT: u32 = 1 << 31;
+/// The filehandle that each call puts.
+const HANDLE: [u8; 8] = [0, 0, 0, 0, 0, 0, 0, 9];
+/// What a session's channels take.
+const CHANNEL: Channel = Channel {
+    header_pad_size: 0,
+    max_request_size: 16_384,
+    max_response_size: 16_384,
+    max_response_size_cached: 16_384,
+    max_operations: 16,
+    max_requests: 8,
+    rdma_ird: None,
+};
 /// The attributes that GETATTR asks for: type, change, size, fsid and fileid; mode, links, owner, group, space and times.
 pub const ASKED: [u32; 2] = [0x0010_011a, 0x0030_a03a];
 
@@ -31,84 +49,109 @@ pub struct Stream {
     pub record_size: usize,
 }
 
-/// `CALLS` records with calls of this kind; each is one fragment.
+/// `CALLS` records, which are the same one, with a call of this kind.
 pub fn stream_of(alloc: Global, kind: Kind) -> anyhow::Result<Stream> {
+    let mut client = client_of(alloc)?;
+    let data = [0xa5; DATA_BYTES];
+    let asked = [Argument::PutFh(&HANDLE), argument_of(kind, &data)];
+    done(client.request(&asked))?;
+    let record = done(client.retry())?;
     let mut bytes = Vec::new(alloc);
-    let mut record_size = 0;
-    for xid in 0..CALLS {
-        let call = call_of(alloc, kind, xid)?;
-        let len = u32::try_from(call.len())?;
-        bytes.extend_from_slice(&(LAST_FRAGMENT | len).to_be_bytes())?;
-        bytes.extend_from_slice(&call)?;
-        record_size = call.len().saturating_add(4);
+    for _ in 0..CALLS {
+        bytes.extend_from_slice(record)?;
     }
-    Ok(Stream { bytes, record_size })
+    Ok(Stream {
+        bytes,
+        record_size: record.len(),
+    })
 }
 
-fn call_of(alloc: Global, kind: Kind, xid: u32) -> Result<Vec<u8>, Refusal> {
-    let mut call = Writer::new(alloc);
-    write_head(&mut call, xid)?;
-    let sequence = SequenceArguments {
+/// A client of two further groups, which was given a session.
+fn client_of(alloc: Global) -> anyhow::Result<Client> {
+    let mut gids = Gids::new();
+    gids.push(1000);
+    gids.push(27);
+    let cred = Cred {
+        uid: 1000,
+        gid: 1000,
+        gids,
+    };
+    let mut client = done(Client::new(alloc, &cred, b"", 1))?;
+    done(client.request(&[exchange_id()]))?;
+    let known = ExchangeIdAnswer {
+        client: 1,
+        sequence: 1,
+        flags: 0,
+        major_id: b"",
+        scope: b"",
+    };
+    let reply = reply_of(alloc, 1, &Outcome::Done(Answer::ExchangeId(known)))?;
+    done(client.reply(&reply))?;
+    done(client.request(&[create_session(alloc)]))?;
+    let session = CreateSessionAnswer {
         session: [7; 16],
-        sequence: xid,
-        slot: 3,
-        highest_slot: 3,
-        cache_this: false,
+        sequence: 1,
+        flags: 0,
+        fore: CHANNEL,
+        back: CHANNEL,
     };
-    write_argument(&mut call, &Argument::Sequence(sequence))?;
-    write_argument(&mut call, &Argument::PutFh(&[0, 0, 0, 0, 0, 0, 0, 9]))?;
+    let reply = reply_of(alloc, 2, &Outcome::Done(Answer::CreateSession(session)))?;
+    done(client.reply(&reply))?;
+    Ok(client)
+}
+
+/// What the client answered, without what only it can tell of a refusal.
+fn done<T: Drop>(answered: Result<T, ClientFault<'_>>) -> anyhow::Result<T> {
+    match answered {
+        Ok(answered) => Ok(answered),
+        Err(_) => Err(anyhow!("the client refused a call")),
+    }
+}
+
+fn exchange_id() -> Argument<'static>
+    ensures { ArgumentFits result }
+{
+    Argument::ExchangeId(ExchangeIdArguments {
+        verifier: [0; 8],
+        owner: b"bench",
+        flags: 0,
+        implementation: None,
+    })
+}
+
+fn create_session(alloc: Global) -> Argument<'static>
+    ensures { ArgumentFits result }
+{
+    Argument::CreateSession(CreateSessionArguments {
+        client: 1,
+        sequence: 1,
+        flags: 0,
+        fore: CHANNEL,
+        back: CHANNEL,
+        callback_program: 0,
+        security: Vec::new(alloc),
+    })
+}
+
+fn argument_of(kind: Kind, data: &[u8]) -> Argument<'_>
+    requires { length data.now ≤ 8192 }
+    ensures { ArgumentFits result }
+{
     match kind {
-        Kind::Write => write_write(&mut call, xid)?,
-        Kind::GetAttr => write_get_attr(&mut call)?,
+        Kind::Write => Argument::Write(WriteArguments {
+            state: StateId {
+                seqid: 1,
+                other: [5; 12],
+            },
+            offset: 0,
+            stable: 2,
+            data,
+        }),
+        Kind::GetAttr => {
+            let mut asked = Bitmap::new();
+            asked.push(ASKED[0]);
+            asked.push(ASKED[1]);
+            Argument::GetAttr(asked)
+        }
     }
-    Ok(call.into_vec())
-}
-
-/// A call of COMPOUND up to its operations: AUTH_SYS with a machine name of six bytes and two further groups, an empty
-/// verifier, an empty tag, minor version 1, and three operations.
-fn write_head(call: &mut Writer, xid: u32) -> Result<(), Refusal> {
-    for number in [xid, 0, 2, 100003, 4, 1] {
-        call.write_u32(number)?;
-    }
-    for number in [
-        1,
-        36,
-        0,
-        6,
-        0x636c_6965,
-        0x6e74_0000,
-        1000,
-        1000,
-        2,
-        1000,
-        27,
-        0,
-        0,
-    ] {
-        call.write_u32(number)?;
-    }
-    for number in [0, 1, 3] {
-        call.write_u32(number)?;
-    }
-    Ok(())
-}
-
-fn write_write(call: &mut Writer, xid: u32) -> Result<(), Refusal> {
-    let arguments = WriteArguments {
-        state: StateId {
-            seqid: 1,
-            other: [5; 12],
-        },
-        offset: u64::from(xid) * DATA_BYTES as u64,
-        stable: 2,
-        data: &[0xa5; DATA_BYTES],
-    };
-    write_argument(call, &Argument::Write(arguments))
-}
-
-fn write_get_attr(call: &mut Writer) -> Result<(), Refusal> {
-    let mut asked = Bitmap::new();
-    asked.push(ASKED[0]);
-    asked.push(ASKED[1]);
-    write_argument(call, &Argument::GetAttr(asked))
 }

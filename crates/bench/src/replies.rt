@@ -1,6 +1,8 @@
 //! Writing replies.
 
 ghost use Rattle.std.specs.Prelude.{◌<◌, ◌≤◌, ◌^◌, length};
+ghost use Rattle.wire.specs.OutcomeView.{outcome_view};
+ghost use Rattle.wire.specs.Short.{IsShort};
 
 use crate::calls::ASKED;
 use crate::work::Work;
@@ -42,16 +44,33 @@ impl WritesReplies {
         write_results(&mut self.results, xid)?;
         let mut reply = mem::replace(&mut self.reply, Vec::new(self.alloc));
         reply.clear();
-        self.reply = write_record(Writer::from_vec(reply), xid, &[], self.results.as_slice())?;
+        self.reply = write_record(
+            Writer::from_vec(reply),
+            xid,
+            &[],
+            3,
+            self.results.as_slice(),
+        )?;
         Ok(())
     }
 }
 
-/// The record of a reply with three results, behind the bytes of `out`.
+/// The record of a reply with this result alone.
+pub fn reply_of(alloc: Global, xid: u32, outcome: &Outcome<'_>) -> Result<Vec<u8>, Refusal>
+    requires { IsShort (outcome_view outcome.now) }
+{
+    outcome.tell_fits();
+    let mut results = Writer::new(alloc);
+    outcome.write(&mut results)?;
+    write_record(Writer::new(alloc), xid, &[], 1, results.as_slice())
+}
+
+/// The record of a reply with so many results, behind the bytes of `out`.
 fn write_record<'a>(
     out: Writer,
     xid: u32,
     tag: &'a [u8],
+    count: u32,
     results: &'a [u8],
 ) -> Result<Vec<u8>, Refusal>
     requires { length tag.now ≤ 255 }
@@ -62,7 +81,7 @@ fn write_record<'a>(
     let result = CompoundResult {
         status: Status::Ok,
         tag: Tag { bytes: tag },
-        count: 3,
+        count,
         results,
     };
     write_reply(out, xid, &Reply::Compound(result))

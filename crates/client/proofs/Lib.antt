@@ -1,3 +1,5 @@
 pub mod Operations
 pub mod Lengths
 pub mod Ending
+pub mod Receiving
+pub mod Exchanging

@@ -3,3 +3,5 @@ pub mod Requests
 pub mod Rests
 pub mod Views
 pub mod Replies
+pub mod Streams
+pub mod Exchanges

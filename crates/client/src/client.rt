@@ -8,15 +8,19 @@ ghost use Rattle.client.specs.Requests.{new_client, requested, bytes_kept};
 ghost use Rattle.wire.specs.OutcomeView.{outcome_view};
 ghost use Rattle.client.specs.Replies.{reply_to};
 ghost use Rattle.client.specs.Views.{Answers, Refuses, known};
+ghost use Rattle.client.specs.Streams.{stream};
+ghost use Rattle.client.specs.Exchanges.{Asks, Resends};
 ghost use Rattle.client.specs.declared.fault.ClientFault.TheVariants.{Memory, Pending};
 
 use crate::call::credential_body;
 use crate::fault::ClientFault;
 use crate::known::{is_delayed, learn, was_answered};
+use crate::receive::converse;
 use crate::reply::{ReplyRead, read_reply, results_or_status};
 use crate::sent::{Sent, Session, is_alone, make_record};
 use model::acl::Cred;
 use std::alloc::Global;
+use std::io::{Read, Write};
 use std::marker::Model;
 use wire::{Argument, Outcome};
 
@@ -158,6 +162,49 @@ impl Client {
                 }
                 results_or_status(results, last)
             }
+        }
+    }
+
+    /// Sends the record of these operations, as `request` makes it, and reads its reply: what `reply` answers of it. The
+    /// reply stands in `received`, from which the results borrow.
+    ///
+    /// `Pending` and `Memory` as of `request`, and then nothing is written. `Io` where the writer failed, or the reader
+    /// failed or ended before the reply was whole: the record is kept, and `resend` sends it over another stream.
+    /// `Garbled` also where the reply has more than 16,384 bytes or 64 fragments (RFC 5531, section 11).
+    pub fn exchange<'a, R: Read, W: Write>(
+        &mut self,
+        reader: &mut R,
+        writer: &mut W,
+        operations: &[Argument<'_>],
+        received: &'a mut Vec<u8>,
+    ) -> Result<Vec<Outcome<'a>>, ClientFault<'a>>
+        requires { All ArgumentFits operations.now }
+        ensures { Asks (requested self.old (map argument_view operations.now)) self.old self.new
+            (stream (W.contents writer.old) (R.remaining reader.old))
+            (stream (W.contents writer.new) (R.remaining reader.new)) result }
+    {
+        self.request(operations)?;
+        self.resend(reader, writer, received)
+    }
+
+    /// Sends the kept record over this stream, and reads its reply, as `exchange` does: `Pending` where there is none,
+    /// `Memory` where there is none for the reply, and then nothing is written.
+    pub fn resend<'a, R: Read, W: Write>(
+        &mut self,
+        reader: &mut R,
+        writer: &mut W,
+        received: &'a mut Vec<u8>,
+    ) -> Result<Vec<Outcome<'a>>, ClientFault<'a>>
+        ensures { Resends self.old self.new
+            (stream (W.contents writer.old) (R.remaining reader.old))
+            (stream (W.contents writer.new) (R.remaining reader.new)) result }
+    {
+        let Some(sent) = &self.sent else {
+            return Err(ClientFault::Pending);
+        };
+        match converse(reader, writer, &sent.bytes, received) {
+            Ok(()) => self.reply(received),
+            Err(fault) => Err(fault),
         }
     }
 }

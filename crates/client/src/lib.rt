@@ -7,9 +7,11 @@ mod client;
 mod fault;
 mod head;
 mod known;
+mod receive;
 mod reply;
 mod results;
 mod sent;
+mod stream;
 
 pub use client::Client;
 pub use fault::ClientFault;
