@@ -1,5 +1,5 @@
 -- OPEN, but for the table of opens, of which a call is told whether it is full.
-use Rattle.std.specs.Prelude.{ℕ, Bool, List, [], ◌∷◌, ◌++◌, ◌+◌, Result, Ok, Err, None, ◌≡◌, ◌&&◌, ◌||◌, true, false, not}
+use Rattle.std.specs.Prelude.{ℕ, Bool, List, [], ◌∷◌, ◌++◌, ◌+◌, Result, Ok, Err, None, ◌≡◌, ◌&&◌, ◌||◌, true, false, not, if◌then◌else◌}
 use Rattle.edits.specs.declared.edit.Edit.{Edit}
 use Rattle.model.specs.declared.acl.Cred.{Cred}
 use Rattle.model.specs.declared.limits.Limits.{Limits}
@@ -13,7 +13,7 @@ use Rattle.model.specs.Directory.{is_named, number_named}
 use Rattle.model.specs.Edit.{SetSize, edited}
 use Rattle.model.specs.Keyed.{at, is_key}
 use Rattle.model.specs.Need.{access_rights, granted_on, opening_rights}
-use Rattle.model.specs.Open.{asked_open, at_opened, creates, given_by, name_opening_refusals, opened_state, share_refusals, size_alone}
+use Rattle.model.specs.Open.{asked_open, at_opened, creates, cuts, file_opened, given_by, name_opening_refusals, opened_state, share_refusals, size_alone}
 use Rattle.model.specs.Operation.{Argument, OpenArguments, OpenType, NoCreate, Unchecked, Guarded}
 use Rattle.model.specs.Operation as operation
 use Rattle.model.specs.Refusal.{Refusals, first_refusal}
@@ -28,6 +28,7 @@ use Rattle.fs.specs.declared.opening.How.{How}
 use Rattle.fs.specs.declared.opening.How.TheVariants as how
 use Rattle.fs.specs.declared.opening.OpenEffect.{OpenEffect}
 use Rattle.fs.specs.declared.opening.OpenEffect.TheVariants as effect
+use Rattle.fs.specs.declared.opening.OpenRoom.{OpenRoom}
 use Rattle.fs.specs.declared.opening.Opened.{Opened}
 use Rattle.fs.specs.declared.opening.Opening.{Opening}
 use Rattle.fs.specs.declared.opening.Share.{Share}
@@ -99,6 +100,29 @@ OpensFile keeps_word old new state now asked arguments (Ok made) = keeps_word
     ≡ after_open new.volume.tree new.changes state arguments (type_of asked.how) made
 OpensFile keeps_word old new state now asked arguments (Err reason) =
     IsNotDone old state now (Argument.Open arguments) reason
+
+-- what a call by a name does to its file, where nothing refuses it
+abbrev pub effect_of : Tree → (directory : ℕ) → (name : List ℕ) → OpenType → OpenEffect
+effect_of tree directory name of =
+    if is_named tree directory name then (if cuts of then effect.Cut else effect.Nothing) else effect.Made
+
+-- whether the reply has room for what it answers
+abbrev pub has_room_for : OpenRoom → OpenEffect → Bool
+has_room_for room effect.Nothing = room.nothing
+has_room_for room effect.Cut = room.cut
+has_room_for room effect.Made = room.made
+
+abbrev pub has_room : FileSystem → Opening → OpenRoom → Bool
+has_room fs asked room =
+    has_room_for room (effect_of fs.volume.tree asked.directory asked.name.now (type_of asked.how))
+
+-- which file it opened, and what it did to it
+pub record IsOpened (fs : FileSystem) (asked : Opening) (made : Opened) : Type 0 where
+  pub number_is : (state : State) (cred : Cred) → IsOn fs cred asked.directory state
+      → file_opened state (operation.Opens (type_of asked.how) (operation.ByName asked.name.now))
+      ≡ made.number
+  pub effect_is :
+      made.effect ≡ effect_of fs.volume.tree asked.directory asked.name.now (type_of asked.how)
 
 -- what an OPEN of this caller leaves by the definition. One that neither makes a file nor cuts one
 -- is no change: nothing of it has to last.

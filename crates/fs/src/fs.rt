@@ -5,6 +5,7 @@ ghost use Rattle.fs.specs.Ready.{IsReady, IsReady-prop};
 ghost use Rattle.volume.specs.Volumes.{held_of};
 
 use disk::Device;
+use model::limits::Limits;
 use std::alloc::Global;
 use volume::{Checked, FormatFault, MountFault, Unmounted, Volume};
 
@@ -107,6 +108,13 @@ impl<D: Device> Fs<D> {
         ensures { result ≡ (fs_of self.now).volume.run }
     {
         self.volume.restart_count()
+    }
+
+    /// What its volume may have.
+    pub fn limits(&self) -> &Limits
+        ensures { result.now ≡ (fs_of self.now).volume.limits }
+    {
+        self.volume.limits()
     }
 
     /// The device, as it is now. What stands on it is the next mount's.

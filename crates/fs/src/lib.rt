@@ -32,7 +32,7 @@ pub use fault::FsFault;
 pub use fs::Fs;
 pub use listing::{Listing, Page};
 pub use making::NewDirectory;
-pub use opening::{How, OpenEffect, Opened, Opening, Share};
+pub use opening::{How, OpenEffect, OpenRoom, Opened, Opening, Share};
 pub use removing::Removed;
 pub use renaming::{Change, Renamed, Renaming};
 pub use setting::Setting;

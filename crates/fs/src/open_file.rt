@@ -4,7 +4,7 @@ use crate::changing::{NewNode, set_edits, touched};
 use crate::fault::FsFault;
 use crate::fs::Fs;
 use crate::nodes::is_directory;
-use crate::opening::{How, OpenEffect, Opened, Opening, check_share, may_open};
+use crate::opening::{How, OpenEffect, OpenRoom, Opened, Opening, check_share, may_open};
 use crate::renaming::Change;
 use crate::rights::grants;
 use acl_eval::{Cred, Mask, NodeKind};
@@ -41,8 +41,8 @@ impl<D: Device> Fs<D> {
     ghost use Rattle.fs.specs.FileSystems.{fs_of, Alters};
     ghost use Rattle.fs.specs.Making.{IsDirectoryOf, room_tests};
     ghost use Rattle.fs.specs.OnTree.{IsState};
-    ghost use Rattle.fs.specs.Opening.{IsOpening, IsPlaced, LeadsTo, OpensBy, OpensFile, OpensTree, StaysOpen};
-    ghost use Rattle.fs.specs.Opening.{file_tests, place_tests, tree_cut, type_of};
+    ghost use Rattle.fs.specs.Opening.{IsOpened, IsOpening, IsPlaced, LeadsTo, OpensBy, OpensFile, OpensTree, StaysOpen};
+    ghost use Rattle.fs.specs.Opening.{file_tests, has_room, place_tests, tree_cut, type_of};
     ghost use Rattle.fs.specs.Operations.{IsOn, IsNotDone};
     ghost use Rattle.fs.specs.Planned.{IsPlanned};
     ghost use Rattle.fs.specs.Refusals.{fault_of};
@@ -52,7 +52,7 @@ impl<D: Device> Fs<D> {
     /// OPEN of a file by its name (RFC 8881, section 18.16, `CLAIM_NULL`), by this caller at this
     /// moment, in nanoseconds since 1970. A file that it makes or cuts is kept on the device before
     /// the answer; anything else changes nothing but the table of opens. `is_full` says whether that
-    /// has no room for it, `has_room` whether the reply has room.
+    /// has no room for it, `room` whether the reply has room.
     ///
     /// # Errors
     ///
@@ -70,7 +70,7 @@ impl<D: Device> Fs<D> {
         now: u64,
         asked: Opening<'_>,
         is_full: bool,
-        has_room: bool,
+        room: OpenRoom,
     ) -> Result<Opened, FsFault>
         requires { length (given_by (type_of asked.how)).bitmap ≤ 8 }
         ensures step { (state : State) (arguments : OpenArguments)
@@ -80,20 +80,25 @@ impl<D: Device> Fs<D> {
             arguments result }
         ensures volume { Alters self.old self.new
             (OpensTree (fs_of self.old) cred.now now asked.entry is_full) (fs_ending result) }
-        ensures room { OnOk result (has_room ≡ true) }
+        // Opened
+        ensures opened { IfOk result (IsOpened (fs_of self.old) asked.entry) }
+        ensures full { OnOk result (is_full ≡ false) }
+        ensures room { OnOk result (has_room (fs_of self.old) asked.entry room ≡ true) }
         // Refused
-        ensures no_room { IsErrOf result FsFault.NoRoom → has_room ≡ false }
+        ensures no_room { IsErrOf result FsFault.NoRoom
+            → has_room (fs_of self.old) asked.entry room ≡ false }
         ensures down { (fs_of self.old).volume.is_down ≡ true → IsErrOf result FsFault.Down }
-        ensures device_room { IsErrOf result FsFault.Device → has_room ≡ true }
+        ensures device_room { IsErrOf result FsFault.Device
+            → has_room (fs_of self.old) asked.entry room ≡ true }
     {
         if self.is_down() {
             return Err(FsFault::Down);
         }
         let planned = self.plan_open(cred, now, asked, is_full)?;
-        if !has_room {
+        let Planned { edits, opened } = planned;
+        if !room.has(opened.effect) {
             return Err(FsFault::NoRoom);
         }
-        let Planned { edits, opened } = planned;
         let Some(edits) = edits else {
             return Ok(opened);
         };
@@ -120,6 +125,9 @@ impl<D: Device> Fs<D> {
             (StaysOpen (fs_of self.now) state now arguments (type_of asked.entry.how) planned.opened)
             (λ edits. OpensBy (fs_of self.now) state now arguments (type_of asked.entry.how)
             edits.items planned.opened)) }
+        ensures opened { IfOk result (λ planned.
+            IsOpened (fs_of self.now) asked.entry planned.opened) }
+        ensures full { OnOk result (is_full ≡ false) }
         // Refused
         ensures refused { (state : State) (arguments : OpenArguments)
             → IsOn (fs_of self.now) cred.now asked.entry.directory state
@@ -185,6 +193,9 @@ impl<D: Device> Fs<D> {
             (StaysOpen (fs_of self.now) state now arguments (type_of asked.entry.how) planned.opened)
             (λ edits. OpensBy (fs_of self.now) state now arguments (type_of asked.entry.how)
             edits.items planned.opened)) }
+        ensures opened { IfOk result (λ planned.
+            IsOpened (fs_of self.now) asked.entry planned.opened) }
+        ensures full { OnOk result (is_full ≡ false) }
         // Refused
         ensures refused { (state : State) (arguments : OpenArguments)
             → IsPlaced (fs_of self.now) cred.now asked.entry is_full state arguments
@@ -346,6 +357,9 @@ impl<D: Device> Fs<D> {
             (StaysOpen (fs_of self.now) state now arguments (type_of asked.entry.how) planned.opened)
             (λ edits. OpensBy (fs_of self.now) state now arguments (type_of asked.entry.how)
             edits.items planned.opened)) }
+        ensures opened { IfOk result (λ planned.
+            IsOpened (fs_of self.now) asked.entry planned.opened) }
+        ensures full { OnOk result (is_full ≡ false) }
         // Refused
         ensures refused { (state : State) (arguments : OpenArguments)
             → IsPlaced (fs_of self.now) cred.now asked.entry is_full state arguments

@@ -1,7 +1,7 @@
 //! OPEN, but for the table of opens.
 
 ghost use Rattle.std.specs.Prelude.{◌≡◌};
-ghost use Rattle.fs.specs.Opening.{may_use};
+ghost use Rattle.fs.specs.Opening.{has_room_for, may_use};
 ghost use Rattle.model.specs.Open.{share_refusals};
 ghost use Rattle.model.specs.Operation.{OpenArguments};
 ghost use Rattle.settings.specs.Given.{IsChecked};
@@ -61,6 +61,27 @@ pub enum OpenEffect {
     Made,
 }
 
+/// Whether the reply has room for the result of an OPEN by a name, which tells the attributes that were
+/// set: by what it does to its file.
+#[derive(Clone, Copy, Debug)]
+pub struct OpenRoom {
+    pub nothing: bool,
+    pub cut: bool,
+    pub made: bool,
+}
+
+impl OpenRoom {
+    pub(crate) fn has(self, effect: OpenEffect) -> bool
+        ensures { result ≡ has_room_for self effect }
+    {
+        match effect {
+            OpenEffect::Nothing => self.nothing,
+            OpenEffect::Cut => self.cut,
+            OpenEffect::Made => self.made,
+        }
+    }
+}
+
 /// A file that was opened.
 #[derive(Clone, Copy, Debug, PartialEq, Eq)]
 pub struct Opened {
@@ -106,7 +127,7 @@ pub(crate) fn may_open(card: &Card, cred: &Cred, access: u32, is_cut: bool) -> b
 
 #[tactic(auto, unfolding(crate::specs::FileSystems::fs_of))]
 impl<D: Device> Fs<D> {
-    ghost use Rattle.std.specs.Prelude.{◌≡◌, ℕ, true, IfSome, IsErrOf};
+    ghost use Rattle.std.specs.Prelude.{◌≡◌, ℕ, true, false, IfSome, IsErrOf, OnOk};
     ghost use Rattle.model.specs.Open.{creates, file_opened};
     ghost use Rattle.model.specs.Operation.{OpenType};
     ghost use Rattle.model.specs.Operation as operation;
@@ -152,6 +173,7 @@ impl<D: Device> Fs<D> {
             → IsOn (fs_of self.now) cred.now number state
             → IsOpeningCurrent (fs_of self.now) state share is_create is_full arguments
             → OpensCurrent (fs_of self.now) state now number arguments result }
+        ensures full { OnOk result (is_full ≡ false) }
         ensures down { (fs_of self.now).volume.is_down ≡ true → IsErrOf result FsFault.Down }
     {
         if self.is_down() {
