@@ -6,6 +6,7 @@ pub mod Current
 pub mod Firsts
 pub mod ListLaws
 pub mod OpenLaws
+pub mod OpenNamedLaws
 pub mod Pages
 pub mod Parts
 pub mod QuietLaws

@@ -10,7 +10,7 @@ use Rattle.model.specs.Attribute.{attribute_refusals, settable_at_setattr, trimm
 use Rattle.model.specs.Context.{Context, has_current, current_number}
 use Rattle.model.specs.Need.{need_first, need_then}
 use Rattle.model.specs.Opens.{Opens}
-use Rattle.model.specs.Operation.{Argument, SetAttrArguments}
+use Rattle.model.specs.Operation.{Argument, Attributes, SetAttrArguments}
 use Rattle.model.specs.Runs.{is_commit}
 use Rattle.model.specs.Session.{Table}
 use Rattle.model.specs.SetAttr.{kind_at, set_attributes, sets, sets_size, size_refusals, was_set}
@@ -40,10 +40,9 @@ size_bad : (is_sized : Bool) (state : State) (arguments : SetAttrArguments)
 size_bad true state arguments = verdict_bad write_access state.opens state.context arguments.state
 size_bad false state arguments = refl
 
-given_bad : (limits : Limits) (kind : NodeKind) (settable : List ℕ) (arguments : SetAttrArguments)
-    → all_bad (attribute_refusals limits kind settable arguments.attributes) ≡ true
+pub given_bad : (limits : Limits) (kind : NodeKind) (settable : List ℕ) (given : Attributes) → all_bad (attribute_refusals limits kind settable given) ≡ true
 unfolding attribute_refusals
-given_bad limits kind settable arguments = values_bad limits kind (unwrap_or (values_of arguments.attributes) [])
+given_bad limits kind settable given = values_bad limits kind (unwrap_or (values_of given) [])
 
 set_done : (changes : Bool) (state : State) (now : ℕ) (arguments : SetAttrArguments)
     → (set_attributes changes state now arguments).outcome ≡ Done (was_set arguments)
@@ -63,7 +62,7 @@ set_bad limits state now arguments reason is =
     ∷ [])
     (append_bad (current_refusals state) (given ++ size_refusals state arguments) refl
     (append_bad given (size_refusals state arguments)
-    (given_bad limits (kind_at state.tree (current state)) settable_at_setattr arguments)
+    (given_bad limits (kind_at state.tree (current state)) settable_at_setattr arguments.attributes)
     (size_bad (sets_size arguments.attributes) state arguments)))
     refl)
     (set_done (sets arguments) state now arguments) is

@@ -1,16 +1,23 @@
 -- What the operations of a COMPOUND see of a file system, and of what is open beside it.
-use Rattle.std.specs.Prelude.{◌≡◌, ℕ, List, Some, Result, Ok, Err}
+use Rattle.std.specs.Prelude.{◌≡◌, ℕ, Bool, List, length, nat_le, Some, Result, Ok, Err}
 use Rattle.fs.specs.FileSystem.{FileSystem}
+use Rattle.fs.specs.Opening.{has_room_for, set_by}
+use Rattle.fs.specs.declared.opening.OpenEffect.{OpenEffect}
+use Rattle.fs.specs.declared.opening.OpenRoom.{OpenRoom}
 use Rattle.fs.specs.Operations.{does_on}
-use Rattle.model.specs.Answer.{Answer}
+use Rattle.model.specs.Answer.{Answer, Done}
 use Rattle.model.specs.Context.{without_stateid}
 use Rattle.model.specs.Opens.{Open, Opens}
-use Rattle.model.specs.Operation.{Argument, ChangeInfo, CloseArguments, StateId}
+use Rattle.model.specs.Open.{at_opened, no_change_info}
+use Rattle.model.specs.Operation.{Argument, ChangeInfo, CloseArguments, OpenType, StateId}
 use Rattle.model.specs.Refusal.{first_refusal}
 use Rattle.model.specs.Step.{State, answered, refused}
-use Rattle.model.specs.StateIds.{Found, Names, close_refusals, closed_state, without_open}
-use Rattle.model.specs.World.{InProgress}
+use Rattle.model.specs.StateIds.{Found, Names, close_refusals, closed_state, opened, without_open}
+use Rattle.model.specs.World.{InProgress, reply_with}
 use Rattle.model.specs.declared.status.Status.{Status}
+use Rattle.opens.specs.Views.{named_by}
+use Rattle.compound.specs.Operates.{RunsTo}
+use Rattle.compound.specs.States.{SharedState}
 use Rattle.compound.specs.Trees.{IsHere}
 
 -- a state of the request on this file system, with these opens
@@ -41,3 +48,18 @@ Closes fs opens request arguments (Err reason) = (state : State) (now : ℕ) →
 -- what it answers, of its directory and of the attributes that were set
 abbrev pub opened_answer : StateId → ChangeInfo → (was_set : List ℕ) → Answer
 opened_answer state change was_set = Answer.Open (record { state = state; change = change; flags = 0; was_set = was_set })
+
+-- whether the reply has room for it, which only what was set can tell
+abbrev pub has_opened_room : InProgress → (was_set : List ℕ) → Bool
+has_opened_room request was_set = nat_le (length (reply_with request (Done (opened_answer closed_state no_change_info was_set)))) 16368
+
+-- and for each effect that an OPEN by a name may have
+abbrev pub HasOpenRoom : InProgress → OpenType → OpenRoom → Type 0
+HasOpenRoom request how room = (effect : OpenEffect) → has_room_for room effect ≡ has_opened_room request (set_by effect how)
+
+-- an operation comes to this open, with this change of its directory and these attributes set
+abbrev pub OpensTo : (now : ℕ) → (old new : SharedState) → InProgress → (asked : Open) → ChangeInfo → (was_set : List ℕ) → Argument → Type 0
+OpensTo now old new request asked change was_set operation =
+    let state = named_by request.context.run (opened old.opens asked) in
+    RunsTo now old new request (record request { context = at_opened request.context asked.number state }) operation
+    (Done (opened_answer state change was_set))

@@ -16,7 +16,7 @@ use opens::{Found, Opens};
 use wire::{Answer, CloseArguments, Operation, Outcome, StateId};
 
 /// What a CLOSE answers: a stateid that no operation takes.
-const CLOSED: StateId = StateId {
+pub(crate) const CLOSED: StateId = StateId {
     seqid: u32::MAX,
     other: [0; 12],
 };

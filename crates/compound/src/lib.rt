@@ -13,6 +13,7 @@ mod fault;
 mod handles;
 mod listing;
 mod next;
+mod open_named;
 mod opening;
 mod operate;
 mod operated;

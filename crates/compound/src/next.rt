@@ -23,16 +23,19 @@ use xdr::{Reader, Refusal};
 const OP_ILLEGAL: u32 = 10044;
 
 /// The operations that are served; another one of the standard's is answered NOTSUPP.
-const SERVED: [Operation; 22] = [
+const SERVED: [Operation; 25] = [
     Operation::Access,
+    Operation::Close,
     Operation::Commit,
     Operation::Create,
     Operation::GetAttr,
     Operation::GetFh,
     Operation::Lookup,
     Operation::LookupParent,
+    Operation::Open,
     Operation::PutFh,
     Operation::PutRootFh,
+    Operation::Read,
     Operation::ReadDir,
     Operation::Remove,
     Operation::Rename,

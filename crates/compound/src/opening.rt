@@ -1,39 +1,188 @@
 //! OPEN (RFC 8881, section 18.16).
 
-ghost use Rattle.std.specs.Prelude.{◌≡◌, ◌<◌, ◌^◌, IsTrue, length};
+ghost use Rattle.std.specs.Prelude.{◌≡◌, ◌<◌, ◌≤◌, ◌^◌, IsTrue, length};
 ghost use Rattle.xdr.specs.Forms.{is_trimmed};
 ghost use Rattle.model.specs.Answer.{Done};
+ghost use Rattle.model.specs.Open.{creates};
 ghost use Rattle.model.specs.World.{outcome_text};
 ghost use Rattle.model.specs.WireAnswers as answers;
+ghost use Rattle.wire.specs.ArgumentViews.{open_type_view};
 ghost use Rattle.wire.specs.OutcomeView.{outcome_view};
 ghost use Rattle.wire.specs.SmallViews.{change_view, state_view};
 ghost use Rattle.compound.specs.Beside.{opened_answer};
 
-use crate::operated::Operated;
+use crate::closing::CLOSED;
+use crate::fault::Fault;
+use crate::operated::{Effect, Operated};
+use crate::removing::change_info;
 use crate::running::Running;
+use crate::tree::status_of;
+use bitflags::Flags;
 use disk::Device;
-use fs::Fs;
+use fs::{Fs, Share};
 use model::status::Status;
-use wire::{Answer, Bitmap, ChangeInfo, OpenAnswer, Operation, Outcome, StateId};
+use opens::{Access, Open, Opens};
+use wire::{
+    Answer, Bitmap, ChangeInfo, Claim, OpenAnswer, OpenArguments, OpenType, Opening, Operation,
+    Outcome, StateId,
+};
 
 impl Running<'_> {
-    ghost use Rattle.std.specs.Prelude.{◌≡◌, Some, false};
-    ghost use Rattle.fs.specs.FileSystems.{fs_of};
+    ghost use Rattle.std.specs.Prelude.{◌≡◌, Some, true, false, IsTrue, IfOk, IfErr, OnErr};
+    ghost use Rattle.fs.specs.FileSystems.{fs_of, Alters};
     ghost use Rattle.model.specs.Open.{opening_refusals};
-    ghost use Rattle.model.specs.Operation.{Argument, OpenArguments};
+    ghost use Rattle.model.specs.Operation as operations;
     ghost use Rattle.model.specs.Refusal.{first_refusal};
     ghost use Rattle.model.specs.Session.{Table};
+    ghost use Rattle.model.specs.StateIds.{new_open, opened};
     ghost use Rattle.model.specs.declared.status.Status.TheVariants.{NotSupp};
-    ghost use Rattle.compound.specs.Operates.{OnlyReads, IsAnswered, IsKept};
+    ghost use Rattle.opens.specs.Views.{opens_of, open_of, CanOpen, HasRoom};
+    ghost use Rattle.wire.specs.ArgumentViews.{open_view, opening_view};
+    ghost use Rattle.wire.specs.SmallViews.{change_view};
+    ghost use Rattle.xdr.specs.Forms.{is_trimmed};
+    ghost use Rattle.compound.specs.Beside.{has_opened_room, OpensTo};
+    ghost use Rattle.compound.specs.Operates.{Operates, ChangesOpens, OnlyReads, IsAnswered, IsKept};
+    ghost use Rattle.compound.specs.States.{SharedState, shared};
+    ghost use Rattle.compound.specs.declared.fault.Fault.TheVariants.{Memory};
     ghost use Rattle.compound.specs.Views.{in_progress_of};
+    ghost use Rattle.compound.specs.Volumes.{OperationGives, ending};
+
+    /// OPEN: its file is open, and is the current one.
+    pub(crate) fn open<D: Device>(
+        &self,
+        fs: &mut Fs<D>,
+        opens: &mut Opens,
+        now: u64,
+        arguments: &OpenArguments<'_>,
+    ) -> Result<Operated, Fault>
+        requires up { (fs_of fs.old).volume.is_down ≡ false }
+        requires run { (in_progress_of self.now).context.run ≡ (fs_of fs.old).volume.run }
+        ensures gives { D.keeps_word → IfOk result (ChangesOpens (fs_of fs.old) (fs_of fs.new)
+            (opens_of opens.old) (opens_of opens.new) now (in_progress_of self.now)
+            (operations.Argument.Open (open_view arguments.now))) }
+        ensures answered { IfOk result (IsAnswered (in_progress_of self.now)) }
+        ensures kept { (table : Table) → IfOk result (IsKept table) }
+        ensures opens { OnErr result (opens_of opens.new ≡ opens_of opens.old) }
+        ensures volume { (table : Table) → Alters fs.old fs.new (OperationGives
+            (shared (fs_of fs.old) table (opens_of opens.old)) (in_progress_of self.now) now
+            (operations.Argument.Open (open_view arguments.now))) (ending result) }
+    {
+        match &arguments.opening {
+            Opening::Exclusive(_) => Ok(self.refuse_opening(fs)),
+            Opening::Opens { how, claim } => match claim {
+                Claim::ByName(name) => self.open_named(fs, opens, now, arguments, how, name),
+                Claim::ByHandle => self.open_current(fs, opens, arguments, how),
+                Claim::OtherClaim(_) => Ok(self.refuse_opening(fs)),
+            },
+        }
+    }
+
+    /// OPEN of the current file (`CLAIM_FH`). It is not opened where the reply has no room for the result.
+    pub(crate) fn open_current<D: Device>(
+        &self,
+        fs: &Fs<D>,
+        opens: &mut Opens,
+        arguments: &OpenArguments<'_>,
+        how: &OpenType<'_>,
+    ) -> Result<Operated, Fault>
+        requires up { (fs_of fs.now).volume.is_down ≡ false }
+        requires run { (in_progress_of self.now).context.run ≡ (fs_of fs.now).volume.run }
+        requires opening { opening_view arguments.now.opening
+            ≡ operations.Opens (open_type_view how.now) operations.ByHandle }
+        ensures gives { (now : _) → IfOk result (ChangesOpens (fs_of fs.now) (fs_of fs.now)
+            (opens_of opens.old) (opens_of opens.new) now (in_progress_of self.now)
+            (operations.Argument.Open (open_view arguments.now))) }
+        ensures answered { IfOk result (IsAnswered (in_progress_of self.now)) }
+        ensures kept { (table : Table) → IfOk result (IsKept table) }
+        ensures opens { OnErr result (opens_of opens.new ≡ opens_of opens.old) }
+        ensures memory { IfErr result (λ fault. fault ≡ Memory) }
+    {
+        let number = match self.current_node() {
+            Ok(number) => number,
+            Err(status) => return Ok(self.refuse(Operation::Open, status)),
+        };
+        let asked = self.asked_open(arguments, number)?;
+        opens.reserve()?;
+        let is_full = opens.is_full(fs.limits().opens, &asked);
+        let create = creates(how);
+        match fs.open_current(&self.cred, number, share_of(arguments), create, is_full) {
+            Ok(()) => {
+                if !self.has_opened_room(Bitmap::new()) {
+                    return Ok(self.refuse(Operation::Open, Status::RepTooBig));
+                }
+                Ok(self.give_open(opens, asked, change_info(0, 0), Bitmap::new()))
+            }
+            Err(fault) => Ok(self.refuse(Operation::Open, status_of(fault))),
+        }
+    }
+
+    /// The open that is asked for, on this file.
+    #[tactic(auto, unfolding(crate::specs::Views::in_progress_of))]
+    pub(crate) fn asked_open(
+        &self,
+        arguments: &OpenArguments<'_>,
+        number: u64,
+    ) -> Result<Open, Fault>
+        ensures ok { IfOk result (λ asked. open_of asked
+            ≡ new_open (in_progress_of self.now).context.client (open_view arguments.now).owner number
+            (open_view arguments.now).access) }
+        ensures err { IfErr result (λ fault. fault ≡ Memory) }
+    {
+        let access = Access::from_bits_retain(arguments.access);
+        Ok(Open::new(
+            self.alloc,
+            self.progress.client,
+            arguments.owner,
+            number,
+            access,
+        )?)
+    }
+
+    /// The open stands, or joins one that does, and its file is the current one.
+    pub(crate) fn give_open(
+        &self,
+        opens: &mut Opens,
+        asked: Open,
+        change: ChangeInfo,
+        was_set: Bitmap,
+    ) -> Operated
+        requires room { HasRoom opens.old }
+        requires serial { CanOpen (opens_of opens.old) (open_of asked) }
+        requires trimmed { IsTrue (is_trimmed was_set) }
+        requires short { true ≡ has_opened_room (in_progress_of self.now) was_set }
+        ensures gives { (now : _) (old new : SharedState) (operation : operations.Argument)
+            → old.opens ≡ opens_of opens.old → OpensTo now old new (in_progress_of self.now)
+            (open_of asked) (change_view change) was_set operation
+            → Operates now old new (in_progress_of self.now) operation result }
+        ensures answered { IsAnswered (in_progress_of self.now) result }
+        ensures kept { (table : Table) → IsKept table result }
+        ensures opens { opens_of opens.new
+            ≡ (opened (opens_of opens.old) (open_of asked)).opens }
+    {
+        let number = asked.number;
+        let state = opens.open(self.progress.run, asked);
+        Operated::Gives {
+            outcome: opened(state, change, was_set),
+            effect: Effect::Opens { number, state },
+        }
+    }
+
+    /// Whether the reply has room for the result of an OPEN that set these attributes. What else it tells does not matter.
+    pub(crate) fn has_opened_room(&self, was_set: Bitmap) -> bool
+        requires { IsTrue (is_trimmed was_set) }
+        ensures { result ≡ has_opened_room (in_progress_of self.now) was_set }
+    {
+        self.has_room(&opened(CLOSED, change_info(0, 0), was_set))
+    }
 
     /// OPEN that is not served: an exclusive create, or a claim other than by name or by filehandle.
     pub(crate) fn refuse_opening<D: Device>(&self, fs: &Fs<D>) -> Operated
         requires up { (fs_of fs.now).volume.is_down ≡ false }
         requires run { (in_progress_of self.now).context.run ≡ (fs_of fs.now).volume.run }
-        ensures gives { (arguments : OpenArguments)
+        ensures gives { (arguments : operations.OpenArguments)
             → first_refusal (opening_refusals arguments.opening) ≡ Some NotSupp
-            → OnlyReads (fs_of fs.now) (in_progress_of self.now) (Argument.Open arguments) result }
+            → OnlyReads (fs_of fs.now) (in_progress_of self.now)
+            (operations.Argument.Open arguments) result }
         ensures answered { IsAnswered (in_progress_of self.now) result }
         ensures kept { (table : Table) → IsKept table result }
     {
@@ -44,9 +193,27 @@ impl Running<'_> {
     }
 }
 
+/// What an open asks to do, and to deny to others.
+pub(crate) fn share_of(arguments: &OpenArguments<'_>) -> Share
+    ensures access { result.access ≡ arguments.now.access }
+    ensures deny { result.deny ≡ arguments.now.deny }
+{
+    Share {
+        access: arguments.access,
+        deny: arguments.deny,
+    }
+}
+
+/// Whether it may create a file.
+fn creates(how: &OpenType<'_>) -> bool
+    ensures { result ≡ creates (open_type_view how.now) }
+{
+    !matches!(how, OpenType::NoCreate)
+}
+
 /// The result of an OPEN: its stateid, its directory's change, and which attributes were set.
 #[tactic(auto, unfolding(model::specs::World::outcome_text))]
-pub(crate) fn opened(state: StateId, change: ChangeInfo, was_set: Bitmap) -> Outcome<'static>
+fn opened(state: StateId, change: ChangeInfo, was_set: Bitmap) -> Outcome<'static>
     requires { IsTrue (is_trimmed was_set) }
     ensures is { outcome_view result
         ≡ Done (opened_answer (state_view state) (change_view change) was_set) }

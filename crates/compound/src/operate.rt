@@ -12,8 +12,6 @@ use wire::Argument;
 impl Running<'_> {
     ghost use Rattle.std.specs.Prelude.{◌≡◌, true, false, IfOk, OnErr};
     ghost use Rattle.fs.specs.FileSystems.{fs_of, Alters};
-    ghost use Rattle.model.specs.Operation.{operation_of};
-    ghost use Rattle.model.specs.Served.{is_served};
     ghost use Rattle.opens.specs.Views.{opens_of};
     ghost use Rattle.session.specs.Views.{table_of};
     ghost use Rattle.wire.specs.ArgumentView.{argument_view};
@@ -36,7 +34,6 @@ impl Running<'_> {
     ) -> Result<Operated, Fault>
         requires up { (fs_of fs.old).volume.is_down ≡ false }
         requires run { (in_progress_of self.now).context.run ≡ (fs_of fs.old).volume.run }
-        requires served { is_served (operation_of (argument_view argument.now)) ≡ true }
         requires first { comes_first (argument_view argument.now) ≡ true
             → (in_progress_of self.now).answered ≡ 0 }
         ensures gives { D.keeps_word → IfOk result (Operates now (shared_of fs.old table.old opens.old)
@@ -50,14 +47,17 @@ impl Running<'_> {
     {
         match argument {
             Argument::Access(asked) => Ok(self.access(fs, *asked)),
+            Argument::Close(arguments) => Ok(self.close(fs, opens, arguments)),
             Argument::Commit(_) => self.commit(fs),
             Argument::Create(arguments) => self.create(fs, now, arguments),
             Argument::GetAttr(asked) => self.get_attributes(fs, asked),
             Argument::GetFh => self.get_handle(fs),
             Argument::Lookup(name) => Ok(self.look_up(fs, name)),
             Argument::LookupParent => Ok(self.look_up_parent(fs)),
+            Argument::Open(arguments) => self.open(fs, opens, now, arguments),
             Argument::PutFh(handle) => Ok(self.put_handle(fs, handle)),
             Argument::PutRootFh => Ok(self.put_root()),
+            Argument::Read(arguments) => self.read(fs, opens, arguments),
             Argument::ReadDir(arguments) => self.list(fs, arguments),
             Argument::Remove(name) => self.remove(fs, opens, now, name),
             Argument::Rename(arguments) => self.rename(fs, opens, now, arguments),
@@ -71,7 +71,6 @@ impl Running<'_> {
             Argument::DestroyClientId(client) => self.destroy_clientid(table, opens, *client),
             Argument::Sequence(arguments) => Ok(self.sequence(table, arguments)),
             Argument::ReclaimComplete(one_fs) => Ok(self.reclaim(fs, table, *one_fs)),
-            _ => unreachable!(),
         }
     }
 }

@@ -96,7 +96,7 @@ fn attributes_set(bitmap: &Bitmap) -> Outcome<'static>
 }
 
 /// The bitmap of what was set, of one that was given: it ends in no zero word.
-fn was_set(given: &Bitmap) -> Bitmap
+pub(crate) fn was_set(given: &Bitmap) -> Bitmap
     ensures is { result ≡ trimmed given.now }
     ensures trimmed { IsTrue (is_trimmed result) }
 {

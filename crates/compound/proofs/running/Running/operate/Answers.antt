@@ -35,6 +35,17 @@ returns-in-Write-clause-volume g c = rw c.in-Write.is (c.write.ensures.volume (t
 pub returns-in-Commit-clause-volume : goal.returns-in-Commit-clause-volume
 returns-in-Commit-clause-volume g c = rw c.in-Commit.is (c.commit.ensures.volume _ c.args.now (table_of c.args.table.now) (opens_of c.args.opens.now))
 
+pub returns-in-Open-clause-volume : goal.returns-in-Open-clause-volume
+returns-in-Open-clause-volume g c = rw c.in-Open.is (c.open.ensures.volume (table_of c.args.table.now))
+
+pub returns-in-Read-clause-volume : goal.returns-in-Read-clause-volume
+returns-in-Read-clause-volume g c = rw c.in-Read.is (c.read.ensures.volume c.args.now (table_of c.args.table.now))
+
+pub returns-in-Close-clause-volume : goal.returns-in-Close-clause-volume
+returns-in-Close-clause-volume g c =
+    quiet_changes g.D.Device.keeps_word (shared_of c.args.fs.now c.args.table.now c.args.opens.now) (fs_failures c.args.fs.now) (in_progress_of c.args.self.now) c.args.now (argument_view c.args.argument.now)
+    c.requires.up (rw c.in-Close.is refl)
+
 pub returns-in-Access-clause-volume : goal.returns-in-Access-clause-volume
 returns-in-Access-clause-volume g c =
     quiet_changes g.D.Device.keeps_word (shared_of c.args.fs.now c.args.table.now c.args.opens.now) (fs_failures c.args.fs.now) (in_progress_of c.args.self.now) c.args.now (argument_view c.args.argument.now)
@@ -144,6 +155,19 @@ returns-in-Commit-clause-gives g c = λ keeps. rw c.in-Commit.is
     (changed_if c.args.now (fs_of c.args.fs.now) (fs_of c.commit.new.fs) (table_of c.args.table.now) (opens_of c.args.opens.now) (opens_of c.args.opens.now) (in_progress_of c.args.self.now) _ c.commit.result
     (c.commit.ensures.gives _ c.args.now (opens_of c.args.opens.now) keeps))
 
+pub returns-in-Read-clause-gives : goal.returns-in-Read-clause-gives
+returns-in-Read-clause-gives g c = λ keeps. rw c.in-Read.is
+    (changed_if c.args.now (fs_of c.args.fs.now) (fs_of c.read.new.fs) (table_of c.args.table.now) (opens_of c.args.opens.now) (opens_of c.args.opens.now) (in_progress_of c.args.self.now) _ c.read.result
+    (c.read.ensures.gives c.args.now keeps))
+
+pub returns-in-Open-clause-gives : goal.returns-in-Open-clause-gives
+returns-in-Open-clause-gives g c = λ keeps. rw c.in-Open.is
+    (changed_if c.args.now (fs_of c.args.fs.now) (fs_of c.open.new.fs) (table_of c.args.table.now) (opens_of c.args.opens.now) (opens_of c.open.new.opens) (in_progress_of c.args.self.now) _ c.open.result
+    (c.open.ensures.gives keeps))
+
+pub returns-in-Close-clause-gives : goal.returns-in-Close-clause-gives
+returns-in-Close-clause-gives g c = λ keeps. rw c.in-Close.is (c.close.ensures.gives c.args.now (table_of c.args.table.now))
+
 pub returns-in-Access-clause-gives : goal.returns-in-Access-clause-gives
 returns-in-Access-clause-gives g c = λ keeps. rw c.in-Access.is (c.access.ensures.gives c.args.now (table_of c.args.table.now) (opens_of c.args.opens.now))
 
@@ -210,6 +234,17 @@ returns-in-Write-clause-kept g c = c.write.ensures.kept (table_of c.args.table.n
 
 pub returns-in-Commit-clause-kept : goal.returns-in-Commit-clause-kept
 returns-in-Commit-clause-kept g c = c.commit.ensures.kept (table_of c.args.table.now)
+
+pub returns-in-Open-clause-kept : goal.returns-in-Open-clause-kept
+returns-in-Open-clause-kept g c = c.open.ensures.kept (table_of c.args.table.now)
+
+pub returns-in-Read-clause-kept : goal.returns-in-Read-clause-kept
+returns-in-Read-clause-kept g c = c.read.ensures.kept (table_of c.args.table.now)
+
+pub returns-in-Close-clause-kept : goal.returns-in-Close-clause-kept
+returns-in-Close-clause-kept g c =
+    kept_of c.args.now (shared_of c.args.fs.now c.args.table.now c.args.opens.now) (shared_of c.args.fs.now c.args.table.now c.close.new.opens) (in_progress_of c.args.self.now) _ c.close.result
+    (c.close.ensures.gives c.args.now (table_of c.args.table.now))
 
 pub returns-in-Access-clause-kept : goal.returns-in-Access-clause-kept
 returns-in-Access-clause-kept g c =

@@ -5,7 +5,6 @@ use Rattle.wire.specs.ArgumentView.{argument_view}
 use Rattle.compound.specs.Operates.{IsAnswered, IsKept}
 use Rattle.compound.specs.States.{shared_of}
 use Rattle.compound.specs.Views.{in_progress_of}
-use Rattle.model.proofs.ReadOperations.{is_served_next}
 use Rattle.compound.proofs.Firsts.{first_alone}
 use Rattle.compound.proofs.Refusals.{refused_spelled}
 use Rattle.compound.proofs.Turning.{turns_read}
@@ -28,11 +27,6 @@ returns-in-Refuses-clause-answered g c =
     let next = rw c.in-Refuses.is at c.in_ok-operation.ensures.ok in
     subst (IsAnswered (in_progress_of c.args.self.now)) (sym c.refused.ensures.gives)
     (refused_spelled (in_progress_of c.args.self.now) c.in-Refuses.operation c.in-Refuses.status next c.refused.ensures.number)
-
-pub operate-requires-clause-served : goal.operate-requires-clause-served
-operate-requires-clause-served g c =
-    let next = rw c.in-Reads.is at c.in_ok-operation.ensures.ok in
-    is_served_next (in_progress_of c.args.self.now) (argument_view c.in-Reads.argument) (drop c.in-Reads.position c.args.self.now.compound.operations.now) next
 
 pub operate-requires-clause-first : goal.operate-requires-clause-first
 operate-requires-clause-first g c =

@@ -1,0 +1,218 @@
+use Rattle.std.proofs.Common.{◌≡◌, ℕ, Bool, List, true, false, Result, refl, sym, ap, subst, ◌∙◌, arith, IfOk}
+use Rattle.fs.proofs.ChangeLaws.{changes_by}
+use Rattle.fs.specs.Changes.{Changes}
+use Rattle.fs.specs.FileSystems.{fs_of, fs_failures}
+use Rattle.fs.specs.Opening.{IsOpening, after_open, effect_of, has_room, set_by, type_of}
+use Rattle.fs.specs.Operations.{does_on}
+use Rattle.fs.specs.Renaming.{info_of}
+use Rattle.model.specs.declared.limits.Limits.{Limits}
+use Rattle.model.specs.Answer.{Refused}
+use Rattle.model.specs.Opens.{Open, Opens}
+use Rattle.model.specs.Operation.{Argument, ChangeInfo, OpenType, ByName, Opens as Opens_as}
+use Rattle.model.specs.StateIds.{is_table_full, new_open, opened}
+use Rattle.model.specs.Step.{State}
+use Rattle.model.specs.declared.status.Status.{Status}
+use Rattle.opens.specs.Views.{open_of, opens_of}
+use Rattle.wire.specs.ArgumentViews.{open_type_view, open_view}
+use Rattle.wire.specs.SmallViews.{change_view}
+use Rattle.compound.specs.Beside.{has_opened_room, OpensTo}
+use Rattle.compound.specs.Operates.{GivesIn, Operates, ChangesOpens, IsAnswered}
+use Rattle.compound.specs.States.{shared}
+use Rattle.compound.specs.Trees.{IsHere}
+use Rattle.compound.specs.Volumes.{OperationGives, ending}
+use Rattle.compound.specs.Views.{in_progress_of}
+use Rattle.compound.specs.declared.fault.Fault.{Fault}
+use Rattle.compound.specs.declared.operated.Operated.{Operated}
+use Rattle.compound.proofs.Changing.{told_gives, told_changes, told_spelled}
+use Rattle.compound.proofs.OpenLaws.{on_tree}
+use Rattle.compound.proofs.OpenNamedLaws.{is_opening, open_makes, open_up, opens_to, sized}
+use Rattle.compound.proofs.Rooms.{gives_refusal}
+use Rattle.compound.proofs.Trees.{is_on, wants}
+use Rattle.compound.proofs.VolumeLaws.{refusal_changes}
+use Rattle.compound.proofs.WriteLaws.{beside, is_beside}
+use Rattle.compound.proofs.running.Running.open_named.Goals as goal
+
+pub returns-in-Err-clause-gives : goal.returns-in-Err-clause-gives
+returns-in-Err-clause-gives g c = λ keeps table.
+    let opens = opens_of c.args.opens.now in
+    let fs = fs_of c.args.fs.now in
+    let request = in_progress_of c.args.self.now in
+    let arguments = open_view c.args.arguments.now in
+    let kind = Argument.Open arguments in
+    c.refuse.ensures.gives c.args.now (shared fs table opens) (shared fs table opens) kind
+    (subst (λ (reason : Status). GivesIn c.args.now (shared fs table opens) (shared fs table opens) request request kind (Refused 18 reason)) (sym c.in-Err.ensures.err.0)
+    (gives_refusal c.args.now (shared fs table opens) (shared fs table opens) request kind 18 _ (wants c.args.now fs table opens request kind refl c.in-Err.ensures.err.1)))
+
+pub returns-in-Err-clause-volume : goal.returns-in-Err-clause-volume
+returns-in-Err-clause-volume g c = λ table.
+    let opens = opens_of c.args.opens.now in
+    let fs = fs_of c.args.fs.now in
+    let request = in_progress_of c.args.self.now in
+    let arguments = open_view c.args.arguments.now in
+    let kind = Argument.Open arguments in
+    refusal_changes g.D.Device.keeps_word fs fs table opens (fs_failures c.args.fs.now) (fs_failures c.args.fs.now) request c.args.now kind 18 c.in-Err.status refl (omega arith) c.requires.up
+    (subst (λ (reason : Status). GivesIn c.args.now (shared fs table opens) (shared fs table opens) request request kind (Refused 18 reason)) (sym c.in-Err.ensures.err.0)
+    (gives_refusal c.args.now (shared fs table opens) (shared fs table opens) request kind 18 _ (wants c.args.now fs table opens request kind refl c.in-Err.ensures.err.1)))
+
+-- Where it is done
+
+pub returns-in-Ok-open_file-clause-gives : goal.returns-in-Ok-open_file-clause-gives
+unfolding in_progress_of
+returns-in-Ok-open_file-clause-gives g c = λ keeps table.
+    let opens = opens_of c.args.opens.now in
+    let fs = fs_of c.args.fs.now in
+    let request = in_progress_of c.args.self.now in
+    let arguments = open_view c.args.arguments.now in
+    let kind = Argument.Open arguments in
+    let new = fs_of c.open_file.new.self in
+    let how = open_type_view c.args.how.now in
+    let made = c.in-Ok-open_file.made in
+    let state = beside fs request opens in
+    let on = is_on fs request c.in-Ok.number state c.requires.run c.in-Ok.ensures.ok.0 c.in-Ok.ensures.ok.1 (is_beside fs request opens) in
+    let asked = new_open request.context.client arguments.owner c.in-Some.number arguments.access in
+    let one = open_of c.in_ok-asked.asked in
+    let same = c.in_ok-reserve.ensures.same in
+    let given = ap (λ (held : Opens). (opened held one).opens) same ∙ ap (λ (it : Open). (opened opens it).opens) c.in_ok-asked.ensures.ok in
+    let to = opens_to c.args.now fs request arguments new table opens how c.in-Some.number made
+    (sym (c.in-Some.ensures state request.context.cred on) ∙ c.in-Ok-open_file.ensures.opened.number_is state request.context.cred on)
+    (λ state there known. subst (λ (of : OpenType). does_on fs state c.args.now kind ≡ after_open new.volume.tree new.changes state arguments of made) c.how_of.ensures.is
+    (c.in-Ok-open_file.ensures.step state arguments (is_on fs request c.in-Ok.number state c.requires.run c.in-Ok.ensures.ok.0 c.in-Ok.ensures.ok.1 there)
+    ((is_opening c.args.now fs request arguments opens c.requires.run c.in-Ok.ensures.ok.0 c.in-Some.number c.limits.result.now.opens c.is_full-is_full.result (open_of c.in_ok-asked.asked)
+    (ap (λ (limits : Limits). limits.opens) c.limits.ensures) c.in_ok-asked.ensures.ok
+    (c.is_full-is_full.ensures ∙ ap (λ (held : Opens). is_table_full c.limits.result.now.opens held (open_of c.in_ok-asked.asked)) c.in_ok-reserve.ensures.same)
+    (record { directory = c.in-Ok.number; name = c.args.name; share = c.share_of.result; how = c.how_of.result }) c.in-Ok.ensures.ok.1 (sym c.share_of.ensures.access) (sym c.share_of.ensures.deny)
+    (c.requires.opening ∙ ap (λ (of : OpenType). Opens_as of (ByName c.args.name.now)) (sym c.how_of.ensures.is))
+    c.in-Some.ensures) state there known) keeps)) in
+    subst (λ (after : Opens). Operates c.args.now (shared fs table opens) (shared new table after) request kind c.give_open.result) (sym (c.give_open.ensures.opens ∙ given))
+    (c.give_open.ensures.gives c.args.now (shared fs table opens) (shared new table (opened opens asked).opens) kind (sym same)
+    (subst (λ (it : Open). OpensTo c.args.now (shared fs table opens) (shared new table (opened opens asked).opens) request it (change_view c.change_info-change.result) c.set_by.result kind) (sym c.in_ok-asked.ensures.ok)
+    (subst (λ (change : ChangeInfo). OpensTo c.args.now (shared fs table opens) (shared new table (opened opens asked).opens) request asked change c.set_by.result kind) (sym c.change_info-change.ensures)
+    (subst (λ (words : List ℕ). OpensTo c.args.now (shared fs table opens) (shared new table (opened opens asked).opens) request asked (info_of made.directory) words kind) (sym c.set_by.ensures.is)
+    to))))
+
+pub returns-in-Ok-open_file-clause-volume : goal.returns-in-Ok-open_file-clause-volume
+unfolding in_progress_of
+returns-in-Ok-open_file-clause-volume g c = λ table.
+    let opens = opens_of c.args.opens.now in
+    let fs = fs_of c.args.fs.now in
+    let request = in_progress_of c.args.self.now in
+    let arguments = open_view c.args.arguments.now in
+    let kind = Argument.Open arguments in
+    let how = open_type_view c.args.how.now in
+    changes_by g.D.Device.keeps_word _ _
+    (open_makes c.args.now fs request arguments table opens (record { directory = c.in-Ok.number; name = c.args.name; share = c.share_of.result; how = c.how_of.result }) c.is_full-is_full.result c.requires.run c.in-Ok.ensures.ok.0 c.in-Ok.ensures.ok.1
+    (is_opening c.args.now fs request arguments opens c.requires.run c.in-Ok.ensures.ok.0 c.in-Some.number c.limits.result.now.opens c.is_full-is_full.result (open_of c.in_ok-asked.asked)
+    (ap (λ (limits : Limits). limits.opens) c.limits.ensures) c.in_ok-asked.ensures.ok
+    (c.is_full-is_full.ensures ∙ ap (λ (held : Opens). is_table_full c.limits.result.now.opens held (open_of c.in_ok-asked.asked)) c.in_ok-reserve.ensures.same)
+    (record { directory = c.in-Ok.number; name = c.args.name; share = c.share_of.result; how = c.how_of.result }) c.in-Ok.ensures.ok.1 (sym c.share_of.ensures.access) (sym c.share_of.ensures.deny)
+    (c.requires.opening ∙ ap (λ (of : OpenType). Opens_as of (ByName c.args.name.now)) (sym c.how_of.ensures.is))
+    c.in-Some.ensures)
+    (has_room fs (record { directory = c.in-Ok.number; name = c.args.name; share = c.share_of.result; how = c.how_of.result }) c.open_room-room.result) (sized c.args.now fs request arguments how c.args.name.now c.in-Ok.number c.requires.opening c.in-Ok.ensures.ok.1 (has_room fs (record { directory = c.in-Ok.number; name = c.args.name; share = c.share_of.result; how = c.how_of.result }) c.open_room-room.result)
+    (c.open_room-room.ensures (effect_of fs.volume.tree c.in-Ok.number c.args.name.now (type_of c.how_of.result))
+    ∙ ap (λ (of : OpenType). has_opened_room request (set_by (effect_of fs.volume.tree c.in-Ok.number c.args.name.now of) how)) c.how_of.ensures.is)) c.in-Ok-open_file.ensures.room)
+    _ _ _ _ _ c.in-Ok-open_file.ensures.volume
+
+-- Where it is not
+
+pub tell_fault-requires : goal.tell_fault-requires
+unfolding in_progress_of
+tell_fault-requires g c =
+    let opens = opens_of c.args.opens.now in
+    let fs = fs_of c.args.fs.now in
+    let request = in_progress_of c.args.self.now in
+    let arguments = open_view c.args.arguments.now in
+    let kind = Argument.Open arguments in
+    open_up c.args.now fs request arguments opens c.in-Err-open_file.fault c.requires.up
+    (λ state there known. c.in-Err-open_file.ensures.step state arguments (is_on fs request c.in-Ok.number state c.requires.run c.in-Ok.ensures.ok.0 c.in-Ok.ensures.ok.1 there)
+    ((is_opening c.args.now fs request arguments opens c.requires.run c.in-Ok.ensures.ok.0 c.in-Some.number c.limits.result.now.opens c.is_full-is_full.result (open_of c.in_ok-asked.asked)
+    (ap (λ (limits : Limits). limits.opens) c.limits.ensures) c.in_ok-asked.ensures.ok
+    (c.is_full-is_full.ensures ∙ ap (λ (held : Opens). is_table_full c.limits.result.now.opens held (open_of c.in_ok-asked.asked)) c.in_ok-reserve.ensures.same)
+    (record { directory = c.in-Ok.number; name = c.args.name; share = c.share_of.result; how = c.how_of.result }) c.in-Ok.ensures.ok.1 (sym c.share_of.ensures.access) (sym c.share_of.ensures.deny)
+    (c.requires.opening ∙ ap (λ (of : OpenType). Opens_as of (ByName c.args.name.now)) (sym c.how_of.ensures.is))
+    c.in-Some.ensures) state there known))
+
+pub returns-in-Err-open_file-clause-gives : goal.returns-in-Err-open_file-clause-gives
+unfolding in_progress_of
+returns-in-Err-open_file-clause-gives g c = λ keeps.
+    let opens = opens_of c.args.opens.now in
+    let fs = fs_of c.args.fs.now in
+    let request = in_progress_of c.args.self.now in
+    let arguments = open_view c.args.arguments.now in
+    let kind = Argument.Open arguments in
+    let new = fs_of c.open_file.new.self in
+    let how = open_type_view c.args.how.now in
+    let left = opens_of c.reserve.new.self in
+    subst (λ (r : Result Operated Fault). IfOk r (ChangesOpens fs new opens left c.args.now request kind)) (sym c.tell_fault.ensures)
+    (told_gives c.args.now fs request kind (on_tree c.args.now request arguments) _ (sized c.args.now fs request arguments how c.args.name.now c.in-Ok.number c.requires.opening c.in-Ok.ensures.ok.1 (has_room fs (record { directory = c.in-Ok.number; name = c.args.name; share = c.share_of.result; how = c.how_of.result }) c.open_room-room.result)
+    (c.open_room-room.ensures (effect_of fs.volume.tree c.in-Ok.number c.args.name.now (type_of c.how_of.result))
+    ∙ ap (λ (of : OpenType). has_opened_room request (set_by (effect_of fs.volume.tree c.in-Ok.number c.args.name.now of) how)) c.how_of.ensures.is))
+    g.D.Device.keeps_word _ new _ _ c.requires.up _ opens left c.in-Err-open_file.fault c.in_ok-reserve.ensures.same
+    (λ state there known. c.in-Err-open_file.ensures.step state arguments (is_on fs request c.in-Ok.number state c.requires.run c.in-Ok.ensures.ok.0 c.in-Ok.ensures.ok.1 there)
+    ((is_opening c.args.now fs request arguments opens c.requires.run c.in-Ok.ensures.ok.0 c.in-Some.number c.limits.result.now.opens c.is_full-is_full.result (open_of c.in_ok-asked.asked)
+    (ap (λ (limits : Limits). limits.opens) c.limits.ensures) c.in_ok-asked.ensures.ok
+    (c.is_full-is_full.ensures ∙ ap (λ (held : Opens). is_table_full c.limits.result.now.opens held (open_of c.in_ok-asked.asked)) c.in_ok-reserve.ensures.same)
+    (record { directory = c.in-Ok.number; name = c.args.name; share = c.share_of.result; how = c.how_of.result }) c.in-Ok.ensures.ok.1 (sym c.share_of.ensures.access) (sym c.share_of.ensures.deny)
+    (c.requires.opening ∙ ap (λ (of : OpenType). Opens_as of (ByName c.args.name.now)) (sym c.how_of.ensures.is))
+    c.in-Some.ensures) state there known))
+    c.in-Err-open_file.ensures.no_room c.in-Err-open_file.ensures.volume)
+
+pub returns-in-Err-open_file-clause-answered : goal.returns-in-Err-open_file-clause-answered
+unfolding in_progress_of
+returns-in-Err-open_file-clause-answered g c =
+    let opens = opens_of c.args.opens.now in
+    let fs = fs_of c.args.fs.now in
+    let request = in_progress_of c.args.self.now in
+    let arguments = open_view c.args.arguments.now in
+    let kind = Argument.Open arguments in
+    subst (λ (r : Result Operated Fault). IfOk r (IsAnswered request)) (sym c.tell_fault.ensures)
+    (told_spelled request 18 c.in-Err-open_file.fault (omega arith) (open_up c.args.now fs request arguments opens c.in-Err-open_file.fault c.requires.up
+    (λ state there known. c.in-Err-open_file.ensures.step state arguments (is_on fs request c.in-Ok.number state c.requires.run c.in-Ok.ensures.ok.0 c.in-Ok.ensures.ok.1 there)
+    ((is_opening c.args.now fs request arguments opens c.requires.run c.in-Ok.ensures.ok.0 c.in-Some.number c.limits.result.now.opens c.is_full-is_full.result (open_of c.in_ok-asked.asked)
+    (ap (λ (limits : Limits). limits.opens) c.limits.ensures) c.in_ok-asked.ensures.ok
+    (c.is_full-is_full.ensures ∙ ap (λ (held : Opens). is_table_full c.limits.result.now.opens held (open_of c.in_ok-asked.asked)) c.in_ok-reserve.ensures.same)
+    (record { directory = c.in-Ok.number; name = c.args.name; share = c.share_of.result; how = c.how_of.result }) c.in-Ok.ensures.ok.1 (sym c.share_of.ensures.access) (sym c.share_of.ensures.deny)
+    (c.requires.opening ∙ ap (λ (of : OpenType). Opens_as of (ByName c.args.name.now)) (sym c.how_of.ensures.is))
+    c.in-Some.ensures) state there known))))
+
+pub returns-in-Err-open_file-clause-volume : goal.returns-in-Err-open_file-clause-volume
+unfolding in_progress_of
+returns-in-Err-open_file-clause-volume g c = λ table.
+    let opens = opens_of c.args.opens.now in
+    let fs = fs_of c.args.fs.now in
+    let request = in_progress_of c.args.self.now in
+    let arguments = open_view c.args.arguments.now in
+    let kind = Argument.Open arguments in
+    let new = fs_of c.open_file.new.self in
+    let how = open_type_view c.args.how.now in
+    subst (λ (r : Result Operated Fault). Changes g.D.Device.keeps_word (OperationGives (shared fs table opens) request c.args.now kind) fs new (fs_failures c.args.fs.now) (fs_failures c.open_file.new.self) (ending r)) (sym c.tell_fault.ensures)
+    (told_changes c.args.now fs request kind (on_tree c.args.now request arguments) _ (sized c.args.now fs request arguments how c.args.name.now c.in-Ok.number c.requires.opening c.in-Ok.ensures.ok.1 (has_room fs (record { directory = c.in-Ok.number; name = c.args.name; share = c.share_of.result; how = c.how_of.result }) c.open_room-room.result)
+    (c.open_room-room.ensures (effect_of fs.volume.tree c.in-Ok.number c.args.name.now (type_of c.how_of.result))
+    ∙ ap (λ (of : OpenType). has_opened_room request (set_by (effect_of fs.volume.tree c.in-Ok.number c.args.name.now of) how)) c.how_of.ensures.is))
+    g.D.Device.keeps_word _ new _ _ c.requires.up _ table opens c.in-Err-open_file.fault
+    (λ state there known. c.in-Err-open_file.ensures.step state arguments (is_on fs request c.in-Ok.number state c.requires.run c.in-Ok.ensures.ok.0 c.in-Ok.ensures.ok.1 there)
+    ((is_opening c.args.now fs request arguments opens c.requires.run c.in-Ok.ensures.ok.0 c.in-Some.number c.limits.result.now.opens c.is_full-is_full.result (open_of c.in_ok-asked.asked)
+    (ap (λ (limits : Limits). limits.opens) c.limits.ensures) c.in_ok-asked.ensures.ok
+    (c.is_full-is_full.ensures ∙ ap (λ (held : Opens). is_table_full c.limits.result.now.opens held (open_of c.in_ok-asked.asked)) c.in_ok-reserve.ensures.same)
+    (record { directory = c.in-Ok.number; name = c.args.name; share = c.share_of.result; how = c.how_of.result }) c.in-Ok.ensures.ok.1 (sym c.share_of.ensures.access) (sym c.share_of.ensures.deny)
+    (c.requires.opening ∙ ap (λ (of : OpenType). Opens_as of (ByName c.args.name.now)) (sym c.how_of.ensures.is))
+    c.in-Some.ensures) state there known))
+    (open_up c.args.now fs request arguments opens c.in-Err-open_file.fault c.requires.up
+    (λ state there known. c.in-Err-open_file.ensures.step state arguments (is_on fs request c.in-Ok.number state c.requires.run c.in-Ok.ensures.ok.0 c.in-Ok.ensures.ok.1 there)
+    ((is_opening c.args.now fs request arguments opens c.requires.run c.in-Ok.ensures.ok.0 c.in-Some.number c.limits.result.now.opens c.is_full-is_full.result (open_of c.in_ok-asked.asked)
+    (ap (λ (limits : Limits). limits.opens) c.limits.ensures) c.in_ok-asked.ensures.ok
+    (c.is_full-is_full.ensures ∙ ap (λ (held : Opens). is_table_full c.limits.result.now.opens held (open_of c.in_ok-asked.asked)) c.in_ok-reserve.ensures.same)
+    (record { directory = c.in-Ok.number; name = c.args.name; share = c.share_of.result; how = c.how_of.result }) c.in-Ok.ensures.ok.1 (sym c.share_of.ensures.access) (sym c.share_of.ensures.deny)
+    (c.requires.opening ∙ ap (λ (of : OpenType). Opens_as of (ByName c.args.name.now)) (sym c.how_of.ensures.is))
+    c.in-Some.ensures) state there known)))
+    c.in-Err-open_file.ensures.no_room c.in-Err-open_file.ensures.device_room
+    (open_makes c.args.now fs request arguments table opens (record { directory = c.in-Ok.number; name = c.args.name; share = c.share_of.result; how = c.how_of.result }) c.is_full-is_full.result c.requires.run c.in-Ok.ensures.ok.0 c.in-Ok.ensures.ok.1
+    (is_opening c.args.now fs request arguments opens c.requires.run c.in-Ok.ensures.ok.0 c.in-Some.number c.limits.result.now.opens c.is_full-is_full.result (open_of c.in_ok-asked.asked)
+    (ap (λ (limits : Limits). limits.opens) c.limits.ensures) c.in_ok-asked.ensures.ok
+    (c.is_full-is_full.ensures ∙ ap (λ (held : Opens). is_table_full c.limits.result.now.opens held (open_of c.in_ok-asked.asked)) c.in_ok-reserve.ensures.same)
+    (record { directory = c.in-Ok.number; name = c.args.name; share = c.share_of.result; how = c.how_of.result }) c.in-Ok.ensures.ok.1 (sym c.share_of.ensures.access) (sym c.share_of.ensures.deny)
+    (c.requires.opening ∙ ap (λ (of : OpenType). Opens_as of (ByName c.args.name.now)) (sym c.how_of.ensures.is))
+    c.in-Some.ensures)
+    (has_room fs (record { directory = c.in-Ok.number; name = c.args.name; share = c.share_of.result; how = c.how_of.result }) c.open_room-room.result) (sized c.args.now fs request arguments how c.args.name.now c.in-Ok.number c.requires.opening c.in-Ok.ensures.ok.1 (has_room fs (record { directory = c.in-Ok.number; name = c.args.name; share = c.share_of.result; how = c.how_of.result }) c.open_room-room.result)
+    (c.open_room-room.ensures (effect_of fs.volume.tree c.in-Ok.number c.args.name.now (type_of c.how_of.result))
+    ∙ ap (λ (of : OpenType). has_opened_room request (set_by (effect_of fs.volume.tree c.in-Ok.number c.args.name.now of) how)) c.how_of.ensures.is)))
+    c.in-Err-open_file.ensures.volume)

@@ -1,0 +1,146 @@
+//! OPEN of a file by its name (RFC 8881, section 18.16, `CLAIM_NULL`).
+
+ghost use Rattle.std.specs.Prelude.{◌≡◌, ◌≤◌, IsTrue, length};
+ghost use Rattle.fs.specs.Opening.{set_by, type_of};
+ghost use Rattle.model.specs.Open.{given_by, size_alone};
+ghost use Rattle.settings.specs.Given.{given_of};
+ghost use Rattle.wire.specs.ArgumentViews.{open_type_view};
+ghost use Rattle.wire.specs.SmallViews.{attributes_view};
+ghost use Rattle.xdr.specs.Forms.{is_trimmed};
+
+use crate::fault::Fault;
+use crate::opening::share_of;
+use crate::operated::Operated;
+use crate::removing::change_info;
+use crate::running::Running;
+use crate::setting::was_set;
+use disk::Device;
+use fs::{Fs, How, OpenEffect, OpenRoom, Opening};
+use opens::Opens;
+use settings::Attributes as Given;
+use wire::{Attributes, Bitmap, OpenArguments, OpenType, Operation};
+
+/// The attribute size, as a bitmap: all that a cut sets.
+const SIZE: u32 = 0x10;
+
+impl Running<'_> {
+    ghost use Rattle.std.specs.Prelude.{◌≡◌, false, IfOk, OnErr};
+    ghost use Rattle.fs.specs.FileSystems.{fs_of, Alters};
+    ghost use Rattle.model.specs.Operation as operations;
+    ghost use Rattle.model.specs.Session.{Table};
+    ghost use Rattle.opens.specs.Views.{opens_of};
+    ghost use Rattle.wire.specs.ArgumentViews.{open_type_view, open_view, opening_view};
+    ghost use Rattle.compound.specs.Beside.{HasOpenRoom};
+    ghost use Rattle.compound.specs.Operates.{ChangesOpens, IsAnswered, IsKept};
+    ghost use Rattle.compound.specs.States.{shared};
+    ghost use Rattle.compound.specs.Views.{in_progress_of};
+    ghost use Rattle.compound.specs.Volumes.{OperationGives, ending};
+
+    /// OPEN of a file by its name. None is opened, made or cut where the reply has no room for the result.
+    pub(crate) fn open_named<D: Device>(
+        &self,
+        fs: &mut Fs<D>,
+        opens: &mut Opens,
+        now: u64,
+        arguments: &OpenArguments<'_>,
+        how: &OpenType<'_>,
+        name: &[u8],
+    ) -> Result<Operated, Fault>
+        requires up { (fs_of fs.old).volume.is_down ≡ false }
+        requires run { (in_progress_of self.now).context.run ≡ (fs_of fs.old).volume.run }
+        requires opening { opening_view arguments.now.opening
+            ≡ operations.Opens (open_type_view how.now) (operations.ByName name.now) }
+        ensures gives { D.keeps_word → IfOk result (ChangesOpens (fs_of fs.old) (fs_of fs.new)
+            (opens_of opens.old) (opens_of opens.new) now (in_progress_of self.now)
+            (operations.Argument.Open (open_view arguments.now))) }
+        ensures answered { IfOk result (IsAnswered (in_progress_of self.now)) }
+        ensures kept { (table : Table) → IfOk result (IsKept table) }
+        ensures opens { OnErr result (opens_of opens.new ≡ opens_of opens.old) }
+        ensures volume { (table : Table) → Alters fs.old fs.new (OperationGives
+            (shared (fs_of fs.old) table (opens_of opens.old)) (in_progress_of self.now) now
+            (operations.Argument.Open (open_view arguments.now))) (ending result) }
+    {
+        let directory = match self.current_node() {
+            Ok(number) => number,
+            Err(status) => return Ok(self.refuse(Operation::Open, status)),
+        };
+        let opening = Opening {
+            directory,
+            name,
+            share: share_of(arguments),
+            how: how_of(how),
+        };
+        let Some(number) = fs.file_to_open(opening) else {
+            return Err(Fault::Memory);
+        };
+        let asked = self.asked_open(arguments, number)?;
+        opens.reserve()?;
+        let is_full = opens.is_full(fs.limits().opens, &asked);
+        let room = self.open_room(how);
+        match fs.open_file(&self.cred, now, opening, is_full, room) {
+            Ok(made) => {
+                let change = change_info(made.directory.before, made.directory.after);
+                Ok(self.give_open(opens, asked, change, set_by(made.effect, how)))
+            }
+            Err(fault) => self.tell_fault(Operation::Open, fault),
+        }
+    }
+
+    /// Whether the reply has room for the result, by what the open does to its file.
+    fn open_room(&self, how: &OpenType<'_>) -> OpenRoom
+        ensures { HasOpenRoom (in_progress_of self.now) (open_type_view how.now) result }
+    {
+        OpenRoom {
+            nothing: self.has_opened_room(set_by(OpenEffect::Nothing, how)),
+            cut: self.has_opened_room(set_by(OpenEffect::Cut, how)),
+            made: self.has_opened_room(set_by(OpenEffect::Made, how)),
+        }
+    }
+}
+
+/// How the file is opened, as a file system is asked.
+fn how_of<'a>(how: &'a OpenType<'a>) -> How<'a>
+    ensures is { type_of result ≡ open_type_view how.now }
+    ensures few { length (given_by (type_of result)).bitmap ≤ 8 }
+{
+    match how {
+        OpenType::NoCreate => How::NoCreate,
+        OpenType::Unchecked(given) => How::Unchecked(given_of(given)),
+        OpenType::Guarded(given) => How::Guarded(given_of(given)),
+    }
+}
+
+/// The attributes that are given, as a file system is asked.
+fn given_of<'a>(given: &'a Attributes<'a>) -> Given<'a>
+    ensures is { given_of result ≡ attributes_view given.now }
+    ensures few { length result.bitmap.now ≤ 8 }
+{
+    Given {
+        bitmap: given.bitmap.as_slice(),
+        values: given.values,
+    }
+}
+
+/// The attributes that an open set, by what it did to its file.
+fn set_by(effect: OpenEffect, how: &OpenType<'_>) -> Bitmap
+    ensures is { result ≡ set_by effect (open_type_view how.now) }
+    ensures trimmed { IsTrue (is_trimmed result) }
+{
+    match effect {
+        OpenEffect::Nothing => Bitmap::new(),
+        OpenEffect::Cut => size_alone(),
+        OpenEffect::Made => match how {
+            OpenType::NoCreate => Bitmap::new(),
+            OpenType::Unchecked(given) | OpenType::Guarded(given) => was_set(&given.bitmap),
+        },
+    }
+}
+
+fn size_alone() -> Bitmap
+    ensures is { result ≡ size_alone }
+    ensures trimmed { IsTrue (is_trimmed result) }
+{
+    let mut bitmap = Bitmap::new();
+    bitmap.push(SIZE);
+    bitmap
+}
