@@ -41,7 +41,7 @@ fn expect_run<R: Machine + Abort>(
     assert_eq!(rt; left.err.as_slice(), err.as_bytes(), "{words:?} {input:?}");
 }
 
-const NO_FORMS: [&[&str]; 30] = [
+const NO_FORMS: [&[&str]; 31] = [
     &["format"],
     &["format", "u.img", "256"],
     &["format", "u.img", "256", "16", "x"],
@@ -56,7 +56,8 @@ const NO_FORMS: [&[&str]; 30] = [
     &["format", "u.img", "256", ""],
     &["run"],
     &["run", "u.img"],
-    &["check", "u.img"],
+    &["check"],
+    &["check", "u.img", "x"],
     &["serve"],
     &["serve", "u.img", "0"],
     &["serve", "u.img", "0", "0", "x"],

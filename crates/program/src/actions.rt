@@ -1,261 +1,230 @@
-//! What the lines of a script have a client do.
+//! What the lines of a script have a user do.
 
-use crate::client::{Asked, Client, Known, Sent};
-use crate::link;
-use crate::message::{Results, call_record, hello_record, session_record, status_of};
-use crate::operation::{Operation, Verb};
+ghost use Rattle.std.specs.Prelude.{IfOk};
+ghost use Rattle.wire_client.specs.ArgumentFits.{ArgumentFits};
+
+use crate::loopback::{Connection, connect};
+use crate::operation::{Operation, Verb, arguments_of};
 use crate::refused::Refused;
+use crate::user::{Known, Results, User};
 use disk::Device;
-use model::status::Status;
 use server::{Server, Turn};
 use std::alloc::Global;
-use std::io::Write;
-use wire::{Answer, Outcome};
+use std::io::{Read, Write};
+use std::net::Net;
+use wire::{
+    Answer, Argument, CallbackSecurity, Channel, CreateSessionArguments, ExchangeIdArguments,
+    Outcome,
+};
 
-/// Connects a new client, makes it known and tells its number.
-pub fn hello<D: Device, O: Write>(
+/// The longest owner id.
+const MOST_OWNER_BYTES: usize = 1024;
+
+/// What a user asks of both channels of its session.
+const CHANNEL: Channel = Channel {
+    header_pad_size: 0,
+    max_request_size: 16_384,
+    max_response_size: 16_384,
+    max_response_size_cached: 16_384,
+    max_operations: 16,
+    max_requests: 8,
+    rdma_ird: None,
+};
+
+/// Connects a new user, makes it known and tells its number.
+pub fn hello<S, D, O>(
     alloc: Global,
     server: &mut Server<D>,
-    name: &str,
-    uid: u32,
-    gid: u32,
+    user: &mut User<S>,
     out: &mut O,
-) -> Result<Client, Refused> {
-    let conn = link::connect(server)?;
-    let mut client = Client::new(alloc, name, uid, gid, conn)?;
-    let caller = client.caller();
-    let bytes = hello_record(alloc, caller, name)?;
-    send(server, &mut client, caller.xid, bytes, Asked::Hello)?;
-    let reply = await_reply(alloc, server, &mut client)?;
-    let mut results = Results::of_reply(alloc, &reply, caller.xid)?;
-    match results.next()? {
-        Some(Outcome::Done(Answer::ExchangeId(answer))) => {
-            let known = Known {
+) -> Result<(), Refused>
+where
+    S: Read + Write + Drop,
+    D: Device,
+    O: Write,
+{
+    let name = String::from_str(alloc, &user.name)?;
+    let asked = exchange_id(&name)?;
+    user.ask(server, &[asked], words(alloc, Verb::Hello)?)?;
+    let reply = user.await_reply(server)?;
+    let results = user.read_reply(&reply)?;
+    match (results.refusal, results.done.first()) {
+        (None, Some(Outcome::Done(Answer::ExchangeId(answer)))) => {
+            writeln!(out, "{name} client {} {}", answer.client, answer.sequence)?;
+            user.known = Some(Known {
                 id: answer.client,
                 sequence: answer.sequence,
-            };
-            client.known = Some(known);
-            writeln!(out, "{name} client {} {}", known.id, known.sequence)?;
+            });
+            Ok(())
         }
-        Some(Outcome::Refused { .. }) => return Err(Refused::Status),
-        _ => return Err(Refused::Garbled),
+        (Some(_), _) => Err(Refused::Status),
+        _ => Err(Refused::Garbled),
     }
-    Ok(client)
 }
 
 /// Asks for a session, and tells its id.
-pub fn session<D: Device, O: Write>(
+pub fn session<S, D, O>(
     alloc: Global,
     server: &mut Server<D>,
-    client: &mut Client,
+    user: &mut User<S>,
     out: &mut O,
-) -> Result<(), Refused> {
-    let Some(known) = client.known else {
+) -> Result<(), Refused>
+where
+    S: Read + Write + Drop,
+    D: Device,
+    O: Write,
+{
+    let Some(known) = user.known else {
         return Err(Refused::Script);
     };
-    if client.waits() {
-        return Err(Refused::Script);
-    }
-    let caller = client.caller();
-    let bytes = session_record(alloc, caller, known.id, known.sequence)?;
-    send(server, client, caller.xid, bytes, Asked::Session)?;
-    let reply = await_reply(alloc, server, client)?;
-    let mut results = Results::of_reply(alloc, &reply, caller.xid)?;
-    match results.next()? {
-        Some(Outcome::Done(Answer::CreateSession(answer))) => {
-            client.join(answer.session);
-            write!(out, "{} session ", client.name)?;
+    let asked = create_session(alloc, known)?;
+    user.ask(server, &[asked], words(alloc, Verb::Session)?)?;
+    let reply = user.await_reply(server)?;
+    let results = user.read_reply(&reply)?;
+    match (results.refusal, results.done.first()) {
+        (None, Some(Outcome::Done(Answer::CreateSession(answer)))) => {
+            user.has_session = true;
+            write!(out, "{} session ", user.name)?;
             write_hex(out, &answer.session)
         }
-        Some(Outcome::Refused { .. }) => Err(Refused::Status),
+        (Some(_), _) => Err(Refused::Status),
         _ => Err(Refused::Garbled),
     }
 }
 
 /// Sends operations behind a SEQUENCE on slot 0.
-pub fn call<D: Device>(
+pub fn call<S, D>(
     alloc: Global,
     server: &mut Server<D>,
-    client: &mut Client,
+    user: &mut User<S>,
     operations: &[Operation<'_>],
-) -> Result<(), Refused> {
-    let Some(session) = client.session else {
+) -> Result<(), Refused>
+where
+    S: Read + Write + Drop,
+    D: Device,
+{
+    if !user.has_session {
         return Err(Refused::Script);
-    };
-    let mut verbs = Vec::new(alloc);
-    verbs.push(Verb::Sequence)?;
+    }
+    let mut verbs = words(alloc, Verb::Sequence)?;
     for operation in operations {
         verbs.push(operation.verb())?;
     }
-    let caller = client.caller();
-    let bytes = call_record(alloc, caller, client.name.as_str(), session, operations)?;
-    let number = session.number;
-    send(
-        server,
-        client,
-        caller.xid,
-        bytes,
-        Asked::Call { number, verbs },
-    )
+    let owner = String::from_str(alloc, &user.name)?;
+    let arguments = arguments_of(alloc, operations, &owner)?;
+    user.ask(server, &arguments, verbs)
 }
 
-/// Gives the client's connection a turn, and tells what it did.
-pub fn turn<D: Device, O: Write>(
-    server: &mut Server<D>,
-    client: &mut Client,
-    out: &mut O,
-) -> Result<(), Refused> {
-    let conn = offer(server, client)?;
-    let word = match link::turn(server, conn)? {
+/// Gives the user's connection a turn, and tells what it did.
+pub fn turn<S, D, O>(server: &mut Server<D>, user: &mut User<S>, out: &mut O) -> Result<(), Refused>
+where
+    S: Read + Write + Drop,
+    D: Device,
+    O: Write,
+{
+    let word = match user.turn(server)? {
         Turn::Idle => "idle",
         Turn::Ran => "ran",
         Turn::Answered => "answered",
     };
-    writeln!(out, "{} {word}", client.name)?;
+    writeln!(out, "{} {word}", user.name)?;
     Ok(())
 }
 
-/// Runs turns up to the client's reply, and tells its results.
-pub fn take<D: Device, O: Write>(
-    alloc: Global,
-    server: &mut Server<D>,
-    client: &mut Client,
-    out: &mut O,
-) -> Result<(), Refused> {
-    if !client.waits() {
-        return Err(Refused::Script);
-    }
-    let (place, reply) = next_reply(alloc, server, client)?;
-    let Some(sent) = client.sent.get(place) else {
-        return Err(Refused::Garbled);
-    };
-    let results = Results::of_reply(alloc, &reply, sent.xid)?;
-    match &sent.asked {
-        Asked::Hello => tell_results(out, &client.name, "hello", results),
-        Asked::Session => tell_results(out, &client.name, "session", results),
-        Asked::Call { number, verbs } => {
-            let has_run = tell_call(out, &client.name, verbs, results)?;
-            let number = *number;
-            if has_run {
-                client.count_on(number);
-            }
-            Ok(())
-        }
-    }
+/// Runs turns up to the user's reply, and tells its results.
+pub fn take<S, D, O>(server: &mut Server<D>, user: &mut User<S>, out: &mut O) -> Result<(), Refused>
+where
+    S: Read + Write + Drop,
+    D: Device,
+    O: Write,
+{
+    let reply = user.await_reply(server)?;
+    let results = user.read_reply(&reply)?;
+    tell(out, &user.name, &user.verbs, &results)
 }
 
 /// Sends the last record again, over a new connection.
-pub fn retry<D: Device>(server: &mut Server<D>, client: &mut Client) -> Result<(), Refused> {
-    if client.sent.is_empty() {
+pub fn retry<R, D>(
+    rt: &R,
+    server: &mut Server<D>,
+    user: &mut User<R::Stream>,
+) -> Result<(), Refused>
+where
+    R: Net + AllocGlobal,
+    D: Device,
+{
+    if user.verbs.is_empty() {
         return Err(Refused::Script);
     }
-    let conn = link::connect(server)?;
-    client.send_again(conn)?;
-    offer(server, client)?;
-    Ok(())
+    let connection = connect(rt, server)?;
+    user.ask_again(server, connection)
 }
 
-/// Sends a record. What the server does not take yet is offered again later.
-fn send<D: Device>(
-    server: &mut Server<D>,
-    client: &mut Client,
-    xid: u32,
-    bytes: Vec<u8>,
-    asked: Asked,
-) -> Result<(), Refused> {
-    if client.conn.is_none() {
+fn words(alloc: Global, verb: Verb) -> Result<Vec<Verb>, Refused> {
+    let mut verbs = Vec::new(alloc);
+    verbs.push(verb)?;
+    Ok(verbs)
+}
+
+/// EXCHANGE_ID of this owner id: a zero verifier, no flags (RFC 8881, section 18.35).
+fn exchange_id(name: &str) -> Result<Argument<'_>, Refused>
+    ensures { IfOk result ArgumentFits }
+{
+    let owner = name.as_bytes();
+    if owner.len() > MOST_OWNER_BYTES {
         return Err(Refused::Script);
     }
-    client.send(Sent { xid, bytes, asked })?;
-    offer(server, client)?;
-    Ok(())
+    Ok(Argument::ExchangeId(ExchangeIdArguments {
+        verifier: [0; 8],
+        owner,
+        flags: 0,
+        implementation: None,
+    }))
 }
 
-/// Offers what the server did not take yet, and answers the client's connection.
-fn offer<D: Device>(server: &mut Server<D>, client: &mut Client) -> Result<usize, Refused> {
-    let Some(conn) = client.conn else {
-        return Err(Refused::Script);
-    };
-    if !client.unsent().is_empty() {
-        let count = link::feed(server, conn, client.unsent())?;
-        client.was_taken(count)?;
-    }
-    Ok(conn)
+/// CREATE_SESSION of this client (section 18.36).
+fn create_session<'a>(alloc: Global, known: Known) -> Result<Argument<'a>, Refused>
+    ensures { IfOk result ArgumentFits }
+{
+    let mut security = Vec::new(alloc);
+    security.push(CallbackSecurity::NoSecurity)?;
+    Ok(Argument::CreateSession(CreateSessionArguments {
+        client: known.id,
+        sequence: known.sequence,
+        flags: 0,
+        fore: CHANNEL,
+        back: CHANNEL,
+        callback_program: 0,
+        security,
+    }))
 }
 
-/// The reply to the only record that waits for one.
-fn await_reply<D: Device>(
-    alloc: Global,
-    server: &mut Server<D>,
-    client: &mut Client,
-) -> Result<Vec<u8>, Refused> {
-    let (_place, reply) = next_reply(alloc, server, client)?;
-    Ok(reply)
-}
-
-/// Runs turns until the client's next reply is there, takes it, and answers the place of its record beside it.
-fn next_reply<D: Device>(
-    alloc: Global,
-    server: &mut Server<D>,
-    client: &mut Client,
-) -> Result<(usize, Vec<u8>), Refused> {
-    for _ in 0..u64::MAX {
-        let conn = offer(server, client)?;
-        if let Some(reply) = link::take_output(server, conn)? {
-            let Some(place) = client.answered() else {
-                return Err(Refused::Garbled);
-            };
-            return Ok((place, Vec::from_slice(alloc, &reply)?));
-        }
-        if link::turn(server, conn)? == Turn::Idle {
-            return Err(Refused::Garbled);
-        }
-    }
-    Err(Refused::Garbled)
-}
-
-fn tell_results<O: Write>(
-    out: &mut O,
-    name: &str,
-    word: &str,
-    results: Results<'_>,
-) -> Result<(), Refused> {
-    let mut results = results;
-    if let Some(outcome) = results.next()? {
-        writeln!(out, "{name} {word} {}", status_of(&outcome).code())?;
-    }
-    Ok(())
-}
-
-/// Tells the results of operations, and answers whether the first one, SEQUENCE, ran.
-fn tell_call<O: Write>(
+/// Tells the results of what the words name.
+fn tell<O: Write>(
     out: &mut O,
     name: &str,
     verbs: &[Verb],
-    results: Results<'_>,
-) -> Result<bool, Refused> {
-    let mut results = results;
-    let mut has_run = false;
-    for verb in verbs {
-        let Some(outcome) = results.next()? else {
-            break;
-        };
-        let status = status_of(&outcome);
-        has_run = has_run || (*verb == Verb::Sequence && status == Status::Ok);
-        write!(out, "{name} {} {}", verb.word(), status.code())?;
-        match outcome {
-            Outcome::Done(Answer::GetFh(handle)) => {
-                write!(out, " ")?;
-                write_hex(out, handle)?;
-            }
-            Outcome::Done(Answer::Read(part)) => {
-                write!(out, " ")?;
-                write_hex(out, part.data)?;
-            }
-            _ => writeln!(out)?,
-        }
+    results: &Results<'_>,
+) -> Result<(), Refused> {
+    for (verb, outcome) in verbs.iter().zip(results.done.iter()) {
+        write!(out, "{name} {} 0", verb.word())?;
+        tell_bytes(out, outcome)?;
     }
-    Ok(has_run)
+    if let (Some(status), Some(verb)) = (results.refusal, verbs.get(results.done.len())) {
+        writeln!(out, "{name} {} {}", verb.word(), status.code())?;
+    }
+    Ok(())
+}
+
+/// The bytes of a filehandle or of a file, where the result has such, and the end of the line.
+fn tell_bytes<O: Write>(out: &mut O, outcome: &Outcome<'_>) -> Result<(), Refused> {
+    let bytes = match outcome {
+        Outcome::Done(Answer::GetFh(handle)) => *handle,
+        Outcome::Done(Answer::Read(part)) => part.data,
+        _ => return Ok(writeln!(out)?),
+    };
+    write!(out, " ")?;
+    write_hex(out, bytes)
 }
 
 /// Bytes in lower-case hexadecimal digits, and the end of the line.

@@ -2,19 +2,19 @@
 #![tactic(auto)]
 
 mod actions;
-mod client;
-mod file_arguments;
+mod arguments;
 mod host;
 mod line;
 mod link;
+mod loopback;
 mod machine;
-mod message;
 mod moment;
 mod operation;
 mod refused;
 mod run;
 mod script;
 mod serve;
+mod user;
 mod words;
 
 pub use machine::Machine;

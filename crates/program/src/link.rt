@@ -1,7 +1,8 @@
-//! The server's calls as the program makes them: each stands here once, so that what is above need not see all that the server promises.
+//! The calls of the server, and of the file system below it, as the program makes them: each stands here once, so that what is above need not see all that the server promises.
 
 use crate::refused::Refused;
 use disk::Device;
+use fs::{Checked, Fs};
 use server::{Server, Turn};
 use std::alloc::Global;
 
@@ -11,6 +12,11 @@ const MOMENT: u64 = 0;
 /// Makes the device a new volume.
 pub fn format<D: Device>(alloc: Global, device: &mut D, nodes: u32) -> Result<(), Refused> {
     Ok(Server::format(alloc, device, nodes)?)
+}
+
+/// What a mount would find on the device, which nothing is written to.
+pub fn check<D: Device>(alloc: Global, device: &mut D) -> Result<Checked, Refused> {
+    Ok(Fs::check(alloc, device)?)
 }
 
 /// Mounts the device's volume.

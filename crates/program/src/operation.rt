@@ -1,22 +1,17 @@
 //! The operations of a script's `call`.
 
-ghost use Rattle.std.specs.Prelude.{◌≤◌, length, IfOk};
-ghost use Rattle.wire_client.specs.ArgumentFits.{CreateFits, RenameFits};
+ghost use Rattle.std.specs.Prelude.{All, IfOk};
+ghost use Rattle.wire_client.specs.ArgumentFits.{ArgumentFits};
 
-use crate::file_arguments::{closing, opening, reading, setting_mode, setting_size, writing};
+use crate::arguments::{
+    Mode, Size, Stable, closing, committing, handle_bytes, name_bytes, new_directory, opening,
+    reading, renaming, setting_mode, setting_size, writing,
+};
 use crate::line::{decimal, long_decimal};
 use crate::refused::Refused;
 use hex::{FromHexError, decode};
 use std::alloc::{AllocError, Global};
-use wire::{Argument, Attributes, Bitmap, CommitArguments, CreateArguments, RenameArguments};
-use wire_client::write_argument;
-use xdr::Writer;
-
-/// The longest name that a record has room for, and more.
-const MOST_NAME_BYTES: usize = 65_536;
-
-/// The most bytes of a filehandle.
-const MOST_HANDLE_BYTES: usize = 128;
+use wire::Argument;
 
 /// An operation of a script.
 #[derive(Drop)]
@@ -32,7 +27,7 @@ pub enum Operation<'a> {
     /// CREATE of a directory of this name and mode.
     MakeDir {
         name: &'a str,
-        mode: u32,
+        mode: Mode,
     },
     /// REMOVE of a name.
     Remove(&'a str),
@@ -50,12 +45,12 @@ pub enum Operation<'a> {
     /// GETFH.
     GetHandle,
     /// SETATTR of a mode, and of a size.
-    SetMode(u32),
-    SetSize(u64),
+    SetMode(Mode),
+    SetSize(Size),
     /// OPEN by a name, to read and to write: of a file that may be made, with this mode, or has to be there.
     CreateFile {
         name: &'a str,
-        mode: u32,
+        mode: Mode,
     },
     OpenFile(&'a str),
     /// CLOSE of the current stateid.
@@ -65,19 +60,21 @@ pub enum Operation<'a> {
         offset: u64,
         count: u32,
     },
-    /// WRITE of bytes at an offset; how stable they are to be is the standard's `stable_how4`.
+    /// WRITE of bytes at an offset.
     Write {
         offset: u64,
-        stable: u32,
+        stable: Stable,
         bytes: Vec<u8>,
     },
     /// COMMIT of the whole file.
     Commit,
 }
 
-/// The word for an operation.
+/// The word for what a record asks: EXCHANGE_ID, CREATE_SESSION, SEQUENCE, or an operation of a script.
 #[derive(Clone, Copy, Debug, PartialEq, Eq)]
 pub enum Verb {
+    Hello,
+    Session,
     Sequence,
     Root,
     PutHandle,
@@ -104,6 +101,8 @@ impl Verb {
     /// The word as scripts have it.
     pub fn word(self) -> &'static str {
         match self {
+            Verb::Hello => "hello",
+            Verb::Session => "session",
             Verb::Sequence => "sequence",
             Verb::Root => "root",
             Verb::PutHandle => "fh",
@@ -154,107 +153,65 @@ impl Operation<'_> {
         }
     }
 
-    /// Writes its number and its arguments. Whoever opens a file has this name.
-    pub fn write(&self, out: &mut Writer, owner: &str) -> Result<(), Refused> {
-        match self {
-            Operation::Root => write_argument(out, &Argument::PutRootFh)?,
-            Operation::PutHandle(handle) => {
-                write_argument(out, &Argument::PutFh(handle_bytes(handle)?))?
-            }
-            Operation::Lookup(name) => write_argument(out, &Argument::Lookup(name_bytes(name)?))?,
-            Operation::Up => write_argument(out, &Argument::LookupParent)?,
-            Operation::MakeDir { name, mode } => {
-                write_new_directory(out, name_bytes(name)?, *mode)?
-            }
-            Operation::Remove(name) => write_argument(out, &Argument::Remove(name_bytes(name)?))?,
-            Operation::Save => write_argument(out, &Argument::SaveFh)?,
-            Operation::Restore => write_argument(out, &Argument::RestoreFh)?,
+    /// What it asks. Whoever opens a file has this name.
+    pub fn argument<'b>(&'b self, owner: &'b str) -> Result<Argument<'b>, Refused>
+        ensures { IfOk result ArgumentFits }
+    {
+        Ok(match self {
+            Operation::Root => Argument::PutRootFh,
+            Operation::PutHandle(handle) => Argument::PutFh(handle_bytes(handle)?),
+            Operation::Lookup(name) => Argument::Lookup(name_bytes(name)?),
+            Operation::Up => Argument::LookupParent,
+            Operation::MakeDir { name, mode } => Argument::Create(new_directory(name, mode)?),
+            Operation::Remove(name) => Argument::Remove(name_bytes(name)?),
+            Operation::Save => Argument::SaveFh,
+            Operation::Restore => Argument::RestoreFh,
             Operation::Rename { old_name, new_name } => {
-                write_argument(out, &Argument::Rename(renaming(old_name, new_name)?))?
+                Argument::Rename(renaming(old_name, new_name)?)
             }
-            Operation::Access(bits) => write_argument(out, &Argument::Access(*bits))?,
-            Operation::GetHandle => write_argument(out, &Argument::GetFh)?,
-            _ => self.write_of_files(out, owner)?,
-        }
-        Ok(())
+            Operation::Access(bits) => Argument::Access(*bits),
+            Operation::GetHandle => Argument::GetFh,
+            _ => self.file_argument(owner)?,
+        })
     }
 
-    /// Those that set attributes, or are on a file.
-    fn write_of_files(&self, out: &mut Writer, owner: &str) -> Result<(), Refused> {
-        match self {
-            Operation::SetMode(mode) => setting_mode(out, *mode),
-            Operation::SetSize(size) => setting_size(out, *size),
+    /// That of an operation that sets attributes, or is on a file.
+    fn file_argument<'b>(&'b self, owner: &'b str) -> Result<Argument<'b>, Refused>
+        ensures { IfOk result ArgumentFits }
+    {
+        Ok(match self {
+            Operation::SetMode(mode) => Argument::SetAttr(setting_mode(mode)),
+            Operation::SetSize(size) => Argument::SetAttr(setting_size(size)),
             Operation::CreateFile { name, mode } => {
-                opening(out, owner, name_bytes(name)?, Some(*mode))
+                Argument::Open(opening(owner, name, Some(mode))?)
             }
-            Operation::OpenFile(name) => opening(out, owner, name_bytes(name)?, None),
-            Operation::Close => closing(out),
-            Operation::Read { offset, count } => reading(out, *offset, *count),
+            Operation::OpenFile(name) => Argument::Open(opening(owner, name, None)?),
+            Operation::Close => Argument::Close(closing()),
+            Operation::Read { offset, count } => Argument::Read(reading(*offset, *count)),
             Operation::Write {
                 offset,
                 stable,
                 bytes,
-            } => writing(out, *offset, *stable, bytes),
-            Operation::Commit => {
-                let whole = CommitArguments {
-                    offset: 0,
-                    count: 0,
-                };
-                Ok(write_argument(out, &Argument::Commit(whole))?)
-            }
-            _ => Ok(()),
-        }
+            } => Argument::Write(writing(*offset, *stable, bytes)?),
+            Operation::Commit => Argument::Commit(committing()),
+            _ => return Err(Refused::Script),
+        })
     }
 }
 
-/// CREATE of a directory (RFC 8881, section 18.4).
-fn write_new_directory(out: &mut Writer, name: &[u8], mode: u32) -> Result<(), Refused>
-    requires { length name.now ≤ 65536 }
+/// What the operations ask.
+pub fn arguments_of<'a>(
+    alloc: Global,
+    operations: &'a [Operation<'_>],
+    owner: &'a str,
+) -> Result<Vec<Argument<'a>>, Refused>
+    ensures { IfOk result (λ arguments. All ArgumentFits arguments.items) }
 {
-    let values = mode.to_be_bytes();
-    let asked = new_directory(name, &values);
-    Ok(write_argument(out, &Argument::Create(asked))?)
-}
-
-/// A directory with attribute 33, the mode, alone.
-fn new_directory<'a>(name: &'a [u8], values: &'a [u8]) -> CreateArguments<'a>
-    requires name { length name.now ≤ 65536 }
-    requires values { length values.now ≤ 65536 }
-    ensures { CreateFits result }
-{
-    let mut bitmap = Bitmap::new();
-    bitmap.push(0);
-    bitmap.push(1 << 1);
-    let attributes = Attributes { bitmap, values };
-    CreateArguments::NewDirectory { name, attributes }
-}
-
-fn renaming<'a>(old_name: &'a str, new_name: &'a str) -> Result<RenameArguments<'a>, Refused>
-    ensures { IfOk result RenameFits }
-{
-    Ok(RenameArguments {
-        old_name: name_bytes(old_name)?,
-        new_name: name_bytes(new_name)?,
-    })
-}
-
-fn name_bytes(name: &str) -> Result<&[u8], Refused>
-    ensures { IfOk result (λ bytes. length bytes.now ≤ 65536) }
-{
-    let bytes = name.as_bytes();
-    if bytes.len() > MOST_NAME_BYTES {
-        return Err(Refused::Script);
+    let mut arguments = Vec::new(alloc);
+    for operation in operations {
+        arguments.push(operation.argument(owner)?)?;
     }
-    Ok(bytes)
-}
-
-fn handle_bytes(handle: &[u8]) -> Result<&[u8], Refused>
-    ensures { IfOk result (λ bytes. length bytes.now ≤ 128) }
-{
-    if handle.len() > MOST_HANDLE_BYTES {
-        return Err(Refused::Script);
-    }
-    Ok(handle)
+    Ok(arguments)
 }
 
 /// Reads operations that are parted by `;`; none where one has no form.
@@ -305,8 +262,8 @@ fn operation_on<'a>(verb: &str, name: &'a str) -> Option<Operation<'a>> {
         "lookup" => Some(Operation::Lookup(name)),
         "remove" => Some(Operation::Remove(name)),
         "access" => Some(Operation::Access(decimal(name)?)),
-        "mode" => Some(Operation::SetMode(octal(name)?)),
-        "size" => Some(Operation::SetSize(long_decimal(name)?)),
+        "mode" => Some(Operation::SetMode(Mode::new(octal(name)?))),
+        "size" => Some(Operation::SetSize(Size::new(long_decimal(name)?))),
         "open" => Some(Operation::OpenFile(name)),
         _ => None,
     }
@@ -317,7 +274,7 @@ fn operation_with<'a>(verb: &str, name: &'a str, word: &'a str) -> Option<Operat
     match verb {
         "mkdir" => Some(Operation::MakeDir {
             name,
-            mode: octal(word)?,
+            mode: Mode::new(octal(word)?),
         }),
         "rename" => Some(Operation::Rename {
             old_name: name,
@@ -325,7 +282,7 @@ fn operation_with<'a>(verb: &str, name: &'a str, word: &'a str) -> Option<Operat
         }),
         "create" => Some(Operation::CreateFile {
             name,
-            mode: octal(word)?,
+            mode: Mode::new(octal(word)?),
         }),
         "read" => Some(Operation::Read {
             offset: long_decimal(name)?,
@@ -372,12 +329,13 @@ fn write_bytes<'a>(
 }
 
 /// `UNSTABLE4` 0, `DATA_SYNC4` 1 or `FILE_SYNC4` 2.
-fn stable_of(how: &str) -> Option<u32> {
-    let stable = decimal(how)?;
-    if stable > 2 {
-        return None;
+fn stable_of(how: &str) -> Option<Stable> {
+    match decimal(how)? {
+        0 => Some(Stable::Unstable),
+        1 => Some(Stable::DataSync),
+        2 => Some(Stable::FileSync),
+        _ => None,
     }
-    Some(stable)
 }
 
 /// A number of octal digits alone.

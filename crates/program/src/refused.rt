@@ -1,5 +1,6 @@
 //! Why the program stops.
 
+use client::ClientFault;
 use disk::DiskFault;
 use server::{FormatFault, MountFault, ServerFault};
 use std::alloc::{AllocError, AllocFailed};
@@ -25,6 +26,12 @@ pub enum Refused {
     /// The server answered another status than OK.
     #[error("Status")]
     Status,
+    /// The server denied a call, or did not accept it.
+    #[error("Rpc")]
+    Rpc,
+    /// A record waits for its reply.
+    #[error("Pending")]
+    Pending,
     /// The server's bytes are no reply to what was sent.
     #[error("Garbled")]
     Garbled,
@@ -119,11 +126,15 @@ impl From<ServerFault> for Refused {
     }
 }
 
-impl From<xdr::Refusal> for Refused {
-    fn from(refusal: xdr::Refusal) -> Refused {
-        match refusal {
-            xdr::Refusal::Memory => Refused::Memory,
-            xdr::Refusal::Short | xdr::Refusal::Value | xdr::Refusal::Long => Refused::Garbled,
+impl From<ClientFault<'_>> for Refused {
+    fn from(fault: ClientFault<'_>) -> Refused {
+        match fault {
+            ClientFault::Io => Refused::Io,
+            ClientFault::Rpc => Refused::Rpc,
+            ClientFault::Status { .. } => Refused::Status,
+            ClientFault::Garbled => Refused::Garbled,
+            ClientFault::Memory => Refused::Memory,
+            ClientFault::Pending => Refused::Pending,
         }
     }
 }

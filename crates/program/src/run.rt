@@ -39,7 +39,7 @@ where
         Ok(Request::Usage) => {
             let _ = writeln!(
                 err,
-                "usage: nfs41 [format FILE SECTORS NODES | run FILE SCRIPT | serve FILE PORT COUNT]"
+                "usage: nfs41 [format FILE SECTORS NODES | run FILE SCRIPT | check FILE | serve FILE PORT COUNT]"
             );
             return USAGE;
         }
@@ -75,6 +75,7 @@ where
             nodes,
         } => format_file(rt, file, sectors, nodes, out),
         Request::Run { file, script } => run_file(rt, file, script, out),
+        Request::Check { file } => check_file(rt, file, out),
         Request::Serve { file, port, count } => {
             serve(rt, open_volume(rt, file)?, port, count, out)
         }
@@ -83,13 +84,13 @@ where
 
 fn script_in_memory<R, I, O>(rt: &R, input: &mut I, out: &mut O) -> Result<(), Refused>
 where
-    R: AllocGlobal,
+    R: Machine,
     I: BufRead,
     O: Write,
 {
     let mut device = MemDevice::new(rt.alloc(), MEMORY_SECTORS)?;
     link::format(rt.alloc(), &mut device, MEMORY_NODES)?;
-    script(rt.alloc(), &mut device, input, out)
+    script(rt, &mut device, input, out)
 }
 
 fn format_file<R, O>(
@@ -115,7 +116,7 @@ where
 
 fn run_file<R, O>(rt: &R, file: &str, script_file: &str, out: &mut O) -> Result<(), Refused>
 where
-    R: Files<File = File> + AllocGlobal,
+    R: Machine,
     O: Write,
 {
     let text = match fs::read_to_string(rt, script_file) {
@@ -124,7 +125,23 @@ where
     };
     let mut device = open_volume(rt, file)?;
     let mut lines = text.as_bytes();
-    script(rt.alloc(), &mut device, &mut lines, out)
+    script(rt, &mut device, &mut lines, out)
+}
+
+/// Tells what a mount would find, and writes nothing.
+fn check_file<R, O>(rt: &R, file: &str, out: &mut O) -> Result<(), Refused>
+where
+    R: Files<File = File> + AllocGlobal,
+    O: Write,
+{
+    let mut device = open_volume(rt, file)?;
+    let found = link::check(rt.alloc(), &mut device)?;
+    writeln!(
+        out,
+        "volume {} {} run {}",
+        found.sectors, found.nodes, found.count
+    )?;
+    Ok(())
 }
 
 /// The device over a file of whole sectors.

@@ -22,6 +22,10 @@ pub enum Request<'a> {
         file: &'a str,
         script: &'a str,
     },
+    /// Tell what stands on the volume in a file.
+    Check {
+        file: &'a str,
+    },
     /// Serve the volume in a file to so many connections on this port.
     Serve {
         file: &'a str,
@@ -38,6 +42,7 @@ pub fn read_words<'a, S: AsStr>(alloc: Global, words: &'a [S]) -> Result<Request
         .no_binary_name(true)
         .subcommand(format_command(alloc)?)?
         .subcommand(run_command(alloc)?)?
+        .subcommand(check_command(alloc)?)?
         .subcommand(serve_command(alloc)?)?;
     match command.try_get_matches_from(words) {
         Ok(matches) => Ok(request_of(&matches)),
@@ -61,6 +66,10 @@ fn run_command<'a>(alloc: Global) -> Result<Command<'a>, AllocError> {
         .arg(Arg::new(alloc, "SCRIPT").required(true))
 }
 
+fn check_command<'a>(alloc: Global) -> Result<Command<'a>, AllocError> {
+    Command::new(alloc, "check").arg(Arg::new(alloc, "FILE").required(true))
+}
+
 fn serve_command<'a>(alloc: Global) -> Result<Command<'a>, AllocError> {
     Command::new(alloc, "serve")
         .arg(Arg::new(alloc, "FILE").required(true))?
@@ -74,6 +83,9 @@ fn request_of<'a>(matches: &ArgMatches<'a>) -> Request<'a> {
     }
     if let Some(words) = matches.subcommand_matches("run") {
         return run_of(words).unwrap_or(Request::Usage);
+    }
+    if let Some(words) = matches.subcommand_matches("check") {
+        return check_of(words).unwrap_or(Request::Usage);
     }
     if let Some(words) = matches.subcommand_matches("serve") {
         return serve_of(words).unwrap_or(Request::Usage);
@@ -98,6 +110,12 @@ fn run_of<'a>(words: &ArgMatches<'a>) -> Option<Request<'a>> {
     Some(Request::Run {
         file: words.get_str("FILE")?,
         script: words.get_str("SCRIPT")?,
+    })
+}
+
+fn check_of<'a>(words: &ArgMatches<'a>) -> Option<Request<'a>> {
+    Some(Request::Check {
+        file: words.get_str("FILE")?,
     })
 }
 

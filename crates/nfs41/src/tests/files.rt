@@ -35,6 +35,23 @@ fn a_file_is_formatted_and_runs(rt: HostRuntime) -> Result<(), Fail> {
 }
 
 #[test]
+fn a_check_tells_what_stands_and_writes_nothing(rt: HostRuntime) -> Result<(), Fail> {
+    format_file(&rt, "checked.img");
+    let words = ["check", "checked.img"];
+    expect_run(&rt, &words, "", 0, "volume 256 16 run 0\n", "");
+    fs::write(&rt, "checked.txt", MAKES)?;
+    expect_run(&rt, &["run", "checked.img", "checked.txt"], "", 0, MADE, "");
+    // The gate of the last change is open still.
+    let volume = fs::read(&rt, "checked.img")?;
+    expect_run(&rt, &words, "", 0, "volume 256 16 run 1\n", "");
+    assert!(rt; fs::read(&rt, "checked.img")?.as_slice() == volume.as_slice());
+    expect_run(&rt, &["check", "missing.img"], "", 1, "", "refused: Open\n");
+    fs::remove_file(&rt, "checked.txt")?;
+    fs::remove_file(&rt, "checked.img")?;
+    Ok(())
+}
+
+#[test]
 fn a_size_that_no_volume_has_leaves_the_file_alone(rt: HostRuntime) -> Result<(), Fail> {
     let words = ["format", "size.img", "256", "93"];
     expect_run(&rt, &words, "", 1, "", "refused: Size\n");
@@ -111,6 +128,7 @@ fn what_is_no_sound_volume_stays_as_it_was(rt: HostRuntime) -> Result<(), Fail> 
         }
         fs::write(&rt, "sound.img", other.as_slice())?;
         expect_run(&rt, &["run", "sound.img", "sound.txt"], "", 1, "", refused);
+        expect_run(&rt, &["check", "sound.img"], "", 1, "", refused);
         assert!(rt; fs::read(&rt, "sound.img")?.as_slice() == other.as_slice());
     }
     fs::remove_file(&rt, "sound.img")?;
@@ -127,6 +145,8 @@ fn a_full_restart_count_is_told(rt: HostRuntime) -> Result<(), Fail> {
         *at = 255;
     }
     fs::write(&rt, "worn.img", volume.as_slice())?;
+    let told = "volume 256 16 run 4294967295\n";
+    expect_run(&rt, &["check", "worn.img"], "", 0, told, "");
     expect_run(
         &rt,
         &["run", "worn.img", "worn.txt"],
@@ -150,6 +170,14 @@ fn a_cut_file_is_no_volume(rt: HostRuntime) -> Result<(), Fail> {
         fs::write(&rt, "cut.img", bytes)?;
         let left = run(&rt, &["run", "cut.img", "cut.txt"], "");
         assert_eq!(rt; left.err.as_slice(), b"refused: NotVolume\n".as_slice());
+        expect_run(
+            &rt,
+            &["check", "cut.img"],
+            "",
+            1,
+            "",
+            "refused: NotVolume\n",
+        );
         assert_eq!(rt; fs::read(&rt, "cut.img")?.len(), short);
         fs::remove_file(&rt, "cut.img")?;
     }

@@ -2,6 +2,7 @@
 
 use super::{expect_run, run};
 use program::Machine;
+use std::fmt::Write;
 use std::process::Abort;
 use std::test::Fail;
 
@@ -217,6 +218,43 @@ const SHARING: [(&str, &str); 18] = [
     ("A take", "A sequence 0\nA root 0\nA lookup 0\nA mode 22\n"),
 ];
 
+/// A file that one client makes and writes, and another reads between: lines and what they tell.
+const FILES: [(&str, &str); 21] = [
+    ("A hello 7 7", "A client 4294967297 1\n"),
+    ("A session", "A session 00000001000000010000000000000001\n"),
+    ("B hello 8 8", "B client 4294967298 1\n"),
+    ("B session", "B session 00000001000000020000000000000002\n"),
+    ("A call root ; create f 644 ; write 0 0 6869", ""),
+    ("A turn", "A ran\n"),
+    ("A turn", "A ran\n"),
+    ("A turn", "A ran\n"),
+    ("B call root ; lookup f ; read 0 9", ""),
+    ("B take", "B sequence 0\nB root 0\nB lookup 0\nB read 0 \n"),
+    ("A take", "A sequence 0\nA root 0\nA create 0\nA write 0\n"),
+    ("B call root ; lookup f ; read 1 9 ; write 0 2 78", ""),
+    (
+        "B take",
+        "B sequence 0\nB root 0\nB lookup 0\nB read 0 69\nB write 13\n",
+    ),
+    ("restart", "run 2\n"),
+    ("A hello 7 7", "A client 8589934593 1\n"),
+    ("A session", "A session 00000002000000010000000000000001\n"),
+    (
+        "A call root ; open f ; read 0 9 ; write 4 1 21 ; commit ; close",
+        "",
+    ),
+    (
+        "A take",
+        "A sequence 0\nA root 0\nA open 0\nA read 0 \nA write 0\nA commit 0\nA close 0\n",
+    ),
+    ("A call root ; lookup f ; read 0 9 ; size 2 ; read 0 9", ""),
+    (
+        "A take",
+        "A sequence 0\nA root 0\nA lookup 0\nA read 0 0000000021\nA size 0\nA read 0 0000\n",
+    ),
+    ("# the end", ""),
+];
+
 /// Calls of no form.
 const REFUSED_CALLS: [&str; 42] = [
     "",
@@ -302,6 +340,11 @@ fn what_is_shared_is_taken_back(rt: HostRuntime) -> Result<(), Fail> {
 }
 
 #[test]
+fn files_are_written_and_read(rt: HostRuntime) -> Result<(), Fail> {
+    expect_lines(&rt, &FILES)
+}
+
+#[test]
 fn sessions_answer_again(rt: HostRuntime) -> Result<(), Fail> {
     expect_lines(&rt, &SESSIONS)
 }
@@ -346,6 +389,41 @@ fn lines_that_lack_a_reply_stop_the_script(rt: HostRuntime) {
         told,
         "refused: Script\n",
     );
+}
+
+/// A client's record waits for its reply: it sends no other one.
+#[test]
+fn a_second_record_has_to_wait(rt: HostRuntime) -> Result<(), Fail> {
+    let told = "A client 4294967297 1\nA session 00000001000000010000000000000001\n";
+    for line in ["A call root\n", "A session\n"] {
+        let mut script = String::from_str(rt.alloc(), "A hello 7 7\nA session\nA call root\n")?;
+        script.push_str(line)?;
+        expect_run(&rt, &[], script.as_str(), 1, told, "refused: Pending\n");
+    }
+    Ok(())
+}
+
+/// A record and a reply that are longer than what an end of the connection writes at once, 4,096 bytes.
+#[test]
+fn long_records_come_in_pieces(rt: HostRuntime) -> Result<(), Fail> {
+    let mut data = String::new(rt.alloc());
+    for number in 0..1250_u32 {
+        write!(data, "{number:08x}")?;
+    }
+    let mut script = String::from_str(rt.alloc(), "A hello 7 7\nA session\n")?;
+    writeln!(
+        script,
+        "A call root ; create f 644 ; write 0 2 {data} ; read 0 8192"
+    )?;
+    script.push_str("A take\n")?;
+    let mut told = String::from_str(
+        rt.alloc(),
+        "A client 4294967297 1\nA session 00000001000000010000000000000001\n",
+    )?;
+    told.push_str("A sequence 0\nA root 0\nA create 0\nA write 0\n")?;
+    writeln!(told, "A read 0 {data}")?;
+    expect_run(&rt, &[], script.as_str(), 0, told.as_str(), "");
+    Ok(())
 }
 
 #[test]
