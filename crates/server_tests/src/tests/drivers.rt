@@ -22,6 +22,10 @@ pub(super) fn mount<D: Device>(alloc: Global, device: D) -> Result<Server<D>, Fa
     }
 }
 
+pub(super) fn into_device<D: Device>(server: Server<D>) -> D {
+    server.into_device()
+}
+
 pub(super) fn connect<D: Device>(server: &mut Server<D>) -> Result<usize, ServerFault> {
     server.connect()
 }
@@ -68,4 +72,25 @@ pub(super) fn look_up(
 
 pub(super) fn handle(fs: &Fs<MemDevice>, number: u64) -> Result<[u8; 8], FsFault> {
     fs.handle(number)
+}
+
+/// The change of a node, and its size.
+pub(super) fn change_and_size(
+    fs: &Fs<MemDevice>,
+    cred: &Cred,
+    number: u64,
+) -> Result<(u64, u64), FsFault> {
+    let told = fs.attributes(cred, number, &[])?;
+    Ok((told.node.change, told.node.size))
+}
+
+/// Puts what one READ gives from an offset on behind other bytes; whether it reached the file's end.
+pub(super) fn read(
+    fs: &mut Fs<MemDevice>,
+    cred: &Cred,
+    number: u64,
+    offset: u64,
+    out: &mut Vec<u8>,
+) -> Result<bool, FsFault> {
+    fs.read(cred, number, Ok(()), offset, u32::MAX, out)
 }

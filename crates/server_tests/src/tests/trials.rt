@@ -2,8 +2,13 @@
 //! replies of many clients are those of a small model, byte for byte.
 
 mod calls;
+mod choices;
+mod left;
 mod line;
+mod operation;
 mod script;
 mod seed;
 mod simple;
 mod soak;
+mod stops;
+mod twin;

@@ -1,7 +1,7 @@
 //! What comes of a record before an operation runs.
 
 use super::Step::{self, Asks};
-use super::{bytes_of, end, expect, feed, new_server};
+use super::{bytes_of, end, expect, feed, new_server, play};
 use crate::tests::drivers;
 use server::{ServerFault, Turn};
 use std::alloc::{AllocGlobal, Global};
@@ -73,11 +73,15 @@ const CLOSING: [&str; 4] = [
     "80000028 1 1 2 186a3 4 0 0 0 0 0",
 ];
 
-/// Whole connections, by what they show.
-pub(super) const ROWS: [(&str, &[Step]); 2] = [
-    ("a plain call is answered", &PLAIN),
-    ("calls are tested before an operation runs", &TESTED),
-];
+#[test]
+fn a_plain_call_is_answered(rt: HostRuntime) -> Result<(), Fail> {
+    play(&rt, &PLAIN)
+}
+
+#[test]
+fn calls_are_tested_before_an_operation_runs(rt: HostRuntime) -> Result<(), Fail> {
+    play(&rt, &TESTED)
+}
 
 #[test]
 fn fragments_come_byte_by_byte(rt: HostRuntime) -> Result<(), Fail> {

@@ -2,7 +2,7 @@
 
 use super::calls::{NULL, NULL_REPLY};
 use super::sessions::{CREATE_SESSION, EXCHANGE_ID, MAKE_A};
-use super::{bytes_of, end, expect, feed, new_server, put};
+use super::{bytes_of, end, expect, feed, framed, new_server, put};
 use crate::tests::drivers;
 use disk::MemDevice;
 use server::{Server, ServerFault, Turn};
@@ -20,14 +20,6 @@ const SEQUENCE_END: usize = 112;
 
 /// More turns than a COMPOUND of the records here takes.
 const MOST_TURNS: u32 = 5;
-
-/// The last fragment of these bytes.
-fn framed(alloc: Global, bytes: &[u8]) -> Result<Vec<u8>, Fail> {
-    let length = u32::try_from(bytes.len())?;
-    let mut record = Vec::from_slice(alloc, &(0x8000_0000 | length).to_be_bytes())?;
-    record.extend_from_slice(bytes)?;
-    Ok(record)
-}
 
 /// Whether the request on connection 0 is answered.
 fn is_answered(server: &mut Server<MemDevice>) -> Result<bool, Fail> {

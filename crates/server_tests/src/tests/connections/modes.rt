@@ -1,7 +1,9 @@
 //! SETATTR over whole connections: modes, lists and sizes of a directory.
 
 use super::Step::{self, Asks};
+use super::play;
 use super::sessions::{CREATE_SESSION, CREATED, EXCHANGE_ID, EXCHANGED};
+use std::test::Fail;
 
 /// Number 1 of slot 0: PUTROOTFH, CREATE of the directory `a` with mode 755, and SETATTR of mode 1000.
 const SET_MODE: &str = "800000bc 9 0 2 186a3 4 1 1 14 0 0 7 7 0 0 0 0 1 4
@@ -64,5 +66,7 @@ const SET: [Step; 9] = [
     Asks(0, COMMIT_A_DIRECTORY, 3, NOT_COMMITTED),
 ];
 
-/// Whole connections, by what they show.
-pub(super) const ROWS: [(&str, &[Step]); 1] = [("a list that is taken back is taken back", &SET)];
+#[test]
+fn a_list_that_is_taken_back_is_taken_back(rt: HostRuntime) -> Result<(), Fail> {
+    play(&rt, &SET)
+}

@@ -1,7 +1,9 @@
 //! COMPOUNDs: what comes of a first operation, and one that runs the tree.
 
 use super::Step::{self, Asks};
+use super::play;
 use super::sessions::{CREATE_SESSION, CREATED, EXCHANGE_ID, EXCHANGED};
+use std::test::Fail;
 
 /// One operation is counted, and none is there.
 const NOTHING: &str = "80000048 9 0 2 186a3 4 1 1 14 0 0 7 7 0 0 0 0 1 1";
@@ -197,13 +199,37 @@ const WITHOUT_HANDLE: [Step; 3] = [
     Asks(0, GET_NO_HANDLE, 2, NO_HANDLE),
 ];
 
-/// Whole connections, by what they show.
-pub(super) const ROWS: [(&str, &[Step]); 7] = [
-    ("first operations are tested in order", &REFUSED_FIRST),
-    ("a compound runs once", &RUN_ONCE),
-    ("the tree is served", &SERVED),
-    ("names move and go", &NAMES),
-    ("rights and attributes are told", &TOLD),
-    ("directories are listed between changes", &LISTED),
-    ("there is no filehandle at first", &WITHOUT_HANDLE),
-];
+#[test]
+fn first_operations_are_tested_in_order(rt: HostRuntime) -> Result<(), Fail> {
+    play(&rt, &REFUSED_FIRST)
+}
+
+#[test]
+fn a_compound_runs_once(rt: HostRuntime) -> Result<(), Fail> {
+    play(&rt, &RUN_ONCE)
+}
+
+#[test]
+fn the_tree_is_served(rt: HostRuntime) -> Result<(), Fail> {
+    play(&rt, &SERVED)
+}
+
+#[test]
+fn names_move_and_go(rt: HostRuntime) -> Result<(), Fail> {
+    play(&rt, &NAMES)
+}
+
+#[test]
+fn rights_and_attributes_are_told(rt: HostRuntime) -> Result<(), Fail> {
+    play(&rt, &TOLD)
+}
+
+#[test]
+fn directories_are_listed_between_changes(rt: HostRuntime) -> Result<(), Fail> {
+    play(&rt, &LISTED)
+}
+
+#[test]
+fn there_is_no_filehandle_at_first(rt: HostRuntime) -> Result<(), Fail> {
+    play(&rt, &WITHOUT_HANDLE)
+}

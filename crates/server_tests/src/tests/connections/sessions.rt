@@ -1,6 +1,8 @@
 //! Clients, sessions and slots, and the first operations of a session.
 
 use super::Step::{self, Asks, Ends, Feeds, HangsUp, Runs};
+use super::play;
+use std::test::Fail;
 
 /// EXCHANGE_ID of the owner id `cl`, by uid 7.
 pub(super) const EXCHANGE_ID: &str = "80000068 2 0 2 186a3 4 1 1 14 0 0 7 7 0 0 0 0 1 1
@@ -37,7 +39,7 @@ pub(super) const MAKE_A: &str = "80000098 9 0 2 186a3 4 1 1 14 0 0 7 7 0 0 0 0 1
     35 1 1 0 1 1 0 0 1 18 6 2 1 61000000 2 0 2 4 1ed a";
 
 /// It has number 4294967297, and the root had no change before.
-const A_MADE: &str = "80000094 9 1 0 0 0 0 0 0 4
+pub(super) const A_MADE: &str = "80000094 9 1 0 0 0 0 0 0 4
     35 0 1 1 0 1 1 0 7 7 0 18 0 6 0 1 0 1 1 1 2 0 2 a 0 8 1 1";
 
 const MAKE_A_BY_8: &str = "80000098 9 0 2 186a3 4 1 1 14 0 0 8 8 0 0 0 0 1 4
@@ -197,13 +199,37 @@ const BESIDE: [Step; 12] = [
     Asks(1, DESTROY_SESSION, 1, NO_SESSION),
 ];
 
-/// Whole connections, by what they show.
-pub(super) const ROWS: [(&str, &[Step]); 7] = [
-    ("a request runs once", &RETRIED),
-    ("pad bytes are zero", &PADDED),
-    ("counts and lengths are limited", &LONG),
-    ("a request that has begun ends at a hang-up", &HUNG_UP),
-    ("an unconfirmed client gives way", &UNCONFIRMED),
-    ("a confirmed client is known again", &CONFIRMED),
-    ("a slot runs one request at a time", &BESIDE),
-];
+#[test]
+fn a_request_runs_once(rt: HostRuntime) -> Result<(), Fail> {
+    play(&rt, &RETRIED)
+}
+
+#[test]
+fn pad_bytes_are_zero(rt: HostRuntime) -> Result<(), Fail> {
+    play(&rt, &PADDED)
+}
+
+#[test]
+fn counts_and_lengths_are_limited(rt: HostRuntime) -> Result<(), Fail> {
+    play(&rt, &LONG)
+}
+
+#[test]
+fn a_request_that_has_begun_ends_at_a_hang_up(rt: HostRuntime) -> Result<(), Fail> {
+    play(&rt, &HUNG_UP)
+}
+
+#[test]
+fn an_unconfirmed_client_gives_way(rt: HostRuntime) -> Result<(), Fail> {
+    play(&rt, &UNCONFIRMED)
+}
+
+#[test]
+fn a_confirmed_client_is_known_again(rt: HostRuntime) -> Result<(), Fail> {
+    play(&rt, &CONFIRMED)
+}
+
+#[test]
+fn a_slot_runs_one_request_at_a_time(rt: HostRuntime) -> Result<(), Fail> {
+    play(&rt, &BESIDE)
+}

@@ -1,10 +1,11 @@
 //! Calls as a client sends them (RFC 5531, section 9; RFC 8881, section 18).
 
+use super::operation::Operation;
 use std::alloc::Global;
 use std::test::Fail;
 use wire::{
-    Argument, Attributes, Bitmap, CallbackSecurity, Channel, CreateArguments,
-    CreateSessionArguments, ExchangeIdArguments, RenameArguments, SequenceArguments,
+    Argument, CallbackSecurity, Channel, CreateSessionArguments, ExchangeIdArguments,
+    SequenceArguments,
 };
 use wire_client::write_argument;
 use xdr::{Refusal, Writer};
@@ -23,51 +24,11 @@ const CHANNEL: Channel = Channel {
     rdma_ird: None,
 };
 
-/// The attribute 33, the mode, alone.
-const MODE: [u32; 2] = [0, 2];
-
-/// The mode 755: the owner makes directories in it, everyone looks names up.
-const MODE_755: [u8; 4] = [0, 0, 1, 0xED];
-
 /// Who calls, under which number.
 #[derive(Clone, Copy, Debug)]
 pub(super) struct Caller {
     pub(super) xid: u32,
     pub(super) uid: u32,
-}
-
-/// An operation behind SEQUENCE. A name is one letter.
-#[derive(Clone, Copy, Debug, PartialEq, Eq)]
-pub(super) enum Operation {
-    Root,
-    Lookup(u8),
-    MakeDir(u8),
-    GetHandle,
-}
-
-impl Operation {
-    fn write(self, call: &mut Writer) -> Result<(), Refusal> {
-        match self {
-            Operation::Root => write_argument(call, &Argument::PutRootFh),
-            Operation::Lookup(name) => write_argument(call, &Argument::Lookup(&[name])),
-            Operation::MakeDir(name) => write_new_directory(call, name),
-            Operation::GetHandle => write_argument(call, &Argument::GetFh),
-        }
-    }
-}
-
-fn write_new_directory(call: &mut Writer, name: u8) -> Result<(), Refusal> {
-    let mut bitmap = Bitmap::new();
-    bitmap.push(MODE[0]);
-    bitmap.push(MODE[1]);
-    let asked = CreateArguments::NewDirectory {
-        name: &[name],
-        attributes: Attributes {
-            bitmap,
-            values: &MODE_755,
-        },
-    };
-    write_argument(call, &Argument::Create(asked))
 }
 
 /// A record with one EXCHANGE_ID, of an owner id of four bytes.
@@ -112,32 +73,8 @@ pub(super) fn compound(
     let mut call = begin_call(alloc, caller, count)?;
     write_argument(&mut call, &Argument::Sequence(sequence))?;
     for operation in operations {
-        operation.write(&mut call)?;
+        operation.write(alloc, &mut call)?;
     }
-    record_of(alloc, call)
-}
-
-/// A record with a RENAME, behind a SEQUENCE, in the directory to which these names lead from the root.
-pub(super) fn rename(
-    alloc: Global,
-    caller: Caller,
-    sequence: SequenceArguments,
-    path: &[u8],
-    (old, new): (u8, u8),
-) -> Result<Vec<u8>, Fail> {
-    let count = u32::try_from(path.len())?.saturating_add(4);
-    let mut call = begin_call(alloc, caller, count)?;
-    write_argument(&mut call, &Argument::Sequence(sequence))?;
-    Operation::Root.write(&mut call)?;
-    for name in path {
-        Operation::Lookup(*name).write(&mut call)?;
-    }
-    write_argument(&mut call, &Argument::SaveFh)?;
-    let asked = RenameArguments {
-        old_name: &[old],
-        new_name: &[new],
-    };
-    write_argument(&mut call, &Argument::Rename(asked))?;
     record_of(alloc, call)
 }
 

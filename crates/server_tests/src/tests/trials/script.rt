@@ -1,6 +1,9 @@
 //! Stops before and within each write and each sync of a server that makes and moves directories.
 
-use super::calls::{self, Caller, Operation, compound, hello, on_slot, session};
+use super::calls::{Caller, compound, hello, on_slot, session};
+use super::left;
+use super::operation::Operation;
+use super::twin::{ask, status_of};
 use crate::tests::drivers;
 use acl_eval::{Ace, AceFlags, AceKind, Acl, Cred, Gids, Mask, Who};
 use bitflags::Flags;
@@ -13,7 +16,7 @@ use oracle::step::{Stepped, step};
 use oracle_refusals::state::{Context, Opens, Place, State};
 use oracle_tree::keyed::is_key;
 use oracle_tree::tree::{Content, Node, Tree, clone_tree};
-use server::{Server, ServerFault, Turn};
+use server::{Server, ServerFault};
 use std::alloc::Global;
 use std::process::Abort;
 use std::test::Fail;
@@ -336,33 +339,19 @@ fn change_record(alloc: Global, number: u32, change: Change) -> Result<Vec<u8>, 
         uid: change.uid,
     };
     let sequence = on_slot(SESSION, 0, number);
+    let mut operations = Vec::new(alloc);
+    operations.push(Operation::Root)?;
+    for directory in change.path {
+        operations.push(Operation::Lookup(*directory))?;
+    }
     match change.what {
-        What::Makes(name) => {
-            let mut operations = Vec::new(alloc);
-            operations.push(Operation::Root)?;
-            for directory in change.path {
-                operations.push(Operation::Lookup(*directory))?;
-            }
-            operations.push(Operation::MakeDir(name))?;
-            compound(alloc, caller, sequence, &operations)
-        }
-        What::Moves(old, new) => calls::rename(alloc, caller, sequence, change.path, (old, new)),
-    }
-}
-
-/// Sends a record, gives turns up to the reply, and takes it.
-fn ask<D: Device>(
-    server: &mut Server<D>,
-    conn: usize,
-    sent: &[u8],
-) -> Result<Option<Vec<u8>>, ServerFault> {
-    drivers::feed(server, conn, sent)?;
-    for _ in 0..16 {
-        if drivers::turn(server, conn)? == Turn::Answered {
-            break;
+        What::Makes(name) => operations.push(Operation::MakeDir(name))?,
+        What::Moves(old, new) => {
+            operations.push(Operation::Save)?;
+            operations.push(Operation::Rename(old, new))?;
         }
     }
-    drivers::take_output(server, conn)
+    compound(alloc, caller, sequence, &operations)
 }
 
 /// Sends the records one after the other, up to the device's stop, and gives the replies that were taken.
@@ -384,18 +373,10 @@ fn play<D: Device>(
     Ok(replies)
 }
 
-/// The status of a reply: its eighth word, behind the record's header and six of RPC.
-fn status_of(reply: &[u8]) -> Option<u32> {
-    let bytes = reply.get(28..32)?;
-    let (word, _rest) = bytes.split_first_chunk::<4>()?;
-    Some(u32::from_be_bytes(*word))
-}
-
 /// A volume at rest.
 fn volume(alloc: Global) -> Result<CrashDevice, Fail> {
-    let mut device = CrashDevice::new(MemDevice::new(alloc, SECTORS)?, Stop::Never);
-    drivers::format(alloc, &mut device, NODES)?;
-    Ok(CrashDevice::new(device.landed(alloc, &[])?, Stop::Never))
+    let device = left::volume(alloc, SECTORS, NODES)?;
+    Ok(CrashDevice::new(device, Stop::Never))
 }
 
 /// Mounts the volume on this device and plays the records.

@@ -1,0 +1,264 @@
+//! A server beside its model: both are told the same, and each answer of the one is the other's, byte for byte.
+
+use super::calls::{self, Caller, on_slot};
+use super::line::{Line, Stage};
+use super::simple::tree::Tree;
+use super::simple::{Client, Request, World};
+use crate::tests::drivers;
+use disk::Device;
+use server::{Server, ServerFault, Turn};
+use std::alloc::Global;
+use std::process::Abort;
+use std::test::Fail;
+use wire::{Answer, Outcome};
+use wire_client::read_outcome;
+use xdr::Reader;
+
+pub(super) const SLOTS: usize = 3;
+
+const MOST_CONNECTIONS: usize = 16;
+
+/// More turns than a COMPOUND takes.
+pub(super) const MOST_TURNS: usize = 8;
+
+/// What stands on both sides.
+#[derive(Drop)]
+pub(super) struct Setting {
+    pub(super) tree: Tree,
+    pub(super) clients: usize,
+    /// Whether the device may stop.
+    pub(super) may_stop: bool,
+}
+
+#[derive(Drop)]
+pub(super) struct Twin<D: Device> {
+    pub(super) alloc: Global,
+    server: Server<D>,
+    pub(super) world: World,
+    pub(super) lines: Vec<Line>,
+}
+
+/// The status of a reply: its eighth word, behind the record's header and six of RPC.
+pub(super) fn status_of(reply: &[u8]) -> Option<u32> {
+    let bytes = reply.get(28..32)?;
+    let (word, _rest) = bytes.split_first_chunk::<4>()?;
+    Some(u32::from_be_bytes(*word))
+}
+
+/// Sends a record, gives turns up to the reply, and takes it.
+pub(super) fn ask<D: Device>(
+    server: &mut Server<D>,
+    conn: usize,
+    sent: &[u8],
+) -> Result<Option<Vec<u8>>, ServerFault> {
+    drivers::feed(server, conn, sent)?;
+    for _ in 0..MOST_TURNS {
+        if drivers::turn(server, conn)? == Turn::Answered {
+            break;
+        }
+    }
+    drivers::take_output(server, conn)
+}
+
+/// The number that EXCHANGE_ID answers, or the session that CREATE_SESSION answers.
+fn answered(alloc: Global, reply: &[u8]) -> Result<(u64, [u8; 16]), Fail> {
+    let mut at = Reader::new(reply.get(40..).ok_or("a short reply")?);
+    match read_outcome(alloc, &mut at)? {
+        Outcome::Done(Answer::ExchangeId(answer)) => Ok((answer.client, [0; 16])),
+        Outcome::Done(Answer::CreateSession(answer)) => Ok((0, answer.session)),
+        _ => Err("another answer".into()),
+    }
+}
+
+/// A client that makes itself known and takes a session.
+fn join<D: Device>(
+    alloc: Global,
+    server: &mut Server<D>,
+    conn: usize,
+    uid: u32,
+) -> Result<Client, Fail> {
+    let caller = Caller { xid: 1, uid };
+    let hello = ask(server, conn, &calls::hello(alloc, caller)?)?;
+    let (number, _) = answered(alloc, &hello.ok_or("no reply")?)?;
+    let joined = ask(server, conn, &calls::session(alloc, caller, number)?)?;
+    let (_, session) = answered(alloc, &joined.ok_or("no reply")?)?;
+    Ok(Client::new(alloc, uid, session, SLOTS)?)
+}
+
+fn join_all<D: Device>(
+    alloc: Global,
+    server: &mut Server<D>,
+    count: usize,
+) -> Result<Vec<Client>, Fail> {
+    let conn = drivers::connect(server)?;
+    let mut clients = Vec::new(alloc);
+    for uid in (100..).take(count) {
+        clients.push(join(alloc, server, conn, uid)?)?;
+    }
+    drivers::hangup(server, conn)?;
+    Ok(clients)
+}
+
+impl<D: Device> Twin<D> {
+    /// Mounts a volume that holds the tree; the clients are there, and no connection.
+    pub(super) fn mount(alloc: Global, device: D, setting: Setting) -> Result<Twin<D>, Fail> {
+        let mut server = drivers::mount(alloc, device)?;
+        let clients = join_all(alloc, &mut server, setting.clients)?;
+        let Setting { tree, may_stop, .. } = setting;
+        Ok(Twin {
+            alloc,
+            server,
+            world: World::new(alloc, tree, clients, may_stop),
+            lines: Vec::new(alloc),
+        })
+    }
+
+    pub(super) fn connect(&mut self, rt: &impl Abort) -> Result<(), Fail> {
+        match drivers::connect(&mut self.server) {
+            Ok(conn) => {
+                assert!(rt; self.lines.len() < MOST_CONNECTIONS);
+                assert!(rt; self.lines.iter().all(|line| line.conn != conn));
+                self.lines.push(Line::new(self.alloc, conn))?;
+            }
+            Err(fault) => {
+                assert_eq!(rt; fault, ServerFault::Full);
+                assert_eq!(rt; self.lines.len(), MOST_CONNECTIONS);
+            }
+        }
+        Ok(())
+    }
+
+    /// Whether the device stopped in it.
+    pub(super) fn hang_up(&mut self, rt: &impl Abort, at: usize) -> Result<bool, Fail> {
+        self.world.past.settle();
+        let Some(line) = self.lines.get_mut(at) else {
+            return Ok(false);
+        };
+        line.finish(&mut self.world)?;
+        match drivers::hangup(&mut self.server, line.conn) {
+            Ok(()) => {
+                let _ = self.lines.remove(at);
+                Ok(false)
+            }
+            Err(fault) => {
+                assert_eq!(rt; fault, ServerFault::Device);
+                line.stage = Stage::Lost;
+                Ok(true)
+            }
+        }
+    }
+
+    /// Begins to send a request over a quiet connection, in two fragments where the first one has a length.
+    pub(super) fn send(
+        &mut self,
+        at: usize,
+        request: Request,
+        first: Option<usize>,
+    ) -> Result<(), Fail> {
+        let whole = self.record_of(request)?;
+        let sent = match first {
+            Some(len) => calls::in_two(self.alloc, &whole, len)?,
+            None => whole,
+        };
+        if let Some(slot) = self.world.slot(request.client, request.slot) {
+            slot.sent = Some(request);
+        }
+        if let Some(line) = self.lines.get_mut(at) {
+            line.send(request, sent)?;
+        }
+        Ok(())
+    }
+
+    fn record_of(&self, request: Request) -> Result<Vec<u8>, Fail> {
+        let Some(client) = self.world.client(request.client) else {
+            return Err("no client".into());
+        };
+        let caller = Caller {
+            xid: request.xid,
+            uid: client.uid,
+        };
+        let slot = u32::try_from(request.slot)?;
+        let sequence = on_slot(client.session, slot, request.number);
+        let operations = request.operations.get(..request.count).ok_or("too many")?;
+        calls::compound(self.alloc, caller, sequence, operations)
+    }
+
+    /// So many bytes more arrive, or as many as there are.
+    pub(super) fn arrive(&mut self, rt: &impl Abort, at: usize, count: usize) -> Result<(), Fail> {
+        let Some(line) = self.lines.get_mut(at) else {
+            return Ok(());
+        };
+        let piece = line.piece(count);
+        let taken = drivers::feed(&mut self.server, line.conn, piece)?;
+        let len = piece.len();
+        assert_eq!(rt; taken, line.take_piece(len));
+        Ok(())
+    }
+
+    /// Whether the device stopped in it.
+    pub(super) fn turn(&mut self, rt: &impl Abort, at: usize) -> Result<bool, Fail> {
+        self.world.past.settle();
+        let Some(line) = self.lines.get_mut(at) else {
+            return Ok(false);
+        };
+        let expected = line.turn(&mut self.world)?;
+        match drivers::turn(&mut self.server, line.conn) {
+            Ok(turn) => {
+                assert_eq!(rt; turn, expected);
+                Ok(false)
+            }
+            Err(fault) => {
+                assert_eq!(rt; fault, ServerFault::Device);
+                line.stage = Stage::Lost;
+                Ok(true)
+            }
+        }
+    }
+
+    /// The reply, where there is one.
+    pub(super) fn take(&mut self, rt: &impl Abort, at: usize) -> Result<Option<Vec<u8>>, Fail> {
+        let Some(line) = self.lines.get_mut(at) else {
+            return Ok(None);
+        };
+        let given = drivers::take_output(&mut self.server, line.conn)?;
+        match (given, line.take_reply()) {
+            (Some(given), Some(expected)) => {
+                assert_eq!(rt; given.as_slice(), expected.as_slice());
+                Ok(Some(given))
+            }
+            (None, None) => Ok(None),
+            _ => Err("a reply of one alone".into()),
+        }
+    }
+
+    /// What a server does that is down: replies that wait are given, and nothing else.
+    pub(super) fn expect_down(&mut self, rt: &impl Abort) -> Result<(), Fail> {
+        assert_eq!(rt;
+            drivers::connect(&mut self.server),
+            Err(ServerFault::Device)
+        );
+        for at in 0..self.lines.len() {
+            let _ = self.take(rt, at)?;
+            self.expect_no_turn(rt, at);
+        }
+        Ok(())
+    }
+
+    fn expect_no_turn(&mut self, rt: &impl Abort, at: usize) {
+        if let Some(line) = self.lines.get(at) {
+            assert_eq!(rt;
+                drivers::turn(&mut self.server, line.conn),
+                Err(ServerFault::Device)
+            );
+            assert_eq!(rt;
+                drivers::feed(&mut self.server, line.conn, &[0]),
+                Err(ServerFault::Device)
+            );
+        }
+    }
+
+    pub(super) fn into_world(self) -> World {
+        let Twin { world, .. } = self;
+        world
+    }
+}
