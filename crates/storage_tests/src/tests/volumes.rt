@@ -3,12 +3,19 @@
 use disk::{Device, MemDevice, SECTOR};
 use std::alloc::Global;
 use std::test::Fail;
-use volume::{FormatFault, MountFault, Unmounted, Volume, format};
+use volume::{Checked, FormatFault, MountFault, Unmounted, Volume, check, format};
 
 /// The smallest volume of 16 nodes: 92 sectors of it are the data region.
 const SECTORS: u32 = 256;
 
 const NODES: u32 = 16;
+
+/// The sectors of the gate, of the first content behind it, and of the root's node.
+const GATE: u32 = 1;
+
+const PAYLOAD: u32 = 2;
+
+const ROOT: u32 = 148;
 
 // a new volume in memory
 fn formatted(alloc: Global) -> Result<MemDevice, Fail> {
@@ -130,6 +137,64 @@ fn changed_bytes_are_found(rt: HostRuntime) -> Result<(), Fail> {
                 )
             }
         }
+    }
+    Ok(())
+}
+
+/// A check answers as a mount does, but for a full count, and the volume stays as it was.
+#[test]
+fn changed_bytes_are_checked(rt: HostRuntime) -> Result<(), Fail> {
+    for (sector, bytes, fault) in CHANGES {
+        let mut device = changed(rt.alloc(), sector, bytes)?;
+        let found = check(rt.alloc(), &mut device);
+        let expected = match fault {
+            MountFault::Worn => Ok(Checked {
+                sectors: SECTORS,
+                nodes: NODES,
+                count: u32::MAX,
+            }),
+            _ => Err(fault),
+        };
+        assert!(rt; found == expected, "sector {sector}, {bytes:?}: {found:?}");
+    }
+    Ok(())
+}
+
+// a volume whose root stands behind an open gate, and at home not yet
+fn behind_a_gate(alloc: Global) -> Result<MemDevice, Fail> {
+    let mut device = formatted(alloc)?;
+    let mut root = [0; SECTOR];
+    device.read(ROOT, &mut root)?;
+    device.write(PAYLOAD, &root)?;
+    device.write(ROOT, &[0; SECTOR])?;
+    let mut gate = [0; SECTOR];
+    let words = [1_u32, 1, ROOT];
+    for (bytes, word) in gate.chunks_exact_mut(4).zip(words) {
+        bytes.copy_from_slice(&word.to_be_bytes());
+    }
+    device.write(GATE, &gate)?;
+    device.sync()?;
+    Ok(device)
+}
+
+#[test]
+fn a_check_reads_through_an_open_gate(rt: HostRuntime) -> Result<(), Fail> {
+    let mut device = behind_a_gate(rt.alloc())?;
+    for _ in 0..2 {
+        let found = check(rt.alloc(), &mut device);
+        let expected = Ok(Checked {
+            sectors: SECTORS,
+            nodes: NODES,
+            count: 0,
+        });
+        assert!(rt; found == expected, "{found:?}");
+        let mut content = [1; SECTOR];
+        device.read(ROOT, &mut content)?;
+        assert!(rt; content == [0; SECTOR], "the root was copied home");
+    }
+    match run_of(rt.alloc(), device) {
+        Ok((run, _device)) => assert_eq!(rt; run, 1),
+        Err(refused) => return Err(refused.fault.into()),
     }
     Ok(())
 }

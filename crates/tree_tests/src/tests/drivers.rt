@@ -8,8 +8,8 @@ ghost use Rattle.model.specs.Open.{given_by};
 use acl_eval::{Cred, Gids};
 use disk::{Device, MemDevice};
 use fs::{
-    Access, Created, Fs, FsFault, How, Listing, NewDirectory, Opened, Opening, Page, Removed,
-    Renamed, Renaming, Setting, Share, Writing,
+    Access, Created, Fs, FsFault, How, Listing, NewDirectory, OpenRoom, Opened, Opening, Page,
+    Removed, Renamed, Renaming, Setting, Share, Writing,
 };
 use model::status::Status;
 use settings::Attributes;
@@ -221,7 +221,12 @@ fn open<D: Device>(
         share: Share { access, deny: 0 },
         how,
     };
-    fs.open_file(cred, NOW, asked, false, true)
+    let room = OpenRoom {
+        nothing: true,
+        cut: true,
+        made: true,
+    };
+    fs.open_file(cred, NOW, asked, false, room)
 }
 
 /// Opens a file of the root that is there.

@@ -149,3 +149,43 @@ fn a_file_fills_a_volume(rt: HostRuntime) -> Result<(), Fail> {
     assert_eq!(rt; out.as_slice(), b"1".as_slice());
     Ok(())
 }
+
+/// A file of 16,777,216 bytes is charged for 4,096 blocks and 9 sectors of runs, and the root for 2, of what 148 sectors and 16
+/// nodes leave.
+#[test]
+fn the_longest_file_takes_4105_sectors(rt: HostRuntime) -> Result<(), Fail> {
+    let longest = 16_777_216_u64.to_be_bytes();
+    let mut fs = mount(rt.alloc(), volume(rt.alloc(), 4_270, 16)?)?;
+    make_or_cut(&mut fs, &caller(), b"f", WRITES, 0)?;
+    assert_eq!(rt;
+        set(&mut fs, &caller(), FIRST, SIZE, &longest),
+        Err(FsFault::Status(Status::NoSpc))
+    );
+    let shorter = 16_773_120_u64.to_be_bytes();
+    assert_eq!(rt; set(&mut fs, &caller(), FIRST, SIZE, &shorter), Ok(()));
+    let mut fs = mount(rt.alloc(), volume(rt.alloc(), 4_271, 16)?)?;
+    make_or_cut(&mut fs, &caller(), b"f", WRITES, 0)?;
+    assert_eq!(rt; set(&mut fs, &caller(), FIRST, SIZE, &longest), Ok(()));
+    let last = Writing {
+        offset: 16_777_212,
+        bytes: b"last",
+        is_stable: true,
+    };
+    assert_eq!(rt; write(&mut fs, FIRST, last), Ok(4));
+    let beyond = Writing {
+        offset: 16_777_216,
+        ..last
+    };
+    assert_eq!(rt;
+        write(&mut fs, FIRST, beyond),
+        Err(FsFault::Status(Status::FBig))
+    );
+    let mut fs = mount(rt.alloc(), fs.into_device())?;
+    let mut out = Vec::new(rt.alloc());
+    assert_eq!(rt;
+        read_part(&mut fs, FIRST, 16_777_208, 20, &mut out),
+        Ok(true)
+    );
+    assert_eq!(rt; out.as_slice(), b"\0\0\0\0last".as_slice());
+    Ok(())
+}
