@@ -5,7 +5,7 @@ use crate::copying::Copies;
 use crate::journals::{FIRST_TARGET, Flushes, Held, ReadsListed};
 use crate::listing::{ListsNames, NAMES, full_directory};
 use crate::places::{FillsPlaces, PLACES, TakesFarPlaces, WritesSectors, fill};
-use crate::reading::{ReadsCalls, ReadsRecord, Tally};
+use crate::records::{ReadsCalls, ReadsRecord, Tally};
 use crate::replies::{REPLIES, WritesReplies};
 use crate::work::{Work, best_rate};
 use disk::SECTOR;
@@ -135,7 +135,12 @@ fn print_journals<R: Clock + Print>(rt: &R, alloc: Global) -> anyhow::Result<()>
     Ok(())
 }
 
-fn print_rate<R: Clock + Print, W: Work>(rt: &R, verb: &str, work: &mut W) -> anyhow::Result<()> {
+/// Measures one kind of work, and prints how many things it does a second.
+pub fn print_rate<R: Clock + Print, W: Work>(
+    rt: &R,
+    verb: &str,
+    work: &mut W,
+) -> anyhow::Result<()> {
     let rate = best_rate(rt, work)?;
     println!(rt; "  {verb}: {rate} a second")?;
     Ok(())

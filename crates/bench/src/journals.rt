@@ -1,12 +1,12 @@
 //! A journal over memory: reading from its list, and transactions that are taken and flushed.
 
-ghost use Rattle.std.specs.Prelude.{◌≡◌, ◌≤◌, [], IsTrue, length, vec_capacity, vec_len};
-ghost use Rattle.disk.specs.Moments.{at_rest};
+ghost use Rattle.std.specs.Prelude.{◌≡◌, ◌≤◌, IsTrue, length, vec_capacity};
 ghost use Rattle.journal.specs.Journal.{log_of};
 ghost use Rattle.journal.specs.Layout.{AreTargets, targets};
 
+use crate::rows::Rows;
 use crate::work::Work;
-use disk::{Device, DiskFault, SECTOR, Update};
+use disk::{SECTOR, Update};
 use journal::{Journal, JournalFault};
 use std::alloc::{AllocError, Global};
 
@@ -14,62 +14,6 @@ use std::alloc::{AllocError, Global};
 const SECTORS: u32 = 256;
 /// The first sector that a transaction may write.
 pub const FIRST_TARGET: u32 = 98;
-
-/// Sectors in memory, without a record of the calls. It never fails, and claims nothing.
-#[derive(Drop)]
-pub struct Rows {
-    rows: Vec<[u8; SECTOR]>,
-    ghost whole: { vec_len rows ≡ 256 },
-}
-
-impl Rows {
-    /// A device of zeros.
-    pub fn new(alloc: Global) -> Result<Rows, AllocError> {
-        Ok(Rows {
-            rows: Vec::from_elem(alloc, [0; SECTOR], SECTORS as usize)?,
-        })
-    }
-}
-
-impl Device for Rows {
-    ghost keeps_word = { ⊥ };
-
-    ghost size = { λ _. 256 };
-
-    ghost failed = { λ _. 0 };
-
-    ghost history = { λ _. at_rest (λ _. []) };
-
-    fn sectors(&self) -> u32 {
-        SECTORS
-    }
-
-    fn failures(&self) -> u64 {
-        0
-    }
-
-    fn read(&mut self, n: u32, content: &mut [u8; SECTOR]) -> Result<(), DiskFault> {
-        if n >= SECTORS {
-            return Err(DiskFault::Range);
-        }
-        *content = self.rows[n as usize];
-        Ok(())
-    }
-
-    fn write(&mut self, n: u32, content: &[u8; SECTOR]) -> Result<(), DiskFault> {
-        if n >= SECTORS {
-            return Err(DiskFault::Range);
-        }
-        self.rows[n as usize] = *content;
-        Ok(())
-    }
-
-    fn sync(&mut self) -> Result<(), DiskFault> {
-        Ok(())
-    }
-
-    ghost holds_sectors = { λ never. absurd never };
-}
 
 /// Puts the updates' targets in place of what `named` held.
 fn name_targets(named: &mut Vec<u32>, updates: &[Update])
@@ -117,7 +61,7 @@ pub struct Held {
 impl Held {
     /// Mounts a device of zeros.
     pub fn new(alloc: Global) -> Result<Held, JournalFault> {
-        match Journal::mount(alloc, Rows::new(alloc)?) {
+        match Journal::mount(alloc, Rows::new(alloc, SECTORS)?) {
             Ok(journal) => Ok(Held { alloc, journal }),
             Err(refused) => Err(refused.fault),
         }

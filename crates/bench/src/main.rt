@@ -7,10 +7,13 @@ mod figures;
 mod journals;
 mod listing;
 mod places;
-mod reading;
+mod records;
 mod replies;
+mod rows;
 #[cfg(test)]
 mod tests;
+mod volume_figures;
+mod volumes;
 mod work;
 
 use std::process::ExitCode;
@@ -38,8 +41,12 @@ fn run(rt: &HostRuntime) -> anyhow::Result<ExitCode> {
             figures::print_figures(rt, rt.alloc())?;
             Ok(ExitCode::SUCCESS)
         }
+        [word, path] if word.as_str() == "volumes" => {
+            volume_figures::print_volumes(rt, rt.alloc(), path)?;
+            Ok(ExitCode::SUCCESS)
+        }
         _ => {
-            eprintln!(rt; "usage: bench [measure]")?;
+            eprintln!(rt; "usage: bench [measure | volumes FILE]")?;
             Ok(ExitCode::from(USAGE))
         }
     }

@@ -4,9 +4,11 @@ use crate::calls::{DATA_BYTES, Kind, stream_of};
 use crate::copying::Copies;
 use crate::listing::{ListsNames, full_directory};
 use crate::places::{FillsPlaces, PLACES, TakesFarPlaces, WritesSectors, fill};
-use crate::reading::{ReadsCalls, ReadsRecord, Tally};
+use crate::records::{ReadsCalls, ReadsRecord, Tally};
 use crate::replies::WritesReplies;
-use crate::work::Work;
+use crate::rows::Rows;
+use crate::volumes::{CALLS, MADE, Makes, Measured, SMALL, Tree};
+use crate::work::{Undone, Work};
 use freemap::Bitmap;
 use rpc::Assembler;
 use std::alloc::Global;
@@ -106,5 +108,30 @@ fn a_full_directory_is_listed(rt: HostRuntime) -> Result<(), Fail> {
     };
     assert_eq!(rt; lists.turn()?, 1_024);
     assert_eq!(rt; lists.sum, 523_776);
+    Ok(())
+}
+
+#[test]
+fn a_volume_is_worked_on(rt: HostRuntime) -> Result<(), Fail> {
+    let device = Rows::new(rt.alloc(), SMALL.sectors)?;
+    let mut makes = Makes {
+        tree: Tree::new(rt.alloc(), device, SMALL)?,
+    };
+    assert_eq!(rt; makes.turn()?, u64::from(MADE));
+    assert_eq!(rt; makes.undo()?, u64::from(MADE));
+    let mut tree = makes.tree;
+    let calls = [
+        Measured::Write { is_stable: true },
+        Measured::Write { is_stable: false },
+        Measured::Read,
+        Measured::LookUp,
+        Measured::LookUpAmongMany,
+        Measured::List,
+    ];
+    for call in calls {
+        tree.call = call;
+        assert_eq!(rt; tree.turn()?, CALLS);
+    }
+    assert_eq!(rt; tree.into_mounts(rt.alloc()).turn()?, 1);
     Ok(())
 }

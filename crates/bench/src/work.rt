@@ -8,6 +8,12 @@ pub trait Work {
     fn turn(&mut self) -> anyhow::Result<u64>;
 }
 
+/// Work that is undone, so that it can be done again.
+pub trait Undone: Work {
+    /// Undoes the turn before, and answers how many things that took.
+    fn undo(&mut self) -> anyhow::Result<u64>;
+}
+
 /// How often a figure is taken; the best one counts, since other programs take time of the processor too.
 const ROUNDS: usize = 10;
 /// How long a round lasts, in milliseconds.
@@ -22,6 +28,45 @@ pub fn best_rate<R: Clock, W: Work>(rt: &R, work: &mut W) -> anyhow::Result<u64>
         best = round_rate(rt, work)?.max(best);
     }
     Ok(best)
+}
+
+/// How many things the work does a second, and how many it undoes, in the best round of each.
+pub fn best_rates<R: Clock, W: Undone>(rt: &R, work: &mut W) -> anyhow::Result<(u64, u64)> {
+    let mut best = (0, 0);
+    for _ in 0..ROUNDS {
+        let (done, undone) = round_rates(rt, work)?;
+        best = (done.max(best.0), undone.max(best.1));
+    }
+    Ok(best)
+}
+
+/// The shortest time of a turn.
+pub fn shortest_turn<R: Clock, W: Work>(rt: &R, work: &mut W) -> anyhow::Result<Duration> {
+    let mut shortest = Duration::MAX;
+    for _ in 0..ROUNDS {
+        let start = Instant::now(rt)?;
+        work.turn()?;
+        shortest = start.elapsed(rt)?.min(shortest);
+    }
+    Ok(shortest)
+}
+
+fn round_rates<R: Clock, W: Undone>(rt: &R, work: &mut W) -> anyhow::Result<(u64, u64)> {
+    let round = Duration::from_millis(ROUND_MILLISECONDS);
+    let (mut done, mut undone) = (0u64, 0u64);
+    let (mut doing, mut undoing) = (Duration::ZERO, Duration::ZERO);
+    for _ in 0..MOST_TURNS {
+        let start = Instant::now(rt)?;
+        done = done.saturating_add(work.turn()?);
+        let middle = Instant::now(rt)?;
+        undone = undone.saturating_add(work.undo()?);
+        doing = doing.saturating_add(middle.duration_since(start));
+        undoing = undoing.saturating_add(middle.elapsed(rt)?);
+        if doing >= round {
+            break;
+        }
+    }
+    Ok((rate(done, doing), rate(undone, undoing)))
 }
 
 fn round_rate<R: Clock, W: Work>(rt: &R, work: &mut W) -> anyhow::Result<u64> {
