@@ -1,5 +1,6 @@
-//! The calls of a server and of a file system as the tests make them. Each stands here once: a call brings all that it promises
+//! The calls of a server and of a file system as tests make them. Each stands here once: a call brings all that it promises
 //! into the proof of its caller.
+#![tactic(auto)]
 
 use acl_eval::Cred;
 use disk::{Device, MemDevice};
@@ -11,26 +12,26 @@ use std::test::Fail;
 /// The moment of every turn.
 const NOW: u64 = 5;
 
-pub(super) fn format<D: Device>(alloc: Global, device: &mut D, nodes: u32) -> Result<(), Fail> {
+pub fn format<D: Device>(alloc: Global, device: &mut D, nodes: u32) -> Result<(), Fail> {
     Ok(Server::format(alloc, device, nodes)?)
 }
 
-pub(super) fn mount<D: Device>(alloc: Global, device: D) -> Result<Server<D>, Fail> {
+pub fn mount<D: Device>(alloc: Global, device: D) -> Result<Server<D>, Fail> {
     match Server::mount(alloc, device) {
         Ok(server) => Ok(server),
         Err(_) => Err("not mounted".into()),
     }
 }
 
-pub(super) fn into_device<D: Device>(server: Server<D>) -> D {
+pub fn into_device<D: Device>(server: Server<D>) -> D {
     server.into_device()
 }
 
-pub(super) fn connect<D: Device>(server: &mut Server<D>) -> Result<usize, ServerFault> {
+pub fn connect<D: Device>(server: &mut Server<D>) -> Result<usize, ServerFault> {
     server.connect()
 }
 
-pub(super) fn feed<D: Device>(
+pub fn feed<D: Device>(
     server: &mut Server<D>,
     conn: usize,
     piece: &[u8],
@@ -38,44 +39,39 @@ pub(super) fn feed<D: Device>(
     server.feed(conn, piece)
 }
 
-pub(super) fn turn<D: Device>(server: &mut Server<D>, conn: usize) -> Result<Turn, ServerFault> {
+pub fn turn<D: Device>(server: &mut Server<D>, conn: usize) -> Result<Turn, ServerFault> {
     server.turn(conn, NOW)
 }
 
-pub(super) fn take_output<D: Device>(
+pub fn take_output<D: Device>(
     server: &mut Server<D>,
     conn: usize,
 ) -> Result<Option<Vec<u8>>, ServerFault> {
     server.take_output(conn)
 }
 
-pub(super) fn hangup<D: Device>(server: &mut Server<D>, conn: usize) -> Result<(), ServerFault> {
+pub fn hangup<D: Device>(server: &mut Server<D>, conn: usize) -> Result<(), ServerFault> {
     server.hangup(conn, NOW)
 }
 
 /// The tree that is mounted on what is left of a volume.
-pub(super) fn mount_tree(alloc: Global, device: MemDevice) -> Result<Fs<MemDevice>, Fail> {
+pub fn mount_tree(alloc: Global, device: MemDevice) -> Result<Fs<MemDevice>, Fail> {
     match Fs::mount(alloc, device) {
         Ok(fs) => Ok(fs),
         Err(_) => Err("not mounted".into()),
     }
 }
 
-pub(super) fn look_up(
-    fs: &Fs<MemDevice>,
-    cred: &Cred,
-    directory: u64,
-    name: u8,
-) -> Result<u64, FsFault> {
+pub fn look_up(fs: &Fs<MemDevice>, cred: &Cred, directory: u64, name: u8) -> Result<u64, FsFault> {
     fs.lookup(cred, directory, &[name])
 }
 
-pub(super) fn handle(fs: &Fs<MemDevice>, number: u64) -> Result<[u8; 8], FsFault> {
+pub fn handle(fs: &Fs<MemDevice>, number: u64) -> Result<[u8; 8], FsFault> {
     fs.handle(number)
 }
 
 /// The change of a node, and its size.
-pub(super) fn change_and_size(
+pub fn change_and_size(
     fs: &Fs<MemDevice>,
     cred: &Cred,
     number: u64,
@@ -85,7 +81,7 @@ pub(super) fn change_and_size(
 }
 
 /// Puts what one READ gives from an offset on behind other bytes; whether it reached the file's end.
-pub(super) fn read(
+pub fn read(
     fs: &mut Fs<MemDevice>,
     cred: &Cred,
     number: u64,

@@ -1,6 +1,4 @@
 //! What no contract says: the answers of worked calls, the bytes of whole connections, and that calls succeed.
 
 mod connections;
-mod drivers;
 mod sessions;
-mod trials;

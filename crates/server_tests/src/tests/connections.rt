@@ -17,9 +17,9 @@ mod sessions;
 mod unfit;
 mod volumes;
 
-use super::drivers;
 use disk::MemDevice;
 use server::{Server, Turn};
+use server_drivers as drivers;
 use std::alloc::{AllocGlobal, Global};
 use std::process::Abort;
 use std::test::Fail;

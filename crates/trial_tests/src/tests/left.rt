@@ -2,11 +2,11 @@
 
 use super::simple::World;
 use super::simple::tree::{Entry, Node, Tree};
-use crate::tests::drivers;
 use acl_eval::{Cred, Gids};
 use disk::{CrashDevice, MemDevice, Stop, landings};
 use fs::{Fs, FsFault};
 use model::status::Status;
+use server_drivers as drivers;
 use std::alloc::{AllocError, Global};
 use std::cmp::Ordering;
 use std::test::Fail;

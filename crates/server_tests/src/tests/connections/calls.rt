@@ -2,8 +2,8 @@
 
 use super::Step::{self, Asks};
 use super::{bytes_of, end, expect, feed, new_server, play};
-use crate::tests::drivers;
 use server::{ServerFault, Turn};
+use server_drivers as drivers;
 use std::alloc::{AllocGlobal, Global};
 use std::process::Abort;
 use std::test::Fail;

@@ -3,9 +3,9 @@
 use super::calls::{NULL, NULL_REPLY};
 use super::sessions::{CREATE_SESSION, EXCHANGE_ID, MAKE_A};
 use super::{bytes_of, end, expect, feed, framed, new_server, put};
-use crate::tests::drivers;
 use disk::MemDevice;
 use server::{Server, ServerFault, Turn};
+use server_drivers as drivers;
 use std::alloc::{AllocGlobal, Global};
 use std::process::Abort;
 use std::test::Fail;

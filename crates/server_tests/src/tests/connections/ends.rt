@@ -2,9 +2,9 @@
 
 use super::sessions::{CREATE_SESSION, EXCHANGE_ID, EXCHANGED};
 use super::{bytes_of, end, expect, feed, new_server, put};
-use crate::tests::drivers;
 use disk::MemDevice;
 use server::{Server, ServerFault};
+use server_drivers as drivers;
 use std::alloc::{AllocGlobal, Global};
 use std::process::Abort;
 use std::test::Fail;

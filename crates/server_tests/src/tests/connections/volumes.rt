@@ -1,9 +1,9 @@
 //! Volumes that are mounted, and ones that are not.
 
 use super::new_server;
-use crate::tests::drivers;
 use disk::{Call, Device, MemDevice, SECTOR};
 use server::{MountFault, Server};
+use server_drivers as drivers;
 use std::alloc::{AllocGlobal, Global};
 use std::process::Abort;
 use std::test::Fail;

@@ -5,7 +5,7 @@ use super::spelling::Changed;
 use super::stateids::{Need, Place};
 use super::tree::{Content, Entry, check_size};
 use super::{Work, World};
-use crate::tests::trials::operation::{
+use crate::tests::operation::{
     How, MODE, OpenState, Opening, Operation, Reading, SIZE, Stateid, Writing,
 };
 

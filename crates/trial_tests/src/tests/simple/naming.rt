@@ -4,7 +4,7 @@ use super::refused::{EXIST, NOENT, NOTDIR, Refused, STALE, unless};
 use super::spelling::Changed;
 use super::tree::{Content, Entry, ROOT};
 use super::{Work, World};
-use crate::tests::trials::operation::{CHANGE_AND_SIZE, MODE, Operation};
+use crate::tests::operation::{CHANGE_AND_SIZE, MODE, Operation};
 
 impl World {
     /// The current node, which is there.

@@ -1,7 +1,7 @@
 //! The bytes of results and replies (RFC 8881, section 18; RFC 5531, section 9).
 
 use super::refused::OK;
-use crate::tests::trials::operation::{OpenState, Operation};
+use crate::tests::operation::{OpenState, Operation};
 use std::alloc::{AllocError, Global};
 
 /// The numbers of the operations.

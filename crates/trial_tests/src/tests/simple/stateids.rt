@@ -1,7 +1,7 @@
 //! The model's opens, as a list (RFC 8881, section 8.2).
 
 use super::refused::{BAD_STATEID, DELAY, OLD_STATEID, OPENMODE, Refused, unless};
-use crate::tests::trials::operation::{OpenState, Opening, Share, Stateid};
+use crate::tests::operation::{OpenState, Opening, Share, Stateid};
 use std::alloc::{AllocError, Global};
 
 /// The most opens.
