@@ -88,124 +88,173 @@ fn nothing() -> Asked {
     asks(&[], OK)
 }
 
+/// What is written.
+const HELLO: Data = Data {
+    first: b'a',
+    len: 10,
+};
+
+const BLOCK: Data = Data { first: 0, len: 100 };
+
+const MORE: Data = Data {
+    first: b'0',
+    len: 9,
+};
+
 /// Unstable writes, and what flushes them: a stable write, a COMMIT, and the CREATE of a directory.
 fn unstable_rounds() -> [Round; 3] {
-    let (root, anonymous) = (Operation::Root, Stateid::Anonymous);
-    let hello = Data {
-        first: b'a',
-        len: 10,
-    };
-    let block = Data { first: 0, len: 100 };
     [
-        [
-            asks(
-                &[
-                    root,
-                    opens(b'f', How::Unchecked),
-                    writes(Stable::Unstable, Stateid::Current, 0, hello),
-                ],
-                OK,
-            ),
-            asks(
-                &[
-                    root,
-                    Operation::MakeDir(b'd'),
-                    opens(b'g', How::Guarded),
-                    writes(Stable::FileSync, Stateid::Current, 4090, hello),
-                ],
-                OK,
-            ),
-        ],
-        [
-            asks(
-                &[
-                    root,
-                    Operation::Lookup(b'f'),
-                    writes(Stable::Unstable, anonymous, 4050, block),
-                    reads(0, 20),
-                ],
-                OK,
-            ),
-            asks(
-                &[
-                    root,
-                    Operation::Lookup(b'd'),
-                    Operation::Lookup(b'g'),
-                    writes(Stable::Unstable, anonymous, 0, block),
-                    Operation::Commit,
-                ],
-                OK,
-            ),
-        ],
-        [
-            asks(
-                &[
-                    Operation::Handle(FIRST),
-                    writes(Stable::Unstable, anonymous, 5, hello),
-                ],
-                OK,
-            ),
-            asks(
-                &[root, Operation::GetAttributes, Operation::MakeDir(b'e')],
-                OK,
-            ),
-        ],
+        first_unstable_round(),
+        second_unstable_round(),
+        third_unstable_round(),
+    ]
+}
+
+fn first_unstable_round() -> Round {
+    [
+        asks(
+            &[
+                Operation::Root,
+                opens(b'f', How::Unchecked),
+                writes(Stable::Unstable, Stateid::Current, 0, HELLO),
+            ],
+            OK,
+        ),
+        asks(
+            &[
+                Operation::Root,
+                Operation::MakeDir(b'd'),
+                opens(b'g', How::Guarded),
+                writes(Stable::FileSync, Stateid::Current, 4090, HELLO),
+            ],
+            OK,
+        ),
+    ]
+}
+
+fn second_unstable_round() -> Round {
+    [
+        asks(
+            &[
+                Operation::Root,
+                Operation::Lookup(b'f'),
+                writes(Stable::Unstable, Stateid::Anonymous, 4050, BLOCK),
+                reads(0, 20),
+            ],
+            OK,
+        ),
+        asks(
+            &[
+                Operation::Root,
+                Operation::Lookup(b'd'),
+                Operation::Lookup(b'g'),
+                writes(Stable::Unstable, Stateid::Anonymous, 0, BLOCK),
+                Operation::Commit,
+            ],
+            OK,
+        ),
+    ]
+}
+
+fn third_unstable_round() -> Round {
+    [
+        asks(
+            &[
+                Operation::Handle(FIRST),
+                writes(Stable::Unstable, Stateid::Anonymous, 5, HELLO),
+            ],
+            OK,
+        ),
+        asks(
+            &[
+                Operation::Root,
+                Operation::GetAttributes,
+                Operation::MakeDir(b'e'),
+            ],
+            OK,
+        ),
     ]
 }
 
 /// A size, and files that end while they are open: under a rename, and by a removal.
 fn ending_rounds() -> [Round; 4] {
-    let (root, anonymous) = (Operation::Root, Stateid::Anonymous);
-    let more = Data {
-        first: b'0',
-        len: 9,
-    };
     [
-        [
-            asks(
-                &[
-                    root,
-                    Operation::Lookup(b'f'),
-                    Operation::Resize(anonymous, 4095),
-                    reads(4000, 200),
-                ],
-                OK,
-            ),
-            asks(&[root, opens(b'f', How::Guarded)], EXIST),
-        ],
-        [
-            asks(
-                &[
-                    root,
-                    opens(b'c', How::Unchecked),
-                    writes(Stable::FileSync, Stateid::Current, 0, more),
-                ],
-                OK,
-            ),
-            asks(
-                &[
-                    root,
-                    Operation::Lookup(b'd'),
-                    Operation::Lookup(b'g'),
-                    writes(Stable::Unstable, anonymous, 8190, more),
-                ],
-                OK,
-            ),
-        ],
-        [
-            asks(&[root, Operation::Save, Operation::Rename(b'c', b'f')], OK),
-            asks(
-                &[root, Operation::Lookup(b'd'), Operation::Remove(b'g')],
-                OK,
-            ),
-        ],
-        [
-            asks(
-                &[root, Operation::Lookup(b'f'), Operation::Close(THIRD_OPEN)],
-                OK,
-            ),
-            asks(&[Operation::Handle(FOURTH), reads(0, 1)], STALE),
-        ],
+        shrinking_round(),
+        writing_round(),
+        removing_round(),
+        closing_round(),
+    ]
+}
+
+fn shrinking_round() -> Round {
+    [
+        asks(
+            &[
+                Operation::Root,
+                Operation::Lookup(b'f'),
+                Operation::Resize(Stateid::Anonymous, 4095),
+                reads(4000, 200),
+            ],
+            OK,
+        ),
+        asks(&[Operation::Root, opens(b'f', How::Guarded)], EXIST),
+    ]
+}
+
+fn writing_round() -> Round {
+    [
+        asks(
+            &[
+                Operation::Root,
+                opens(b'c', How::Unchecked),
+                writes(Stable::FileSync, Stateid::Current, 0, MORE),
+            ],
+            OK,
+        ),
+        asks(
+            &[
+                Operation::Root,
+                Operation::Lookup(b'd'),
+                Operation::Lookup(b'g'),
+                writes(Stable::Unstable, Stateid::Anonymous, 8190, MORE),
+            ],
+            OK,
+        ),
+    ]
+}
+
+fn removing_round() -> Round {
+    [
+        asks(
+            &[
+                Operation::Root,
+                Operation::Save,
+                Operation::Rename(b'c', b'f'),
+            ],
+            OK,
+        ),
+        asks(
+            &[
+                Operation::Root,
+                Operation::Lookup(b'd'),
+                Operation::Remove(b'g'),
+            ],
+            OK,
+        ),
+    ]
+}
+
+fn closing_round() -> Round {
+    [
+        asks(
+            &[
+                Operation::Root,
+                Operation::Lookup(b'f'),
+                Operation::Close(THIRD_OPEN),
+            ],
+            OK,
+        ),
+        asks(&[Operation::Handle(FOURTH), reads(0, 1)], STALE),
     ]
 }
 
