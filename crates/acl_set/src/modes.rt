@@ -49,13 +49,15 @@ fn is_allow(kind: AceKind) -> bool
 
 // Whether an entry decides a right for a class, where none before it does.
 fn decides(ace: &Ace, class: Class, right: Mask) -> bool
-    ensures { result ≡ ((counts ace.now && named_by class ace.now.who) && meets ace.now.mask.0 right.0) }
+    ensures { result ≡ ((counts ace.now && named_by class ace.now.who)
+        && meets ace.now.mask.0 right.0) }
 {
     ace.counts() && class.names(ace.who) && ace.mask.intersects(right)
 }
 
 fn allows(acl: &[Ace], class: Class, right: Mask) -> bool
-    ensures { result ≡ allows_right (filter (λ ace. counts ace && named_by class ace.who) acl.now) right.0 }
+    ensures { result ≡ allows_right
+        (filter (λ ace. counts ace && named_by class ace.who) acl.now) right.0 }
 {
     for ace in acl {
         if decides(ace, class, right) {
@@ -67,7 +69,8 @@ fn allows(acl: &[Ace], class: Class, right: Mask) -> bool
 
 // Read 4, write 2 and execute 1, as the list allows them to a class.
 fn permissions_of(acl: &[Ace], class: Class) -> u32
-    ensures value { result ≡ permissions (filter (λ ace. counts ace && named_by class ace.who) acl.now) }
+    ensures value { result ≡ permissions
+        (filter (λ ace. counts ace && named_by class ace.who) acl.now) }
     ensures three_bits { result ≤ 7 }
 {
     let can_read = allows(acl, class, Mask::READ_DATA);
@@ -133,7 +136,8 @@ fn push_if_any(list: &mut Acl, ace: Ace) -> Result<(), AllocError>
 // What a mode allows and denies to a special name.
 fn push_special(list: &mut Acl, kind: NodeKind, who: Who, bits: u32) -> Result<(), AllocError>
     ensures { OnOk result (list.new ≡ list.old
-        ++ filter has_rights (entry AceKind.Allow who (rights_of kind bits) ∷ entry AceKind.Deny who (rights_lacking kind bits) ∷ [])) }
+        ++ filter has_rights (entry AceKind.Allow who (rights_of kind bits)
+        ∷ entry AceKind.Deny who (rights_lacking kind bits) ∷ [])) }
 {
     push_if_any(list, entry(AceKind::Allow, who, rights_of(kind, bits)))?;
     push_if_any(list, entry(AceKind::Deny, who, rights_lacking(kind, bits)))
@@ -141,7 +145,12 @@ fn push_special(list: &mut Acl, kind: NodeKind, who: Who, bits: u32) -> Result<(
 
 // An entry of a number, an ALLOW without the rights that the group lacks.
 fn limited(ace: &Ace, lacking: Mask) -> Ace
-    ensures { result ≡ record ace.now { mask = record { 0 = limited_kind ace.now.kind ace.now.mask.0 lacking.0 } } }
+    ensures { result ≡ record ace.now {
+      mask = record {
+        0 = limited_kind ace.now.kind
+            ace.now.mask.0 lacking.0;
+      };
+    } }
 {
     match ace.kind {
         AceKind::Allow => Ace {
@@ -161,7 +170,8 @@ fn is_of_number(ace: &Ace) -> bool
 
 fn push_numbers(list: &mut Acl, kind: NodeKind, acl: &[Ace], mode: u32) -> Result<(), AllocError>
     ensures { OnOk result (list.new ≡ list.old
-        ++ filter has_rights (map (limited kind mode) (filter (λ ace. counts ace && not (is_special ace.who)) acl.now))) }
+        ++ filter has_rights (map (limited kind mode)
+        (filter (λ ace. counts ace && not (is_special ace.who)) acl.now))) }
 {
     let lacking = rights_lacking(kind, mode / 8 % 8);
     for ace in acl {
@@ -184,7 +194,8 @@ fn is_handed_down(ace: &Ace) -> bool
 }
 
 fn push_handed_down(list: &mut Acl, acl: &[Ace]) -> Result<(), AllocError>
-    ensures { OnOk result (list.new ≡ list.old ++ filter has_rights (map not_counting (filter is_handed_down acl.now))) }
+    ensures { OnOk result (list.new
+        ≡ list.old ++ filter has_rights (map not_counting (filter is_handed_down acl.now))) }
 {
     for ace in acl {
         if is_handed_down(ace) {

@@ -89,7 +89,8 @@ impl Client {
         ensures ok { OnOk result
             (requested self.old (map argument_view operations.now) ≡ Some self.new) }
         ensures refused { IfErr result (λ e. MatchOption
-            (requested self.old (map argument_view operations.now)) (e ≡ Pending) (λ _. e ≡ Memory)) }
+            (requested self.old (map argument_view operations.now)) (e ≡ Pending)
+            (λ _. e ≡ Memory)) }
         ensures err { OnErr result (self.new ≡ self.old) }
     {
         if let Some(sent) = &self.sent {
@@ -139,7 +140,8 @@ impl Client {
     pub fn reply<'a>(&mut self, bytes: &'a [u8]) -> Result<Vec<Outcome<'a>>, ClientFault<'a>>
         ensures ok { IfOk result (λ results.
             Answers (reply_to self.old bytes.now) (map outcome_view results.items)) }
-        ensures refused { IfErr result (λ e. (e ≡ Memory) ⊎ Refuses (reply_to self.old bytes.now) e) }
+        ensures refused { IfErr result (λ e. (e ≡ Memory)
+            ⊎ Refuses (reply_to self.old bytes.now) e) }
         ensures known { self.new ≡ known self.old (reply_to self.old bytes.now) result }
     {
         let Some(sent) = &self.sent else {

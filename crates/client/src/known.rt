@@ -94,7 +94,8 @@ pub(crate) fn learn(
 }
 
 fn next_request(session: Option<Session>) -> Option<Session>
-    ensures { option_map session_of result ≡ option_map next_request (option_map session_of session) }
+    ensures { option_map session_of result
+        ≡ option_map next_request (option_map session_of session) }
 {
     let session = session?;
     let id = session.id;

@@ -43,7 +43,8 @@ pub(crate) fn read_result<'a>(
 
 #[tactic(auto, unfolding(xdr::specs::Forms::elements_at))]
 fn read_outcomes<'a>(alloc: Global, r: &mut Reader<'a>) -> Result<Vec<Outcome<'a>>, Refusal>
-    ensures { Reads (λ list. map outcome_view list.items) ((array 4294967295 outcome).read) r.old r.new result }
+    ensures { Reads (λ list. map outcome_view list.items)
+        ((array 4294967295 outcome).read) r.old r.new result }
 {
     let mut at = r.fork();
     let count = at.read_u32()?;
@@ -90,7 +91,8 @@ pub(crate) fn ending(operations: &[u32], results: &[Outcome<'_>]) -> Option<Stat
 
 /// The status of the last result, which may be OK only where all operations are answered.
 fn ending_with(last: &Outcome<'_>, is_ok: bool, is_whole: bool) -> Option<Status>
-    ensures { result ≡ (if not is_ok || is_whole then Some (status_of (outcome_view last.now)) else None) }
+    ensures { result ≡ (if not is_ok
+        || is_whole then Some (status_of (outcome_view last.now)) else None) }
 {
     if !is_ok || is_whole {
         Some(status_of(last))

@@ -124,7 +124,8 @@ impl Running<'_> {
         number: u64,
     ) -> Result<Open, Fault>
         ensures ok { IfOk result (λ asked. open_of asked
-            ≡ new_open (in_progress_of self.now).context.client (open_view arguments.now).owner number
+            ≡ new_open (in_progress_of self.now).context.client
+            (open_view arguments.now).owner number
             (open_view arguments.now).access) }
         ensures err { IfErr result (λ fault. fault ≡ Memory) }
     {

@@ -36,8 +36,10 @@ impl Running<'_> {
         requires run { (in_progress_of self.now).context.run ≡ (fs_of fs.old).volume.run }
         requires first { comes_first (argument_view argument.now) ≡ true
             → (in_progress_of self.now).answered ≡ 0 }
-        ensures gives { D.keeps_word → IfOk result (Operates now (shared_of fs.old table.old opens.old)
-            (shared_of fs.new table.new opens.new) (in_progress_of self.now) (argument_view argument.now)) }
+        ensures gives { D.keeps_word → IfOk result
+            (Operates now (shared_of fs.old table.old opens.old)
+            (shared_of fs.new table.new opens.new) (in_progress_of self.now)
+            (argument_view argument.now)) }
         ensures answered { IfOk result (IsAnswered (in_progress_of self.now)) }
         ensures kept { IfOk result (IsKept (table_of table.new)) }
         ensures table { OnErr result (table_of table.new ≡ table_of table.old) }

@@ -113,7 +113,8 @@ impl Running<'_> {
 /// The node that stood under the new name is gone, and its opens with it. A name that is given to itself leaves them.
 fn end_replaced(opens: &mut Opens, asked: Renaming<'_>, replaced: Option<u64>)
     ensures { opens_of opens.new
-        ≡ opens_behind (is_itself asked.entry.from asked.entry.to (arguments_of asked.entry)) replaced
+        ≡ opens_behind (is_itself asked.entry.from asked.entry.to
+        (arguments_of asked.entry)) replaced
         (opens_of opens.old) }
 {
     if asked.from == asked.to && asked.old_name == asked.new_name {

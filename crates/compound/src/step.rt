@@ -65,7 +65,8 @@ impl Running<'_> {
         requires run { (in_progress_of self).context.run ≡ (fs_of fs.old).volume.run }
         // Done
         ensures step { D.keeps_word → IfOk result (Steps now (shared_of fs.old table.old opens.old)
-            (shared_of fs.new table.new opens.new) (asked_of self.entry) (in_progress_of self.entry)) }
+            (shared_of fs.new table.new opens.new) (asked_of self.entry)
+            (in_progress_of self.entry)) }
         ensures stays { IfOk result (StaysInRun (fs_of fs.old).volume.run) }
         ensures further { IfOk result (GoesFurther (in_progress_of self.entry)) }
         ensures fits { IfOk result (λ done. still_fits (asked_of self.entry) done ≡ true) }
@@ -113,7 +114,8 @@ impl Running<'_> {
     ) -> Result<Ran, Fault>
         requires up { (fs_of fs.old).volume.is_down ≡ false }
         requires run { (in_progress_of self.now).context.run ≡ (fs_of fs.old).volume.run }
-        ensures turns { D.keeps_word → IfOk result (λ ran. Turns now (shared_of fs.old table.old opens.old)
+        ensures turns { D.keeps_word → IfOk result
+            (λ ran. Turns now (shared_of fs.old table.old opens.old)
             (shared_of fs.new table.new opens.new) (in_progress_of self.now)
             (drop ran.position self.now.compound.operations.now) ran.done) }
         ensures within { IfOk result (λ ran.

@@ -19,7 +19,8 @@ const WIDTH: usize = 272;
 fn put_record(sector: &mut [u8; 4096], at: usize, entry: &Entry)
     requires within { at + 272 ≤ 4096 }
     requires few { length entry.now.name.items ≤ 255 }
-    ensures front { take (at + 272) sector.new ≡ take at sector.old ++ record_bytes (record_of entry.now) }
+    ensures front { take (at + 272) sector.new
+        ≡ take at sector.old ++ record_bytes (record_of entry.now) }
     ensures len { length sector.new ≡ 4096 }
 {
     let len = entry.name.len();
@@ -48,8 +49,10 @@ fn entry_at(alloc: Global, sector: &[u8; 4096], at: usize) -> Result<Entry, Reco
     requires { at + 272 ≤ 4096 }
     ensures fits { IfOk result (λ entry. IsRecord (record_of entry)) }
     ensures only { (other : Record) (rest : List ℕ) → IsRecord other
-        → drop at sector.now ≡ record_bytes other ++ rest → IfOk result (λ entry. record_of entry ≡ other) }
-    ensures err { IsErrOf result RecordsFault.NotRecords → (other : Record) (rest : List ℕ) → IsRecord other
+        → drop at sector.now ≡ record_bytes other ++ rest
+        → IfOk result (λ entry. record_of entry ≡ other) }
+    ensures err { IsErrOf result RecordsFault.NotRecords → (other : Record) (rest : List ℕ)
+        → IsRecord other
         → drop at sector.now ≡ record_bytes other ++ rest → ⊥ }
 {
     let len = usize::from(sector[at + 16]);
@@ -70,8 +73,10 @@ fn entries_in(alloc: Global, count: usize, sector: &[u8; 4096]) -> Result<Vec<En
     ensures count { IfOk result (λ entries. length entries.items ≡ count) }
     ensures fits { IfOk result (λ entries. AllByRecursion IsRecord (map record_of entries.items)) }
     ensures only { (others : List Record) → AllByRecursion IsRecord others → length others ≡ count
-        → sector.now ≡ directory_sector others → IfOk result (λ entries. map record_of entries.items ≡ others) }
-    ensures err { IsErrOf result RecordsFault.NotRecords → (others : List Record) → AllByRecursion IsRecord others
+        → sector.now ≡ directory_sector others
+        → IfOk result (λ entries. map record_of entries.items ≡ others) }
+    ensures err { IsErrOf result RecordsFault.NotRecords → (others : List Record)
+        → AllByRecursion IsRecord others
         → length others ≡ count → sector.now ≡ directory_sector others → ⊥ }
 {
     let mut entries = Vec::new(alloc);
@@ -94,8 +99,10 @@ pub fn read_records(
     requires { count ≤ 15 }
     ensures count { IfOk result (λ entries. length entries.items ≡ count) }
     ensures fits { IfOk result (λ entries. AllByRecursion IsRecord (map record_of entries.items)) }
-    ensures found { IfOk result (λ entries. sector.now ≡ directory_sector (map record_of entries.items)) }
-    ensures not_records { IsErrOf result RecordsFault.NotRecords → (others : List Record) → AllByRecursion IsRecord others
+    ensures found { IfOk result (λ entries. sector.now
+        ≡ directory_sector (map record_of entries.items)) }
+    ensures not_records { IsErrOf result RecordsFault.NotRecords → (others : List Record)
+        → AllByRecursion IsRecord others
         → length others ≡ count → ¬ (sector.now ≡ directory_sector others) }
 {
     let entries = entries_in(alloc, count, sector)?;

@@ -108,7 +108,8 @@ impl CrashDevice {
         ensures size { IfOk result (λ device. size_of device ≡ crash_size self.now) }
         ensures landed { IfOk result (λ device. history_of device
             ≡ at_rest (landed_image landing.now (crash_history self.now).now)) }
-        ensures left { IfOk result (λ device. Left (crash_history self.now).now (seen (history_of device).now)) }
+        ensures left { IfOk result (λ device. Left (crash_history self.now).now
+            (seen (history_of device).now)) }
         ensures calls { IfOk result (λ device. calls_of device ≡ []) }
         ensures failures { IfOk result (λ device. failures_of device ≡ 0) }
         ensures memory { OnErr result (result ≡ Err DiskFault.Memory) }
@@ -183,14 +184,16 @@ impl Device for CrashDevice {
         ensures ok { OnOk result (crash_history self.new
             ≡ wrote (record { target = n; content = content.now }) (crash_history self.old)) }
         ensures err { OnErr result ((crash_history self.new ≡ crash_history self.old)
-            ⊎ (crash_history self.new ≡ wrote (record { target = n; content = content.now }) (crash_history self.old))) }
+            ⊎ (crash_history self.new ≡ wrote (record { target = n; content = content.now })
+            (crash_history self.old))) }
         ensures untouched { IsErrOf result DiskFault.Range
             → (crash_history self.new ≡ crash_history self.old) × IsSameCourse self.old self.new }
         ensures range { IsErrOf result DiskFault.Range ↔ (crash_size self.old ≤ n) }
         ensures size { crash_size self.new ≡ crash_size self.old }
         ensures cause { HasCause (crash_failures self.old) (crash_failures self.new) result }
         ensures fate { n < crash_size self.old
-            → AnswersFate (next_fate self.old) (crash_history self.old) (crash_history self.new) result }
+            → AnswersFate (next_fate self.old) (crash_history self.old)
+            (crash_history self.new) result }
         ensures course { n < crash_size self.old → IsNextCourse self.old self.new }
     {
         if n >= self.device.sectors() {
@@ -213,7 +216,8 @@ impl Device for CrashDevice {
         ensures not_range { IsErrOf result DiskFault.Range → ⊥ }
         ensures size { crash_size self.new ≡ crash_size self.old }
         ensures cause { HasCause (crash_failures self.old) (crash_failures self.new) result }
-        ensures fate { AnswersFate (next_fate self.old) (crash_history self.old) (crash_history self.new) result }
+        ensures fate { AnswersFate (next_fate self.old) (crash_history self.old)
+            (crash_history self.new) result }
         ensures course { IsNextCourse self.old self.new }
     {
         match self.begin() {
@@ -229,7 +233,8 @@ impl Device for CrashDevice {
 fn land(sectors: &mut [[u8; SECTOR]], since: &[Call], landing: &[Landed])
     requires { length sectors.old < 2 ^ 32 }
     ensures { (n : ℕ) → n < length sectors.old → image_of sectors.new n
-        ≡ slice_index_or (image_of sectors.old n ∷ written_by n since.now) (number_for landing.now n) (image_of sectors.old n) }
+        ≡ slice_index_or (image_of sectors.old n ∷ written_by n since.now)
+        (number_for landing.now n) (image_of sectors.old n) }
 {
     for (n, content) in sectors.iter_mut().enumerate() {
         let sector = n as u32;

@@ -42,9 +42,11 @@ pub trait Device: Drop {
     /// failed counts as landed or not.
     fn write(&mut self, n: u32, content: &[u8; SECTOR]) -> Result<(), DiskFault>
         ensures ok { keeps_word → OnOk result
-            (history self.new ≡ wrote (record { target = n; content = content.now }) (history self.old)) }
+            (history self.new ≡ wrote (record { target = n; content = content.now })
+            (history self.old)) }
         ensures err { keeps_word → OnErr result ((history self.new ≡ history self.old)
-            ⊎ (history self.new ≡ wrote (record { target = n; content = content.now }) (history self.old))) }
+            ⊎ (history self.new ≡ wrote (record { target = n; content = content.now })
+            (history self.old))) }
         ensures range { IsErrOf result DiskFault.Range ↔ (size self.old ≤ n) }
         ensures untouched { IsErrOf result DiskFault.Range → history self.new ≡ history self.old }
         ensures size { size self.new ≡ size self.old }

@@ -83,7 +83,8 @@ fn push_choices(
     unsynced: Unsynced,
 ) -> Result<(), AllocError>
     ensures { OnOk result (lists_of longer.new.items
-        ≡ lists_of longer.old.items ++ map (λ choice. landing.now ++ choice ∷ []) (choices_to unsynced.sector unsynced.contents)) }
+        ≡ lists_of longer.old.items ++ map
+        (λ choice. landing.now ++ choice ∷ []) (choices_to unsynced.sector unsynced.contents)) }
 {
     let sector = unsynced.sector;
     longer.push(with_choice(alloc, landing, Landed { sector, content: 0 })?)?;

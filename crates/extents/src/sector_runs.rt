@@ -30,8 +30,10 @@ fn put_run(sector: &mut [u8; 4096], at: usize, run: Run)
 
 fn run_at(sector: &[u8; 4096], at: usize) -> Run
     requires { at + 8 ≤ 4096 }
-    ensures run { (run : Run) (rest : List ℕ) → IsRun run → drop at sector.now ≡ run_bytes run ++ rest → result ≡ run }
-    ensures none { (rest : List ℕ) → drop at sector.now ≡ replicate 8 0 ++ rest → result.length ≡ 0 }
+    ensures run { (run : Run) (rest : List ℕ) → IsRun run
+        → drop at sector.now ≡ run_bytes run ++ rest → result ≡ run }
+    ensures none { (rest : List ℕ) → drop at sector.now ≡ replicate 8 0 ++ rest
+        → result.length ≡ 0 }
 {
     Run {
         block: u16_at(sector, at),

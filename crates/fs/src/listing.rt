@@ -119,7 +119,8 @@ impl<D: Device> Fs<D> {
 
     /// The tests before those of the page, and the directory.
     fn permit_list(&self, cred: &Cred, listing: &Listing<'_>) -> Result<&Card, Status>
-        ensures tests { (dir_count : ℕ) → IsChecked (list_refusals (fs_of self.entry.now).volume.tree
+        ensures tests { (dir_count : ℕ)
+            → IsChecked (list_refusals (fs_of self.entry.now).volume.tree
             cred.now listing.now.directory (list_arguments listing.now dir_count)) result }
         ensures names { IfOk result (λ card. by_stamp card.now.names
             ≡ names_at (fs_of self.entry.now).volume.tree listing.now.directory) }

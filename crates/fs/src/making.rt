@@ -113,7 +113,8 @@ impl<D: Device> Fs<D> {
             → IfOk result (λ planned. does_on (fs_of self.now) state now
             (new_directory asked.entry.name.now (given_of asked.entry.attributes))
             ≡ created (edited_by (fs_of self.now).volume planned.edits.items)
-            ((fs_of self.now).changes + 1) state (given_of asked.entry.attributes) planned.created) }
+            ((fs_of self.now).changes + 1) state
+            (given_of asked.entry.attributes) planned.created) }
         // Refused
         ensures refused { (state : State) → IsOn (fs_of self.now) cred.now asked.entry.parent state
             → IfErr result (λ refusal. IsNotDone (fs_of self.now) state now
@@ -145,7 +146,8 @@ impl<D: Device> Fs<D> {
     /// is set.
     fn permit_dir(&self, cred: &Cred, asked: NewDirectory) -> Result<(&Card, Settings), Refusal>
         requires { length asked.attributes.bitmap.now ≤ 8 }
-        ensures tests { IsCheckedInMemory (new_directory_refusals (fs_of self.entry.now).volume.limits
+        ensures tests { IsCheckedInMemory
+            (new_directory_refusals (fs_of self.entry.now).volume.limits
             (fs_of self.entry.now).volume.tree cred.now asked.entry.parent asked.entry.name.now
             (given_of asked.entry.attributes)) result }
         ensures parent { IfOk result (λ permitted.

@@ -122,7 +122,8 @@ impl<D: Device> Fs<D> {
             → IsOn (fs_of self.now) cred.now asked.entry.directory state
             → IsOpening (fs_of self.now) state asked.entry is_full arguments
             → IfOk result (λ planned. MatchOption planned.edits
-            (StaysOpen (fs_of self.now) state now arguments (type_of asked.entry.how) planned.opened)
+            (StaysOpen (fs_of self.now) state now arguments
+            (type_of asked.entry.how) planned.opened)
             (λ edits. OpensBy (fs_of self.now) state now arguments (type_of asked.entry.how)
             edits.items planned.opened)) }
         ensures opened { IfOk result (λ planned.
@@ -190,7 +191,8 @@ impl<D: Device> Fs<D> {
         ensures step { (state : State) (arguments : OpenArguments)
             → IsPlaced (fs_of self.now) cred.now asked.entry is_full state arguments
             → IfOk result (λ planned. MatchOption planned.edits
-            (StaysOpen (fs_of self.now) state now arguments (type_of asked.entry.how) planned.opened)
+            (StaysOpen (fs_of self.now) state now arguments
+            (type_of asked.entry.how) planned.opened)
             (λ edits. OpensBy (fs_of self.now) state now arguments (type_of asked.entry.how)
             edits.items planned.opened)) }
         ensures opened { IfOk result (λ planned.
@@ -354,7 +356,8 @@ impl<D: Device> Fs<D> {
         ensures step { (state : State) (arguments : OpenArguments)
             → IsPlaced (fs_of self.now) cred.now asked.entry is_full state arguments
             → IfOk result (λ planned. MatchOption planned.edits
-            (StaysOpen (fs_of self.now) state now arguments (type_of asked.entry.how) planned.opened)
+            (StaysOpen (fs_of self.now) state now arguments
+            (type_of asked.entry.how) planned.opened)
             (λ edits. OpensBy (fs_of self.now) state now arguments (type_of asked.entry.how)
             edits.items planned.opened)) }
         ensures opened { IfOk result (λ planned.

@@ -77,7 +77,8 @@ pub fn put_ace(sector: &mut [u8; 4096], at: usize, ace: Ace)
 pub fn ace_at(sector: &[u8; 4096], at: usize) -> Option<Ace>
     requires { at + 16 ≤ 4096 }
     ensures fits { IfSome result IsAce }
-    ensures only { (ace : Ace) (rest : List ℕ) → IsAce ace → drop at sector.now ≡ ace_bytes ace ++ rest → result ≡ Some ace }
+    ensures only { (ace : Ace) (rest : List ℕ) → IsAce ace
+        → drop at sector.now ≡ ace_bytes ace ++ rest → result ≡ Some ace }
 {
     let kind = kind_from(sector[at])?;
     let who = who_from(sector[at + 1], u32_at(sector, at + 8))?;

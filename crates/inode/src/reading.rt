@@ -44,10 +44,14 @@ fn run_sector_at(sector: &[u8; 4096], at: usize) -> Option<u32>
 /// The numbers of the first run sectors.
 fn run_sectors_in(alloc: Global, sector: &[u8; 4096], count: usize) -> Result<Vec<u32>, InodeFault>
     requires { count ≤ 9 }
-    ensures fits { IfOk result (λ numbers. (vec_len numbers ≡ count) × AllByRecursion IsRunSector numbers.items) }
-    ensures only { (numbers : List ℕ) (rest : List ℕ) → AllByRecursion IsRunSector numbers → length numbers ≡ count
-        → drop 48 sector.now ≡ flat_map number_bytes numbers ++ rest → IfOk result (λ found. found.items ≡ numbers) }
-    ensures err { IsErrOf result InodeFault.NotInode → (numbers : List ℕ) (rest : List ℕ) → AllByRecursion IsRunSector numbers
+    ensures fits { IfOk result (λ numbers. (vec_len numbers ≡ count)
+        × AllByRecursion IsRunSector numbers.items) }
+    ensures only { (numbers : List ℕ) (rest : List ℕ) → AllByRecursion IsRunSector numbers
+        → length numbers ≡ count
+        → drop 48 sector.now ≡ flat_map number_bytes numbers ++ rest
+        → IfOk result (λ found. found.items ≡ numbers) }
+    ensures err { IsErrOf result InodeFault.NotInode → (numbers : List ℕ) (rest : List ℕ)
+        → AllByRecursion IsRunSector numbers
         → length numbers ≡ count → drop 48 sector.now ≡ flat_map number_bytes numbers ++ rest → ⊥ }
 {
     let mut numbers = Vec::new(alloc);
@@ -64,9 +68,11 @@ fn run_sectors_in(alloc: Global, sector: &[u8; 4096], count: usize) -> Result<Ve
 fn acl_in(alloc: Global, sector: &[u8; 4096], count: usize) -> Result<Acl, InodeFault>
     requires { count ≤ 40 }
     ensures fits { IfOk result (λ acl. (length acl ≡ count) × AllByRecursion IsAce acl) }
-    ensures only { (aces : List Ace) (rest : List ℕ) → AllByRecursion IsAce aces → length aces ≡ count
+    ensures only { (aces : List Ace) (rest : List ℕ) → AllByRecursion IsAce aces
+        → length aces ≡ count
         → drop 128 sector.now ≡ flat_map ace_bytes aces ++ rest → IfOk result (λ acl. acl ≡ aces) }
-    ensures err { IsErrOf result InodeFault.NotInode → (aces : List Ace) (rest : List ℕ) → AllByRecursion IsAce aces
+    ensures err { IsErrOf result InodeFault.NotInode → (aces : List Ace) (rest : List ℕ)
+        → AllByRecursion IsAce aces
         → length aces ≡ count → drop 128 sector.now ≡ flat_map ace_bytes aces ++ rest → ⊥ }
 {
     let mut acl = Acl::new(alloc);
@@ -82,9 +88,11 @@ fn acl_in(alloc: Global, sector: &[u8; 4096], count: usize) -> Result<Acl, Inode
 /// The inode that would stand in a sector, whatever stands in the bytes between its fields.
 fn inode_in(alloc: Global, sector: &[u8; 4096]) -> Result<Inode, InodeFault>
     ensures fits { IfOk result (λ inode. IsInode (fields_of inode)) }
-    ensures only { (form : Form) (fields : Fields) → IsInode fields → sector.now ≡ inode_sector form fields
+    ensures only { (form : Form) (fields : Fields) → IsInode fields
+        → sector.now ≡ inode_sector form fields
         → IfOk result (λ inode. fields_of inode ≡ fields) }
-    ensures err { IsErrOf result InodeFault.NotInode → (form : Form) (fields : Fields) → IsInode fields
+    ensures err { IsErrOf result InodeFault.NotInode → (form : Form) (fields : Fields)
+        → IsInode fields
         → sector.now ≡ inode_sector form fields → ⊥ }
 {
     let Some(kind) = kind_from(sector[4]) else {

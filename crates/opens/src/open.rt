@@ -74,7 +74,8 @@ impl Entry {
 
     /// Whether it is an open of the client on the file where a stateid is used.
     pub(crate) fn is_of(&self, standing: &Standing) -> bool
-        ensures { result ≡ (self.now.state.client == standing.now.client && self.now.state.number == standing.now.number) }
+        ensures { result ≡ (self.now.state.client == standing.now.client
+            && self.now.state.number == standing.now.number) }
     {
         self.state.client == standing.client && self.state.number == standing.number
     }

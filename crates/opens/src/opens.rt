@@ -76,7 +76,8 @@ impl Opens {
         requires room { HasRoom self.old }
         requires serial { CanOpen (opens_of self.old) (open_of asked) }
         ensures opens { opens_of self.new ≡ (opened (opens_of self.old) (open_of asked)).opens }
-        ensures state { state_view result ≡ named_by run (opened (opens_of self.old) (open_of asked)) }
+        ensures state { state_view result
+            ≡ named_by run (opened (opens_of self.old) (open_of asked)) }
     {
         if let Some(place) = self.position_like(&asked) {
             let entry = &mut self.list[place];
@@ -114,7 +115,8 @@ impl Opens {
 
     // The open that a stateid's twelve bytes name: one of another run has no serial here.
     fn named(&self, run: u32, other: &[u8; 12]) -> Option<&Entry>
-        ensures some { IfSome result (λ entry. IsNamed run other.now (opens_of self.now) entry.now) }
+        ensures some { IfSome result (λ entry. IsNamed run other.now
+            (opens_of self.now) entry.now) }
         ensures none { IfNone result (open_named (opens_of self.now) run other.now ≡ None) }
     {
         if &other[..4] != run.to_be_bytes().as_slice() {

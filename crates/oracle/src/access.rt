@@ -59,7 +59,8 @@ fn asked_bits(kind: NodeKind, asked: u32) -> u32
 
 // A bit where it is asked and the node grants what it asks for.
 fn granted_bit(node: &Node, cred: &Cred, asked: u32, bit: u32, mask: Mask) -> u32
-    ensures value { result ≡ (if meets asked bit && granted_on (Some node.now) cred.now mask.0 then bit else 0) }
+    ensures value { result ≡ (if meets asked bit
+        && granted_on (Some node.now) cred.now mask.0 then bit else 0) }
     ensures small { result ≤ bit }
 {
     bit_if(asked & bit != 0 && node.grants(cred, mask), bit)
@@ -67,7 +68,8 @@ fn granted_bit(node: &Node, cred: &Cred, asked: u32, bit: u32, mask: Mask) -> u3
 
 // The bits that are asked and granted.
 fn granted_bits(node: &Node, cred: &Cred, asked: u32) -> u32
-    ensures { result ≡ granted_bits node.now cred.now asked (access_masks (kind_of node.now.content)) }
+    ensures { result ≡ granted_bits node.now cred.now asked
+        (access_masks (kind_of node.now.content)) }
 {
     let add = Mask::from_bits_retain(ADD);
     let add_or_delete = Mask::from_bits_retain(ADD_OR_DELETE);

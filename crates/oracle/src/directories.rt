@@ -31,7 +31,8 @@ fn new_directory(
     stamp: u128,
     now: u64,
 ) -> Result<Node, AllocError>
-    ensures { IfOk result (λ node. node ≡ new_directory cred.now parent.now (attributes_view given.now) stamp now) }
+    ensures { IfOk result (λ node. node
+        ≡ new_directory cred.now parent.now (attributes_view given.now) stamp now) }
 {
     let set = settings_of(alloc, given)?;
     Ok(Node {
@@ -122,8 +123,10 @@ pub fn rename<'a>(
     now: u64,
     arguments: &RenameArguments<'_>,
 ) -> Result<Effect<'a>, AllocError>
-    ensures { IfOk result (λ effect. effect_of state.now (not (is_same_name (state_of state.now).context (rename_view arguments.now))) effect
-        ≡ rename (is_same_name (state_of state.now).context (rename_view arguments.now)) (state_of state.now) now
+    ensures { IfOk result (λ effect. effect_of state.now
+        (not (is_same_name (state_of state.now).context (rename_view arguments.now))) effect
+        ≡ rename (is_same_name (state_of state.now).context (rename_view arguments.now))
+        (state_of state.now) now
         (rename_view arguments.now)) }
 {
     let (tree, from, to, stamp) = (&state.tree, state.saved(), state.current(), state.stamp());

@@ -83,8 +83,10 @@ pub fn write<'a>(
     now: u64,
     arguments: &WriteArguments<'_>,
 ) -> Result<Effect<'a>, AllocError>
-    ensures { IfOk result (λ effect. effect_of state.now (has_bytes (write_view arguments.now)) effect
-        ≡ write (has_bytes (write_view arguments.now)) limits.now (state_of state.now) now (write_view arguments.now)) }
+    ensures { IfOk result (λ effect. effect_of state.now
+        (has_bytes (write_view arguments.now)) effect
+        ≡ write (has_bytes (write_view arguments.now)) limits.now (state_of state.now) now
+        (write_view arguments.now)) }
 {
     let answer = wrote(limits, state, arguments);
     if arguments.data.is_empty() {

@@ -21,7 +21,8 @@ use std::alloc::{AllocError, Global};
 /// GETFH: the current node's filehandle.
 pub fn get_handle<'a>(alloc: Global, state: &State<'a>) -> Result<Effect<'a>, AllocError>
     ensures { IfOk result (λ effect. effect_of state.now false effect
-        ≡ answered (state_of state.now) (ToldAnswer.GetFh (filehandle_of (current (state_of state.now))))) }
+        ≡ answered (state_of state.now)
+        (ToldAnswer.GetFh (filehandle_of (current (state_of state.now))))) }
 {
     let handle = eight_bytes(state.current());
     unchanged(alloc, state, Answer::GetFh(handle))
@@ -31,7 +32,8 @@ pub fn get_handle<'a>(alloc: Global, state: &State<'a>) -> Result<Effect<'a>, Al
 pub fn look_up<'a>(alloc: Global, state: &State<'a>, name: &[u8]) -> Result<Effect<'a>, AllocError>
     ensures { IfOk result (λ effect. effect_of state.now false effect
         ≡ answered (moved_to (state_of state.now)
-        (number_named (state_of state.now).tree (current (state_of state.now)) name.now)) ToldAnswer.Lookup) }
+        (number_named (state_of state.now).tree
+        (current (state_of state.now)) name.now)) ToldAnswer.Lookup) }
 {
     let number = number_named(&state.tree, state.current(), name);
     moved(alloc, state, number, Answer::Lookup)
@@ -41,7 +43,8 @@ pub fn look_up<'a>(alloc: Global, state: &State<'a>, name: &[u8]) -> Result<Effe
 pub fn look_up_parent<'a>(alloc: Global, state: &State<'a>) -> Result<Effect<'a>, AllocError>
     ensures { IfOk result (λ effect. effect_of state.now false effect
         ≡ answered (moved_to (state_of state.now)
-        (parent_of (state_of state.now).tree (current (state_of state.now)))) ToldAnswer.LookupParent) }
+        (parent_of (state_of state.now).tree
+        (current (state_of state.now)))) ToldAnswer.LookupParent) }
 {
     let number = parent_of(&state.tree, state.current());
     moved(alloc, state, number, Answer::LookupParent)
@@ -75,7 +78,8 @@ fn with_context<'a>(
     answer: Answer,
 ) -> Result<Effect<'a>, AllocError>
     ensures { IfOk result (λ effect. effect_of state.now false effect
-        ≡ answered (record (state_of state.now) { context = context_of context.entry }) (answer_of answer)) }
+        ≡ answered (record (state_of state.now) { context = context_of context.entry })
+        (answer_of answer)) }
 {
     Ok(Effect {
         context,

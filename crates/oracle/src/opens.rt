@@ -48,7 +48,8 @@ fn joined(
     known: &Open,
     access: u32,
 ) -> Result<Opened, AllocError>
-    ensures { IfOk result (λ now. opened_of now ≡ joined_by (opens_of opens.now) serial known.now access) }
+    ensures { IfOk result (λ now. opened_of now
+        ≡ joined_by (opens_of opens.now) serial known.now access) }
 {
     let state = Open {
         client: known.client,
@@ -162,7 +163,8 @@ fn set_at_open(
     state: &State<'_>,
     opening: &Opening<'_>,
 ) -> Result<Vec<u32>, AllocError>
-    ensures { IfOk result (λ set. set.items ≡ set_at_open (state_of state.now) (opening_view opening.now)) }
+    ensures { IfOk result (λ set. set.items
+        ≡ set_at_open (state_of state.now) (opening_view opening.now)) }
 {
     let Opening::Opens { how, claim } = opening else {
         return Ok(Vec::new(alloc));
@@ -236,7 +238,8 @@ fn make<'a>(
     answer: Answer,
 ) -> Result<Effect<'a>, AllocError>
     ensures { IfOk result (λ effect. effect_of state.now true effect
-        ≡ answered (with_file false (state_of state.now) now (open_type_view how.now) name.now) (answer_of answer)) }
+        ≡ answered (with_file false (state_of state.now) now (open_type_view how.now) name.now)
+        (answer_of answer)) }
 {
     let (tree, directory, stamp) = (&state.tree, state.current(), state.stamp());
     let parent = acl_at(tree, directory);
@@ -254,8 +257,10 @@ fn opening_done<'a>(
     answer: Answer,
 ) -> Result<Effect<'a>, AllocError>
     ensures { IfOk result (λ effect. effect_of state.now
-        (makes_file (state_of state.now) (opening_view opening.now) || cuts_file (state_of state.now) (opening_view opening.now)) effect
-        ≡ answered (opening_done (state_of state.now) now (opening_view opening.now)) (answer_of answer)) }
+        (makes_file (state_of state.now) (opening_view opening.now)
+        || cuts_file (state_of state.now) (opening_view opening.now)) effect
+        ≡ answered (opening_done (state_of state.now) now (opening_view opening.now))
+        (answer_of answer)) }
 {
     let Opening::Opens { how, claim } = opening else {
         return unchanged(alloc, state, answer);
@@ -281,7 +286,8 @@ pub fn open_file<'a>(
     now: u64,
     arguments: &OpenArguments<'_>,
 ) -> Result<Effect<'a>, AllocError>
-    requires { IsFalse (is_table_full limits.now.opens (state_of state.now).opens (asked_open (state_of state.now) (open_view arguments.now))) }
+    requires { IsFalse (is_table_full limits.now.opens (state_of state.now).opens
+        (asked_open (state_of state.now) (open_view arguments.now))) }
     ensures { IfOk result (λ effect. effect_of state.now
         (alters (state_of state.now) (Argument.Open (open_view arguments.now))) effect
         ≡ open_file (state_of state.now) now (open_view arguments.now)) }

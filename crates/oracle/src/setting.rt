@@ -106,7 +106,8 @@ pub fn set_attributes<'a>(
     arguments: &SetAttrArguments<'_>,
 ) -> Result<Effect<'a>, AllocError>
     ensures { IfOk result (λ effect. effect_of state.now (sets (set_attr_view arguments.now)) effect
-        ≡ set_attributes (sets (set_attr_view arguments.now)) (state_of state.now) now (set_attr_view arguments.now)) }
+        ≡ set_attributes (sets (set_attr_view arguments.now)) (state_of state.now) now
+        (set_attr_view arguments.now)) }
 {
     let given = &arguments.attributes;
     let was_set = Vec::from_slice(alloc, trimmed(given.bitmap.as_slice()))?;

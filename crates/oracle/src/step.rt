@@ -38,7 +38,8 @@ pub struct Stepped<'a> {
 
 // Whether it is a change: it alters the tree, and uses up a stamp.
 fn alters(alloc: Global, state: &State<'_>, operation: &Argument<'_>) -> Result<bool, AllocError>
-    ensures { IfOk result (λ change. change ≡ alters (state_of state.now) (argument_view operation.now)) }
+    ensures { IfOk result (λ change. change
+        ≡ alters (state_of state.now) (argument_view operation.now)) }
 {
     match operation {
         Argument::Create(_) => Ok(true),
@@ -64,7 +65,8 @@ fn effect<'a>(
 ) -> Result<Effect<'a>, AllocError>
     requires computed { IsTrue (is_computed (argument_view operation.now)) }
     requires ready { IsReady limits.now (state_of state.now) (argument_view operation.now) }
-    ensures { IfOk result (λ done. effect_of state.now (alters (state_of state.now) (argument_view operation.now)) done
+    ensures { IfOk result (λ done. effect_of state.now
+        (alters (state_of state.now) (argument_view operation.now)) done
         ≡ effect limits.now (state_of state.now) now (argument_view operation.now)) }
 {
     match operation {
@@ -127,8 +129,10 @@ fn finished<'a>(
 ) -> Result<Stepped<'a>, AllocError>
     ensures { IfOk result (λ stepped. stepped_of stepped
         ≡ unless_refused (state_of state.now) (argument_view operation.now)
-        (first_refusal (change_refusals limits.now (state_of state.now) (argument_view operation.now) effect.entry.tree.items))
-        (effect_of state.now (alters (state_of state.now) (argument_view operation.now)) effect.entry)) }
+        (first_refusal (change_refusals limits.now (state_of state.now)
+        (argument_view operation.now) effect.entry.tree.items))
+        (effect_of state.now (alters (state_of state.now)
+        (argument_view operation.now)) effect.entry)) }
 {
     let mut changes = state.changes;
     if alters(alloc, state, operation)? {

@@ -73,7 +73,8 @@ fn place_tests(
     state: &State<'_>,
     opening: &Opening<'_>,
 ) -> Result<Tests, AllocError>
-    ensures { IfOk result (λ tests. tests.items ≡ place_refusals limits.now (state_of state.now) (opening_view opening.now)) }
+    ensures { IfOk result (λ tests. tests.items
+        ≡ place_refusals limits.now (state_of state.now) (opening_view opening.now)) }
 {
     match opening {
         Opening::Exclusive(_) => Ok(Vec::new(alloc)),
@@ -98,7 +99,8 @@ pub fn open_tests(
     state: &State<'_>,
     arguments: &OpenArguments<'_>,
 ) -> Result<Tests, AllocError>
-    ensures { IfOk result (λ tests. tests.items ≡ open_refusals limits.now (state_of state.now) (open_view arguments.now)) }
+    ensures { IfOk result (λ tests. tests.items
+        ≡ open_refusals limits.now (state_of state.now) (open_view arguments.now)) }
 {
     let opening = opening_tests(alloc, &arguments.opening)?;
     let share = share_tests(alloc, arguments)?;
@@ -114,7 +116,8 @@ fn known_tests(
     number: u128,
     how: &OpenType<'_>,
 ) -> Result<Tests, AllocError>
-    ensures { IfOk result (λ tests. tests.items ≡ known_refusals limits.now (state_of state.now) number (open_type_view how.now)) }
+    ensures { IfOk result (λ tests. tests.items
+        ≡ known_refusals limits.now (state_of state.now) number (open_type_view how.now)) }
 {
     let is_directory = is_directory_at(&state.tree, number);
     match how {
@@ -129,7 +132,8 @@ fn known_tests(
 
 // The name is not there.
 fn new_tests(alloc: Global, limits: &Limits, how: &OpenType<'_>) -> Result<Tests, AllocError>
-    ensures { IfOk result (λ tests. tests.items ≡ new_refusals limits.now (open_type_view how.now)) }
+    ensures { IfOk result (λ tests. tests.items
+        ≡ new_refusals limits.now (open_type_view how.now)) }
 {
     match how {
         OpenType::NoCreate => Vec::from_slice(alloc, &[(true, Status::NoEnt)]),
@@ -149,7 +153,8 @@ pub fn middle_tests(
     state: &State<'_>,
     opening: &Opening<'_>,
 ) -> Result<Tests, AllocError>
-    ensures { IfOk result (λ tests. tests.items ≡ middle_at_open limits.now (state_of state.now) (opening_view opening.now)) }
+    ensures { IfOk result (λ tests. tests.items
+        ≡ middle_at_open limits.now (state_of state.now) (opening_view opening.now)) }
 {
     let Opening::Opens { how, claim } = opening else {
         return Ok(Vec::new(alloc));
@@ -223,7 +228,8 @@ pub fn asked_open(
     state: &State<'_>,
     arguments: &OpenArguments<'_>,
 ) -> Result<Open, AllocError>
-    ensures { IfOk result (λ asked. asked ≡ asked_open (state_of state.now) (open_view arguments.now)) }
+    ensures { IfOk result (λ asked. asked
+        ≡ asked_open (state_of state.now) (open_view arguments.now)) }
 {
     Ok(Open {
         client: state.context.client,
@@ -241,7 +247,8 @@ pub fn table_tests(
     state: &State<'_>,
     arguments: &OpenArguments<'_>,
 ) -> Result<Tests, AllocError>
-    ensures { IfOk result (λ tests. tests.items ≡ late_at_open limits.now (state_of state.now) (open_view arguments.now)) }
+    ensures { IfOk result (λ tests. tests.items
+        ≡ late_at_open limits.now (state_of state.now) (open_view arguments.now)) }
 {
     let asked = asked_open(alloc, state, arguments)?;
     let is_full = is_table_full(limits.opens, &state.opens, &asked);

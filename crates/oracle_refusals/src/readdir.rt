@@ -82,10 +82,15 @@ pub fn page_of(
     state: &State<'_>,
     arguments: &ReadDirArguments,
 ) -> Result<Page, AllocError>
-    ensures page { IfOk result (λ shown. record { entries = shown.entries.items; is_end = shown.is_end }
+    ensures page { IfOk result (λ shown. record {
+      entries = shown.entries.items;
+      is_end =
+          shown.is_end;
+    }
         ≡ page limits.now (state_of state.now) (read_dir_view arguments.now)) }
     ensures some { IfOk result (λ shown. shown.has_some
-        ≡ nat_lt 0 (length (all_entries limits.now (state_of state.now) (read_dir_view arguments.now)))) }
+        ≡ nat_lt 0 (length (all_entries limits.now (state_of state.now)
+        (read_dir_view arguments.now)))) }
 {
     let all = all_entries(alloc, limits, state, arguments)?;
     let entries = fitting(alloc, page_room(limits, arguments), &all)?;

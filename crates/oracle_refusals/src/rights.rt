@@ -134,7 +134,8 @@ fn rename_rights(
     to: u128,
     arguments: &RenameArguments<'_>,
 ) -> Result<Need, AllocError>
-    ensures { IfOk result (λ need. need.items ≡ rename_rights tree.now from to (rename_view arguments.now)) }
+    ensures { IfOk result (λ need. need.items
+        ≡ rename_rights tree.now from to (rename_view arguments.now)) }
 {
     let mut need = Vec::new(alloc);
     need.push(removable(alloc, tree, from, arguments.old_name)?)?;
@@ -190,7 +191,8 @@ fn opening_rights(
     opening: &Opening<'_>,
 ) -> Result<Need, AllocError>
     ensures { IfOk result (λ need. need.items
-        ≡ opening_rights (state_of state.now).tree (state_of state.now).context access (opening_view opening.now)) }
+        ≡ opening_rights (state_of state.now).tree (state_of state.now).context access
+        (opening_view opening.now)) }
 {
     let Opening::Opens { how, claim } = opening else {
         return Ok(Vec::new(alloc));
@@ -217,7 +219,8 @@ fn lookup_rights(
     state: &State<'_>,
     opening: &Opening<'_>,
 ) -> Result<Need, AllocError>
-    ensures { IfOk result (λ need. need.items ≡ lookup_rights (state_of state.now).context (opening_view opening.now)) }
+    ensures { IfOk result (λ need. need.items
+        ≡ lookup_rights (state_of state.now).context (opening_view opening.now)) }
 {
     match opening {
         Opening::Opens {
@@ -230,7 +233,8 @@ fn lookup_rights(
 
 // What is set: the size is written, a mode is a list, and so on.
 fn setting_rights(alloc: Global, state: &State<'_>, attributes: &[u32]) -> Result<Need, AllocError>
-    ensures { IfOk result (λ need. need.items ≡ setting_rights (state_of state.now).context attributes.now) }
+    ensures { IfOk result (λ need. need.items
+        ≡ setting_rights (state_of state.now).context attributes.now) }
 {
     let number = state.current();
     let is_list = is_among(attributes, MODE) || is_among(attributes, ACL);
@@ -266,7 +270,8 @@ fn listing_rights(
     arguments: &ReadDirArguments,
 ) -> Result<Need, AllocError>
     ensures { IfOk result (λ need. need.items
-        ≡ listing_rights (state_of state.now).tree (state_of state.now).context (read_dir_view arguments.now)) }
+        ≡ listing_rights (state_of state.now).tree (state_of state.now).context
+        (read_dir_view arguments.now)) }
 {
     let asked = numbers_of(alloc, arguments.bitmap.as_slice())?;
     if is_among(&asked, ACL) && !is_among(&asked, RDATTR_ERROR) {
@@ -288,7 +293,8 @@ pub fn need_first(
 ) -> Result<Need, AllocError>
     requires { IsTrue (is_computed (argument_view operation.now)) }
     ensures { IfOk result (λ need. need.items
-        ≡ need_first (state_of state.now).tree (state_of state.now).context (argument_view operation.now)) }
+        ≡ need_first (state_of state.now).tree (state_of state.now).context
+        (argument_view operation.now)) }
 {
     match operation {
         Argument::Create(_) => here(alloc, state, Mask::APPEND_DATA),
@@ -328,7 +334,8 @@ pub fn need_then(
 ) -> Result<Need, AllocError>
     requires { IsTrue (is_computed (argument_view operation.now)) }
     ensures { IfOk result (λ need. need.items
-        ≡ need_then (state_of state.now).tree (state_of state.now).context (argument_view operation.now)) }
+        ≡ need_then (state_of state.now).tree (state_of state.now).context
+        (argument_view operation.now)) }
 {
     match operation {
         Argument::Open(asked) => opening_rights(alloc, state, asked.access, &asked.opening),

@@ -93,7 +93,8 @@ fn by_seqid(state: StateId, known: &Open) -> Found<'_>
 /// The open that a stateid names: an open of the session's client on the current file.
 #[tactic(auto, unfolding(model::specs::StateIds::found))]
 pub fn find_open<'a>(state: &'a State<'_>, asked: StateId) -> Found<'a>
-    ensures { found_of result ≡ found (state_of state.now).opens (state_of state.now).context (state_view asked) }
+    ensures { found_of result ≡ found (state_of state.now).opens (state_of state.now).context
+        (state_view asked) }
 {
     let Some(asked) = meant(&state.context, asked) else {
         return Found::Refused(Status::BadStateId);
@@ -119,7 +120,8 @@ pub fn state_tests(
     asked: StateId,
 ) -> Result<Tests, AllocError>
     ensures { IfOk result (λ tests. tests.items
-        ≡ state_refusals (state_of state.now).opens (state_of state.now).context access (state_view asked)) }
+        ≡ state_refusals (state_of state.now).opens (state_of state.now).context access
+        (state_view asked)) }
 {
     match find_open(state, asked) {
         Found::Anonymous => Ok(Vec::new(alloc)),
@@ -133,7 +135,8 @@ pub fn state_tests(
 /// CLOSE takes no anonymous one.
 pub fn close_tests(alloc: Global, state: &State<'_>, asked: StateId) -> Result<Tests, AllocError>
     ensures { IfOk result (λ tests. tests.items
-        ≡ close_refusals (found (state_of state.now).opens (state_of state.now).context (state_view asked))) }
+        ≡ close_refusals (found (state_of state.now).opens (state_of state.now).context
+        (state_view asked))) }
 {
     match find_open(state, asked) {
         Found::Anonymous => Vec::from_slice(alloc, &[(true, Status::BadStateId)]),

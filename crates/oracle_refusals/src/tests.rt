@@ -55,7 +55,11 @@ fn current_tests(alloc: Global, state: &State<'_>) -> Result<Tests, AllocError>
 // Of an operation on a directory.
 fn directory_tests(alloc: Global, state: &State<'_>) -> Result<Tests, AllocError>
     ensures { IfOk result (λ tests. tests.items
-        ≡ (not (is_directory_at (state_of state.now).tree (current (state_of state.now))), Status.NotDir) ∷ []) }
+        ≡ (
+          not (is_directory_at (state_of state.now).tree
+              (current (state_of state.now))),
+          Status.NotDir,
+        ) ∷ []) }
 {
     let is_directory = is_directory_at(&state.tree, state.current());
     Vec::from_slice(alloc, &[(!is_directory, Status::NotDir)])
@@ -76,7 +80,8 @@ pub fn named_tests(
     state: &State<'_>,
     name: &[u8],
 ) -> Result<Tests, AllocError>
-    ensures { IfOk result (λ tests. tests.items ≡ named_refusals limits.now (state_of state.now) name.now) }
+    ensures { IfOk result (λ tests. tests.items
+        ≡ named_refusals limits.now (state_of state.now) name.now) }
 {
     concat(
         directory_tests(alloc, state)?,
@@ -90,7 +95,8 @@ fn create_tests(
     state: &State<'_>,
     arguments: &CreateArguments<'_>,
 ) -> Result<Tests, AllocError>
-    ensures { IfOk result (λ tests. tests.items ≡ create_refusals limits.now (state_of state.now) (create_view arguments.now)) }
+    ensures { IfOk result (λ tests. tests.items
+        ≡ create_refusals limits.now (state_of state.now) (create_view arguments.now)) }
 {
     match arguments {
         CreateArguments::NewDirectory { name, attributes } => concat(
@@ -113,7 +119,8 @@ fn remove_tests(
     state: &State<'_>,
     name: &[u8],
 ) -> Result<Tests, AllocError>
-    ensures { IfOk result (λ tests. tests.items ≡ remove_refusals limits.now (state_of state.now) name.now) }
+    ensures { IfOk result (λ tests. tests.items
+        ≡ remove_refusals limits.now (state_of state.now) name.now) }
 {
     let own = Vec::from_slice(alloc, &[(!state.is_name_there(name), Status::NoEnt)])?;
     concat(named_tests(alloc, limits, state, name)?, own)
@@ -125,7 +132,8 @@ fn rename_tests(
     state: &State<'_>,
     arguments: &RenameArguments<'_>,
 ) -> Result<Tests, AllocError>
-    ensures { IfOk result (λ tests. tests.items ≡ rename_refusals limits.now (state_of state.now) (rename_view arguments.now)) }
+    ensures { IfOk result (λ tests. tests.items
+        ≡ rename_refusals limits.now (state_of state.now) (rename_view arguments.now)) }
 {
     let (tree, from, to) = (&state.tree, state.saved(), state.current());
     let places = Vec::from_slice(
@@ -150,7 +158,8 @@ fn resizing_tests(
     state: &State<'_>,
     arguments: &SetAttrArguments<'_>,
 ) -> Result<Tests, AllocError>
-    ensures { IfOk result (λ tests. tests.items ≡ size_refusals (state_of state.now) (set_attr_view arguments.now)) }
+    ensures { IfOk result (λ tests. tests.items
+        ≡ size_refusals (state_of state.now) (set_attr_view arguments.now)) }
 {
     if settings_of(alloc, &arguments.attributes)?.size.is_none() {
         return Ok(Vec::new(alloc));
@@ -168,7 +177,8 @@ fn set_tests(
     state: &State<'_>,
     arguments: &SetAttrArguments<'_>,
 ) -> Result<Tests, AllocError>
-    ensures { IfOk result (λ tests. tests.items ≡ set_refusals limits.now (state_of state.now) (set_attr_view arguments.now)) }
+    ensures { IfOk result (λ tests. tests.items
+        ≡ set_refusals limits.now (state_of state.now) (set_attr_view arguments.now)) }
 {
     let given = &arguments.attributes;
     let kind = kind_at(&state.tree, state.current());
@@ -183,8 +193,10 @@ fn access_tests(
     access: u32,
     asked: StateId,
 ) -> Result<Tests, AllocError>
-    ensures { IfOk result (λ tests. tests.items ≡ current_refusals (state_of state.now) ++ (file_refusals (state_of state.now)
-        ++ state_refusals (state_of state.now).opens (state_of state.now).context access (state_view asked))) }
+    ensures { IfOk result (λ tests. tests.items
+        ≡ current_refusals (state_of state.now) ++ (file_refusals (state_of state.now)
+        ++ state_refusals (state_of state.now).opens (state_of state.now).context access
+        (state_view asked))) }
 {
     let file = file_tests(alloc, state)?;
     let own = concat(file, state_tests(alloc, state, access, asked)?)?;
@@ -219,7 +231,8 @@ pub fn early_tests(
     state: &State<'_>,
     operation: &Argument<'_>,
 ) -> Result<Tests, AllocError>
-    ensures { IfOk result (λ tests. tests.items ≡ early limits.now (state_of state.now) (argument_view operation.now)) }
+    ensures { IfOk result (λ tests. tests.items
+        ≡ early limits.now (state_of state.now) (argument_view operation.now)) }
 {
     let own = match operation {
         Argument::PutFh(handle) => return handle_tests(alloc, state, handle),
@@ -259,7 +272,8 @@ fn move_tests(
     state: &State<'_>,
     arguments: &RenameArguments<'_>,
 ) -> Result<Tests, AllocError>
-    ensures { IfOk result (λ tests. tests.items ≡ late_at_rename (state_of state.now) (rename_view arguments.now)) }
+    ensures { IfOk result (λ tests. tests.items
+        ≡ late_at_rename (state_of state.now) (rename_view arguments.now)) }
 {
     let (tree, to) = (&state.tree, state.current());
     let moved = number_named(tree, state.saved(), arguments.old_name);
@@ -285,7 +299,8 @@ fn size_tests(
     limits: &Limits,
     arguments: &WriteArguments<'_>,
 ) -> Result<Tests, AllocError>
-    ensures { IfOk result (λ tests. tests.items ≡ write_refusals limits.now (write_view arguments.now)) }
+    ensures { IfOk result (λ tests. tests.items
+        ≡ write_refusals limits.now (write_view arguments.now)) }
 {
     let data = arguments.data;
     let taken = data.len().min(limits.transfer_bytes);
@@ -314,7 +329,8 @@ pub fn tests_between(
     state: &State<'_>,
     operation: &Argument<'_>,
 ) -> Result<Tests, AllocError>
-    ensures { IfOk result (λ tests. tests.items ≡ middle limits.now (state_of state.now) (argument_view operation.now)) }
+    ensures { IfOk result (λ tests. tests.items
+        ≡ middle limits.now (state_of state.now) (argument_view operation.now)) }
 {
     match operation {
         Argument::Open(asked) => middle_tests(alloc, limits, state, &asked.opening),
@@ -331,7 +347,8 @@ pub fn late_tests(
     operation: &Argument<'_>,
 ) -> Result<Tests, AllocError>
     requires { IsTrue (is_computed (argument_view operation.now)) }
-    ensures { IfOk result (λ tests. tests.items ≡ late limits.now (state_of state.now) (argument_view operation.now)) }
+    ensures { IfOk result (λ tests. tests.items
+        ≡ late limits.now (state_of state.now) (argument_view operation.now)) }
 {
     let test = match operation {
         Argument::Open(asked) => return table_tests(alloc, limits, state, asked),

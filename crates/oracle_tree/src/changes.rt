@@ -60,7 +60,8 @@ pub fn touch(
     stamp: u128,
     now: u64,
 ) -> Result<(), AllocError>
-    ensures { OnOk result (tree.new.items ≡ edited (touch old.now number stamp now ∷ []) tree.old.items) }
+    ensures { OnOk result (tree.new.items
+        ≡ edited (touch old.now number stamp now ∷ []) tree.old.items) }
 {
     show(
         alloc,
@@ -80,7 +81,8 @@ pub fn made(
     stamp: u128,
     now: u64,
 ) -> Result<Tree, AllocError>
-    ensures { IfOk result (λ tree. tree.items ≡ edited (made_edits old.now directory name.now node stamp now) old.now) }
+    ensures { IfOk result (λ tree. tree.items
+        ≡ edited (made_edits old.now directory name.now node stamp now) old.now) }
 {
     let mut tree = clone_tree(alloc, old)?;
     put_node(&mut tree, stamp, node)?;
@@ -100,7 +102,8 @@ fn remove_entry(
     directory: u128,
     entry: Option<&(u128, DirEntry)>,
 ) -> Result<(), AllocError>
-    ensures { OnOk result (tree.new.items ≡ edited (removal directory (option_copied entry.entry)) tree.old.items) }
+    ensures { OnOk result (tree.new.items
+        ≡ edited (removal directory (option_copied entry.entry)) tree.old.items) }
 {
     if let Some(entry) = entry {
         drop_name(alloc, tree, directory, entry.0)?;
@@ -119,7 +122,8 @@ pub fn removed(
     stamp: u128,
     now: u64,
 ) -> Result<Tree, AllocError>
-    ensures { IfOk result (λ tree. tree.items ≡ edited (removed_edits old.now directory name.now stamp now) old.now) }
+    ensures { IfOk result (λ tree. tree.items
+        ≡ edited (removed_edits old.now directory name.now stamp now) old.now) }
 {
     let mut tree = clone_tree(alloc, old)?;
     let entry = entry_named(name, names_at(old, directory));
@@ -138,7 +142,8 @@ fn move_entry(
     new_name: &[u8],
     stamp: u128,
 ) -> Result<(), AllocError>
-    ensures { OnOk result (tree.new.items ≡ edited (moving from to (option_copied entry.entry) new_name.now stamp) tree.old.items) }
+    ensures { OnOk result (tree.new.items
+        ≡ edited (moving from to (option_copied entry.entry) new_name.now stamp) tree.old.items) }
 {
     if let Some(entry) = entry {
         drop_name(alloc, tree, from, entry.0)?;
@@ -169,7 +174,8 @@ pub fn renamed(
     stamp: u128,
     now: u64,
 ) -> Result<Tree, AllocError>
-    ensures { IfOk result (λ tree. tree.items ≡ edited (renamed_edits old.now asked.entry.from asked.entry.to
+    ensures { IfOk result (λ tree. tree.items
+        ≡ edited (renamed_edits old.now asked.entry.from asked.entry.to
         asked.entry.old_name.now asked.entry.new_name.now stamp now) old.now) }
 {
     let Renaming {

@@ -60,7 +60,8 @@ fn set_content(
     number: u128,
     content: Content,
 ) -> Result<(), AllocError>
-    ensures { OnOk result (tree.new.items ≡ altered (λ node. with_content node (content_of content)) tree.old.items number) }
+    ensures { OnOk result (tree.new.items
+        ≡ altered (λ node. with_content node (content_of content)) tree.old.items number) }
 {
     let Some(node) = at(number, tree) else {
         return Ok(());

@@ -28,8 +28,10 @@ pub fn is_key<T>(key: u128, entries: &[(u128, T)]) -> bool
 // Where the key puts an entry: in place of the one of that key, or in front of the first one of a greater key.
 fn place_of<T>(key: u128, entries: &[(u128, T)]) -> Result<usize, usize>
     ensures { MatchResult result
-        (λ place. (place < length entries.now) × ((value : T) → with entries.now key value ≡ slice_set entries.now place (key, value)))
-        (λ place. (place ≤ length entries.now) × ((value : T) → with entries.now key value ≡ insert entries.now place (key, value))) }
+        (λ place. (place < length entries.now)
+        × ((value : T) → with entries.now key value ≡ slice_set entries.now place (key, value)))
+        (λ place. (place ≤ length entries.now)
+        × ((value : T) → with entries.now key value ≡ insert entries.now place (key, value))) }
 {
     for (place, entry) in entries.iter().enumerate() {
         if key == entry.0 {

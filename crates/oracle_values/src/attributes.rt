@@ -36,7 +36,8 @@ pub fn values_of<'a>(
     alloc: Global,
     given: &Attributes<'a>,
 ) -> Result<Option<Vec<Value<'a>>>, AllocError>
-    ensures { IfOk result (λ values. option_map values_seen values ≡ values_of (attributes_view given.now)) }
+    ensures { IfOk result (λ values. option_map values_seen values
+        ≡ values_of (attributes_view given.now)) }
 {
     match wire_attributes::values_of(alloc, given) {
         Ok(values) => Ok(Some(values)),
@@ -84,7 +85,8 @@ fn entries_tests(
     kind: NodeKind,
     entries: &[AclEntry<'_>],
 ) -> Result<Tests, AllocError>
-    ensures { IfOk result (λ tests. tests.items ≡ flat_map (entry_refusals kind) (map entry_view entries.now)) }
+    ensures { IfOk result (λ tests. tests.items
+        ≡ flat_map (entry_refusals kind) (map entry_view entries.now)) }
 {
     let mut tests = Vec::new(alloc);
     for entry in entries {
@@ -100,7 +102,8 @@ fn value_tests(
     kind: NodeKind,
     value: &Value<'_>,
 ) -> Result<Tests, AllocError>
-    ensures { IfOk result (λ tests. tests.items ≡ value_refusals limits.now kind (value_view value.now)) }
+    ensures { IfOk result (λ tests. tests.items
+        ≡ value_refusals limits.now kind (value_view value.now)) }
 {
     let test = match value {
         Value::Size(bytes) => ((limits.file_bytes as u64) < *bytes, Status::FBig),
@@ -124,7 +127,8 @@ fn values_tests(
     kind: NodeKind,
     values: &[Value<'_>],
 ) -> Result<Tests, AllocError>
-    ensures { IfOk result (λ tests. tests.items ≡ flat_map (value_refusals limits.now kind) (map value_view values.now)) }
+    ensures { IfOk result (λ tests. tests.items
+        ≡ flat_map (value_refusals limits.now kind) (map value_view values.now)) }
 {
     let mut tests = Vec::new(alloc);
     for value in values {
@@ -142,7 +146,8 @@ pub fn attribute_tests(
     settable: &[u32],
     given: &Attributes<'_>,
 ) -> Result<Tests, AllocError>
-    ensures { IfOk result (λ tests. tests.items ≡ attribute_refusals limits.now kind settable.now (attributes_view given.now)) }
+    ensures { IfOk result (λ tests. tests.items
+        ≡ attribute_refusals limits.now kind settable.now (attributes_view given.now)) }
 {
     let attributes = attributes_in(alloc, given)?;
     let values = values_of(alloc, given)?;

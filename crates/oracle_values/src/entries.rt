@@ -76,7 +76,8 @@ pub fn entry_of(
     asked: &Bitmap,
     name: &(u128, DirEntry),
 ) -> Result<Entry, AllocError>
-    ensures { IfOk result (λ listed. listed ≡ entry_of limits.now tree.now cred.now asked.now name.now) }
+    ensures { IfOk result (λ listed. listed
+        ≡ entry_of limits.now tree.now cred.now asked.now name.now) }
 {
     let entry = &name.1;
     let number = entry.number;

@@ -191,7 +191,8 @@ fn all_texts(
     number: u128,
     node: &Node,
 ) -> Result<Vec<Text>, AllocError>
-    ensures { IfOk result (λ texts. texts.items ≡ map told (node_values limits.now number node.now)) }
+    ensures { IfOk result (λ texts. texts.items
+        ≡ map told (node_values limits.now number node.now)) }
 {
     let mut texts = volume_texts(alloc, node)?;
     texts.append(&mut list_texts(alloc, node)?)?;

@@ -38,7 +38,8 @@ impl Connection {
         requires up { (fs_of fs.old).volume.is_down ≡ false }
         requires run { IsOfRun (fs_of fs.old).volume.run (connection_view self.old) }
         ensures turn { D.keeps_word → IfOk result (Turns now (shared_of fs.old table.old opens.old)
-            (shared_of fs.new table.new opens.new) (connection_view self.old) (connection_view self.new)) }
+            (shared_of fs.new table.new opens.new) (connection_view self.old)
+            (connection_view self.new)) }
         ensures further { OnOk result
             (HasGoneOn (Some (connection_view self.old)) (Some (connection_view self.new))) }
         ensures run { IsOfRun (fs_of fs.old).volume.run (connection_view self.new) }

@@ -100,7 +100,8 @@ fn check_value(limits: &Limits, kind: NodeKind, value: &Value<'_>) -> Result<(),
 }
 
 fn check_values(limits: &Limits, kind: NodeKind, values: &[Value<'_>]) -> Result<(), Status>
-    ensures { IsChecked (flat_map (value_refusals limits.now kind) (map value_view values.now)) result }
+    ensures { IsChecked (flat_map (value_refusals limits.now kind)
+        (map value_view values.now)) result }
 {
     for value in values {
         check_value(limits, kind, value)?;
@@ -118,7 +119,8 @@ pub fn check_attributes(
     given: Attributes,
 ) -> Result<Settings, Refusal>
     requires { length given.bitmap.now ≤ 8 }
-    ensures tests { IsCheckedInMemory (attribute_refusals limits.now kind settable.now (given_of given.entry)) result }
+    ensures tests { IsCheckedInMemory
+        (attribute_refusals limits.now kind settable.now (given_of given.entry)) result }
     ensures settings { IfOk result (λ settings. AreSettings settings (given_of given.entry)) }
     ensures within { IfOk result (λ settings. AreWithin limits.now kind settings) }
 {

@@ -101,7 +101,8 @@ pub fn settings_in(
     attributes: &[u32],
     values: &[Value<'_>],
 ) -> Result<Settings, AllocError>
-    ensures { IfOk result (λ settings. AreSaid settings attributes.now (map value_view values.now)) }
+    ensures { IfOk result (λ settings. AreSaid settings attributes.now
+        (map value_view values.now)) }
 {
     Ok(Settings {
         is_empty: attributes.is_empty(),

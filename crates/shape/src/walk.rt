@@ -38,7 +38,8 @@ impl Walk {
     fn meet(&mut self, place: u32) -> Result<(), AllocError>
         requires { place < length self.old.seen.items }
         ensures seen { IfOk result (λ _. self.new.seen.items ≡ set self.old.seen.items place true) }
-        ensures order { IfOk result (λ _. self.new.order.items ≡ self.old.order.items ++ place ∷ []) }
+        ensures order { IfOk result (λ _. self.new.order.items
+            ≡ self.old.order.items ++ place ∷ []) }
     {
         self.seen[place as usize] = true;
         self.order.push(place)?;

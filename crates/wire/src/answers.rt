@@ -216,7 +216,8 @@ impl ExchangeIdAnswer<'_> {
     #[tactic(auto, using(xdr::proofs::Writing::wrote_on, xdr::proofs::Writing::wrote_exit, xdr::proofs::Writing::wrote_end))]
     pub(crate) fn write(&self, w: &mut Writer) -> Result<(), Refusal>
         requires { (length self.now.major_id.now < 2 ^ 32) × (length self.now.scope.now < 2 ^ 32) }
-        ensures { Wrote w.old w.new result (exchange_id_answer.spelling (exchange_id_view self.now)) }
+        ensures { Wrote w.old w.new result
+            (exchange_id_answer.spelling (exchange_id_view self.now)) }
     {
         w.write_u64(self.client)?;
         w.write_u32(self.sequence)?;
@@ -259,7 +260,8 @@ impl CreateSessionAnswer {
     /// Writes it. A refusal may leave a front of it.
     #[tactic(auto, using(xdr::proofs::Writing::wrote_on, xdr::proofs::Writing::wrote_exit, xdr::proofs::Writing::wrote_end))]
     pub(crate) fn write(&self, w: &mut Writer) -> Result<(), Refusal>
-        ensures { Wrote w.old w.new result (create_session_answer.spelling (create_session_view self.now)) }
+        ensures { Wrote w.old w.new result
+            (create_session_answer.spelling (create_session_view self.now)) }
     {
         w.write_fixed(&self.session)?;
         w.write_u32(self.sequence)?;

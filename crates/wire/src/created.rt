@@ -14,7 +14,8 @@ impl CreateAnswer {
     /// The directory's change, where each of the given attributes was set.
     #[tactic(auto, using(crate::proofs::Bitmaps::trimmed_is))]
     pub fn new(change: ChangeInfo, given: &Bitmap) -> CreateAnswer
-        ensures answered { create_view result ≡ record { change = change_view change; was_set = trimmed given.now } }
+        ensures answered { create_view result
+            ≡ record { change = change_view change; was_set = trimmed given.now } }
         ensures short { IsTrue (is_trimmed (create_view result).was_set) }
     {
         CreateAnswer {

@@ -44,7 +44,8 @@ impl<'a> ExchangeIdArguments<'a> {
 }
 
 fn read_implementation<'a>(r: &mut Reader<'a>) -> Result<Option<Implementation<'a>>, Refusal>
-    ensures { Scans (λ o. option_map implementation_view o) ((optional implementation).read) r.old r.new result }
+    ensures { Scans (λ o. option_map implementation_view o)
+        ((optional implementation).read) r.old r.new result }
 {
     let mut at = r.fork();
     let found = match at.read_u32()? {
@@ -99,7 +100,8 @@ fn read_securities<'a>(
     alloc: Global,
     r: &mut Reader<'a>,
 ) -> Result<Vec<CallbackSecurity<'a>>, Refusal>
-    ensures { Reads (λ list. map security_view list.items) ((array 4 callback_security).read) r.old r.new result }
+    ensures { Reads (λ list. map security_view list.items)
+        ((array 4 callback_security).read) r.old r.new result }
 {
     let mut at = r.fork();
     let count = at.read_u32()?;

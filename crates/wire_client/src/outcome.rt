@@ -50,7 +50,8 @@ fn read_numbered<'a>(alloc: Global, r: &mut Reader<'a>) -> Result<Outcome<'a>, R
 
 /// Behind a refused SETATTR an empty bitmap stands (RFC 8881, section 18.30).
 fn read_refused<'a>(operation: u32, code: u32, r: &mut Reader<'a>) -> Result<Outcome<'a>, Refusal>
-    ensures { Scans outcome_view (λ bytes. refused_by operation (refusal_of code) bytes) r.old r.new result }
+    ensures { Scans outcome_view (λ bytes. refused_by operation
+        (refusal_of code) bytes) r.old r.new result }
 {
     let Some(status) = refusal_of_number(code) else {
         return Err(Refusal::Value);

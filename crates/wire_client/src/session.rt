@@ -44,7 +44,8 @@ pub(crate) fn write_create_session(
     a: &CreateSessionArguments<'_>,
 ) -> Result<(), Refusal>
     requires { CreateSessionFits a.now }
-    ensures { Wrote w.old w.new result (create_session_arguments.spelling (create_session_view a.now)) }
+    ensures { Wrote w.old w.new result
+        (create_session_arguments.spelling (create_session_view a.now)) }
 {
     w.write_u64(a.client)?;
     w.write_u32(a.sequence)?;
@@ -75,7 +76,8 @@ fn write_create_session_end(w: &mut Writer, a: &CreateSessionArguments<'_>) -> R
 fn write_securities(w: &mut Writer, list: &[CallbackSecurity<'_>]) -> Result<(), Refusal>
     requires limit { length list.now ≤ 4 }
     requires fits { All SecurityFits list.now }
-    ensures { Wrote w.old w.new result ((array 4 callback_security).spelling (map security_view list.now)) }
+    ensures { Wrote w.old w.new result
+        ((array 4 callback_security).spelling (map security_view list.now)) }
 {
     w.write_u32(list.len() as u32)?;
     write_each_security(w, list)

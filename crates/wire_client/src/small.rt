@@ -63,7 +63,8 @@ pub(crate) fn write_implementations(
     one: &Option<Implementation<'_>>,
 ) -> Result<(), Refusal>
     requires { MaybeImplementationFits one.now }
-    ensures { Wrote w.old w.new result ((optional implementation).spelling (option_map implementation_view one.now)) }
+    ensures { Wrote w.old w.new result
+        ((optional implementation).spelling (option_map implementation_view one.now)) }
 {
     match one {
         None => w.write_u32(0),
