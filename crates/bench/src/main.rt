@@ -3,6 +3,7 @@
 
 mod calls;
 mod copying;
+mod counts;
 mod figures;
 mod journals;
 mod listing;
@@ -10,8 +11,6 @@ mod places;
 mod records;
 mod replies;
 mod rows;
-#[cfg(test)]
-mod tests;
 mod volume_figures;
 mod volumes;
 mod work;
@@ -32,11 +31,14 @@ fn main(rt: HostRuntime) -> ExitCode {
     }
 }
 
-/// Without words nothing is measured and nothing printed.
+/// Without words each kind of work is done once, and what it did is printed.
 fn run(rt: &HostRuntime) -> anyhow::Result<ExitCode> {
     let words: Vec<String> = env::args(rt)?.skip(1).collect(rt.alloc())?;
     match words.as_slice() {
-        [] => Ok(ExitCode::SUCCESS),
+        [] => {
+            counts::print_counts(rt, rt.alloc())?;
+            Ok(ExitCode::SUCCESS)
+        }
         [word] if word.as_str() == "measure" => {
             figures::print_figures(rt, rt.alloc())?;
             Ok(ExitCode::SUCCESS)
