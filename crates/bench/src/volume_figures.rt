@@ -18,7 +18,7 @@ where
         print_volume(rt, alloc, Rows::new(alloc, shape.sectors)?, shape, "memory")?;
     }
     for shape in [SMALL, LARGE] {
-        let device = FileDevice::create(rt, path, shape.sectors)?;
+        let device = FileDevice::create(rt, alloc, path, shape.sectors)?;
         print_volume(rt, alloc, device, shape, "a file")?;
     }
     Ok(())

@@ -2,6 +2,7 @@ pub mod Moments
 pub mod Cause
 pub mod Calls
 pub mod Memory
+pub mod Run
 pub mod File
 pub mod Landing
 pub mod Crash

@@ -1,11 +1,13 @@
 //! A device over a file.
 
-ghost use Rattle.std.specs.Prelude.{◌≡◌, ◌≢◌, ◌*◌, ◌↔◌, [], IsTrue, IfOk, OnErr};
+ghost use Rattle.std.specs.Prelude.{◌≡◌, ◌≢◌, ◌≤◌, ◌<◌, ◌*◌, ◌⊎◌, ◌↔◌, ℕ, [], Some, None, IsTrue, IfOk, IfSome, OnOk, OnErr, IsErrOf};
 ghost use Rattle.disk.specs.Moments.{at_rest};
 ghost use Rattle.std.specs.IoError.{error_kind};
-ghost use Rattle.disk.specs.Cause.{IsCounted};
+ghost use Rattle.disk.specs.Cause.{IsCounted, HasCause};
 
+use crate::run::Run;
 use crate::{Device, DiskFault, SECTOR};
+use std::alloc::Global;
 use std::fs::{File, OpenOptions};
 use std::io;
 use std::io::ErrorKind;
@@ -17,16 +19,23 @@ use std::rt::Files;
 ///
 /// What a file holds no contract can say: this device never claims to keep its word, and its
 /// history is empty.
+///
+/// It gathers what is written to neighbouring sectors, and hands it to the file in one write:
+/// before a sector that is no neighbour is written, and in a sync. Until then a crash loses it, as
+/// it may lose all that was written since a sync, and a device that is dropped drops it. A read
+/// gives what was gathered. Where the file fails to take it, it stays gathered: the call that failed
+/// did nothing, what was written before is read as before, and the next hand-over offers it again.
 #[derive(Drop)]
 pub struct FileDevice {
     file: File,
     sectors: u32,
     is_whole: bool,
     failures: u64,
+    run: Run,
 }
 
 impl FileDevice {
-    ghost use Rattle.disk.specs.File.{file_size, file_failures, file_is_whole, IsUnopened};
+    ghost use Rattle.disk.specs.File.{file_size, file_failures, file_is_whole, gathered, BeginsAnew, IsUnopened};
 
     /// Opens a file that is there, for reading and writing.
     ///
@@ -34,10 +43,16 @@ impl FileDevice {
     /// are left over. Of a file with more than 2^32 - 1 sectors the first 2^32 - 1 are taken.
     ///
     /// Refuses `Memory` for want of memory, and else `Open`.
-    pub fn open<R: Files<File = File>, P: AsPath>(rt: &R, path: P) -> Result<FileDevice, DiskFault>
+    pub fn open<R: Files<File = File>, P: AsPath>(
+        rt: &R,
+        alloc: Global,
+        path: P,
+    ) -> Result<FileDevice, DiskFault>
         ensures failures { IfOk result (λ device. file_failures device ≡ 0) }
+        ensures gathered { IfOk result (λ device. (n : ℕ) → gathered device n ≡ None) }
         ensures err { OnErr result (IsUnopened result) }
     {
+        let run = Run::new(alloc)?;
         let file = OpenOptions::new()
             .read(true)
             .write(true)
@@ -50,6 +65,7 @@ impl FileDevice {
             sectors: u32::try_from(len / sector).unwrap_or(u32::MAX),
             is_whole: len % sector == 0,
             failures: 0,
+            run,
         })
     }
 
@@ -59,14 +75,17 @@ impl FileDevice {
     /// Refuses `Memory` for want of memory, and else `Open`: also where the length cannot be set.
     pub fn create<R: Files<File = File>, P: AsPath>(
         rt: &R,
+        alloc: Global,
         path: P,
         sectors: u32,
     ) -> Result<FileDevice, DiskFault>
         ensures size { IfOk result (λ device. file_size device ≡ sectors) }
         ensures whole { IfOk result (λ device. IsTrue (file_is_whole device)) }
         ensures failures { IfOk result (λ device. file_failures device ≡ 0) }
+        ensures gathered { IfOk result (λ device. (n : ℕ) → gathered device n ≡ None) }
         ensures err { OnErr result (IsUnopened result) }
     {
+        let run = Run::new(alloc)?;
         let file = OpenOptions::new()
             .read(true)
             .write(true)
@@ -80,6 +99,7 @@ impl FileDevice {
             sectors,
             is_whole: true,
             failures: 0,
+            run,
         })
     }
 
@@ -94,14 +114,36 @@ impl FileDevice {
         ensures fault { result ≡ DiskFault.Fault }
         ensures counted { IsCounted (file_failures self.old) (file_failures self.new) }
         ensures size { file_size self.new ≡ file_size self.old }
+        ensures gathered { (n : ℕ) → gathered self.new n ≡ gathered self.old n }
     {
         self.failures = self.failures.saturating_add(1);
         DiskFault::Fault
     }
+
+    /// Hands the file what was gathered. Where the file fails, it stays gathered.
+    fn hand_over(&mut self) -> Result<(), DiskFault>
+        ensures ok { OnOk result ((n : ℕ) → gathered self.new n ≡ None) }
+        ensures begins { OnOk result (BeginsAnew self.new) }
+        ensures err { OnErr result ((n : ℕ) → gathered self.new n ≡ gathered self.old n) }
+        ensures not_range { IsErrOf result DiskFault.Range → ⊥ }
+        ensures size { file_size self.new ≡ file_size self.old }
+        ensures cause { HasCause (file_failures self.old) (file_failures self.new) result }
+    {
+        match self
+            .file
+            .write_all_at(self.run.bytes(), offset_of(self.run.first()))
+        {
+            Ok(()) => {
+                self.run.clear();
+                Ok(())
+            }
+            Err(_) => Err(self.fail()),
+        }
+    }
 }
 
 impl Device for FileDevice {
-    ghost use Rattle.disk.specs.File.{file_size, file_failures};
+    ghost use Rattle.disk.specs.File.{file_size, file_failures, gathered, KeepsOrHandsOver};
 
     ghost keeps_word = { ⊥ };
 
@@ -119,9 +161,22 @@ impl Device for FileDevice {
         self.failures
     }
 
-    fn read(&mut self, n: u32, content: &mut [u8; SECTOR]) -> Result<(), DiskFault> {
+    /// A sector that was gathered is read as it was written last, and without the file.
+    fn read(&mut self, n: u32, content: &mut [u8; SECTOR]) -> Result<(), DiskFault>
+        ensures newest { IfSome (gathered self.old n) (λ newest. n < file_size self.old
+            → (result ≡ Ok tt) × (content.new ≡ newest)) }
+        ensures gathered { (m : ℕ) → gathered self.new m ≡ gathered self.old m }
+        ensures range { IsErrOf result DiskFault.Range ↔ (file_size self.old ≤ n) }
+        ensures untouched { IsErrOf result DiskFault.Range → content.new ≡ content.old }
+        ensures size { file_size self.new ≡ file_size self.old }
+        ensures cause { HasCause (file_failures self.old) (file_failures self.new) result }
+    {
         if n >= self.sectors {
             return Err(DiskFault::Range);
+        }
+        if let Some(newest) = self.run.get(n) {
+            *content = *newest;
+            return Ok(());
         }
         match self
             .file
@@ -132,17 +187,35 @@ impl Device for FileDevice {
         }
     }
 
-    fn write(&mut self, n: u32, content: &[u8; SECTOR]) -> Result<(), DiskFault> {
+    /// A sector that is written is gathered, and the others stay so, or were handed to the file.
+    /// Where that failed the sector is not written.
+    fn write(&mut self, n: u32, content: &[u8; SECTOR]) -> Result<(), DiskFault>
+        ensures newest { OnOk result (gathered self.new n ≡ Some content.now) }
+        ensures others { (m : ℕ) → m ≢ n → KeepsOrHandsOver self.old self.new m }
+        ensures err { OnErr result ((m : ℕ) → gathered self.new m ≡ gathered self.old m) }
+        ensures range { IsErrOf result DiskFault.Range ↔ (file_size self.old ≤ n) }
+        ensures size { file_size self.new ≡ file_size self.old }
+        ensures cause { HasCause (file_failures self.old) (file_failures self.new) result }
+    {
         if n >= self.sectors {
             return Err(DiskFault::Range);
         }
-        match self.file.write_all_at(content.as_slice(), offset_of(n)) {
-            Ok(()) => Ok(()),
-            Err(_) => Err(self.fail()),
+        if !self.run.takes(n) {
+            self.hand_over()?;
         }
+        self.run.put(n, content);
+        Ok(())
     }
 
-    fn sync(&mut self) -> Result<(), DiskFault> {
+    /// Nothing is gathered behind a sync that succeeded.
+    fn sync(&mut self) -> Result<(), DiskFault>
+        ensures handed { OnOk result ((n : ℕ) → gathered self.new n ≡ None) }
+        ensures kept { (n : ℕ) → KeepsOrHandsOver self.old self.new n }
+        ensures not_range { IsErrOf result DiskFault.Range → ⊥ }
+        ensures size { file_size self.new ≡ file_size self.old }
+        ensures cause { HasCause (file_failures self.old) (file_failures self.new) result }
+    {
+        self.hand_over()?;
         match self.file.sync_data() {
             Ok(()) => Ok(()),
             Err(_) => Err(self.fail()),

@@ -13,6 +13,7 @@ mod fault;
 mod file;
 mod landing;
 mod memory;
+mod run;
 mod trial;
 mod update;
 

@@ -108,7 +108,7 @@ where
     if !is_volume_size(sectors, nodes) {
         return Err(Refused::Size);
     }
-    let mut device = FileDevice::create(rt, file, sectors)?;
+    let mut device = FileDevice::create(rt, rt.alloc(), file, sectors)?;
     link::format(rt.alloc(), &mut device, nodes)?;
     writeln!(out, "formatted")?;
     Ok(())
@@ -145,8 +145,11 @@ where
 }
 
 /// The device over a file of whole sectors.
-fn open_volume<R: Files<File = File>>(rt: &R, file: &str) -> Result<FileDevice, Refused> {
-    let device = FileDevice::open(rt, file)?;
+fn open_volume<R>(rt: &R, file: &str) -> Result<FileDevice, Refused>
+where
+    R: Files<File = File> + AllocGlobal,
+{
+    let device = FileDevice::open(rt, rt.alloc(), file)?;
     if !device.is_whole() {
         return Err(Refused::NotVolume);
     }

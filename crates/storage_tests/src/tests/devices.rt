@@ -207,13 +207,13 @@ fn many_sectors_land_alone_or_all_but_one(rt: HostRuntime) -> Result<(), Fail> {
 fn a_file_keeps_what_is_written(rt: HostRuntime) -> Result<(), Fail> {
     let path = "disk-file-round-trip.img";
     {
-        let mut device = FileDevice::create(&rt, path, 3)?;
+        let mut device = FileDevice::create(&rt, rt.alloc(), path, 3)?;
         assert_eq!(rt; device.sectors(), 3);
         device.write(2, &filled(9))?;
         device.sync()?;
         assert_eq!(rt; device.write(3, &filled(9)), Err(DiskFault::Range));
     }
-    let mut device = FileDevice::open(&rt, path)?;
+    let mut device = FileDevice::open(&rt, rt.alloc(), path)?;
     assert_eq!(rt; device.sectors(), 3);
     assert!(rt; device.is_whole());
     assert_eq!(rt; byte_of(&mut device, 1)?, 0);
@@ -224,11 +224,83 @@ fn a_file_keeps_what_is_written(rt: HostRuntime) -> Result<(), Fail> {
     Ok(())
 }
 
+// the bytes that the first sectors are filled with
+fn bytes_of<D: Device>(device: &mut D) -> Result<[u8; 4], DiskFault> {
+    Ok([
+        byte_of(device, 0)?,
+        byte_of(device, 1)?,
+        byte_of(device, 2)?,
+        byte_of(device, 3)?,
+    ])
+}
+
+// writes sectors of a new file, and reads them before a sync, behind it, and from the file opened anew
+fn write_and_read(rt: &HostRuntime, writes: &[(u32, u8)]) -> Result<[[u8; 4]; 3], DiskFault> {
+    let path = "disk-file-gathered.img";
+    let mut device = FileDevice::create(rt, rt.alloc(), path, 4)?;
+    for (n, byte) in writes {
+        device.write(*n, &filled(*byte))?;
+    }
+    let before = bytes_of(&mut device)?;
+    device.sync()?;
+    let behind = bytes_of(&mut device)?;
+    let mut opened = FileDevice::open(rt, rt.alloc(), path)?;
+    Ok([before, behind, bytes_of(&mut opened)?])
+}
+
+#[test]
+fn a_file_gives_what_was_written_last(rt: HostRuntime) -> Result<(), Fail> {
+    let path = "disk-file-gathered.img";
+    let rows: [(&[(u32, u8)], [u8; 4]); 6] = [
+        (&[], [0, 0, 0, 0]),
+        // neighbours, by rising number
+        (&[(0, 1), (1, 2), (2, 3)], [1, 2, 3, 0]),
+        // by falling number, and in no order
+        (&[(3, 1), (2, 2), (1, 3), (0, 4)], [4, 3, 2, 1]),
+        (&[(2, 1), (0, 2), (3, 3), (1, 4)], [2, 4, 1, 3]),
+        // some again, within what is gathered
+        (
+            &[(1, 1), (2, 2), (3, 3), (1, 4), (3, 5), (2, 6)],
+            [0, 4, 6, 5],
+        ),
+        // some again, behind others that are no neighbours
+        (
+            &[(1, 1), (2, 2), (0, 3), (1, 4), (3, 5), (2, 6)],
+            [3, 4, 6, 5],
+        ),
+    ];
+    for (writes, wanted) in rows {
+        let _ = fs::remove_file(&rt, path);
+        assert_eq!(rt; write_and_read(&rt, writes)?, [wanted; 3]);
+    }
+    fs::remove_file(&rt, path)?;
+    Ok(())
+}
+
+#[test]
+fn a_file_takes_any_number_of_neighbours(rt: HostRuntime) -> Result<(), Fail> {
+    let path = "disk-file-neighbours.img";
+    let mut device = FileDevice::create(&rt, rt.alloc(), path, 200)?;
+    for n in 0..200_u8 {
+        device.write(u32::from(n), &filled(n))?;
+    }
+    for n in 0..200_u8 {
+        assert_eq!(rt; byte_of(&mut device, u32::from(n))?, n);
+    }
+    device.sync()?;
+    let mut opened = FileDevice::open(&rt, rt.alloc(), path)?;
+    for n in 0..200_u8 {
+        assert_eq!(rt; byte_of(&mut opened, u32::from(n))?, n);
+    }
+    fs::remove_file(&rt, path)?;
+    Ok(())
+}
+
 #[test]
 fn a_file_that_shrank_fails_and_counts(rt: HostRuntime) -> Result<(), Fail> {
     let path = "disk-file-shrank.img";
-    let mut device = FileDevice::create(&rt, path, 2)?;
-    let _ = FileDevice::create(&rt, path, 1)?;
+    let mut device = FileDevice::create(&rt, rt.alloc(), path, 2)?;
+    let _ = FileDevice::create(&rt, rt.alloc(), path, 1)?;
     assert_eq!(rt; byte_of(&mut device, 0)?, 0);
     assert_eq!(rt; byte_of(&mut device, 1), Err(DiskFault::Fault));
     assert_eq!(rt; device.failures(), 1);
@@ -240,7 +312,7 @@ fn a_file_that_shrank_fails_and_counts(rt: HostRuntime) -> Result<(), Fail> {
 fn a_file_with_part_of_a_sector_is_not_whole(rt: HostRuntime) -> Result<(), Fail> {
     let path = "disk-file-short.img";
     fs::write(&rt, path, [1; 5000])?;
-    let mut device = FileDevice::open(&rt, path)?;
+    let mut device = FileDevice::open(&rt, rt.alloc(), path)?;
     assert_eq!(rt; device.sectors(), 1);
     assert!(rt; !device.is_whole());
     assert_eq!(rt; byte_of(&mut device, 0)?, 1);
@@ -252,9 +324,9 @@ fn a_file_with_part_of_a_sector_is_not_whole(rt: HostRuntime) -> Result<(), Fail
 fn a_file_that_is_not_there_is_refused(rt: HostRuntime) {
     assert!(rt;
         matches!(
-            FileDevice::open(&rt, "disk-no-such-file.img"),
+            FileDevice::open(&rt, rt.alloc(), "disk-no-such-file.img"),
             Err(DiskFault::Open)
         )
     );
-    assert!(rt; matches!(FileDevice::open(&rt, "."), Err(DiskFault::Open)));
+    assert!(rt; matches!(FileDevice::open(&rt, rt.alloc(), "."), Err(DiskFault::Open)));
 }
