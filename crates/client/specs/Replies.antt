@@ -1,24 +1,20 @@
 -- What a reply tells of a record, and what the client knows from it: RFC 8881, sections 2.10.6.1, 16.2 and 18.36; RFC 5531,
 -- section 9.
-use Rattle.std.specs.Prelude.{◌≡◌, ◌≢◌, ℕ, ◌+◌, ◌-◌, ◌%◌, ◌^◌, Bool, true, false, not, ◌&&◌, ◌||◌, ◌==◌, List, [], ◌∷◌, length, fold, Option, None, Some, Result, Ok, Err, bytes_eq, if◌then◌else◌}
+use Rattle.std.specs.Prelude.{◌≡◌, ◌≢◌, ℕ, ◌+◌, ◌%◌, ◌^◌, Bool, true, false, not, ◌&&◌, ◌||◌, ◌==◌, List, [], ◌∷◌, length, fold, Option, None, Some, Result, Ok, Err, bytes_eq, if◌then◌else◌}
 use Rattle.std.specs.Option.{option_map}
 use Rattle.std.specs.Int.{w32}
 use Rattle.xdr.specs.declared.refusal.Refusal.{Refusal}
-use Rattle.xdr.specs.Grammar.{Grammar, ◌&◌, number_at, unsigned_int}
-use Rattle.xdr.specs.Forms.{opaque, array}
+use Rattle.xdr.specs.Grammar.{number_at}
 use Rattle.model.specs.declared.status.Status.{Status}
 use Rattle.model.specs.declared.status.Status.TheVariants as status
 use Rattle.model.specs.Status.{code_of}
 use Rattle.model.specs.Answer.{Answer, Outcome, Done, Refused}
 use Rattle.model.specs.OperationNumber.{OP_SEQUENCE}
-use Rattle.model.specs.Rpc.{Reply, Success, is_empty, tag_limit}
+use Rattle.model.specs.Results.{compound_result}
+use Rattle.model.specs.Rpc.{Reply, Success, is_empty}
 use Rattle.model.specs.RpcGrammar.{read_reply}
-use Rattle.model.specs.WireAnswers.{outcome_told, outcome}
+use Rattle.model.specs.WireAnswers.{outcome_told}
 use Rattle.client.specs.Client.{Client, Session, Sent}
-
--- COMPOUND4res: the status of the last result, the tag, and the results
-abbrev pub compound_result : Grammar (ℕ × (List ℕ × List Outcome))
-compound_result = unsigned_int & opaque tag_limit & array (2 ^ 32 - 1) outcome
 
 -- The results of the operations of a record
 

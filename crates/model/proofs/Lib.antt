@@ -7,6 +7,8 @@ pub mod ChangeLaws
 pub mod ClientTables
 pub mod EditLaws
 pub mod EditViews
+pub mod ExactAnswers
+pub mod ExactTypes
 pub mod FeedingLaws
 pub mod FileStepLaws
 pub mod FreshTree
@@ -28,6 +30,7 @@ pub mod PageLaws
 pub mod ReadOperations
 pub mod RecordLaws
 pub mod RecordOnly
+pub mod ResultLaws
 pub mod RpcExact
 pub mod RpcRows
 pub mod RuledOutLaws

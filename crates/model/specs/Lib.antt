@@ -37,6 +37,7 @@ pub mod ReadDir
 pub mod Record
 pub mod Refusal
 pub mod Rename
+pub mod Results
 pub mod RightsExamples
 pub mod Rpc
 pub mod RpcGrammar

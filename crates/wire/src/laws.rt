@@ -12,7 +12,7 @@ pub fn arguments_are_exact()
 {}
 
 /// A result of an operation, whether it ended well or was refused.
-#[tactic(auto, using(crate::proofs::ExactAnswers::outcome_exact, crate::proofs::ExactAnswers::one_outcome))]
+#[tactic(auto, using(model::proofs::ExactAnswers::outcome_exact, model::proofs::ExactAnswers::one_outcome))]
 pub fn outcomes_are_exact()
     ensures exact { Exact outcome }
     ensures one { OneSpelling outcome }

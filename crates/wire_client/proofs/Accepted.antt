@@ -12,7 +12,7 @@ use Rattle.wire.specs.declared.argument.Operation.TheVariants as operation
 use Rattle.wire.specs.declared.outcome.Outcome.{Outcome}
 use Rattle.wire.specs.Numbers.{number_of}
 use Rattle.wire.specs.OutcomeView.{outcome_view}
-use Rattle.wire.proofs.ExactAnswers.{outcome_exact}
+use Rattle.model.proofs.ExactAnswers.{outcome_exact}
 use Rattle.wire_client.specs.Reading.{answers_at}
 
 pub outcome_accepted : (old new : List ℕ) (result : Result Outcome Refusal) → IsBytes old → Reads outcome_view outcome.read old new result → Accepts outcome_view outcome old new result

@@ -19,7 +19,7 @@ use Rattle.model.specs.Status.{code_of}
 use Rattle.model.specs.Answer.{Answer, Outcome, Done, Refused}
 use Rattle.model.specs.WireTypes.{file_handle, verifier, state_id, change_info}
 use Rattle.model.specs.WireAnswers.{answered_attributes, access_answer, create_answer, open_answer, read_answer, entry, read_dir_answer, rename_answer, write_answer, exchange_id_answer, create_session_answer, sequence_answer, answer_told, answer_choice, refusals, refusal_of, behind_refusal, outcome_told, refused_by, behind_status, outcome_choice, outcome_at, outcome}
-use Rattle.wire.proofs.ExactTypes.{any_opaque_exact, file_handle_exact, verifier_exact, session_id_exact, state_id_exact, attributes_of_exact, change_info_exact, channel_exact}
+use Rattle.model.proofs.ExactTypes.{any_opaque_exact, file_handle_exact, verifier_exact, session_id_exact, state_id_exact, attributes_of_exact, change_info_exact, channel_exact}
 
 pub answered_attributes_exact : Exact answered_attributes
 answered_attributes_exact = attributes_of_exact trimmed_bitmap trimmed_exact

@@ -1,0 +1,30 @@
+-- The result of a COMPOUND as a grammar: RFC 8881, section 16.2.2. What the server makes of the results of a COMPOUND is spelled by it.
+use Rattle.std.specs.Prelude.{◌≡◌, ℕ, ◌-◌, ◌^◌, List, [], ◌∷◌, ◌++◌, flat_map, length}
+use Rattle.xdr.specs.Grammar.{Grammar, ◌&◌, unsigned_int}
+use Rattle.xdr.specs.Forms.{opaque, array}
+use Rattle.model.specs.declared.acl.Cred.{Cred}
+use Rattle.model.specs.declared.status.Status.{Status}
+use Rattle.model.specs.Answer.{Outcome}
+use Rattle.model.specs.Rpc.{Compound, tag_limit}
+use Rattle.model.specs.Status.{code_of}
+use Rattle.model.specs.WireAnswers.{outcome}
+use Rattle.model.specs.World.{World, InProgress, in_progress, outcome_text, result_of, with_result}
+
+-- COMPOUND4res: the status of the last result, the tag, and the results
+abbrev pub compound_result : Grammar (ℕ × (List ℕ × List Outcome))
+compound_result = unsigned_int & opaque tag_limit & array (2 ^ 32 - 1) outcome
+
+-- The law
+
+-- these are the results of a request so far
+pub record AreResults (request : InProgress) (results : List Outcome) : Type 0 where
+  pub answered : request.answered ≡ length results
+  pub spelled : request.results ≡ flat_map outcome_text results
+
+-- A request begins without results, and goes on behind one more; at its end they are spelled as one result.
+pub record SpellsResults : Type 0 where
+  pub begins : (world : World) (xid : ℕ) (cred : Cred) (compound : Compound) → AreResults (in_progress world xid cred compound) []
+  pub goes_on : (request : InProgress) (results : List Outcome) (next : Outcome) → AreResults request results
+      → AreResults (with_result request next) (results ++ next ∷ [])
+  pub ends : (request : InProgress) (results : List Outcome) (last : Status) → AreResults request results
+      → result_of request last ≡ compound_result.spelling (code_of last, (request.tag, results))
