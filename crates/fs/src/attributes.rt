@@ -88,6 +88,7 @@ impl<D: Device> Fs<D> {
             size: inode.size,
             max_file_size: limits.file_bytes as u64,
             max_name: limits.name_bytes as u32,
+            max_transfer: limits.transfer_bytes as u64,
         }
     }
 }

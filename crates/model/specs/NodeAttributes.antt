@@ -33,11 +33,7 @@ lease_time = 90
 abbrev pub acl_support : ℕ
 acl_support = 3
 
--- the most bytes of a READ and of a WRITE
-abbrev pub most_data : ℕ
-most_data = 8192
-
--- all values of the node of this number, by rising attribute number
+-- all values of the node of this number, by rising attribute number; maxread and maxwrite are what one READ gives and one WRITE takes
 abbrev pub node_values : Limits → (number : ℕ) → Node → List Value
 node_values limits number node =
     SupportedAttrs supported_bitmap
@@ -58,8 +54,8 @@ node_values limits number node =
     ∷ FileId number
     ∷ MaxFileSize limits.file_bytes
     ∷ MaxName limits.name_bytes
-    ∷ MaxRead most_data
-    ∷ MaxWrite most_data
+    ∷ MaxRead limits.transfer_bytes
+    ∷ MaxWrite limits.transfer_bytes
     ∷ Mode (mode_of node.acl)
     ∷ NumLinks 1
     ∷ Owner (decimal node.owner)

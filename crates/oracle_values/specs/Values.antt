@@ -6,7 +6,7 @@ use Rattle.model.specs.Attribute.{is_among}
 use Rattle.model.specs.AttributeValue.{AclEntry, acl_entry, Value, SupportedAttrs, Kind, FhExpireType, Change, Size, LinkSupport, SymlinkSupport, NamedAttr, Fsid, UniqueHandles, LeaseTime, RdattrError, Acl, AclSupport, FileHandle, FileId, MaxFileSize, MaxName, MaxRead, MaxWrite, Mode, NumLinks, Owner, OwnerGroup, TimeModify, SuppattrExclcreat, attribute_of, value_text}
 use Rattle.model.specs.declared.limits.Limits.{Limits}
 use Rattle.model.specs.Mode.{mode_of}
-use Rattle.model.specs.NodeAttributes.{supported_bitmap, size_of, lease_time, acl_support, most_data, time_of}
+use Rattle.model.specs.NodeAttributes.{supported_bitmap, size_of, lease_time, acl_support, time_of}
 use Rattle.model.specs.Stamp.{filehandle_of}
 use Rattle.model.specs.Tree.{Node, kind_of}
 
@@ -50,8 +50,8 @@ limit_values limits number =
     ∷ FileId number
     ∷ MaxFileSize limits.file_bytes
     ∷ MaxName limits.name_bytes
-    ∷ MaxRead most_data
-    ∷ MaxWrite most_data
+    ∷ MaxRead limits.transfer_bytes
+    ∷ MaxWrite limits.transfer_bytes
     ∷ []
 
 abbrev pub owner_values : Node → List Value

@@ -121,8 +121,8 @@ fn limit_texts(alloc: Global, limits: &Limits, number: u128) -> Result<Vec<Text>
     add(alloc, &mut texts, 20, &hyper(number))?;
     add(alloc, &mut texts, 27, &hyper(limits.file_bytes as u128))?;
     add(alloc, &mut texts, 29, &word(limits.name_bytes as u128))?;
-    add(alloc, &mut texts, 30, &hyper(8192))?;
-    add(alloc, &mut texts, 31, &hyper(8192))?;
+    add(alloc, &mut texts, 30, &hyper(limits.transfer_bytes as u128))?;
+    add(alloc, &mut texts, 31, &hyper(limits.transfer_bytes as u128))?;
     Ok(texts)
 }
 

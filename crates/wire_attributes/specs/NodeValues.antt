@@ -5,7 +5,7 @@ use Rattle.model.specs.AclText.{entry_text}
 use Rattle.model.specs.Attribute.{attributes_of, is_among, trimmed}
 use Rattle.model.specs.AttributeValue as spec
 use Rattle.model.specs.AttributeValue.{value_text}
-use Rattle.model.specs.NodeAttributes.{supported_bitmap, time_of, lease_time, acl_support, most_data, asked_values, common}
+use Rattle.model.specs.NodeAttributes.{supported_bitmap, time_of, lease_time, acl_support, asked_values, common}
 use Rattle.model.specs.Operation as operation
 use Rattle.model.specs.Stamp.{filehandle_of}
 use Rattle.wire_attributes.specs.declared.answer.AttributesAnswer.{AttributesAnswer}
@@ -90,8 +90,8 @@ value_of node attribute.FileHandle = spec.FileHandle (filehandle_of node.number)
 value_of node attribute.FileId = spec.FileId node.number
 value_of node attribute.MaxFileSize = spec.MaxFileSize node.max_file_size
 value_of node attribute.MaxName = spec.MaxName node.max_name
-value_of node attribute.MaxRead = spec.MaxRead most_data
-value_of node attribute.MaxWrite = spec.MaxWrite most_data
+value_of node attribute.MaxRead = spec.MaxRead node.max_transfer
+value_of node attribute.MaxWrite = spec.MaxWrite node.max_transfer
 value_of node attribute.Mode = spec.Mode node.mode
 value_of node attribute.NumLinks = spec.NumLinks 1
 value_of node attribute.Owner = spec.Owner (decimal node.owner)

@@ -31,9 +31,6 @@ const LEASE_TIME: u32 = 90;
 /// ALLOW and DENY entries.
 const ACL_SUPPORT: u32 = 3;
 
-/// The most bytes of a READ and of a WRITE.
-const MAX_DATA: u64 = 8192;
-
 const NANOSECONDS: u64 = 1_000_000_000;
 
 /// What a node shows of itself, and the limits of its volume that it shows.
@@ -53,6 +50,8 @@ pub struct NodeAttributes<'a> {
     pub size: u64,
     pub max_file_size: u64,
     pub max_name: u32,
+    /// The most bytes that one READ gives or one WRITE takes.
+    pub max_transfer: u64,
 }
 
 /// The text that names this one. The buffer holds the digits of a number.
@@ -254,7 +253,7 @@ impl NodeAttributes<'_> {
             Attribute::FileId => w.write_u64(self.number),
             Attribute::MaxFileSize => w.write_u64(self.max_file_size),
             Attribute::MaxName => w.write_u32(self.max_name),
-            Attribute::MaxRead | Attribute::MaxWrite => w.write_u64(MAX_DATA),
+            Attribute::MaxRead | Attribute::MaxWrite => w.write_u64(self.max_transfer),
             Attribute::Mode => w.write_u32(self.mode),
             Attribute::NumLinks => w.write_u32(1),
             Attribute::Owner => write_owner(w, self.owner),

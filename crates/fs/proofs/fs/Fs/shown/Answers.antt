@@ -18,4 +18,4 @@ returns-clause-shows g c bitmap =
     (ap (λ (it : Card). it.fields.change) c.card.view_is) (ap (λ (it : Card). it.fields.time_modify) c.card.view_is)
     (ap (λ (it : Card). it.fields.size) c.card.view_is)
     (ap (λ (l : Limits). l.file_bytes) c.limits-limits.ensures.limits) (ap (λ (l : Limits). l.name_bytes) c.limits-limits.ensures.limits)
-    bitmap
+    (ap (λ (l : Limits). l.transfer_bytes) c.limits-limits.ensures.limits) bitmap
