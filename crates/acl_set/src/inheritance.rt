@@ -1,14 +1,14 @@
 //! What a new node gets of its directory's list.
 
-ghost use Rattle.std.specs.Prelude.{◌≡◌, ◌≤◌, not, position, MatchOption, IfOk, IsOkUnless};
+ghost use Rattle.std.specs.Prelude.{◌≡◌, ◌≤◌, true, not, position, MatchOption, IfOk, IsOkUnless};
 ghost use Rattle.std.specs.Option.{ForSome, option_copied};
-ghost use Rattle.model.specs.Acl.{are_flags_for, is_entry_for};
+ghost use Rattle.model.specs.Acl.{are_flags_for, has_width, is_entry_for};
 ghost use Rattle.model.specs.Inherit.{is_inherited_by, inherited_flags, inherited, created, first_refused};
 ghost use Rattle.acl_set.specs.Refused.{refused_of};
 
 use crate::fault::AclFault;
 use crate::modes::with_mode;
-use acl_eval::{Ace, AceFlags, Acl, Mask, NodeKind};
+use acl_eval::{Ace, AceFlags, Acl, Mask, NodeKind, Who};
 use bitflags::Flags;
 use std::alloc::Global;
 
@@ -86,9 +86,7 @@ pub fn are_flags_for(kind: NodeKind, flags: AceFlags) -> bool
     match kind {
         NodeKind::File => flags.is_empty(),
         NodeKind::Directory => {
-            flags
-                .difference(AceFlags::from_bits_retain(INHERITANCE))
-                .is_empty()
+            AceFlags::from_bits_retain(INHERITANCE).contains(flags)
                 && (!flags.intersects(further) || flags.intersects(handed_down))
         }
     }
@@ -96,15 +94,22 @@ pub fn are_flags_for(kind: NodeKind, flags: AceFlags) -> bool
 
 const EVERY_RIGHT: u32 = 0x1F01E7;
 
+// A number has 32 bits by its type: this does nothing but say so.
+fn tell_width(who: Who)
+    ensures { has_width who ≡ true }
+{
+    let _number = match who {
+        Who::User(number) | Who::NamedGroup(number) => number,
+        Who::Owner | Who::Group | Who::Everyone => 0,
+    };
+}
+
 // Whether a node of this kind may have the entry.
 pub(crate) fn is_entry_for(kind: NodeKind, ace: &Ace) -> bool
     ensures { result ≡ is_entry_for kind ace.now }
 {
-    are_flags_for(kind, ace.flags)
-        && ace
-            .mask
-            .difference(Mask::from_bits_retain(EVERY_RIGHT))
-            .is_empty()
+    tell_width(ace.who);
+    are_flags_for(kind, ace.flags) && Mask::from_bits_retain(EVERY_RIGHT).contains(ace.mask)
 }
 
 // The index of the first entry that a node of this kind may not have.

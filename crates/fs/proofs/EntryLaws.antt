@@ -1,13 +1,16 @@
 -- The entries of a list that a node may have.
-use Rattle.std.proofs.Common.{◌≡◌, ◌≤◌, ◌<◌, ◌+◌, ◌^◌, ℕ, true, List, [], ◌∷◌, length, refl, sym, arith, subst}
+use Rattle.std.proofs.Common.{◌≡◌, ◌≤◌, ◌<◌, ◌+◌, ◌^◌, ℕ, true, ◌&&◌, bit_and, List, [], ◌∷◌, length, sym, arith, subst}
 use Rattle.std.specs.List.{AllByRecursion, list_all}
-use Rattle.std.proofs.lemmas.Bool.{and_parts, eqb-true, leb-true}
-use Rattle.std.proofs.lemmas.Nat.Bits.{and_high_mask}
+use Rattle.std.proofs.lemmas.Bool.{and_parts, eqb-true, leb-true, ltb-true}
+use Rattle.std.proofs.lemmas.Nat.{and_le_l}
+use Rattle.inode.specs.Fields.{IsAce, id_of}
 use Rattle.model.specs.declared.acl.Ace.{Ace}
+use Rattle.model.specs.declared.acl.Who.{Who}
+use Rattle.model.specs.declared.acl.Who.TheVariants as who
 use Rattle.model.specs.declared.limits.Limits.{Limits}
 use Rattle.model.specs.declared.node.NodeKind.{NodeKind}
 use Rattle.model.specs.declared.node.NodeKind.TheVariants as kind
-use Rattle.model.specs.Acl.{without, inheritance, are_flags_for, is_entry_for, is_list_for}
+use Rattle.model.specs.Acl.{is_within, every_right, inheritance, are_flags_for, has_width, is_entry_for, is_list_for}
 use Rattle.model.specs.Inherit.{created}
 use Rattle.model.specs.Limits.{limits_of}
 use Rattle.model.specs.SetAttr.{list_set}
@@ -15,26 +18,38 @@ use Rattle.model.proofs.FileStepLaws.{list_given, list_is_set}
 use Rattle.model.proofs.LimitLaws.{modes_keep_limits, inheritance_keeps_limits}
 use Rattle.settings.specs.declared.said.Settings.{Settings}
 use Rattle.settings.specs.Given.{AreWithin}
-use Rattle.fs.specs.Entries.{HasFewFlags}
 use Rattle.fs.specs.Planned.{IsList}
 
-pub few_flags : (flags : ℕ) → flags < 2 ^ 32 → without flags inheritance ≡ 0 → flags < 16
-few_flags flags word none = (let high = and_high_mask 32 4 (omega arith) flags word in omega (arith, high, none))
-
 -- no other flag than those of inheritance, and of a file's entries none at all
-few_for : (of : NodeKind) (flags : ℕ) → are_flags_for of flags ≡ true → without flags inheritance ≡ 0
-few_for kind.Directory flags are = eqb-true (without flags inheritance) 0 (and_parts _ _ are).0
-few_for kind.File flags are = (let none = eqb-true flags 0 are in rw none refl)
+few_for : (of : NodeKind) (flags : ℕ) → are_flags_for of flags ≡ true → flags < 16
+few_for kind.Directory flags are =
+    let within = eqb-true (bit_and inheritance flags) flags (and_parts _ _ are).0 in
+    omega (arith, within, and_le_l inheritance flags)
+few_for kind.File flags are = (let none = eqb-true flags 0 are in omega (arith, none))
 
-each_few : (of : NodeKind) (acl : List Ace) → list_all (is_entry_for of) acl ≡ true → AllByRecursion HasFewFlags acl
-each_few of [] all = tt
-each_few of (ace ∷ acl) all =
+known_rights : (mask : ℕ) → is_within mask every_right ≡ true → mask < 2 ^ 32
+known_rights mask is = (let within = eqb-true (bit_and every_right mask) mask is in omega (arith, within, and_le_l every_right mask))
+
+known_number : (name : Who) → has_width name ≡ true → id_of name < 2 ^ 32
+known_number who.Owner has = omega arith
+known_number who.Group has = omega arith
+known_number who.Everyone has = omega arith
+known_number (who.User number) has = ltb-true number (2 ^ 32) has
+known_number (who.NamedGroup number) has = ltb-true number (2 ^ 32) has
+
+-- an entry that a node may have has a spelling
+each_spelled : (of : NodeKind) (acl : List Ace) → list_all (is_entry_for of) acl ≡ true → AllByRecursion IsAce acl
+each_spelled of [] all = tt
+each_spelled of (ace ∷ acl) all =
     let parts = and_parts _ _ all in
-    let entry = and_parts _ _ parts.0 in
-    (few_for of ace.flags.0 entry.0, each_few of acl parts.1)
+    let entry = and_parts (are_flags_for of ace.flags.0 && is_within ace.mask.0 every_right) (has_width ace.who) parts.0 in
+    let front = and_parts (are_flags_for of ace.flags.0) (is_within ace.mask.0 every_right) entry.0 in (
+      record { flags = few_for of ace.flags.0 front.0; mask = known_rights ace.mask.0 front.1; id = known_number ace.who entry.1 },
+      each_spelled of acl parts.1,
+    )
 
 pub record IsSmall (acl : List Ace) (most : ℕ) : Type 0 where
-  pub each : AllByRecursion HasFewFlags acl
+  pub each : AllByRecursion IsAce acl
   pub few : length acl ≤ most
 
 pub small_list : (limits : Limits) (of : NodeKind) (acl : List Ace) → IsList limits of acl → IsSmall acl limits.aces
@@ -42,7 +57,7 @@ unfolding is_list_for
 small_list limits of acl is =
     let front = and_parts _ _ is in
     let parts = and_parts _ _ front.0 in
-    record { each = each_few of acl parts.0; few = leb-true (length acl) limits.aces parts.1 }
+    record { each = each_spelled of acl parts.0; few = leb-true (length acl) limits.aces parts.1 }
 
 -- the list of a new node is one, where the list that is given is
 pub created_list : (limits : Limits) (sectors nodes : ℕ) → limits ≡ limits_of sectors nodes → (of : NodeKind) (parent : List Ace) → IsList limits kind.Directory parent

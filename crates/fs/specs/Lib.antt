@@ -1,7 +1,6 @@
 pub mod AccessRights
 pub mod Attributes
 pub mod Changes
-pub mod Entries
 pub mod FileSystem
 pub mod FileSystems
 pub mod Files

@@ -6,7 +6,6 @@ mod access;
 mod attributes;
 mod changing;
 mod created;
-mod entries;
 mod fault;
 mod files;
 mod fs;

@@ -2,7 +2,6 @@
 
 use crate::changing::{NewNode, made_edits, touched};
 use crate::created::Created;
-use crate::entries::tell_entries;
 use crate::fault::FsFault;
 use crate::fs::Fs;
 use crate::lists::list_created;
@@ -237,7 +236,6 @@ impl<D: Device> Fs<D> {
     {
         let (owner, group) = (cred.uid, cred.gid);
         let acl = list_created(self.alloc, parent.inode.acl.as_slice(), kind, settings)?;
-        tell_entries(acl.as_slice());
         Ok(Shown {
             owner,
             group,

@@ -6,7 +6,6 @@ ghost use Rattle.settings.specs.Given.{IsChecked};
 ghost use Rattle.fs.specs.Setting.{may_set, sized_refusals};
 
 use crate::changing::set_edits;
-use crate::entries::tell_entries;
 use crate::fault::FsFault;
 use crate::fs::Fs;
 use crate::lists::list_set;
@@ -239,7 +238,6 @@ impl<D: Device> Fs<D> {
             settings.mode,
             settings.acl,
         )?;
-        tell_entries(acl.as_slice());
         Ok(Shown {
             owner,
             group,

@@ -1,15 +1,18 @@
 -- What a client gives as a list is one that a node may have.
-use Rattle.std.proofs.Common.{◌≡◌, ℕ, ◌+◌, ◌≤◌, ◌==◌, Bool, true, false, not, nat_lt, List, [], ◌∷◌, ◌++◌, length, refl, sym, ap, subst, ◌∙◌, arith, le-leb, ltb-false}
+use Rattle.std.proofs.Common.{◌≡◌, ℕ, ◌+◌, ◌^◌, ◌≤◌, Bool, true, false, not, nat_lt, List, [], ◌∷◌, ◌++◌, length, refl, sym, ap, subst, ◌∙◌, arith, le-leb, ltb-false}
 use Rattle.std.specs.Prelude.{Option, Some, None, count_by, flat_map, is_none, unwrap_or}
 use Rattle.std.specs.List.{list_all}
+use Rattle.std.proofs.lemmas.Bool.{lt-ltb}
 use Rattle.std.proofs.lemmas.List.Concat.{flat_map-cons}
 use Rattle.std.proofs.lemmas.List.Sums.{count_by-le-length}
 use Rattle.model.specs.declared.acl.Ace.{Ace}
+use Rattle.model.specs.declared.acl.Who.{Who}
+use Rattle.model.specs.declared.acl.Who.TheVariants as who
 use Rattle.model.specs.declared.node.NodeKind.{NodeKind}
 use Rattle.model.specs.declared.status.Status.{Status}
 use Rattle.model.specs.declared.status.Status.TheVariants as status
-use Rattle.model.specs.Acl.{without, every_right, inheritance, are_flags_for, is_entry_for, is_list_for, is_plain}
-use Rattle.model.specs.AclText.{identifier_group, ace_in, aces_in, named_in}
+use Rattle.model.specs.Acl.{meets, without, is_within, has_width, every_right, inheritance, are_flags_for, is_entry_for, is_list_for, is_plain}
+use Rattle.model.specs.AclText.{Agrees, identifier_group, ace_in, aces_in, named_in}
 use Rattle.model.specs.Attribute.{entry_refusals, value_refusals, attribute_refusals, first_said, acl_said, values_of, attributes_of, supported, has_one_outside, GivenListsFit}
 use Rattle.model.specs.AttributeValue.{AclEntry, Value, Acl}
 use Rattle.model.specs.Limits.{Limits}
@@ -39,20 +42,26 @@ held : (b : Bool) → not b ≡ false → b ≡ true
 held true fails = refl
 held false fails = absurd (cc)
 
+meant_width : (is_group : Bool) (name : Who) → Agrees is_group name → has_width name ≡ true
+meant_width is_group who.Owner meant = refl
+meant_width is_group who.Group meant = refl
+meant_width is_group who.Everyone meant = refl
+meant_width is_group (who.User number) meant = lt-ltb number (2 ^ 32) meant.1
+meant_width is_group (who.NamedGroup number) meant = lt-ltb number (2 ^ 32) meant.1
+
 -- an entry that passes its tests is one that such a node may have
 entry_fits : (kind : NodeKind) (entry : AclEntry) (ace : Ace) → first_refusal (entry_refusals kind entry) ≡ None → ace_in entry ≡ Some ace
     → is_entry_for kind ace ≡ true
 entry_fits kind entry ace none read =
     let stands = (reads_entries entry ace).0 read in
     let behind_kind = front_passed (nat_lt 1 entry.kind) status.AttrNotSupp _ none in
-    let behind_flags = front_passed (not (without entry.flags (inheritance + identifier_group) == 0)) status.AttrNotSupp _ behind_kind.1 in
-    let behind_mask = front_passed (not (without entry.mask every_right == 0)) status.AttrNotSupp _ behind_flags.1 in
+    let behind_flags = front_passed (not (is_within entry.flags (inheritance + identifier_group))) status.AttrNotSupp _ behind_kind.1 in
+    let behind_mask = front_passed (not (is_within entry.mask every_right)) status.AttrNotSupp _ behind_flags.1 in
     let behind_name = front_passed (is_none (named_in entry)) status.BadOwner _ behind_mask.1 in
     let behind_kinds = front_passed (not (are_flags_for kind (without entry.flags identifier_group))) status.AttrNotSupp _ behind_name.1 in
     let flags : are_flags_for kind ace.flags.0 ≡ true = ap (are_flags_for kind) stands.flags ∙ held _ behind_kinds.0 in
-    let mask : (without ace.mask.0 every_right == 0) ≡ true =
-    ap (λ (m : ℕ). without m every_right == 0) (sym stands.mask) ∙ held _ behind_mask.0 in
-    rw (flags, mask) refl
+    let mask : is_within ace.mask.0 every_right ≡ true = ap (λ (m : ℕ). is_within m every_right) (sym stands.mask) ∙ held _ behind_mask.0 in
+    rw (flags, mask, meant_width (meets entry.flags identifier_group) ace.who stands.who.1) refl
 
 entries_fit : (kind : NodeKind) (entries : List AclEntry) → first_refusal (flat_map (entry_refusals kind) entries) ≡ None
     → (list_all (is_entry_for kind) (aces_in entries) ≡ true) × (length (aces_in entries) ≤ length entries)

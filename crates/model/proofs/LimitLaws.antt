@@ -1,13 +1,16 @@
 -- Lists that a node may have stay so under modes and inheritance.
 use Rattle.std.proofs.Common.{⊎_elim, ◌≡◌, ◌∙◌, sym, ap, refl, ℕ, ◌+◌, ◌-◌, ◌^◌, ◌≤◌, ◌==◌, Bool, true, false, cond, if◌then◌else◌, ◌&&◌, ◌||◌, not, min, suc, Option, Some, None, All, List, [], ◌∷◌, ◌++◌, length, filter, map, get_or, arith, bit_and}
 use Rattle.std.specs.List.{AllByRecursion, count_by, position_or_len}
+use Rattle.std.specs.Int.{bit_at}
+use Rattle.std.specs.Int.Bits.{and_zero_r}
 use Rattle.std.specs.Int.RustNames.{bit_or}
 use Rattle.std.proofs.lemmas.Bool.{false≢true, true≢false, and_parts, and_from, or_cases, cases_Bool, eqb-true, eq-eqb, leb-true, le-leb, ltb-false, or_right, not-true, not-false}
 use Rattle.std.proofs.lemmas.List.{length-append, length-map}
 use Rattle.std.proofs.lemmas.List.Elements.{All-from_recursion, All-nil, All-append, All-filter, All-map, filter-append, filter_passes}
 use Rattle.std.proofs.lemmas.List.Sums.{AllPass-from_list_all, list_all-from_AllPass, length-filter, count_by-le-length}
 use Rattle.std.proofs.lemmas.Nat.{and_assoc, and_comm, and_or_apart}
-use Rattle.model.specs.Acl.{meets, without, counts, every_right, inheritance, inherit_only, is_special, is_plain, are_flags_for, is_entry_for, is_list_for}
+use Rattle.std.proofs.lemmas.Nat.Bits.{same_from_bits, bit_at_and, bit_at_or}
+use Rattle.model.specs.Acl.{meets, without, is_within, has_width, counts, every_right, inheritance, inherit_only, is_special, is_plain, are_flags_for, is_entry_for, is_list_for}
 use Rattle.model.specs.Mode.{moded, write_rights, rights_of, rights_lacking, limited, limited_kind, not_counting, is_handed_down, has_rights, owner_bits, group_bits, other_bits}
 use Rattle.model.specs.Inherit.{is_inherited_by, as_inherited, inherited, created_without_list, first_refused}
 use Rattle.model.specs.AclLaws.{ModesKeepLimits, InheritanceKeepsLimits, SetListsAreWithinLimits, CreationKeepsLimits}
@@ -134,25 +137,65 @@ meets-wider word part whole e h =
     absurd (false≢true (sym (ap (λ w. not (w == 0)) less) ∙ h)))
     (cases_Bool (meets word whole))
 
--- what had no bit beyond some has none after it lost more
-without-without : (word less every : ℕ) → without word every ≡ 0 → without (without word less) every ≡ 0
-without-without word less every e =
-    and_assoc (2 ^ 32 - 1 - every) word (2 ^ 32 - 1 - less)
-    ∙ ap (bit_and word) (and_comm (2 ^ 32 - 1 - less) (2 ^ 32 - 1 - every))
-    ∙ sym (and_assoc (2 ^ 32 - 1 - less) word (2 ^ 32 - 1 - every))
-    ∙ ap (λ w. bit_and w (2 ^ 32 - 1 - less)) e
+-- what has no bit but some has no other after it lost more
+within-without : (number less bits : ℕ) → is_within number bits ≡ true → is_within (without number less) bits ≡ true
+within-without number less bits e =
+    eq-eqb _ _ (and_comm bits (without number less) ∙ (and_assoc bits number (2 ^ 32 - 1 - less)
+    ∙ (ap (bit_and number) (and_comm (2 ^ 32 - 1 - less) bits)
+    ∙ (sym (and_assoc (2 ^ 32 - 1 - less) number bits)
+    ∙ ap (λ n. bit_and n (2 ^ 32 - 1 - less)) (and_comm number bits ∙ eqb-true _ number e)))))
+
+-- nor after it gained some of them
+within-or : (number more bits : ℕ) → is_within number bits ≡ true → is_within more bits ≡ true → is_within (bit_or number more) bits ≡ true
+within-or number more bits e d = eq-eqb _ _ (same_from_bits _ _ each)
+  where
+    each : (i : ℕ) → bit_at (bit_and bits (bit_or number more)) i ≡ bit_at (bit_or number more) i
+    each i =
+        let here = ap (λ n. bit_at n i) (eqb-true _ number e) in
+        let there = ap (λ n. bit_at n i) (eqb-true _ more d) in
+        omega (
+          arith,
+          here,
+          there,
+          bit_at_and bits number i,
+          bit_at_and bits more i,
+          bit_at_and bits (bit_or number more) i,
+          bit_at_or number more i,
+        )
+
+-- what has no bit but some has none beside them
+pub within-none : (number bits : ℕ) → is_within number bits ≡ true → bit_and bits (2 ^ 32 - 1 - bits) ≡ 0 → without number bits ≡ 0
+within-none number bits e apart =
+    ap (λ n. bit_and n (2 ^ 32 - 1 - bits)) (sym (eqb-true _ number e))
+    ∙ (ap (λ n. bit_and n (2 ^ 32 - 1 - bits)) (and_comm bits number)
+    ∙ (and_assoc (2 ^ 32 - 1 - bits) number bits ∙ (ap (bit_and number) apart ∙ and_zero_r number)))
 
 abbrev Fits : NodeKind → Ace → Type 0
 Fits of ace = is_entry_for of ace ≡ true
 
-limited_mask : (way : AceKind) (mask lacking : ℕ) → (without mask every_right == 0) ≡ true → (without (limited_kind way mask lacking) every_right == 0) ≡ true
-limited_mask kind.Allow mask lacking e = eq-eqb _ 0 (without-without mask lacking every_right (eqb-true _ 0 e))
+-- the tests of an entry
+record Tests (of : NodeKind) (ace : Ace) : Type 0 where
+  flags : are_flags_for of ace.flags.0 ≡ true
+  mask : is_within ace.mask.0 every_right ≡ true
+  who : has_width ace.who ≡ true
+
+tests_of : (of : NodeKind) (ace : Ace) → Fits of ace → Tests of ace
+tests_of of ace e =
+    let parts = and_parts (are_flags_for of ace.flags.0 && is_within ace.mask.0 every_right) (has_width ace.who) e in
+    let front = and_parts (are_flags_for of ace.flags.0) (is_within ace.mask.0 every_right) parts.0 in
+    record { flags = front.0; mask = front.1; who = parts.1 }
+
+fits_by : (of : NodeKind) (ace : Ace) → are_flags_for of ace.flags.0 ≡ true → is_within ace.mask.0 every_right ≡ true → has_width ace.who ≡ true → Fits of ace
+fits_by of ace flags mask who = and_from _ _ (and_from _ _ flags mask) who
+
+limited_mask : (way : AceKind) (mask lacking : ℕ) → is_within mask every_right ≡ true → is_within (limited_kind way mask lacking) every_right ≡ true
+limited_mask kind.Allow mask lacking e = within-without mask lacking every_right e
 limited_mask kind.Deny mask lacking e = e
 
 limited_fits : (of : NodeKind) (mode : ℕ) (ace : Ace) → Fits of ace → Fits of (limited of mode ace)
 limited_fits of mode ace e =
-    let parts = and_parts (are_flags_for of ace.flags.0) (without ace.mask.0 every_right == 0) e in
-    and_from _ _ parts.0 (limited_mask ace.kind ace.mask.0 (rights_lacking of (group_bits mode)) parts.1)
+    let tests = tests_of of ace e in
+    fits_by of (limited of mode ace) tests.flags (limited_mask ace.kind ace.mask.0 (rights_lacking of (group_bits mode)) tests.mask) tests.who
 
 -- an entry that no longer counts is one for a directory where it was one and was handed down
 handed_meets : (flags : ℕ) (special : Bool) → (not (not (meets flags inherit_only)) || (special && meets flags 3)) ≡ true → (not (meets flags 12) || meets flags 3) ≡ true → meets flags 3 ≡ true
@@ -168,10 +211,10 @@ handed_meets flags special h e =
     (λ (named : (special && meets flags 3) ≡ true). (and_parts special (meets flags 3) named).1)
     (or_cases _ _ h)
 
-silent_flags : (flags : ℕ) → meets flags 3 ≡ true → (without flags inheritance == 0) ≡ true → are_flags_for node.Directory (bit_or flags inherit_only) ≡ true
+silent_flags : (flags : ℕ) → meets flags 3 ≡ true → is_within flags inheritance ≡ true → are_flags_for node.Directory (bit_or flags inherit_only) ≡ true
 silent_flags flags h e =
     and_from _ _
-    (ap (λ w. w == 0) (and_or_apart (2 ^ 32 - 1 - inheritance) flags inherit_only refl) ∙ e)
+    (within-or flags inherit_only inheritance e refl)
     (rw (and_or_apart 3 flags inherit_only refl) (or_right (not (meets (bit_or flags inherit_only) 12)) (meets flags 3) h))
 
 file_hands_nothing_down : (flags : ℕ) (special : Bool) → flags ≡ 0 → (not (not (meets flags inherit_only)) || (special && meets flags 3)) ≡ true → false ≡ true
@@ -181,15 +224,15 @@ file_hands_nothing_down flags special none h =
 
 tail_fits : (of : NodeKind) (ace : Ace) → is_handed_down ace ≡ true → Fits of ace → Fits of (not_counting ace)
 tail_fits node.File ace h e =
-    let parts = and_parts (are_flags_for node.File ace.flags.0) (without ace.mask.0 every_right == 0) e in
-    absurd (false≢true (file_hands_nothing_down ace.flags.0 (is_special ace.who) (eqb-true _ 0 parts.0) h))
+    let tests = tests_of node.File ace e in
+    absurd (false≢true (file_hands_nothing_down ace.flags.0 (is_special ace.who) (eqb-true _ 0 tests.flags) h))
 tail_fits node.Directory ace h e =
-    let parts = and_parts (are_flags_for node.Directory ace.flags.0) (without ace.mask.0 every_right == 0) e in
-    let flags = and_parts (without ace.flags.0 inheritance == 0) (not (meets ace.flags.0 12) || meets ace.flags.0 3) parts.0 in
-    and_from _ _ (silent_flags ace.flags.0 (handed_meets ace.flags.0 (is_special ace.who) h flags.1) flags.0) parts.1
+    let tests = tests_of node.Directory ace e in
+    let flags = and_parts (is_within ace.flags.0 inheritance) (not (meets ace.flags.0 12) || meets ace.flags.0 3) tests.flags in
+    fits_by node.Directory (not_counting ace) (silent_flags ace.flags.0 (handed_meets ace.flags.0 (is_special ace.who) h flags.1) flags.0) tests.mask tests.who
 
 -- the masks of a mode
-chosen_fit : (of : NodeKind) (read write execute : Bool) → (without ((if read then 0x1 else 0) + (if write then write_rights of else 0) + (if execute then 0x20 else 0)) every_right == 0) ≡ true
+chosen_fit : (of : NodeKind) (read write execute : Bool) → is_within ((if read then 0x1 else 0) + (if write then write_rights of else 0) + (if execute then 0x20 else 0)) every_right ≡ true
 chosen_fit node.File true true true = refl
 chosen_fit node.File true true false = refl
 chosen_fit node.File true false true = refl
@@ -207,25 +250,29 @@ chosen_fit node.Directory false true false = refl
 chosen_fit node.Directory false false true = refl
 chosen_fit node.Directory false false false = refl
 
-rights_fit : (of : NodeKind) (bits : ℕ) → (without (rights_of of bits) every_right == 0) ≡ true
+rights_fit : (of : NodeKind) (bits : ℕ) → is_within (rights_of of bits) every_right ≡ true
 rights_fit of bits = chosen_fit of (meets bits 4) (meets bits 2) (meets bits 1)
 
-lacking_fit : (of : NodeKind) (bits : ℕ) → (without (rights_lacking of bits) every_right == 0) ≡ true
-lacking_fit of bits = eq-eqb _ 0 (without-without (rights_of of 7) (rights_of of bits) every_right (eqb-true _ 0 (rights_fit of 7)))
+lacking_fit : (of : NodeKind) (bits : ℕ) → is_within (rights_lacking of bits) every_right ≡ true
+lacking_fit of bits = within-without (rights_of of 7) (rights_of of bits) every_right (rights_fit of 7)
 
 no_flags : (of : NodeKind) → are_flags_for of 0 ≡ true
 no_flags node.File = refl
 no_flags node.Directory = refl
 
+-- an entry of a special name without flags
+special_fits : (of : NodeKind) (mask : ℕ) → is_within mask every_right ≡ true → ((are_flags_for of 0 && is_within mask every_right) && true) ≡ true
+special_fits of mask e = and_from _ _ (and_from _ _ (no_flags of) e) refl
+
 head_fits : (of : NodeKind) (mode : ℕ) → All (Fits of) (head of mode)
 head_fits of mode =
     All-from_recursion (Fits of) (head of mode)
-    (and_from _ _ (no_flags of) (rights_fit of (owner_bits mode)), (and_from _ _ (no_flags of) (lacking_fit of (owner_bits mode)), tt))
+    (special_fits of _ (rights_fit of (owner_bits mode)), (special_fits of _ (lacking_fit of (owner_bits mode)), tt))
 
 middle_fits : (of : NodeKind) (mode : ℕ) → All (Fits of) (middle of mode)
 middle_fits of mode =
     All-from_recursion (Fits of) (middle of mode)
-    (and_from _ _ (no_flags of) (rights_fit of (group_bits mode)), (and_from _ _ (no_flags of) (lacking_fit of (group_bits mode)), (and_from _ _ (no_flags of) (rights_fit of (other_bits mode)), tt)))
+    (special_fits of _ (rights_fit of (group_bits mode)), (special_fits of _ (lacking_fit of (group_bits mode)), (special_fits of _ (rights_fit of (other_bits mode)), tt)))
 
 moded_fits : (of : NodeKind) (acl : List Ace) (mode : ℕ) → All (Fits of) acl → All (Fits of) (moded of acl mode)
 unfolding moded
@@ -293,23 +340,23 @@ inherited_other : (of : NodeKind) (ace : Ace) → is_inherited_by of ace ≡ tru
 inherited_other node.File ace h = rw (meets-wider ace.flags.0 1 3 refl h) (not_and_false (is_special ace.who && counts ace))
 inherited_other node.Directory ace h = rw (meets_some ace.flags.0 h) (not_and_false (is_special ace.who && counts ace))
 
-directory_flags : (flags : ℕ) (directories further : Bool) → meets flags 2 ≡ directories → meets flags 4 ≡ further → (directories || (meets flags 1 && not further)) ≡ true → (without flags inheritance == 0) ≡ true → are_flags_for node.Directory (cond directories (cond further (without flags inheritance) (without flags inherit_only)) (bit_or flags inherit_only)) ≡ true
-directory_flags flags true true e f h none = rw (eqb-true _ 0 none)
-directory_flags flags true false e f h none =
+directory_flags : (flags : ℕ) (directories further : Bool) → meets flags 2 ≡ directories → meets flags 4 ≡ further → (directories || (meets flags 1 && not further)) ≡ true → is_within flags inheritance ≡ true → are_flags_for node.Directory (cond directories (cond further (without flags inheritance) (without flags inherit_only)) (bit_or flags inherit_only)) ≡ true
+directory_flags flags true true e f h within = rw (within-none flags inheritance within refl)
+directory_flags flags true false e f h within =
     and_from _ _
-    (eq-eqb _ 0 (without-without flags inherit_only inheritance (eqb-true _ 0 none)))
+    (within-without flags inherit_only inheritance within)
     (or_right _ (meets (without flags inherit_only) 3) (ap (λ w. not (w == 0)) (and_assoc 3 flags (2 ^ 32 - 1 - inherit_only)) ∙ meets-wider flags 2 3 refl e))
-directory_flags flags false further e f h none = silent_flags flags (meets-wider flags 1 3 refl (and_parts _ _ h).0) none
+directory_flags flags false further e f h within = silent_flags flags (meets-wider flags 1 3 refl (and_parts _ _ h).0) within
 
 inherited_fits : (of : NodeKind) (ace : Ace) → is_inherited_by of ace ≡ true → Fits node.Directory ace → Fits of (as_inherited of ace)
 inherited_fits node.File ace h e =
-    let parts = and_parts (are_flags_for node.Directory ace.flags.0) (without ace.mask.0 every_right == 0) e in
-    let flags = and_parts (without ace.flags.0 inheritance == 0) (not (meets ace.flags.0 12) || meets ace.flags.0 3) parts.0 in
-    and_from _ _ flags.0 parts.1
+    let tests = tests_of node.Directory ace e in
+    let flags = and_parts (is_within ace.flags.0 inheritance) (not (meets ace.flags.0 12) || meets ace.flags.0 3) tests.flags in
+    fits_by node.File (as_inherited node.File ace) (eq-eqb _ 0 (within-none ace.flags.0 inheritance flags.0 refl)) tests.mask tests.who
 inherited_fits node.Directory ace h e =
-    let parts = and_parts (are_flags_for node.Directory ace.flags.0) (without ace.mask.0 every_right == 0) e in
-    let flags = and_parts (without ace.flags.0 inheritance == 0) (not (meets ace.flags.0 12) || meets ace.flags.0 3) parts.0 in
-    and_from _ _ (directory_flags ace.flags.0 (meets ace.flags.0 2) (meets ace.flags.0 4) refl refl h flags.0) parts.1
+    let tests = tests_of node.Directory ace e in
+    let flags = and_parts (is_within ace.flags.0 inheritance) (not (meets ace.flags.0 12) || meets ace.flags.0 3) tests.flags in
+    fits_by node.Directory (as_inherited node.Directory ace) (directory_flags ace.flags.0 (meets ace.flags.0 2) (meets ace.flags.0 4) refl refl h flags.0) tests.mask tests.who
 
 pub inheritance_keeps_limits : InheritanceKeepsLimits
 unfolding inherited

@@ -1,5 +1,5 @@
 -- Access control lists and how they are evaluated: RFC 8881, section 6.2.1.
-use Rattle.std.specs.Prelude.{ℕ, ◌+◌, ◌-◌, ◌^◌, Bool, true, false, ◌==◌, ◌&&◌, ◌||◌, not, nat_le, Option, Some, None, List, filter, map, find, length, count_by, bit_and}
+use Rattle.std.specs.Prelude.{ℕ, ◌+◌, ◌-◌, ◌^◌, Bool, true, false, ◌==◌, ◌&&◌, ◌||◌, not, nat_le, nat_lt, Option, Some, None, List, filter, map, find, length, count_by, bit_and}
 use Rattle.std.specs.List.{list_any, list_all, range_with_len}
 use Rattle.model.specs.declared.acl.Ace.{Ace}
 use Rattle.model.specs.declared.acl.AceKind.{AceKind}
@@ -19,6 +19,10 @@ meets a b = not (bit_and a b == 0)
 -- the bits of a that b lacks
 abbrev pub without : ℕ → ℕ → ℕ
 without a b = bit_and a (2 ^ 32 - 1 - b)
+
+-- whether a number has no bit but those
+abbrev pub is_within : (number bits : ℕ) → Bool
+is_within number bits = bit_and bits number == number
 
 -- the bits of a word, each as a word of its own
 abbrev pub bits_of : ℕ → List ℕ
@@ -138,11 +142,19 @@ is_special (who.NamedGroup number) = false
 abbrev pub are_flags_for : NodeKind → ℕ → Bool
 are_flags_for node.File flags = flags == 0
 are_flags_for node.Directory flags =
-    (without flags inheritance == 0) && (not (meets flags (no_propagate + inherit_only)) || meets flags (file_inherit + directory_inherit))
+    is_within flags inheritance && (not (meets flags (no_propagate + inherit_only)) || meets flags (file_inherit + directory_inherit))
+
+-- a user's and a group's number has 32 bits
+abbrev pub has_width : Who → Bool
+has_width who.Owner = true
+has_width who.Group = true
+has_width who.Everyone = true
+has_width (who.User number) = nat_lt number (2 ^ 32)
+has_width (who.NamedGroup number) = nat_lt number (2 ^ 32)
 
 -- whether a node of this kind may have the entry
 abbrev pub is_entry_for : NodeKind → Ace → Bool
-is_entry_for of ace = are_flags_for of ace.flags.0 && (without ace.mask.0 every_right == 0)
+is_entry_for of ace = are_flags_for of ace.flags.0 && is_within ace.mask.0 every_right && has_width ace.who
 
 -- an entry of a special name that counts and is not handed down: what setting a mode replaces
 abbrev pub is_plain : Ace → Bool

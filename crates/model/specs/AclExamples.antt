@@ -1,6 +1,6 @@
 -- Lists worked out by hand: the definitions compute to them.
-use Rattle.std.specs.Prelude.{◌≡◌, refl, ℕ, true, false, Some, None, List, [], ◌∷◌}
-use Rattle.model.specs.Acl.{first_of, granted, is_list_for}
+use Rattle.std.specs.Prelude.{◌≡◌, refl, ℕ, ◌-◌, ◌^◌, true, false, Some, None, List, [], ◌∷◌}
+use Rattle.model.specs.Acl.{every_right, first_of, granted, is_entry_for, is_list_for}
 use Rattle.model.specs.Mode.{entry, mode_of, moded}
 use Rattle.model.specs.Inherit.{inherited, first_refused}
 use Rattle.model.specs.declared.acl.Ace.{Ace}
@@ -105,3 +105,19 @@ one_too_many = refl
 pub none_refused : first_refused 32 node.Directory parent ≡ None
 unfolding first_refused
 none_refused = refl
+
+-- no node has an entry of a right, of a flag or of a number that 32 bits do not tell
+pub widest_entry : is_entry_for node.Directory (with_flags 0xF (entry kind.Allow (who.User (2 ^ 32 - 1)) every_right)) ≡ true
+widest_entry = refl
+
+pub wide_right : is_entry_for node.Directory (entry kind.Allow (who.User 5) (2 ^ 40)) ≡ false
+wide_right = refl
+
+pub wide_flag : is_entry_for node.Directory (with_flags (2 ^ 40) (entry kind.Allow (who.User 5) 1)) ≡ false
+wide_flag = refl
+
+pub wide_user : is_entry_for node.Directory (entry kind.Allow (who.User (2 ^ 32)) 1) ≡ false
+wide_user = refl
+
+pub wide_group : is_entry_for node.Directory (entry kind.Allow (who.NamedGroup (2 ^ 32)) 1) ≡ false
+wide_group = refl

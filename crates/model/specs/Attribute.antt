@@ -6,7 +6,7 @@ use Rattle.std.specs.Int.{bit_at}
 use Rattle.model.specs.declared.acl.Ace.{Ace}
 use Rattle.model.specs.declared.node.NodeKind.{NodeKind}
 use Rattle.model.specs.declared.status.Status.TheVariants as status
-use Rattle.model.specs.Acl.{without, every_right, inheritance, are_flags_for, is_list_for}
+use Rattle.model.specs.Acl.{without, is_within, every_right, inheritance, are_flags_for, is_list_for}
 use Rattle.model.specs.AclText.{identifier_group, aces_in, named_in, number_in}
 use Rattle.model.specs.AttributeValue.{AclEntry, Value, Size, Acl, Mode, Owner, OwnerGroup, whole_values}
 use Rattle.model.specs.Limits.{Limits}
@@ -136,8 +136,8 @@ group_given given = said_by group_said given
 abbrev pub entry_refusals : NodeKind → AclEntry → Refusals
 entry_refusals kind entry =
     (nat_lt 1 entry.kind, status.AttrNotSupp)
-    ∷ (not (without entry.flags (inheritance + identifier_group) == 0), status.AttrNotSupp)
-    ∷ (not (without entry.mask every_right == 0), status.AttrNotSupp)
+    ∷ (not (is_within entry.flags (inheritance + identifier_group)), status.AttrNotSupp)
+    ∷ (not (is_within entry.mask every_right), status.AttrNotSupp)
     ∷ (is_none (named_in entry), status.BadOwner)
     ∷ (not (are_flags_for kind (without entry.flags identifier_group)), status.AttrNotSupp)
     ∷ []

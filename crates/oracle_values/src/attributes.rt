@@ -64,16 +64,16 @@ fn entry_tests(alloc: Global, kind: NodeKind, entry: &AclEntry<'_>) -> Result<Te
 {
     let flags = AceFlags::from_bits_retain(entry.flags);
     let rights = Mask::from_bits_retain(entry.mask);
-    let others = flags.difference(AceFlags::from_bits_retain(KNOWN_FLAGS));
-    let unknown = rights.difference(Mask::from_bits_retain(EVERY_RIGHT));
+    let are_flags = AceFlags::from_bits_retain(KNOWN_FLAGS).contains(flags);
+    let are_rights = Mask::from_bits_retain(EVERY_RIGHT).contains(rights);
     let is_group = flags.intersects(AceFlags::IDENTIFIER_GROUP);
     let inherited = flags.difference(AceFlags::IDENTIFIER_GROUP);
     Vec::from_slice(
         alloc,
         &[
             (1 < entry.kind, Status::AttrNotSupp),
-            (!others.is_empty(), Status::AttrNotSupp),
-            (!unknown.is_empty(), Status::AttrNotSupp),
+            (!are_flags, Status::AttrNotSupp),
+            (!are_rights, Status::AttrNotSupp),
             (who_of(entry.who, is_group).is_none(), Status::BadOwner),
             (!are_flags_for(kind, inherited), Status::AttrNotSupp),
         ],

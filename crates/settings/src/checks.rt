@@ -1,8 +1,8 @@
 //! The tests of attributes that a client sets, in their order.
 
-ghost use Rattle.std.specs.Prelude.{◌≡◌, ◌≤◌, ◌+◌, ◌==◌, not, length, map, IfOk};
+ghost use Rattle.std.specs.Prelude.{◌≡◌, ◌≤◌, ◌+◌, not, length, map, IfOk};
 ghost use Rattle.std.specs.List.{flat_map};
-ghost use Rattle.model.specs.Acl.{every_right, inheritance, without};
+ghost use Rattle.model.specs.Acl.{every_right, inheritance, is_within};
 ghost use Rattle.model.specs.AclText.{identifier_group};
 ghost use Rattle.model.specs.Attribute.{attribute_refusals, entry_refusals, value_refusals};
 ghost use Rattle.model.specs.AttributeValue.{Acl};
@@ -51,19 +51,15 @@ fn check_entry(kind: NodeKind, entry: &AclEntry<'_>) -> Result<(), Status>
 }
 
 fn has_flags_outside(flags: AceFlags) -> bool
-    ensures { result ≡ not (without flags.0 (inheritance + identifier_group) == 0) }
+    ensures { result ≡ not (is_within flags.0 (inheritance + identifier_group)) }
 {
-    !flags
-        .difference(AceFlags::from_bits_retain(KNOWN_FLAGS))
-        .is_empty()
+    !AceFlags::from_bits_retain(KNOWN_FLAGS).contains(flags)
 }
 
 fn has_rights_outside(mask: Mask) -> bool
-    ensures { result ≡ not (without mask.0 every_right == 0) }
+    ensures { result ≡ not (is_within mask.0 every_right) }
 {
-    !mask
-        .difference(Mask::from_bits_retain(EVERY_RIGHT))
-        .is_empty()
+    !Mask::from_bits_retain(EVERY_RIGHT).contains(mask)
 }
 
 fn check_entries(kind: NodeKind, entries: &[AclEntry<'_>]) -> Result<(), Status>

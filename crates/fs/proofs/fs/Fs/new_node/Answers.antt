@@ -1,22 +1,10 @@
 use Rattle.std.proofs.Common.{◌≡◌, ap, sym, subst, arith, rules}
-use Rattle.std.specs.List.{AllByRecursion}
 use Rattle.model.specs.declared.limits.Limits.{Limits}
-use Rattle.fs.specs.Entries.{HasFewFlags}
 use Rattle.fs.specs.FileSystems.{fs_of}
 use Rattle.fs.specs.Planned.{IsList, list_by}
 use Rattle.fs.proofs.EntryLaws.{small_list, created_list}
 use Rattle.volume.specs.Volumes.{held_of}
 use Rattle.fs.proofs.fs.Fs.new_node.Goals as goal
-
-pub tell_entries-requires : goal.tell_entries-requires
-unfolding fs_of held_of
-tell_entries-requires g c =
-    let held = (fs_of c.args.self.now).volume in
-    let is : c.in_ok-acl.acl ≡ list_by c.args.kind c.args.parent.now.fields.acl c.args.settings = search rules in
-    let list : IsList held.limits c.args.kind c.in_ok-acl.acl = subst (IsList held.limits c.args.kind) (sym is)
-    (created_list held.limits held.sectors held.limits.nodes c.args.self.now.volume.limited c.args.kind c.args.parent.now.fields.acl c.requires.listed c.args.settings c.requires.within) in
-    let small = small_list held.limits c.args.kind c.in_ok-acl.acl list in
-    subst (AllByRecursion HasFewFlags) (sym c.as_slice-2.ensures) small.each
 
 pub returns-clause-entries : goal.returns-clause-entries
 unfolding fs_of held_of
@@ -28,4 +16,4 @@ returns-clause-entries g c =
     let small = small_list held.limits c.args.kind c.in_ok-acl.acl list in
     let few = small.few in
     let most : held.limits.aces ≡ 40 = ap (λ (l : Limits). l.aces) c.args.self.now.volume.limited in
-    record { few = omega (arith, few, most); each = rw (← c.as_slice-2.ensures) c.tell_entries.ensures }
+    record { few = omega (arith, few, most); each = small.each }

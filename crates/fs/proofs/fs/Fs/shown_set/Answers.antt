@@ -1,24 +1,11 @@
 use Rattle.std.proofs.Common.{◌≡◌, ap, sym, subst, arith, rules}
-use Rattle.std.specs.List.{AllByRecursion}
 use Rattle.model.specs.declared.limits.Limits.{Limits}
 use Rattle.model.specs.SetAttr.{list_set}
-use Rattle.fs.specs.Entries.{HasFewFlags}
 use Rattle.fs.specs.FileSystems.{fs_of}
 use Rattle.fs.specs.Planned.{IsList}
 use Rattle.fs.proofs.EntryLaws.{small_list, set_list}
 use Rattle.volume.specs.Volumes.{held_of}
 use Rattle.fs.proofs.fs.Fs.shown_set.Goals as goal
-
-pub tell_entries-requires : goal.tell_entries-requires
-unfolding fs_of held_of
-tell_entries-requires g c =
-    let held = (fs_of c.args.self.now).volume in
-    let fields = c.args.card.now.fields in
-    let is : c.in_ok-acl.acl ≡ list_set fields.kind fields.acl c.args.settings.mode c.args.settings.acl = search rules in
-    let list : IsList held.limits fields.kind c.in_ok-acl.acl = subst (IsList held.limits fields.kind) (sym is)
-    (set_list held.limits held.sectors held.limits.nodes c.args.self.now.volume.limited fields.kind fields.acl c.requires.listed c.args.settings c.requires.within) in
-    let small = small_list held.limits fields.kind c.in_ok-acl.acl list in
-    subst (AllByRecursion HasFewFlags) (sym c.as_slice-2.ensures) small.each
 
 pub returns-clause-entries : goal.returns-clause-entries
 unfolding fs_of held_of
@@ -31,4 +18,4 @@ returns-clause-entries g c =
     let small = small_list held.limits fields.kind c.in_ok-acl.acl list in
     let few = small.few in
     let most : held.limits.aces ≡ 40 = ap (λ (l : Limits). l.aces) c.args.self.now.volume.limited in
-    record { few = omega (arith, few, most); each = rw (← c.as_slice-2.ensures) c.tell_entries.ensures }
+    record { few = omega (arith, few, most); each = small.each }
