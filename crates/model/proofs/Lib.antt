@@ -31,6 +31,7 @@ pub mod ReadOperations
 pub mod RecordLaws
 pub mod RecordOnly
 pub mod ResultLaws
+pub mod ResultRuns
 pub mod RpcExact
 pub mod RpcRows
 pub mod RuledOutLaws

@@ -26,7 +26,7 @@ result_exact = then_exact int_exact (then_exact (opaque_exact 255 (omega arith))
 pub one_result : OneSpelling compound_result
 one_result = one_spelling compound_result result_exact
 
-one_more : (request : InProgress) (results : List Outcome) (next : Outcome) → AreResults request results
+pub one_more : (request : InProgress) (results : List Outcome) (next : Outcome) → AreResults request results
     → AreResults (with_result request next) (results ++ next ∷ [])
 one_more request results next are = record {
   answered = omega (arith, are.answered, length-append results (next ∷ []));

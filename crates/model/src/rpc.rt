@@ -3,7 +3,7 @@
 ghost use Rattle.xdr.specs.Laws.{Exact, OneSpelling};
 ghost use Rattle.model.specs.Feeding.{EveryFeeding};
 ghost use Rattle.model.specs.Record.{EveryCut, EveryFragmenting, OnlySent, SentIsRead};
-ghost use Rattle.model.specs.Results.{SpellsResults, compound_result};
+ghost use Rattle.model.specs.Results.{EveryRequestHasResults, SpellsResults, compound_result};
 ghost use Rattle.model.specs.RpcGrammar.{ReadsCalls, ReadsCredentials, ReadsReplies, call_head, reply_head};
 
 /// The records of a stream are the same however it was cut into pieces (RFC 5531, section 11).
@@ -43,11 +43,12 @@ pub fn replies_are_exact()
 {}
 
 /// The result of a COMPOUND is read exactly where it is spelled, and no spelling begins another; what the server makes of a
-/// request's results is such a spelling (RFC 8881, section 16.2.2).
+/// request's results is such a spelling, at each moment of every run (RFC 8881, section 16.2.2).
 pub fn results_are_exact()
     ensures exact { Exact compound_result }
     ensures one { OneSpelling compound_result }
     ensures spelled { SpellsResults }
+    ensures each { EveryRequestHasResults }
 {}
 
 /// A stream that is fed in pieces, each whole request let go before the next record begins, comes to the records of the bytes

@@ -1,4 +1,5 @@
 use Rattle.model.proofs.ResultLaws.{result_exact, one_result, spells_results}
+use Rattle.model.proofs.ResultRuns.{every_request_has_results}
 use Rattle.model.proofs.rpc.results_are_exact.Goals as goal
 
 pub returns-clause-exact : goal.returns-clause-exact
@@ -9,3 +10,6 @@ returns-clause-one c = one_result
 
 pub returns-clause-spelled : goal.returns-clause-spelled
 returns-clause-spelled c = spells_results
+
+pub returns-clause-each : goal.returns-clause-each
+returns-clause-each c = every_request_has_results
