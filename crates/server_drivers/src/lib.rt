@@ -5,21 +5,21 @@
 use acl_eval::Cred;
 use disk::{Device, MemDevice};
 use fs::{Fs, FsFault};
-use server::{Server, ServerFault, Turn};
+use server::{FormatFault, MountFault, Server, ServerFault, Turn};
 use std::alloc::Global;
 use std::test::Fail;
 
 /// The moment of every turn.
 const NOW: u64 = 5;
 
-pub fn format<D: Device>(alloc: Global, device: &mut D, nodes: u32) -> Result<(), Fail> {
-    Ok(Server::format(alloc, device, nodes)?)
+pub fn format<D: Device>(alloc: Global, device: &mut D, nodes: u32) -> Result<(), FormatFault> {
+    Server::format(alloc, device, nodes)
 }
 
-pub fn mount<D: Device>(alloc: Global, device: D) -> Result<Server<D>, Fail> {
+pub fn mount<D: Device>(alloc: Global, device: D) -> Result<Server<D>, MountFault> {
     match Server::mount(alloc, device) {
         Ok(server) => Ok(server),
-        Err(_) => Err("not mounted".into()),
+        Err(unmounted) => Err(unmounted.fault),
     }
 }
 

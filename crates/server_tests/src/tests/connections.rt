@@ -1,62 +1,27 @@
-//! The bytes of whole connections: records that come in, the turns that they take, and the replies.
+//! Whole connections that are no rows of steps: a record is cut behind each byte, a table is filled, a volume is changed.
 //!
-//! A record is written as words of four bytes in hex, its header first; leading zeros may be left out, and `W*N` is the word W
-//! N times.
+//! A record is written as words of four bytes in hex, its header first; leading zeros may be left out.
 
-mod calls;
 mod cuts;
 mod ends;
-mod files;
 mod full;
-mod linux;
-mod lists;
-mod modes;
-mod operations;
-mod rights;
-mod sessions;
-mod unfit;
+mod records;
 mod volumes;
 
 use disk::MemDevice;
 use server::{Server, Turn};
 use server_drivers as drivers;
-use std::alloc::{AllocGlobal, Global};
+use std::alloc::Global;
 use std::process::Abort;
 use std::test::Fail;
-
-/// What a row does on the connection of this number.
-enum Step {
-    /// Hands in a record, which is taken whole.
-    Feeds(usize, &'static str),
-    /// Runs one operation, behind which more remain.
-    Runs(usize),
-    /// Runs so many operations, of which the last one gives the reply; then takes this reply.
-    Ends(usize, u32, &'static str),
-    /// Hands in a record, runs so many operations, of which the last one gives the reply, and takes this reply.
-    Asks(usize, &'static str, u32, &'static str),
-    HangsUp(usize),
-    /// Mounts the volume again, and connects again.
-    Restarts,
-}
 
 fn bytes_of(alloc: Global, words: &str) -> Result<Vec<u8>, Fail> {
     let mut bytes = Vec::new(alloc);
     for word in words.split_whitespace() {
-        let (digits, times) = match word.split_once("*") {
-            Some((digits, times)) => (digits, u32::from_str_radix(times, 10)?),
-            None => (word, 1),
-        };
-        let number = u32::from_str_radix(digits, 16)?;
-        repeat(&mut bytes, number, times)?;
-    }
-    Ok(bytes)
-}
-
-fn repeat(bytes: &mut Vec<u8>, number: u32, times: u32) -> Result<(), Fail> {
-    for _ in 0..times {
+        let number = u32::from_str_radix(word, 16)?;
         bytes.extend_from_slice(&number.to_be_bytes())?;
     }
-    Ok(())
+    Ok(bytes)
 }
 
 /// Changes the four bytes at this place into this number.
@@ -66,23 +31,10 @@ fn put(record: &mut [u8], place: usize, number: u32) {
     }
 }
 
-/// The last fragment of these bytes.
-fn framed(alloc: Global, bytes: &[u8]) -> Result<Vec<u8>, Fail> {
-    let length = u32::try_from(bytes.len())?;
-    let mut record = Vec::from_slice(alloc, &(0x8000_0000 | length).to_be_bytes())?;
-    record.extend_from_slice(bytes)?;
-    Ok(record)
-}
-
 /// A server of run 1 over a new volume of 256 sectors and 16 nodes, with the connections 0, 1 and 2.
 fn new_server(alloc: Global) -> Result<Server<MemDevice>, Fail> {
     let mut device = MemDevice::new(alloc, 256)?;
     drivers::format(alloc, &mut device, 16)?;
-    mount(alloc, device)
-}
-
-/// Mounts a device, and makes the connections 0, 1 and 2.
-fn mount(alloc: Global, device: MemDevice) -> Result<Server<MemDevice>, Fail> {
     let mut server = drivers::mount(alloc, device)?;
     for _ in 0..3 {
         drivers::connect(&mut server)?;
@@ -129,34 +81,4 @@ fn ask(
 ) -> Result<(), Fail> {
     feed(server, conn, &bytes_of(alloc, record)?)?;
     expect(rt, alloc, &end(server, conn, turns)?, reply)
-}
-
-fn take(
-    rt: &impl Abort,
-    alloc: Global,
-    mut server: Server<MemDevice>,
-    step: &Step,
-) -> Result<Server<MemDevice>, Fail> {
-    match step {
-        Step::Feeds(conn, record) => feed(&mut server, *conn, &bytes_of(alloc, record)?)?,
-        Step::Runs(conn) => assert_eq!(rt; drivers::turn(&mut server, *conn)?, Turn::Ran),
-        Step::Ends(conn, turns, reply) => {
-            expect(rt, alloc, &end(&mut server, *conn, *turns)?, reply)?;
-        }
-        Step::Asks(conn, record, turns, reply) => {
-            ask(rt, alloc, &mut server, *conn, record, *turns, reply)?;
-        }
-        Step::HangsUp(conn) => drivers::hangup(&mut server, *conn)?,
-        Step::Restarts => return mount(alloc, drivers::into_device(server)),
-    }
-    Ok(server)
-}
-
-/// Plays a row on a new volume.
-fn play<R: AllocGlobal + Abort>(rt: &R, row: &[Step]) -> Result<(), Fail> {
-    let mut server = new_server(rt.alloc())?;
-    for step in row {
-        server = take(rt, rt.alloc(), server, step)?;
-    }
-    Ok(())
 }

@@ -1,14 +1,17 @@
 //! Records that end too soon.
 
-use super::calls::{NULL, NULL_REPLY};
-use super::sessions::{CREATE_SESSION, EXCHANGE_ID, MAKE_A};
-use super::{bytes_of, end, expect, feed, framed, new_server, put};
+use super::records::{CREATE_SESSION, EXCHANGE_ID, NULL, NULL_REPLY};
+use super::{bytes_of, end, expect, feed, new_server, put};
 use disk::MemDevice;
 use server::{Server, ServerFault, Turn};
 use server_drivers as drivers;
 use std::alloc::{AllocGlobal, Global};
 use std::process::Abort;
 use std::test::Fail;
+
+/// Number 1 of slot 0: PUTROOTFH, CREATE of the directory `a`, GETFH.
+const MAKE_A: &str = "80000098 9 0 2 186a3 4 1 1 14 0 0 7 7 0 0 0 0 1 4
+    35 1 1 0 1 1 0 0 1 18 6 2 1 61000000 2 0 2 4 1ed a";
 
 /// The bytes of a record's header.
 const HEADER: usize = 4;
@@ -20,6 +23,14 @@ const SEQUENCE_END: usize = 112;
 
 /// More turns than a COMPOUND of the records here takes.
 const MOST_TURNS: u32 = 5;
+
+/// The last fragment of these bytes.
+fn framed(alloc: Global, bytes: &[u8]) -> Result<Vec<u8>, Fail> {
+    let length = u32::try_from(bytes.len())?;
+    let mut record = Vec::from_slice(alloc, &(0x8000_0000 | length).to_be_bytes())?;
+    record.extend_from_slice(bytes)?;
+    Ok(record)
+}
 
 /// Whether the request on connection 0 is answered.
 fn is_answered(server: &mut Server<MemDevice>) -> Result<bool, Fail> {

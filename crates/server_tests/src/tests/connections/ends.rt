@@ -1,6 +1,6 @@
 //! The ends of the tables of clients, sessions and connections.
 
-use super::sessions::{CREATE_SESSION, EXCHANGE_ID, EXCHANGED};
+use super::records::{CREATE_SESSION, EXCHANGE_ID, EXCHANGED};
 use super::{bytes_of, end, expect, feed, new_server, put};
 use disk::MemDevice;
 use server::{Server, ServerFault};

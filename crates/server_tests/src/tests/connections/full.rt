@@ -1,6 +1,6 @@
 //! How many opens stand at once.
 
-use super::sessions::{CREATE_SESSION, CREATED, EXCHANGE_ID, EXCHANGED};
+use super::records::{CREATE_SESSION, CREATED, EXCHANGE_ID, EXCHANGED};
 use super::{ask, bytes_of, end, feed, new_server, put};
 use disk::MemDevice;
 use server::Server;
