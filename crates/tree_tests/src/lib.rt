@@ -1,4 +1,4 @@
-//! Tests of trees: rights and lists, the operations of a tree in memory, and a tree on a device.
+//! Tests of trees: rights and lists, and the operations of a tree in memory.
 #![tactic(auto)]
 
 #[cfg(test)]

@@ -1,14 +1,7 @@
-//! What no contract says: worked lists and trees, operations as the oracle computes them, and that calls succeed.
+//! What no contract says: worked lists and trees, and operations as the oracle computes them.
 
 mod creation;
-mod drivers;
-mod files;
 mod given;
 mod lists;
-mod naming;
-mod pages;
 mod rights;
-mod setting;
 mod steps;
-mod telling;
-mod volumes;

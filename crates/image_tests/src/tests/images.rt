@@ -1,9 +1,9 @@
 //! Volumes with bytes that are other ones: a check answers what an independent reading finds.
 
-use super::drivers::{make_directory, make_file, mounted, put};
 use super::independent::{Image, SECTOR, Unfit, check_image};
 use disk::{Call, Device, MemDevice};
-use fs::{Fs, MountFault};
+use fs::MountFault;
+use fs_drivers::{Call as Asked, Caller, Given, Make, ask, check, mounted, refused};
 use std::alloc::Global;
 use std::process::Abort;
 use std::test::Fail;
@@ -11,6 +11,41 @@ use std::test::Fail;
 const SECTORS: u32 = 256;
 
 const NODES: u32 = 16;
+
+/// Who makes the nodes of the volume, and their mode.
+const OWNER: Caller = Caller {
+    uid: 7,
+    now: 5,
+    verdict: Ok(()),
+};
+
+const MODE_755: Given<'static> = Given {
+    bitmap: &[0, 2],
+    values: b"\0\0\x01\xED",
+};
+
+const NEW: Make<'static> = Make::Guarded(MODE_755);
+
+/// The numbers of `a`, `b`, `f` and `g`, the stamps of the changes that make them.
+const A: u64 = 0x1_0000_0001;
+
+const B: u64 = 0x1_0000_0002;
+
+const F: u64 = 0x1_0000_0004;
+
+const G: u64 = 0x1_0000_0006;
+
+/// What fills the volume.
+const FILLING: [Asked<'static>; 8] = [
+    Asked::MakeDir(1, b"a", MODE_755),
+    Asked::MakeDir(A, b"b", MODE_755),
+    Asked::MakeDir(B, b"c", MODE_755),
+    Asked::Open(1, b"f", (2, 0), NEW),
+    Asked::Write(F, 0, &[7; 5_000], true),
+    Asked::Open(1, b"g", (2, 0), NEW),
+    Asked::Write(G, 0, b"first", true),
+    Asked::Write(G, 8_192, b"third", true),
+];
 
 /// The sectors of a volume in memory.
 fn image_of(alloc: Global, device: &mut MemDevice) -> Result<Image, Fail> {
@@ -29,14 +64,9 @@ fn image_of(alloc: Global, device: &mut MemDevice) -> Result<Image, Fail> {
 /// run sector, those of `a` and of `b`, two blocks of `f` and its run sector, and the first block of `g`, its run sector and its other block.
 fn filled(alloc: Global) -> Result<Image, Fail> {
     let mut fs = mounted(alloc, SECTORS, NODES)?;
-    let a = make_directory(&mut fs, 1, b"a")?;
-    let b = make_directory(&mut fs, a, b"b")?;
-    make_directory(&mut fs, b, b"c")?;
-    let f = make_file(&mut fs, b"f")?;
-    put(&mut fs, f, 0, &[7; 5_000])?;
-    let g = make_file(&mut fs, b"g")?;
-    put(&mut fs, g, 0, b"first")?;
-    put(&mut fs, g, 8_192, b"third")?;
+    for call in FILLING {
+        ask(alloc, &mut fs, OWNER, call, &mut Vec::new(alloc))?;
+    }
     image_of(alloc, &mut fs.into_device())
 }
 
@@ -51,8 +81,8 @@ fn device_of(alloc: Global, image: Image) -> Result<MemDevice, Fail> {
 /// What a check of the sectors answers.
 fn checked(alloc: Global, image: &Image) -> Result<Result<(), Unfit>, Fail> {
     let mut device = device_of(alloc, image.clone()?)?;
-    match Fs::check(alloc, &mut device) {
-        Ok(_) => Ok(Ok(())),
+    match check(alloc, &mut device) {
+        Ok(()) => Ok(Ok(())),
         Err(MountFault::NotVolume) => Ok(Err(Unfit::NotVolume)),
         Err(MountFault::Damaged) => Ok(Err(Unfit::Damaged)),
         Err(fault) => Err(fault.into()),
@@ -223,6 +253,23 @@ fn put_all(image: &mut Image, changes: &[Put]) {
     }
 }
 
+/// A mount of the device answers Damaged, and writes nothing.
+fn expect_damaged(
+    rt: &impl Abort,
+    alloc: Global,
+    device: MemDevice,
+    changes: &[Put],
+) -> Result<(), Fail> {
+    let Some((fault, device)) = refused(alloc, device) else {
+        return Err("mounted".into());
+    };
+    assert!(rt; fault == MountFault::Damaged, "{changes:?}: {fault}");
+    for call in device.calls() {
+        assert!(rt; matches!(call, Call::Sync), "{changes:?} is written to");
+    }
+    Ok(())
+}
+
 #[test]
 fn faults_are_damaged_and_nothing_is_written(rt: HostRuntime) -> Result<(), Fail> {
     let good = filled(rt.alloc())?;
@@ -235,19 +282,7 @@ fn faults_are_damaged_and_nothing_is_written(rt: HostRuntime) -> Result<(), Fail
         );
         assert_eq!(rt; check_image(rt.alloc(), &image), Err(Unfit::Damaged));
         let device = device_of(rt.alloc(), image)?;
-        match Fs::mount(rt.alloc(), device) {
-            Ok(_) => assert!(rt; false, "{changes:?} is mounted"),
-            Err(refused) => {
-                assert!(rt;
-                    refused.fault == MountFault::Damaged,
-                    "{changes:?}: {}",
-                    refused.fault
-                );
-                let calls = refused.device.calls();
-                let is_untouched = calls.iter().all(|call| matches!(call, Call::Sync));
-                assert!(rt; is_untouched, "{changes:?} is written to");
-            }
-        }
+        expect_damaged(&rt, rt.alloc(), device, changes)?;
     }
     Ok(())
 }

@@ -1,0 +1,48 @@
+//! Pages of a directory.
+
+ghost use Rattle.std.specs.Prelude.{All};
+ghost use Rattle.wire_attributes.specs.Listed.{EntryFits};
+
+use crate::call::Answer;
+use crate::volumes::Tree;
+use acl_eval::Cred;
+use fs::{FsFault, Listing};
+use std::alloc::Global;
+use wire_attributes::ListedEntry;
+use xdr::{Refusal, Writer};
+
+/// A page behind a directory's cookie, of so many bytes, with these attributes.
+pub(crate) fn list(
+    alloc: Global,
+    fs: &Tree,
+    cred: &Cred,
+    behind: (u64, (u64, [u8; 8])),
+    asked: (u32, &[u32]),
+    out: &mut Vec<u8>,
+) -> Result<Answer, FsFault> {
+    let (directory, (cookie, verifier)) = behind;
+    let (max_count, asked) = asked;
+    let listing = Listing {
+        directory,
+        cookie,
+        verifier,
+        max_count,
+        asked,
+    };
+    let page = fs.list(cred, listing)?;
+    let mut writer = Writer::new(alloc);
+    if write_entries(&mut writer, &page.entries).is_err() {
+        return Err(FsFault::Memory);
+    }
+    out.extend_from_slice(writer.as_slice())?;
+    Ok(Answer::Page(page.is_end))
+}
+
+fn write_entries(w: &mut Writer, entries: &[ListedEntry<'_>]) -> Result<(), Refusal>
+    requires { All EntryFits entries.now }
+{
+    for entry in entries {
+        entry.write(w)?;
+    }
+    Ok(())
+}

@@ -1,0 +1,5 @@
+//! Tests of a file system over memory: its operations, and long lists of them beside the plain program.
+#![tactic(auto)]
+
+#[cfg(test)]
+mod tests;
