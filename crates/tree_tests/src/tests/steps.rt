@@ -1,6 +1,6 @@
 //! Operations on small trees, computed by the oracle: what is answered, and what is left.
 
-ghost use Rattle.std.specs.Prelude.{IsTrue};
+ghost use Rattle.std.specs.Prelude.{◌≡◌};
 ghost use Rattle.wire.specs.ArgumentView.{argument_view};
 ghost use Rattle.oracle_refusals.specs.Computed.{is_computed};
 
@@ -91,15 +91,32 @@ pub(super) fn fresh<'a>(alloc: Global, cred: &'a Cred) -> Result<State<'a>, Fail
     })
 }
 
-// The call stands here once, since it brings all that it promises to its caller.
+// Whether it is an operation on the tree.
+fn is_computed(operation: &Argument<'_>) -> bool
+    ensures { result ≡ is_computed (argument_view operation.now) }
+{
+    !matches!(
+        operation,
+        Argument::ExchangeId(_)
+            | Argument::CreateSession(_)
+            | Argument::DestroySession(_)
+            | Argument::Sequence(_)
+            | Argument::DestroyClientId(_)
+            | Argument::ReclaimComplete(_)
+    )
+}
+
+// The call stands here once, since it brings all that it promises to its caller; what it asks for is tested, so that nobody
+// has to show it.
 pub(super) fn run_within(
     alloc: Global,
     limits: &Limits,
     state: &mut State<'_>,
     operation: &Argument<'_>,
-) -> Result<Outcome, Fail>
-    requires { IsTrue (is_computed (argument_view operation.now)) }
-{
+) -> Result<Outcome, Fail> {
+    if !is_computed(operation) {
+        return Err("no operation on the tree".into());
+    }
     let stepped = step(alloc, limits, state, 5, operation)?;
     *state = stepped.state;
     Ok(stepped.outcome)
@@ -109,9 +126,7 @@ pub(super) fn run(
     alloc: Global,
     state: &mut State<'_>,
     operation: &Argument<'_>,
-) -> Result<Outcome, Fail>
-    requires { IsTrue (is_computed (argument_view operation.now)) }
-{
+) -> Result<Outcome, Fail> {
     run_within(alloc, &limits(), state, operation)
 }
 
@@ -753,9 +768,7 @@ fn gives(
     state: &mut State<'_>,
     operation: &Argument<'_>,
     bytes: &[u8],
-) -> Result<bool, Fail>
-    requires { IsTrue (is_computed (argument_view operation.now)) }
-{
+) -> Result<bool, Fail> {
     let outcome = run(alloc, state, operation)?;
     Ok(spells(alloc, &outcome, bytes))
 }
