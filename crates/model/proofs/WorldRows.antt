@@ -20,6 +20,7 @@ use Rattle.model.specs.Record.{front_from, fragment, behind_header, framed}
 use Rattle.model.specs.Rpc.{words, read_call, request_of, reply_text, compound_text}
 use Rattle.model.specs.WireArguments.{arguments_at}
 use Rattle.model.specs.Session.{exchange_id, create_session, destroy_session, destroy_client_id, reclaim_complete, begin, started, finish, session_id}
+use Rattle.model.specs.StateIds as stateids
 use Rattle.model.specs.Step.{does, effect, refusals}
 use Rattle.model.specs.Tree.{root, names_at}
 use Rattle.model.specs.World.{World, ServerLimits, mounted_world, one, arrives, takes, connects, hung_up, hangs_up, turns, reply_at, Turn, Idle, Ran, Answered, next_operation, run, outcome_text}
@@ -355,3 +356,31 @@ not_permitted : answer 4 made 0 (other_caller (make_directory 0x62000000))
     ≡ Some (compound_reply 10 13 4 (53 ∷ 0 ∷ 1 ∷ 1 ∷ 0 ∷ 1 ∷ 2 ∷ 0 ∷ 7 ∷ 7 ∷ 0 ∷ 24 ∷ 0 ∷ 15 ∷ 0 ∷ 6 ∷ 13 ∷ []))
 unfolding made answer
 not_permitted = refl
+
+-- A removal between another connection's turns: "f" is looked up, removed on slot 1, and then read: STALE
+abbrev make_file : List ℕ
+make_file = compound 9 7 3 (begin_on 0 1 ++ (24 ∷ 18 ∷ 0 ∷ 3 ∷ 0 ∷ 0 ∷ 0 ∷ 1 ∷ 0x6f000000 ∷ 1 ∷ 0 ∷ 2 ∷ 0 ∷ 2 ∷ 4 ∷ 0x1a4 ∷ 0 ∷ 1 ∷ 0x66000000 ∷ []))
+
+makes_file : answer 3 opened 0 make_file ≡ Some (compound_reply 9 0 3
+    (53 ∷ 0 ∷ 1 ∷ 1 ∷ 0 ∷ 1 ∷ 1 ∷ 0 ∷ 7 ∷ 7 ∷ 0 ∷ 24 ∷ 0 ∷ 18 ∷ 0 ∷ 1 ∷ 1 ∷ 0 ∷ 1 ∷ 1 ∷ 0 ∷ 1 ∷ 1 ∷ 1 ∷ 0 ∷ 2 ∷ 0 ∷ 2 ∷ 0 ∷ []))
+unfolding opened answer stateids.opened
+makes_file = refl
+
+abbrev read_file : List ℕ
+read_file = compound 9 7 4 (begin_on 0 2 ++ (24 ∷ 15 ∷ 1 ∷ 0x66000000 ∷ 25 ∷ 0 ∷ 0 ∷ 0 ∷ 0 ∷ 0 ∷ 0 ∷ 9 ∷ []))
+
+abbrev remove_file : List ℕ
+remove_file = compound 9 7 3 (begin_on 1 1 ++ (24 ∷ 28 ∷ 1 ∷ 0x66000000 ∷ []))
+
+-- three turns of the one, and three of the other
+removed : World
+unfolding opened behind comes turned stateids.opened
+removed = turned 3 (turned 3 (comes (comes (behind 3 opened 0 make_file) 0 read_file) 1 remove_file) 0) 1
+
+removes : reply_at removed 1 ≡ Some (compound_reply 9 0 3 (53 ∷ 0 ∷ 1 ∷ 1 ∷ 0 ∷ 1 ∷ 1 ∷ 1 ∷ 7 ∷ 7 ∷ 0 ∷ 24 ∷ 0 ∷ 28 ∷ 0 ∷ 1 ∷ 1 ∷ 1 ∷ 1 ∷ 2 ∷ []))
+unfolding removed
+removes = refl
+
+read_behind : reply_at (turned 1 removed 0) 0 ≡ Some (compound_reply 9 70 4 (53 ∷ 0 ∷ 1 ∷ 1 ∷ 0 ∷ 1 ∷ 2 ∷ 0 ∷ 7 ∷ 7 ∷ 0 ∷ 24 ∷ 0 ∷ 15 ∷ 0 ∷ 25 ∷ 70 ∷ []))
+unfolding removed turned
+read_behind = refl
