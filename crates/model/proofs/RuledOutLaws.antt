@@ -13,9 +13,9 @@ use Rattle.model.specs.Rpc.{CallRead, NoCall, OtherVersion, Calls, Request, Answ
 use Rattle.model.specs.Session as sessions
 use Rattle.model.specs.Session.{Table, Session, Slot, SlotState, Kept, Begun, Runs, begin, begin_by, begin_slot, begin_new, finish, finished_slot, changed_where, is_session, slot_at, next_number}
 use Rattle.model.specs.Tree.{Tree}
-use Rattle.model.specs.World.{World, InProgress, Connection, Quiet, Waiting, Busy, Replied, Closed, HasRun, Gives, Replays, exchanged, created_by, created, tabled, started_in, begun, reclaimed, refuses, in_room, has_room, run, Turned, Entry, entry_of, behind, ends, goes_on, reply_with, status_of, requested, in_progress, called, with_result, is_last, has_run, operates, Next, Refuses, Reads, next_operation, turned, one, with_connection, without_connection, hangs_up, hung_up, turns, operations_left, is_busy}
-use Rattle.model.specs.Runs.{tree_after, IsGoodPrefix, done_with, executed, executed_by, executed_of, effect_of, Event, Serving, IsAfter, is_done}
-use Rattle.model.specs.RuledOut.{NoSkip, NoEarlyReply, NoTakingBack, NoSecondRun, NoForgetting, NoGap, IsOneFurther, OneATurn, HangsUpLast, request_by, request_in, request_at, after_turns, HangUpIsEvents, EachEventHappens}
+use Rattle.model.specs.World.{World, InProgress, Connection, Quiet, Waiting, Busy, Replied, Closed, HasRun, Gives, Replays, outcome_text, exchanged, created_by, created, tabled, started_in, begun, reclaimed, refuses, in_room, has_room, run, Turned, Entry, entry_of, behind, ends, goes_on, reply_with, status_of, requested, in_progress, called, with_result, is_last, has_run, operates, Next, Refuses, Reads, next_operation, turned, one, without_connection, hangs_up, hung_up, turns, operations_left, is_busy}
+use Rattle.model.specs.Runs.{tree_after, executed, executed_by, executed_of, effect_of, Event, Serving, IsAfter, is_done}
+use Rattle.model.specs.RuledOut.{NoSkip, NoEarlyReply, NoTakingBack, NoSecondRun, NoForgetting, NoGap, IsOutcome, IsBehind, IsOneFurther, OneATurn, HangsUpLast, request_by, request_in, request_at, after_turns, HangUpIsEvents, EachEventHappens}
 use Rattle.std.proofs.Common.{get_or-set_same, length-set, lt-ltb}
 use Rattle.std.specs.List.{IsAmong}
 use Rattle.model.proofs.Headline.{every_run}
@@ -128,131 +128,187 @@ record IsSameRequest (request left : InProgress) : Type 0 where
   count : left.count ≡ request.count
   answered : left.answered ≡ request.answered
   results : left.results ≡ request.results
+  rest : left.rest ≡ request.rest
 
 same_request : (request : InProgress) → IsSameRequest request request
-same_request request = record { xid = refl; tag = refl; count = refl; answered = refl; results = refl }
+same_request request = record { xid = refl; tag = refl; count = refl; answered = refl; results = refl; rest = refl }
 
-abbrev Keeps : InProgress → HasRun → Type 0
-Keeps request (Gives outcome after left) = IsSameRequest request left
-Keeps request (Replays result session slot) = Unit {0}
+-- the operation is a SEQUENCE, to which this slot keeps this result
+record IsReplayed (world : World) (request : InProgress) (operation : Argument) (result session : List ℕ) (slot : ℕ) : Type 0 where
+  arguments : SequenceArguments
+  asks : operation ≡ Argument.Sequence arguments
+  keeps : begin request.context.cred.uid request.count arguments world.table ≡ sessions.Replays result
+  of : ◌≡◌ {A = List ℕ × ℕ} (session, slot) (arguments.session, arguments.slot)
 
-exchanged_keeps : (world : World) (request : InProgress) (outcome : Result ExchangeIdAnswer Status × Table) → Keeps request (exchanged world request outcome)
-exchanged_keeps world request (Err reason, table) = same_request request
-exchanged_keeps world request (Ok answer, table) = same_request request
+abbrev Keeps : World → InProgress → Argument → HasRun → Type 0
+Keeps world request operation (Gives outcome after left) = IsSameRequest request left
+Keeps world request operation (Replays result session slot) = IsReplayed world request operation result session slot
 
-created_by_keeps : (world : World) (request : InProgress) (outcome : sessions.CreateSessionOutcome) (answer : Result CreateSessionAnswer Status) → Keeps request (created_by world request outcome answer)
-created_by_keeps world request outcome (Err reason) = same_request request
-created_by_keeps world request outcome (Ok answer) = same_request request
+exchanged_keeps : (world : World) (request : InProgress) (operation : Argument) (outcome : Result ExchangeIdAnswer Status × Table)
+    → Keeps world request operation (exchanged world request outcome)
+exchanged_keeps world request operation (Err reason, table) = same_request request
+exchanged_keeps world request operation (Ok answer, table) = same_request request
 
-created_keeps : (world : World) (request : InProgress) (outcome : sessions.CreateSessionOutcome) → Keeps request (created world request outcome)
-created_keeps world request outcome = created_by_keeps world request outcome outcome.answer
+created_by_keeps : (world : World) (request : InProgress) (operation : Argument) (outcome : sessions.CreateSessionOutcome) (answer : Result CreateSessionAnswer Status)
+    → Keeps world request operation (created_by world request outcome answer)
+created_by_keeps world request operation outcome (Err reason) = same_request request
+created_by_keeps world request operation outcome (Ok answer) = same_request request
 
-tabled_keeps : (world : World) (request : InProgress) (number : ℕ) (answer : Answer) (outcome : Option Status × Table) → Keeps request (tabled world request number answer outcome)
-tabled_keeps world request number answer (Some reason, table) = same_request request
-tabled_keeps world request number answer (None, table) = same_request request
+created_keeps : (world : World) (request : InProgress) (operation : Argument) (outcome : sessions.CreateSessionOutcome)
+    → Keeps world request operation (created world request outcome)
+created_keeps world request operation outcome = created_by_keeps world request operation outcome outcome.answer
 
-started_in_keeps : (world : World) (request : InProgress) (arguments : SequenceArguments) (known : Option Session) → Keeps request (started_in world request arguments known)
+tabled_keeps : (world : World) (request : InProgress) (operation : Argument) (number : ℕ) (answer : Answer) (outcome : Option Status × Table)
+    → Keeps world request operation (tabled world request number answer outcome)
+tabled_keeps world request operation number answer (Some reason, table) = same_request request
+tabled_keeps world request operation number answer (None, table) = same_request request
+
+started_in_keeps : (world : World) (request : InProgress) (arguments : SequenceArguments) (known : Option Session)
+    → Keeps world request (Argument.Sequence arguments) (started_in world request arguments known)
 started_in_keeps world request arguments None = same_request request
-started_in_keeps world request arguments (Some session) = record { xid = refl; tag = refl; count = refl; answered = refl; results = refl }
+started_in_keeps world request arguments (Some session) = record { xid = refl; tag = refl; count = refl; answered = refl; results = refl; rest = refl }
 
-begun_keeps : (world : World) (request : InProgress) (arguments : SequenceArguments) (begin : Begun) → Keeps request (begun world request arguments begin)
-begun_keeps world request arguments (sessions.Refuses reason) = same_request request
-begun_keeps world request arguments (sessions.Replays reply) = tt
-begun_keeps world request arguments sessions.Runs = started_in_keeps world request arguments (find (is_session arguments.session) world.table.sessions)
+begun_keeps : (world : World) (request : InProgress) (arguments : SequenceArguments) (begins : Begun)
+    → begin request.context.cred.uid request.count arguments world.table ≡ begins → Keeps world request (Argument.Sequence arguments) (begun world request arguments begins)
+begun_keeps world request arguments (sessions.Refuses reason) is = same_request request
+begun_keeps world request arguments (sessions.Replays reply) is = record { arguments = arguments; asks = refl; keeps = is; of = refl }
+begun_keeps world request arguments sessions.Runs is = started_in_keeps world request arguments (find (is_session arguments.session) world.table.sessions)
 
-reclaimed_keeps : (world : World) (request : InProgress) (refusal : Option Status) → Keeps request (reclaimed world request refusal)
-reclaimed_keeps world request None = same_request request
-reclaimed_keeps world request (Some reason) = same_request request
+reclaimed_keeps : (world : World) (request : InProgress) (operation : Argument) (refusal : Option Status)
+    → Keeps world request operation (reclaimed world request refusal)
+reclaimed_keeps world request operation None = same_request request
+reclaimed_keeps world request operation (Some reason) = same_request request
 
-run_keeps : (world : World) (request : InProgress) (now : ℕ) (operation : Argument) → Keeps request (run world request now operation)
+run_keeps : (world : World) (request : InProgress) (now : ℕ) (operation : Argument) → Keeps world request operation (run world request now operation)
 unfolding run
-run_keeps world request now (Argument.ExchangeId arguments) = exchanged_keeps world request _
-run_keeps world request now (Argument.CreateSession arguments) = created_keeps world request _
-run_keeps world request now (Argument.DestroySession id) = tabled_keeps world request 44 _ _
-run_keeps world request now (Argument.DestroyClientId client) = tabled_keeps world request 57 _ _
-run_keeps world request now (Argument.Sequence arguments) = begun_keeps world request arguments _
-run_keeps world request now (Argument.ReclaimComplete true) = reclaimed_keeps world request _
-run_keeps world request now (Argument.ReclaimComplete false) = tabled_keeps world request 58 _ _
-run_keeps world request now operation = record { xid = refl; tag = refl; count = refl; answered = refl; results = refl }
+run_keeps world request now (Argument.ExchangeId arguments) = exchanged_keeps world request _ _
+run_keeps world request now (Argument.CreateSession arguments) = created_keeps world request _ _
+run_keeps world request now (Argument.DestroySession id) = tabled_keeps world request _ 44 _ _
+run_keeps world request now (Argument.DestroyClientId client) = tabled_keeps world request _ 57 _ _
+run_keeps world request now (Argument.Sequence arguments) = begun_keeps world request arguments _ refl
+run_keeps world request now (Argument.ReclaimComplete true) = reclaimed_keeps world request _ _
+run_keeps world request now (Argument.ReclaimComplete false) = tabled_keeps world request _ 58 _ _
+run_keeps world request now operation = record { xid = refl; tag = refl; count = refl; answered = refl; results = refl; rest = refl }
 
-either_keeps : (request : InProgress) (b : Bool) (x y : HasRun) → Keeps request x → Keeps request y → Keeps request (cond b x y)
-either_keeps request true x y first second = first
-either_keeps request false x y first second = second
+either_keeps : (world : World) (request : InProgress) (operation : Argument) (b : Bool) (x y : HasRun) → Keeps world request operation x → Keeps world request operation y
+    → Keeps world request operation (cond b x y)
+either_keeps world request operation true x y first second = first
+either_keeps world request operation false x y first second = second
 
-in_room_keeps : (world : World) (request : InProgress) (operation : ℕ) (ran : HasRun) → Keeps request ran → Keeps request (in_room world request operation ran)
+in_room_keeps : (world : World) (request : InProgress) (operation : Argument) (ran : HasRun) → Keeps world request operation ran
+    → Keeps world request operation (in_room world request (operation_of operation) ran)
 in_room_keeps world request operation (Gives (Outcome.Refused number reason) after left) keeps = keeps
 in_room_keeps world request operation (Gives (Outcome.Done answer) after left) keeps =
-    either_keeps request (has_room world request (Outcome.Done answer)) _ (refuses world request operation status.RepTooBig) keeps (same_request request)
-in_room_keeps world request operation (Replays result session slot) keeps = tt
+    either_keeps world request operation (has_room world request (Outcome.Done answer)) _ (refuses world request (operation_of operation) status.RepTooBig)
+    keeps (same_request request)
+in_room_keeps world request operation (Replays result session slot) keeps = keeps
 
--- what stands at the connection then
+-- What stands at the connection then
 
-abbrev Further : InProgress → ℕ → Turned → Type 0
-Further request number turned = IsOneFurther request turned (at number turned.world.connections)
+-- what the operation that stands next has come to, with the bytes behind it
+record HasCome (old : World) (request : InProgress) (next : Next) (left : InProgress) (world : World) (outcome : Outcome) (entry : Option Entry) : Type 0 where
+  rest : List ℕ
+  same : IsSameRequest (record request { rest = rest }) left
+  executes : IsOutcome old request next outcome entry world.tree
+  behind : is_done outcome ≡ true → IsBehind next rest
 
-same_reply : (request left : InProgress) (outcome : Outcome) → IsSameRequest request left → framed (reply_with left outcome) ≡ framed (reply_with request outcome)
-same_reply request left outcome same = rw (same.xid, same.tag, same.answered, same.results) refl
+module _ (old : World) (request : InProgress) (next : Next) (number : ℕ) where
+  abbrev Further : Turned → Type 0
+  Further turned = IsOneFurther old request next turned (at number turned.world.connections)
 
-busy_further : (request left : InProgress) (world : World) (number : ℕ) (outcome : Outcome) (entry : Option Entry) → IsSameRequest request left → is_last left ≡ false
-    → Further request number (goes_on world number (with_result left outcome) entry)
-busy_further request left world number outcome entry same more =
-    subst (IsOneFurther request (goes_on world number (with_result left outcome) entry)) (sym (at-with_same world.connections number (Busy (with_result left outcome))))
-    (ap (λ (n : ℕ). n + 1) same.answered, same.count, λ last. eqb-false (left.answered + 1) left.count more (ap (λ (n : ℕ). n + 1) same.answered ∙ last ∙ sym same.count))
+  same_reply : (left : InProgress) (rest : List ℕ) (outcome : Outcome) → IsSameRequest (record request { rest = rest }) left
+      → framed (reply_with left outcome) ≡ framed (reply_with request outcome)
+  same_reply left rest outcome same = rw (same.xid, same.tag, same.answered, same.results) refl
 
-ends_further : (request left : InProgress) (world : World) (number : ℕ) (outcome : Outcome) (entry : Option Entry) → IsSameRequest request left
-    → (is_done outcome ≡ false) ⊎ (request.answered + 1 ≡ request.count) → Further request number (ends world number (with_result left outcome) (status_of outcome) entry)
-ends_further request left world number outcome entry same why =
-    subst (IsOneFurther request (ends world number (with_result left outcome) (status_of outcome) entry))
-    (sym (at-with_same world.connections number (Replied (framed (reply_with left outcome)))))
-    (inl (outcome, why, same_reply request left outcome same))
+  busy_further : (left : InProgress) (world : World) (answer : Answer) (entry : Option Entry) → HasCome old request next left world (Outcome.Done answer) entry → is_last left ≡ false
+      → Further (goes_on world number (with_result left (Outcome.Done answer)) entry)
+  busy_further left world answer entry come more =
+      let same = come.same in
+      let after : InProgress = with_result left (Outcome.Done answer) in
+      subst (IsOneFurther old request next (goes_on world number after entry)) (sym (at-with_same world.connections number (Busy after))) (record {
+        answer = answer;
+        executes = come.executes;
+        results = ap (λ (bytes : List ℕ). bytes ++ outcome_text (Outcome.Done answer)) same.results;
+        answered = ap (λ (n : ℕ). n + 1) same.answered;
+        rest = subst (IsBehind next) (sym same.rest) (come.behind refl);
+        xid = same.xid;
+        tag = same.tag;
+        count = same.count;
+        others = λ last. eqb-false (left.answered + 1) left.count more (ap (λ (n : ℕ). n + 1) same.answered ∙ last ∙ sym same.count);
+      })
 
-chosen_further : (request : InProgress) (number : ℕ) (b : Bool) (x y : Turned) → (b ≡ true → Further request number x) → (b ≡ false → Further request number y)
-    → Further request number (cond b x y)
-chosen_further request number true x y first second = first refl
-chosen_further request number false x y first second = second refl
+  ends_further : (left : InProgress) (world : World) (outcome : Outcome) (entry : Option Entry) → HasCome old request next left world outcome entry
+      → (is_done outcome ≡ false) ⊎ (request.answered + 1 ≡ request.count) → Further (ends world number (with_result left outcome) (status_of outcome) entry)
+  ends_further left world outcome entry come why =
+      subst (IsOneFurther old request next (ends world number (with_result left outcome) (status_of outcome) entry))
+      (sym (at-with_same world.connections number (Replied (framed (reply_with left outcome)))))
+      (inl (record { outcome = outcome; executes = come.executes; last = why; says = same_reply left come.rest outcome come.same }))
 
-behind_further : (request left : InProgress) (world : World) (number : ℕ) (outcome : Outcome) (entry : Option Entry) → IsSameRequest request left
-    → Further request number (behind world number left outcome entry)
-behind_further request left world number (Outcome.Refused operation reason) entry same =
-    ends_further request left world number (Outcome.Refused operation reason) entry same (inl refl)
-behind_further request left world number (Outcome.Done answer) entry same =
-    chosen_further request number (is_last left) _ _
-    (λ last. ends_further request left world number (Outcome.Done answer) entry same
-    (inr (ap (λ (n : ℕ). n + 1) (sym same.answered) ∙ eqb-true (left.answered + 1) left.count last ∙ same.count)))
-    (λ more. busy_further request left world number (Outcome.Done answer) entry same more)
+  chosen_further : (b : Bool) (x y : Turned) → (b ≡ true → Further x) → (b ≡ false → Further y) → Further (cond b x y)
+  chosen_further true x y first second = first refl
+  chosen_further false x y first second = second refl
 
-has_run_further : (request : InProgress) (world : World) (number : ℕ) (operation : Argument) (ran : HasRun) → Keeps request ran → Further request number (has_run world number request operation ran)
-has_run_further request world number operation (Gives outcome after left) keeps =
-    behind_further request left after number outcome (Some (entry_of world request operation outcome after)) keeps
-has_run_further request world number operation (Replays result session slot) keeps =
+  behind_further : (left : InProgress) (world : World) (outcome : Outcome) (entry : Option Entry) → HasCome old request next left world outcome entry
+      → Further (behind world number left outcome entry)
+  behind_further left world (Outcome.Refused operation reason) entry come =
+      ends_further left world (Outcome.Refused operation reason) entry come (inl refl)
+  behind_further left world (Outcome.Done answer) entry come =
+      chosen_further (is_last left) _ _
+      (λ last. ends_further left world (Outcome.Done answer) entry come
+      (inr (ap (λ (n : ℕ). n + 1) (sym come.same.answered) ∙ eqb-true (left.answered + 1) left.count last ∙ come.same.count)))
+      (λ more. busy_further left world answer entry come more)
+
+has_run_further : (world : World) (request : InProgress) (number : ℕ) (operation : Argument) (rest : List ℕ) (ran : HasRun) → Keeps world (record request { rest = rest }) operation ran
+    → Further world request (Reads operation rest) number (has_run world number (record request { rest = rest }) operation ran)
+has_run_further world request number operation rest (Gives outcome after left) keeps =
+    behind_further world request (Reads operation rest) number left after outcome (Some (entry_of world request operation outcome after))
+    (record { rest = rest; same = keeps; executes = refl; behind = λ done. refl })
+has_run_further world request number operation rest (Replays result session slot) keeps =
     let reply : List ℕ = framed (reply_text request.xid (Success result)) in
-    subst (IsOneFurther request (has_run world number request operation (Replays result session slot))) (sym (at-with_same world.connections number (Replied reply)))
-    (inr (refl, refl))
+    subst (IsOneFurther world request (Reads operation rest) (has_run world number (record request { rest = rest }) operation (Replays result session slot)))
+    (sym (at-with_same world.connections number (Replied reply)))
+    (inr (record {
+      arguments = keeps.arguments;
+      rest = rest;
+      result = result;
+      reads = ap (λ (asked : Argument). Reads asked rest) keeps.asks;
+      keeps = keeps.keeps;
+      slot = ap (λ (of : List ℕ × ℕ). Some of) keeps.of;
+      executes = refl;
+      says = refl;
+    }))
 
-operates_further : (world : World) (number now : ℕ) (request : InProgress) (next : Next) → Further request number (operates world number now request next)
+undone : false ≡ true → ⊥
+undone e = cc
+
+operates_further : (world : World) (number now : ℕ) (request : InProgress) (next : Next) → Further world request next number (operates world number now request next)
 operates_further world number now request (Refuses operation reason) =
-    behind_further request request world number (Outcome.Refused operation reason) None (same_request request)
+    behind_further world request (Refuses operation reason) number request world (Outcome.Refused operation reason) None
+    (record { rest = request.rest; same = same_request request; executes = (refl, refl); behind = λ done. absurd (undone done) })
 operates_further world number now request (Reads operation rest) =
-    has_run_further (record request { rest = rest }) world number operation _
-    (in_room_keeps world (record request { rest = rest }) (operation_of operation) _ (run_keeps world (record request { rest = rest }) now operation))
+    has_run_further world request number operation rest _
+    (in_room_keeps world (record request { rest = rest }) operation _ (run_keeps world (record request { rest = rest }) now operation))
 
-begun_further : (world : World) (number now : ℕ) (request one : InProgress) → Some one ≡ Some request → Further request number (operates world number now one (next_operation one))
+begun_further : (world : World) (number now : ℕ) (request one : InProgress) → Some one ≡ Some request
+    → Further world request (next_operation request) number (operates world number now one (next_operation one))
 begun_further world number now request one is =
     let same : one ≡ request = cc in
-    subst (λ (r : InProgress). Further r number (operates world number now one (next_operation one))) same (operates_further world number now one (next_operation one))
+    subst (λ (r : InProgress). Further world r (next_operation r) number (operates world number now one (next_operation one))) same
+    (operates_further world number now one (next_operation one))
 
 requested_further : (world : World) (number now xid : ℕ) (request : InProgress) (asked : Request) → request_by world xid asked ≡ Some request
-    → Further request number (requested world number now xid asked)
+    → Further world request (next_operation request) number (requested world number now xid asked)
 requested_further world number now xid request (Answers reply) is = let never : ⊥ = cc in absurd never
 requested_further world number now xid request (calls.Runs cred compound) is = begun_further world number now request (in_progress world xid cred compound) is
 
-called_further : (world : World) (number now : ℕ) (request : InProgress) (call : CallRead) → request_in world call ≡ Some request → Further request number (called world number now call)
+called_further : (world : World) (number now : ℕ) (request : InProgress) (call : CallRead) → request_in world call ≡ Some request
+    → Further world request (next_operation request) number (called world number now call)
 called_further world number now request NoCall is = let never : ⊥ = cc in absurd never
 called_further world number now request (OtherVersion xid) is = let never : ⊥ = cc in absurd never
 called_further world number now request (Calls call) is = requested_further world number now call.xid request (request_of call) is
 
 turned_further : (world : World) (number now : ℕ) (request : InProgress) (connection : Option Connection) → request_at world connection ≡ Some request
-    → Further request number (turned world number now connection)
+    → Further world request (next_operation request) number (turned world number now connection)
 turned_further world number now request None is = let never : ⊥ = cc in absurd never
 turned_further world number now request (Some (Quiet bytes)) is = let never : ⊥ = cc in absurd never
 turned_further world number now request (Some (Waiting bytes)) is = called_further world number now request (read_call bytes) is
@@ -283,7 +339,7 @@ turns_end (suc most) world number now request is left some =
     subst (λ (after : World). is_busy (at number after.connections) ≡ false) (sym (busy_turns most world number now busy))
     (by_connection (at number (one world number now).world.connections) refl further (λ after at_after count some. turns_end most (one world number now).world number now after at_after count some))
   where
-    by_connection : (connection : Option Connection) → at number (one world number now).world.connections ≡ connection → IsOneFurther request (one world number now) connection
+    by_connection : (connection : Option Connection) → at number (one world number now).world.connections ≡ connection → IsOneFurther world request (next_operation request) (one world number now) connection
         → ((after : InProgress) → at number (one world number now).world.connections ≡ Some (Busy after) → after.count ≡ after.answered + most → after.answered < after.count
         → is_busy (at number (turns most (one world number now).world number now).connections) ≡ false)
         → is_busy (at number (turns most (one world number now).world number now).connections) ≡ false
@@ -295,9 +351,9 @@ turns_end (suc most) world number now request is left some =
         let quiet : is_busy (at number (one world number now).world.connections) ≡ false = ap is_busy e in
         subst (λ (after : World). is_busy (at number after.connections) ≡ false) (sym (quiet_turns most (one world number now).world number now quiet)) quiet
     by_connection (Some (Busy after)) e further more =
-        let answered = further.0 in
-        let count = further.1 in
-        more after e (omega (arith, left)) (below after answered count further.2)
+        let answered = further.answered in
+        let count = further.count in
+        more after e (omega (arith, left)) (below after answered count further.others)
       where
         below : (after : InProgress) → after.answered ≡ request.answered + 1 → after.count ≡ request.count → request.answered + 1 ≢ request.count → after.answered < after.count
         below after answered count unequal = omega (arith, some)

@@ -1,15 +1,15 @@
 -- Servers that these definitions rule out, each by one law.
-use Rattle.std.specs.Prelude.{◌≡◌, ◌≢◌, ℕ, zero, suc, ◌+◌, ◌<◌, true, false, List, [], ◌∷◌, length, take, slice_get, find, Option, None, Some, ◌⊎◌, is_some}
+use Rattle.std.specs.Prelude.{◌≡◌, ◌≢◌, ℕ, zero, suc, ◌+◌, ◌<◌, true, false, List, [], ◌∷◌, ◌++◌, length, take, slice_get, find, Option, None, Some, ◌⊎◌}
 use Rattle.std.specs.List.{IsAmong}
 use Rattle.model.specs.Keyed.{at}
-use Rattle.model.specs.Answer.{Outcome}
-use Rattle.model.specs.Operation.{SequenceArguments}
+use Rattle.model.specs.Answer.{Answer, Outcome}
+use Rattle.model.specs.Operation.{Argument, SequenceArguments}
 use Rattle.model.specs.Record.{framed}
 use Rattle.model.specs.Rpc as rpc
-use Rattle.model.specs.Rpc.{CallRead, NoCall, OtherVersion, Calls, Request, Answers, read_call, request_of}
+use Rattle.model.specs.Rpc.{CallRead, NoCall, OtherVersion, Calls, Request, Answers, read_call, request_of, reply_text, Success}
 use Rattle.model.specs.Session.{Table, Session, Kept, Runs, Replays, begin, finish, is_session, slot_at, next_number}
 use Rattle.model.specs.Tree.{Tree}
-use Rattle.model.specs.World.{World, ServerLimits, Entry, InProgress, in_progress, Connection, Waiting, Busy, Replied, Turned, one, reply_with, hangs_up, hung_up, is_busy}
+use Rattle.model.specs.World.{World, ServerLimits, Entry, InProgress, in_progress, Connection, Waiting, Busy, Replied, Next, Refuses, Reads, next_operation, state_of, outcome_text, Turned, one, reply_with, hangs_up, hung_up, is_busy}
 use Rattle.model.specs.Runs.{Event, Turns, HangsUp, effect_of, before, IsDurable, is_durable, is_done, History, Serving, mounted, executed, MayLeave, Happens, IsRun, IsGoodPrefix, done_with, tree_after}
 
 -- One that keeps a later change and skips an unstable write before it: the tree left is the one behind both.
@@ -50,20 +50,55 @@ NoGap = (uid count : ℕ) (arguments : SequenceArguments) (table : Table) (sessi
     → arguments.sequence ≡ next_number (slot_at session arguments.slot).last
 
 -- One whose turn runs more than one operation, or answers before the last one: a turn makes of a request one more result with
--- others to come; or the reply, made of one more result that is the last one or a refusal; or it repeats one that a slot keeps,
--- and then executes nothing.
-abbrev pub IsAnswered : InProgress → (reply : List ℕ) → Type 0
-IsAnswered request reply =
-    (outcome : Outcome) × ((is_done outcome ≡ false) ⊎ (request.answered + 1 ≡ request.count)) × (reply ≡ framed (reply_with request outcome))
+-- others to come; or the reply, made of one more result that is the last one or a refusal; or it repeats the reply that a slot
+-- keeps, and then executes nothing.
 
-abbrev pub IsRepeated : Turned → Type 0
-IsRepeated turned = (is_some turned.replays ≡ true) × (turned.executed ≡ None)
+-- the outcome of the operation that stands next: it is refused before it runs, or is executed and leaves this tree
+abbrev pub IsOutcome : World → InProgress → Next → Outcome → (executed : Option Entry) → (tree : Tree) → Type 0
+IsOutcome world request (Refuses operation reason) outcome executed tree = (outcome ≡ Outcome.Refused operation reason) × (executed ≡ None)
+IsOutcome world request (Reads operation rest) outcome executed tree =
+    executed ≡ Some (record { state = state_of world request; operation = operation; outcome = outcome; after = tree })
 
-abbrev pub IsOneFurther : InProgress → Turned → Option Connection → Type 0
-IsOneFurther request turned (Some (Busy after)) =
-    (after.answered ≡ request.answered + 1) × (after.count ≡ request.count) × (request.answered + 1 ≢ request.count)
-IsOneFurther request turned (Some (Replied reply)) = IsAnswered request reply ⊎ IsRepeated turned
-IsOneFurther request turned _ = ⊥
+-- the bytes behind that operation
+abbrev pub IsBehind : Next → List ℕ → Type 0
+IsBehind (Refuses operation reason) bytes = ⊥
+IsBehind (Reads operation rest) bytes = bytes ≡ rest
+
+-- the request with its OK result behind the others, and with operations left
+pub record HasOneMore (world : World) (request : InProgress) (next : Next) (turned : Turned) (after : InProgress) : Type 0 where
+  pub answer : Answer
+  pub executes : IsOutcome world request next (Outcome.Done answer) turned.executed turned.world.tree
+  pub results : after.results ≡ request.results ++ outcome_text (Outcome.Done answer)
+  pub answered : after.answered ≡ request.answered + 1
+  pub rest : IsBehind next after.rest
+  pub xid : after.xid ≡ request.xid
+  pub tag : after.tag ≡ request.tag
+  pub count : after.count ≡ request.count
+  pub others : request.answered + 1 ≢ request.count
+
+-- the reply with its result behind the others
+pub record IsAnswered (world : World) (request : InProgress) (next : Next) (turned : Turned) (reply : List ℕ) : Type 0 where
+  pub outcome : Outcome
+  pub executes : IsOutcome world request next outcome turned.executed turned.world.tree
+  pub last : (is_done outcome ≡ false) ⊎ (request.answered + 1 ≡ request.count)
+  pub says : reply ≡ framed (reply_with request outcome)
+
+-- the reply with the result that its slot keeps to the SEQUENCE which stands next
+pub record IsRepeated (world : World) (request : InProgress) (next : Next) (turned : Turned) (reply : List ℕ) : Type 0 where
+  pub arguments : SequenceArguments
+  pub rest : List ℕ
+  pub result : List ℕ
+  pub reads : next ≡ Reads (Argument.Sequence arguments) rest
+  pub keeps : begin request.context.cred.uid request.count arguments world.table ≡ Replays result
+  pub slot : turned.replays ≡ Some (arguments.session, arguments.slot)
+  pub executes : turned.executed ≡ None
+  pub says : reply ≡ framed (reply_text request.xid (Success result))
+
+abbrev pub IsOneFurther : World → InProgress → Next → Turned → Option Connection → Type 0
+IsOneFurther world request next turned (Some (Busy after)) = HasOneMore world request next turned after
+IsOneFurther world request next turned (Some (Replied reply)) =
+    IsAnswered world request next turned reply ⊎ IsRepeated world request next turned reply
+IsOneFurther world request next turned _ = ⊥
 
 -- of a request that has begun, and of one that begins with this turn
 abbrev pub request_by : World → (xid : ℕ) → Request → Option InProgress
@@ -82,7 +117,7 @@ request_at world _ = None
 
 abbrev pub OneATurn : Type 0
 OneATurn = (world : World) (number now : ℕ) (request : InProgress) → request_at world (at number world.connections) ≡ Some request
-    → IsOneFurther request (one world number now) (at number (one world number now).world.connections)
+    → IsOneFurther world request (next_operation request) (one world number now) (at number (one world number now).world.connections)
 
 -- One whose hang-up drops the rest of a request that has begun: the connection goes only once the request is answered.
 pub record HangsUpLast : Type 0 where
