@@ -117,7 +117,8 @@ abbrev pub allows : Option Ace → Bool
 allows None = false
 allows (Some ace) = is_allow ace.kind
 
--- what the owner may do whatever the list says (this server's choice, which section 6.3.1.1 allows)
+-- what the owner may do whatever the list says: section 6.3.1.1 allows READ_ACL and WRITE_ACL, and WRITE_ATTRIBUTES is this
+-- server's choice
 abbrev pub is_owners_right : ℕ → Bool
 is_owners_right right = (right == read_acl) || (right == write_acl) || (right == write_attributes)
 
