@@ -19,6 +19,9 @@ use Rattle.model.specs.World.{status_of}
 -- Node 1, the root, holds the file "f", number 2, the directory "d", number 3, and the file "g", number 4. Their owner is 9, so
 -- that the lists alone decide for the caller, 7.
 
+abbrev pub node : List Ace → Content → Node
+node acl content = record { owner = 9; group = 9; acl = acl; change = 5; time_modify = 0; content = content }
+
 abbrev pub lists : (root file directory other : List Ace) → Tree
 lists root file directory other = (
   1,
@@ -29,9 +32,20 @@ lists root file directory other = (
     ∷ (3, node directory (Directory []))
     ∷ (4, node other (File []))
     ∷ []
-  where
-    node : List Ace → Content → Node
-    node acl content = record { owner = 9; group = 9; acl = acl; change = 5; time_modify = 0; content = content }
+
+-- The root holds two directories: number 2 has the file "f", number 4, and the directory "d", number 5, which have one list;
+-- number 3 has the file "g", number 6.
+abbrev pub apart : (source moved target there : List Ace) → Tree
+apart source moved target there = (
+  1,
+  node [] (Directory ((2, record { name = 115 ∷ []; number = 2 }) ∷ (3, record { name = 116 ∷ []; number = 3 }) ∷ [])),
+)
+    ∷ (2, node source (Directory ((4, record { name = 102 ∷ []; number = 4 }) ∷ (5, record { name = 100 ∷ []; number = 5 }) ∷ [])))
+    ∷ (3, node target (Directory ((6, record { name = 103 ∷ []; number = 6 }) ∷ [])))
+    ∷ (4, node moved (File []))
+    ∷ (5, node moved (Directory []))
+    ∷ (6, node there (File []))
+    ∷ []
 
 -- everybody has these rights, and no other
 abbrev pub allowed : (mask : ℕ) → List Ace
@@ -58,7 +72,7 @@ answer_at tree saved current operation = status_of (does (limits_of 256 16) (rec
   };
 }) 1000 operation).outcome
 
--- in the root, in the directory, on the file
+-- in the root, in the directory, on the file, from one directory to the other
 
 abbrev pub in_root : (root file directory other : List Ace) → Argument → Status
 in_root root file directory other operation = answer_at (lists root file directory other) 1 1 operation
@@ -68,6 +82,9 @@ on_file acl operation = answer_at (lists all acl all all) 1 2 operation
 
 abbrev pub in_directory : List Ace → Argument → Status
 in_directory acl operation = answer_at (lists all all acl all) 1 3 operation
+
+abbrev pub across : (source moved target there : List Ace) → Argument → Status
+across source moved target there operation = answer_at (apart source moved target there) 2 3 operation
 
 -- The operations
 
@@ -112,8 +129,13 @@ remove_file = Argument.Remove (102 ∷ [])
 abbrev pub rename : (old new : ℕ) → Argument
 rename old new = Argument.Rename (record { old_name = old ∷ []; new_name = new ∷ [] })
 
+-- behind a cookie, and from the first name on
+abbrev pub listing_behind : (cookie : ℕ) → (bitmap : List ℕ) → Argument
+listing_behind cookie bitmap =
+    Argument.ReadDir (record { cookie = cookie; verifier = replicate 8 0; dir_count = 0; max_count = 8192; bitmap = bitmap })
+
 abbrev pub listing : (bitmap : List ℕ) → Argument
-listing bitmap = Argument.ReadDir (record { cookie = 0; verifier = replicate 8 0; dir_count = 0; max_count = 8192; bitmap = bitmap })
+listing bitmap = listing_behind 0 bitmap
 
 abbrev pub opening : (access : ℕ) → OpenType → Claim → Argument
 opening access how by = Argument.Open (record { seqid = 0; access = access; deny = 0; client = 0; owner = 65 ∷ []; opening = Opens how by })
@@ -178,10 +200,22 @@ pub record RightsExamples : Type 0 where
   pub file_needs_no_more : in_root (all_but append_data) all all all (rename 102 110) ≡ status.Ok
   pub directory_wants : in_root (all_but append_data) all all all (rename 100 110) ≡ status.Access
   pub directory_needs_no_more : in_root (all_but write_data) all all all (rename 100 110) ≡ status.Ok
+  -- the name is taken from the one directory and put into the other, and each right is asked of its own, and of no more
+  pub across_takes : across (all_but delete_child) (all_but delete) all all (rename 102 110) ≡ status.Access
+  pub across_takes_directory : across (all_but delete_child) (all_but delete) all all (rename 100 110) ≡ status.Access
+  pub across_replaces : across all all (all_but delete_child) (all_but delete) (rename 102 103) ≡ status.Access
+  pub across_adds_file : across all all (all_but write_data) all (rename 102 110) ≡ status.Access
+  pub across_adds_directory : across all all (all_but append_data) all (rename 100 110) ≡ status.Access
+  pub across_file : across (allowed delete_child) [] (allowed write_data) [] (rename 102 110) ≡ status.Ok
+  pub across_directory : across (allowed delete_child) [] (allowed append_data) [] (rename 100 110) ≡ status.Ok
+  pub across_by_nodes : across [] (allowed delete) (allowed write_data) (allowed delete) (rename 102 103) ≡ status.Ok
   -- READDIR lists, and shows the list of an entry where that may be read, or where it may tell that it may not
   pub list_wants : in_root (all_but read_data) all all all (listing []) ≡ status.Access
   pub entry_wants : in_root all (all_but read_acl) all all (listing (0x1000 ∷ [])) ≡ status.Access
   pub entry_tells : in_root all (all_but read_acl) all all (listing (0x1800 ∷ [])) ≡ status.Ok
+  -- which is asked of the entries behind the cookie: "f" has the cookie 2, and "d" the cookie 3
+  pub entry_behind_wants : in_root all all (all_but read_acl) all (listing_behind 2 (0x1000 ∷ [])) ≡ status.Access
+  pub entry_before_is_passed : in_root all (all_but read_acl) all all (listing_behind 2 (0x1000 ∷ [])) ≡ status.Ok
   -- GETATTR of the list reads it; of the mode it does not
   pub get_wants : on_file (all_but read_acl) get_list ≡ status.Access
   pub get_mode : on_file [] (Argument.GetAttr (0 ∷ 2 ∷ [])) ≡ status.Ok
