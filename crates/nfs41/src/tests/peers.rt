@@ -1,11 +1,11 @@
 //! Volumes that are served over TCP.
 
-use super::files::format_file;
 use super::{Outcome, expect_run, run};
-use program::command;
+use program::{Machine, command};
 use std::alloc::Global;
 use std::io::{ErrorKind, Read, Write};
 use std::net::{Ipv4Addr, Shutdown, TcpListener, TcpStream};
+use std::process::Abort;
 use std::test::Fail;
 use std::{fs, io};
 
@@ -47,6 +47,10 @@ const PEERS: [[&str; 4]; 7] = [
     [NULL, "80000000 80000028 1 0 2 186a3", NULL_REPLY, ""],
     [NULL, LOOKS_UP, NULL_REPLY, LOOKED_UP],
 ];
+
+fn format_file<R: Machine + Abort>(rt: &R, file: &str) {
+    expect_run(rt, &["format", file, "256", "16"], 0, "formatted\n", "");
+}
 
 fn bytes_of(alloc: Global, words: &str, more: &str) -> Result<Vec<u8>, Fail> {
     let mut bytes = Vec::new(alloc);
@@ -131,12 +135,12 @@ const TELLS_RUN: &str = "restart\n";
 fn no_peer_is_served(rt: HostRuntime) -> Result<(), Fail> {
     format_file(&rt, "none.img");
     fs::write(&rt, "none.txt", TELLS_RUN)?;
-    expect_run(&rt, &["run", "none.img", "none.txt"], "", 0, "run 2\n", "");
-    let Outcome { status, out, err } = run(&rt, &["serve", "none.img", "0", "0"], "");
+    expect_run(&rt, &["run", "none.img", "none.txt"], 0, "run 2\n", "");
+    let Outcome { status, out, err } = run(&rt, &["serve", "none.img", "0", "0"]);
     assert_eq!(rt; status, 0);
     assert!(rt; port_of(&out).is_some());
     assert_eq!(rt; err.as_slice(), b"".as_slice());
-    expect_run(&rt, &["run", "none.img", "none.txt"], "", 0, "run 5\n", "");
+    expect_run(&rt, &["run", "none.img", "none.txt"], 0, "run 5\n", "");
     fs::remove_file(&rt, "none.txt")?;
     fs::remove_file(&rt, "none.img")?;
     Ok(())
@@ -145,14 +149,14 @@ fn no_peer_is_served(rt: HostRuntime) -> Result<(), Fail> {
 #[test]
 fn what_cannot_be_served_is_told(rt: HostRuntime) -> Result<(), Fail> {
     let words = ["serve", "unserved.img", "0", "1"];
-    expect_run(&rt, &words, "", 1, "", "refused: Open\n");
+    expect_run(&rt, &words, 1, "", "refused: Open\n");
     fs::write(&rt, "unserved.img", "no volume")?;
-    expect_run(&rt, &words, "", 1, "", "refused: NotVolume\n");
+    expect_run(&rt, &words, 1, "", "refused: NotVolume\n");
     format_file(&rt, "unserved.img");
     let listener = TcpListener::bind(&rt, (Ipv4Addr::LOCALHOST, 0))?;
     let port = format!(in rt.alloc(); "{}", listener.local_addr()?.port())?;
     let words = ["serve", "unserved.img", port.as_str(), "0"];
-    expect_run(&rt, &words, "", 1, "", "refused: Io\n");
+    expect_run(&rt, &words, 1, "", "refused: Io\n");
     fs::remove_file(&rt, "unserved.img")?;
     Ok(())
 }

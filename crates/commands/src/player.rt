@@ -1,0 +1,129 @@
+//! Playing a case.
+
+use crate::case::Case;
+use crate::difference::{Difference, Differs, Text};
+use crate::step::Step;
+use crate::text::{Stream, Texts};
+use program::{Machine, command};
+use std::alloc::Global;
+use std::fs;
+
+/// Does the steps of a case, up to the first that differs.
+pub fn play<R: Machine>(rt: &R, case: &Case<'_>) -> Result<(), Differs> {
+    for placed in case.steps.iter() {
+        if let Err(difference) = take(rt, &placed.step) {
+            return Err(Differs {
+                line: placed.line,
+                difference,
+            });
+        }
+    }
+    Ok(())
+}
+
+fn take<R: Machine>(rt: &R, step: &Step<'_>) -> Result<(), Difference> {
+    match step {
+        Step::Runs {
+            status,
+            words,
+            texts,
+        } => run(rt, *status, words, texts),
+        Step::Writes { file, text } => Ok(fs::write(rt, *file, text.as_slice())?),
+        Step::Zeros { file, length } => zeros(rt, *file, *length),
+        Step::Puts { file, place, bytes } => put(rt, *file, *place, bytes),
+        Step::Copies { file, copy: to } => copy(rt, *file, *to),
+        Step::Same { file, other } => same(rt, *file, *other),
+        Step::Length { file, length } => has_length(rt, *file, *length),
+        Step::Absent { file } => absent(rt, *file),
+        Step::Removes { file } => Ok(fs::remove_file(rt, *file)?),
+    }
+}
+
+/// Runs a command, and compares what it leaves.
+fn run<R: Machine>(rt: &R, status: u8, words: &[&str], texts: &Texts) -> Result<(), Difference> {
+    let mut input = texts.input.as_slice();
+    let mut output = Vec::new(rt.alloc());
+    let mut errors = Vec::new(rt.alloc());
+    let got = command(rt, words, &mut input, &mut output, &mut errors);
+    compare(rt.alloc(), Stream::Errors, &texts.errors, &errors)?;
+    compare(rt.alloc(), Stream::Output, &texts.output, &output)?;
+    if got == status {
+        Ok(())
+    } else {
+        Err(Difference::Status {
+            wanted: status,
+            got,
+        })
+    }
+}
+
+/// Tells the first line in which texts differ.
+fn compare(alloc: Global, stream: Stream, wanted: &[u8], got: &[u8]) -> Result<(), Difference> {
+    if wanted == got {
+        return Ok(());
+    }
+    let lines = wanted
+        .split(|byte| *byte == b'\n')
+        .zip(got.split(|byte| *byte == b'\n'));
+    let mut line = 0_u32;
+    for (wanted, got) in lines {
+        line = line.saturating_add(1);
+        if wanted != got {
+            return Err(Difference::Text {
+                stream,
+                line,
+                wanted: Text(Vec::from_slice(alloc, wanted)?),
+                got: Text(Vec::from_slice(alloc, got)?),
+            });
+        }
+    }
+    has(wanted.len(), got.len())
+}
+
+fn has(wanted: usize, got: usize) -> Result<(), Difference> {
+    if wanted == got {
+        Ok(())
+    } else {
+        Err(Difference::Length { wanted, got })
+    }
+}
+
+fn zeros<R: Machine>(rt: &R, file: &str, length: usize) -> Result<(), Difference> {
+    let bytes = Vec::from_elem(rt.alloc(), 0_u8, length)?;
+    Ok(fs::write(rt, file, bytes.as_slice())?)
+}
+
+fn put<R: Machine>(rt: &R, file: &str, place: usize, bytes: &[u8]) -> Result<(), Difference> {
+    let mut all = fs::read(rt, file)?;
+    if all.len().saturating_sub(place) < bytes.len() {
+        return Err(Difference::Short);
+    }
+    for (old, new) in all.iter_mut().skip(place).zip(bytes) {
+        *old = *new;
+    }
+    Ok(fs::write(rt, file, all.as_slice())?)
+}
+
+fn copy<R: Machine>(rt: &R, file: &str, copy: &str) -> Result<(), Difference> {
+    let bytes = fs::read(rt, file)?;
+    Ok(fs::write(rt, copy, bytes.as_slice())?)
+}
+
+fn same<R: Machine>(rt: &R, file: &str, other: &str) -> Result<(), Difference> {
+    if fs::read(rt, file)?.as_slice() == fs::read(rt, other)?.as_slice() {
+        Ok(())
+    } else {
+        Err(Difference::Bytes)
+    }
+}
+
+fn has_length<R: Machine>(rt: &R, file: &str, length: usize) -> Result<(), Difference> {
+    has(length, fs::read(rt, file)?.len())
+}
+
+fn absent<R: Machine>(rt: &R, file: &str) -> Result<(), Difference> {
+    match fs::read(rt, file) {
+        Ok(_) => Err(Difference::Present),
+        Err(_) => Ok(()),
+    }
+}
