@@ -4,10 +4,11 @@ ghost use Rattle.std.specs.Prelude.{IfOk};
 ghost use Rattle.wire_client.specs.ArgumentFits.{ArgumentFits};
 
 use crate::loopback::{Connection, connect};
-use crate::operation::{Operation, Verb, arguments_of};
+use crate::operation::{Operation, arguments_of};
 use crate::refused::Refused;
 use crate::user::{Known, Results, User};
 use disk::Device;
+use model::status::Status;
 use server::{Server, Turn};
 use std::alloc::Global;
 use std::io::{Read, Write};
@@ -43,21 +44,35 @@ where
     D: Device,
     O: Write,
 {
+    let reply = ask_hello(alloc, server, user)?;
+    let known = known_of(&user.read_reply(&reply)?)?;
+    writeln!(out, "{} client {} {}", user.name, known.id, known.sequence)?;
+    user.known = Some(known);
+    Ok(())
+}
+
+/// The reply to EXCHANGE_ID.
+fn ask_hello<S, D>(
+    alloc: Global,
+    server: &mut Server<D>,
+    user: &mut User<S>,
+) -> Result<Vec<u8>, Refused>
+where
+    S: Read + Write + Drop,
+    D: Device,
+{
     let name = String::from_str(alloc, &user.name)?;
     let asked = exchange_id(&name)?;
-    user.ask(server, &[asked], words(alloc, Verb::Hello)?)?;
-    let reply = user.await_reply(server)?;
-    let results = user.read_reply(&reply)?;
-    match (results.refusal, results.done.first()) {
-        (None, Some(Outcome::Done(Answer::ExchangeId(answer)))) => {
-            writeln!(out, "{name} client {} {}", answer.client, answer.sequence)?;
-            user.known = Some(Known {
-                id: answer.client,
-                sequence: answer.sequence,
-            });
-            Ok(())
-        }
-        (Some(_), _) => Err(Refused::Status),
+    user.ask(server, &[asked], words(alloc, "hello")?)?;
+    user.await_reply(server)
+}
+
+fn known_of(results: &Results<'_>) -> Result<Known, Refused> {
+    match first_answer(results)? {
+        Answer::ExchangeId(answer) => Ok(Known {
+            id: answer.client,
+            sequence: answer.sequence,
+        }),
         _ => Err(Refused::Garbled),
     }
 }
@@ -74,19 +89,42 @@ where
     D: Device,
     O: Write,
 {
+    let reply = ask_session(alloc, server, user)?;
+    let id = session_of(&user.read_reply(&reply)?)?;
+    user.has_session = true;
+    write!(out, "{} session ", user.name)?;
+    write_hex(out, &id)
+}
+
+/// The reply to CREATE_SESSION.
+fn ask_session<S, D>(
+    alloc: Global,
+    server: &mut Server<D>,
+    user: &mut User<S>,
+) -> Result<Vec<u8>, Refused>
+where
+    S: Read + Write + Drop,
+    D: Device,
+{
     let Some(known) = user.known else {
         return Err(Refused::Script);
     };
     let asked = create_session(alloc, known)?;
-    user.ask(server, &[asked], words(alloc, Verb::Session)?)?;
-    let reply = user.await_reply(server)?;
-    let results = user.read_reply(&reply)?;
+    user.ask(server, &[asked], words(alloc, "session")?)?;
+    user.await_reply(server)
+}
+
+fn session_of(results: &Results<'_>) -> Result<[u8; 16], Refused> {
+    match first_answer(results)? {
+        Answer::CreateSession(answer) => Ok(answer.session),
+        _ => Err(Refused::Garbled),
+    }
+}
+
+/// The first answer of a reply in which nothing is refused.
+fn first_answer<'a, 'b>(results: &'b Results<'a>) -> Result<&'b Answer<'a>, Refused> {
     match (results.refusal, results.done.first()) {
-        (None, Some(Outcome::Done(Answer::CreateSession(answer)))) => {
-            user.has_session = true;
-            write!(out, "{} session ", user.name)?;
-            write_hex(out, &answer.session)
-        }
+        (None, Some(Outcome::Done(answer))) => Ok(answer),
         (Some(_), _) => Err(Refused::Status),
         _ => Err(Refused::Garbled),
     }
@@ -106,13 +144,18 @@ where
     if !user.has_session {
         return Err(Refused::Script);
     }
-    let mut verbs = words(alloc, Verb::Sequence)?;
-    for operation in operations {
-        verbs.push(operation.verb())?;
-    }
     let owner = String::from_str(alloc, &user.name)?;
     let arguments = arguments_of(alloc, operations, &owner)?;
-    user.ask(server, &arguments, verbs)
+    user.ask(server, &arguments, words_of(alloc, operations)?)
+}
+
+/// The words for a SEQUENCE, and for the operations behind it.
+fn words_of(alloc: Global, operations: &[Operation<'_>]) -> Result<Vec<&'static str>, Refused> {
+    let mut words = words(alloc, "sequence")?;
+    for operation in operations {
+        words.push(operation.word())?;
+    }
+    Ok(words)
 }
 
 /// Gives the user's connection a turn, and tells what it did.
@@ -139,8 +182,16 @@ where
     O: Write,
 {
     let reply = user.await_reply(server)?;
-    let results = user.read_reply(&reply)?;
-    tell(out, &user.name, &user.verbs, &results)
+    tell_reply(user, &reply, out)
+}
+
+fn tell_reply<S, O>(user: &mut User<S>, reply: &[u8], out: &mut O) -> Result<(), Refused>
+where
+    S: Read + Write + Drop,
+    O: Write,
+{
+    let results = user.read_reply(reply)?;
+    tell(out, &user.name, &user.words, &results)
 }
 
 /// Sends the last record again, over a new connection.
@@ -153,17 +204,17 @@ where
     R: Net + AllocGlobal,
     D: Device,
 {
-    if user.verbs.is_empty() {
+    if user.words.is_empty() {
         return Err(Refused::Script);
     }
     let connection = connect(rt, server)?;
     user.ask_again(server, connection)
 }
 
-fn words(alloc: Global, verb: Verb) -> Result<Vec<Verb>, Refused> {
-    let mut verbs = Vec::new(alloc);
-    verbs.push(verb)?;
-    Ok(verbs)
+fn words(alloc: Global, word: &'static str) -> Result<Vec<&'static str>, Refused> {
+    let mut words = Vec::new(alloc);
+    words.push(word)?;
+    Ok(words)
 }
 
 /// EXCHANGE_ID of this owner id: a zero verifier, no flags (RFC 8881, section 18.35).
@@ -203,17 +254,35 @@ fn create_session<'a>(alloc: Global, known: Known) -> Result<Argument<'a>, Refus
 fn tell<O: Write>(
     out: &mut O,
     name: &str,
-    verbs: &[Verb],
+    words: &[&'static str],
     results: &Results<'_>,
 ) -> Result<(), Refused> {
-    for (verb, outcome) in verbs.iter().zip(results.done.iter()) {
-        write!(out, "{name} {} 0", verb.word())?;
-        tell_bytes(out, outcome)?;
+    for (word, outcome) in words.iter().zip(results.done.iter()) {
+        tell_outcome(out, name, *word, outcome)?;
     }
-    if let (Some(status), Some(verb)) = (results.refusal, verbs.get(results.done.len())) {
-        writeln!(out, "{name} {} {}", verb.word(), status.code())?;
+    match (results.refusal, words.get(results.done.len())) {
+        (Some(status), Some(word)) => tell_refusal(out, name, *word, status),
+        _ => Ok(()),
     }
-    Ok(())
+}
+
+fn tell_outcome<O: Write>(
+    out: &mut O,
+    name: &str,
+    word: &str,
+    outcome: &Outcome<'_>,
+) -> Result<(), Refused> {
+    write!(out, "{name} {word} 0")?;
+    tell_bytes(out, outcome)
+}
+
+fn tell_refusal<O: Write>(
+    out: &mut O,
+    name: &str,
+    word: &str,
+    status: Status,
+) -> Result<(), Refused> {
+    Ok(writeln!(out, "{name} {word} {}", status.code())?)
 }
 
 /// The bytes of a filehandle or of a file, where the result has such, and the end of the line.

@@ -34,7 +34,7 @@ const MOST_BYTES: usize = 65_536;
 const MOST_HANDLE_BYTES: usize = 128;
 
 /// How a WRITE is to be stored (`stable_how4`, section 18.32).
-#[derive(Clone, Copy, Debug, PartialEq, Eq)]
+#[derive(Clone, Copy)]
 pub enum Stable {
     Unstable,
     DataSync,
@@ -42,7 +42,7 @@ pub enum Stable {
 }
 
 /// A mode, encoded: the value of attribute 33.
-#[derive(Clone, Copy, Debug)]
+#[derive(Clone, Copy)]
 pub struct Mode {
     value: [u8; 4],
 }
@@ -69,7 +69,7 @@ impl Mode {
 }
 
 /// A size in bytes, encoded: the value of attribute 4.
-#[derive(Clone, Copy, Debug)]
+#[derive(Clone, Copy)]
 pub struct Size {
     value: [u8; 8],
 }

@@ -134,7 +134,7 @@ impl<D: Device> Host<D> {
     fn turn<C: Clock>(&mut self, clock: &C, conn: usize) -> Result<Turn, Refused> {
         for _ in 0..TRIES {
             let outcome = link::turn_at(&mut self.server, conn, moment(clock)?);
-            if outcome != Err(Refused::Memory) {
+            if !matches!(outcome, Err(Refused::Memory)) {
                 return outcome;
             }
             pause(clock);
@@ -149,7 +149,7 @@ impl<D: Device> Host<D> {
         };
         for _ in 0..TRIES {
             let outcome = link::hangup_at(&mut self.server, conn, moment(clock)?);
-            if outcome != Err(Refused::Memory) {
+            if !matches!(outcome, Err(Refused::Memory)) {
                 self.conn = None;
                 return outcome;
             }

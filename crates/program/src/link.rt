@@ -27,6 +27,11 @@ pub fn mount<D: Device>(alloc: Global, device: D) -> Result<Server<D>, Refused> 
     }
 }
 
+/// How often the volume was mounted.
+pub fn restart_count<D: Device>(server: &Server<D>) -> u32 {
+    server.restart_count()
+}
+
 /// The number of a new connection.
 pub fn connect<D: Device>(server: &mut Server<D>) -> Result<usize, Refused> {
     Ok(server.connect()?)

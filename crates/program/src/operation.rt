@@ -70,86 +70,29 @@ pub enum Operation<'a> {
     Commit,
 }
 
-/// The word for what a record asks: EXCHANGE_ID, CREATE_SESSION, SEQUENCE, or an operation of a script.
-#[derive(Clone, Copy, Debug, PartialEq, Eq)]
-pub enum Verb {
-    Hello,
-    Session,
-    Sequence,
-    Root,
-    PutHandle,
-    Lookup,
-    Up,
-    MakeDir,
-    Remove,
-    Save,
-    Restore,
-    Rename,
-    Access,
-    GetHandle,
-    SetMode,
-    SetSize,
-    CreateFile,
-    OpenFile,
-    Close,
-    Read,
-    Write,
-    Commit,
-}
-
-impl Verb {
-    /// The word as scripts have it.
-    pub fn word(self) -> &'static str {
-        match self {
-            Verb::Hello => "hello",
-            Verb::Session => "session",
-            Verb::Sequence => "sequence",
-            Verb::Root => "root",
-            Verb::PutHandle => "fh",
-            Verb::Lookup => "lookup",
-            Verb::Up => "up",
-            Verb::MakeDir => "mkdir",
-            Verb::Remove => "remove",
-            Verb::Save => "save",
-            Verb::Restore => "restore",
-            Verb::Rename => "rename",
-            Verb::Access => "access",
-            Verb::GetHandle => "getfh",
-            Verb::SetMode => "mode",
-            Verb::SetSize => "size",
-            Verb::CreateFile => "create",
-            Verb::OpenFile => "open",
-            Verb::Close => "close",
-            Verb::Read => "read",
-            Verb::Write => "write",
-            Verb::Commit => "commit",
-        }
-    }
-}
-
 impl Operation<'_> {
-    /// Its word.
-    pub fn verb(&self) -> Verb {
+    /// Its word, as scripts have it.
+    pub fn word(&self) -> &'static str {
         match self {
-            Operation::Root => Verb::Root,
-            Operation::PutHandle(_) => Verb::PutHandle,
-            Operation::Lookup(_) => Verb::Lookup,
-            Operation::Up => Verb::Up,
-            Operation::MakeDir { .. } => Verb::MakeDir,
-            Operation::Remove(_) => Verb::Remove,
-            Operation::Save => Verb::Save,
-            Operation::Restore => Verb::Restore,
-            Operation::Rename { .. } => Verb::Rename,
-            Operation::Access(_) => Verb::Access,
-            Operation::GetHandle => Verb::GetHandle,
-            Operation::SetMode(_) => Verb::SetMode,
-            Operation::SetSize(_) => Verb::SetSize,
-            Operation::CreateFile { .. } => Verb::CreateFile,
-            Operation::OpenFile(_) => Verb::OpenFile,
-            Operation::Close => Verb::Close,
-            Operation::Read { .. } => Verb::Read,
-            Operation::Write { .. } => Verb::Write,
-            Operation::Commit => Verb::Commit,
+            Operation::Root => "root",
+            Operation::PutHandle(_) => "fh",
+            Operation::Lookup(_) => "lookup",
+            Operation::Up => "up",
+            Operation::MakeDir { .. } => "mkdir",
+            Operation::Remove(_) => "remove",
+            Operation::Save => "save",
+            Operation::Restore => "restore",
+            Operation::Rename { .. } => "rename",
+            Operation::Access(_) => "access",
+            Operation::GetHandle => "getfh",
+            Operation::SetMode(_) => "mode",
+            Operation::SetSize(_) => "size",
+            Operation::CreateFile { .. } => "create",
+            Operation::OpenFile(_) => "open",
+            Operation::Close => "close",
+            Operation::Read { .. } => "read",
+            Operation::Write { .. } => "write",
+            Operation::Commit => "commit",
         }
     }
 
@@ -157,45 +100,57 @@ impl Operation<'_> {
     pub fn argument<'b>(&'b self, owner: &'b str) -> Result<Argument<'b>, Refused>
         ensures { IfOk result ArgumentFits }
     {
-        Ok(match self {
-            Operation::Root => Argument::PutRootFh,
-            Operation::PutHandle(handle) => Argument::PutFh(handle_bytes(handle)?),
-            Operation::Lookup(name) => Argument::Lookup(name_bytes(name)?),
-            Operation::Up => Argument::LookupParent,
-            Operation::MakeDir { name, mode } => Argument::Create(new_directory(name, mode)?),
-            Operation::Remove(name) => Argument::Remove(name_bytes(name)?),
-            Operation::Save => Argument::SaveFh,
-            Operation::Restore => Argument::RestoreFh,
-            Operation::Rename { old_name, new_name } => {
-                Argument::Rename(renaming(old_name, new_name)?)
+        match self {
+            Operation::Root => Ok(Argument::PutRootFh),
+            Operation::Up => Ok(Argument::LookupParent),
+            Operation::Save => Ok(Argument::SaveFh),
+            Operation::Restore => Ok(Argument::RestoreFh),
+            Operation::GetHandle => Ok(Argument::GetFh),
+            Operation::Access(bits) => Ok(Argument::Access(*bits)),
+            Operation::Close => Ok(Argument::Close(closing())),
+            Operation::Read { offset, count } => Ok(Argument::Read(reading(*offset, *count))),
+            Operation::Commit => Ok(Argument::Commit(committing())),
+            Operation::SetMode(mode) => Ok(Argument::SetAttr(setting_mode(mode))),
+            Operation::SetSize(size) => Ok(Argument::SetAttr(setting_size(size))),
+            Operation::CreateFile { .. } | Operation::OpenFile(_) | Operation::Write { .. } => {
+                self.file_argument(owner)
             }
-            Operation::Access(bits) => Argument::Access(*bits),
-            Operation::GetHandle => Argument::GetFh,
-            _ => self.file_argument(owner)?,
-        })
+            _ => self.named_argument(),
+        }
     }
 
-    /// That of an operation that sets attributes, or is on a file.
+    /// That of an operation that has a name or a filehandle.
+    fn named_argument(&self) -> Result<Argument<'_>, Refused>
+        ensures { IfOk result ArgumentFits }
+    {
+        match self {
+            Operation::PutHandle(handle) => Ok(Argument::PutFh(handle_bytes(handle)?)),
+            Operation::Lookup(name) => Ok(Argument::Lookup(name_bytes(name)?)),
+            Operation::MakeDir { name, mode } => Ok(Argument::Create(new_directory(name, mode)?)),
+            Operation::Remove(name) => Ok(Argument::Remove(name_bytes(name)?)),
+            Operation::Rename { old_name, new_name } => {
+                Ok(Argument::Rename(renaming(old_name, new_name)?))
+            }
+            _ => Err(Refused::Script),
+        }
+    }
+
+    /// That of an operation that opens or writes a file.
     fn file_argument<'b>(&'b self, owner: &'b str) -> Result<Argument<'b>, Refused>
         ensures { IfOk result ArgumentFits }
     {
-        Ok(match self {
-            Operation::SetMode(mode) => Argument::SetAttr(setting_mode(mode)),
-            Operation::SetSize(size) => Argument::SetAttr(setting_size(size)),
+        match self {
             Operation::CreateFile { name, mode } => {
-                Argument::Open(opening(owner, name, Some(mode))?)
+                Ok(Argument::Open(opening(owner, name, Some(mode))?))
             }
-            Operation::OpenFile(name) => Argument::Open(opening(owner, name, None)?),
-            Operation::Close => Argument::Close(closing()),
-            Operation::Read { offset, count } => Argument::Read(reading(*offset, *count)),
+            Operation::OpenFile(name) => Ok(Argument::Open(opening(owner, name, None)?)),
             Operation::Write {
                 offset,
                 stable,
                 bytes,
-            } => Argument::Write(writing(*offset, *stable, bytes)?),
-            Operation::Commit => Argument::Commit(committing()),
-            _ => return Err(Refused::Script),
-        })
+            } => Ok(Argument::Write(writing(*offset, *stable, bytes)?)),
+            _ => Err(Refused::Script),
+        }
     }
 }
 

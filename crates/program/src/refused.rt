@@ -9,7 +9,7 @@ use std::io::ErrorKind;
 use thiserror::Error;
 
 /// Why a command or a script stops. Each is told by its name.
-#[derive(Clone, Copy, Debug, PartialEq, Eq, Error)]
+#[derive(Clone, Copy, Debug, Error)]
 pub enum Refused {
     /// A file could not be opened or read.
     #[error("Open")]

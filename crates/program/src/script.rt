@@ -8,11 +8,12 @@ use crate::refused::Refused;
 use crate::user::User;
 use disk::Device;
 use server::Server;
+use std::alloc::Global;
 use std::io::{BufRead, ErrorKind, Read, Write};
 use std::net::Net;
 
 /// Why the lines of one mount end.
-#[derive(Clone, Copy, PartialEq, Eq)]
+#[derive(Clone, Copy)]
 enum End {
     /// The script ends.
     Script,
@@ -31,17 +32,35 @@ where
     let mut users = Vec::new(rt.alloc());
     let mut restarted = false;
     for _ in 0..u64::MAX {
-        let mut server = link::mount(rt.alloc(), &mut *device)?;
-        if restarted {
-            writeln!(out, "run {}", server.restart_count())?;
+        match run_mount(rt, device, &mut users, restarted, input, out)? {
+            End::Script => break,
+            End::Restart => disconnect(&mut users),
         }
-        if run_lines(rt, &mut server, &mut users, input, out)? == End::Script {
-            break;
-        }
-        disconnect(&mut users);
         restarted = true;
     }
     Ok(())
+}
+
+/// Mounts the volume, tells the run of a restart, and runs the lines of this mount.
+fn run_mount<R, D, I, O>(
+    rt: &R,
+    device: &mut D,
+    users: &mut Vec<User<R::Stream>>,
+    restarted: bool,
+    input: &mut I,
+    out: &mut O,
+) -> Result<End, Refused>
+where
+    R: Net + AllocGlobal,
+    D: Device,
+    I: BufRead,
+    O: Write,
+{
+    let mut server = link::mount(rt.alloc(), device)?;
+    if restarted {
+        writeln!(out, "run {}", link::restart_count(&server))?;
+    }
+    run_lines(rt, &mut server, users, input, out)
 }
 
 /// The connections ended with the server. What the users know stays.
@@ -65,30 +84,50 @@ where
     O: Write,
 {
     for _ in 0..u64::MAX {
-        let mut text = String::new(rt.alloc());
-        if next_line(input, &mut text)? == 0 {
+        let Some(text) = next_line(rt.alloc(), input)? else {
             break;
-        }
-        match read_line(rt.alloc(), text.as_str().trim_end_matches('\n'))? {
-            Some(Line::Nothing) => {}
-            Some(Line::Restart) => return Ok(End::Restart),
-            Some(Line::Client { name, action }) => {
-                act(rt, server, users, name, action, out)?;
-            }
-            None => return Err(Refused::Script),
+        };
+        if run_line(rt, server, users, &text, out)? {
+            return Ok(End::Restart);
         }
     }
     Ok(End::Script)
 }
 
-/// Reads a line with its end, and answers how many bytes it has.
-fn next_line<I: BufRead>(input: &mut I, text: &mut String) -> Result<usize, Refused> {
-    match input.read_line(text) {
-        Ok(len) => Ok(len),
+/// Reads a line with its end; none where the input has no more.
+fn next_line<I: BufRead>(alloc: Global, input: &mut I) -> Result<Option<String>, Refused> {
+    let mut text = String::new(alloc);
+    match input.read_line(&mut text) {
+        Ok(0) => Ok(None),
+        Ok(_) => Ok(Some(text)),
         Err(error) => match error.kind() {
             ErrorKind::InvalidData => Err(Refused::Script),
             _ => Err(error.into()),
         },
+    }
+}
+
+/// Runs a line. Whether the server is to be mounted again.
+fn run_line<R, D, O>(
+    rt: &R,
+    server: &mut Server<D>,
+    users: &mut Vec<User<R::Stream>>,
+    text: &str,
+    out: &mut O,
+) -> Result<bool, Refused>
+where
+    R: Net + AllocGlobal,
+    D: Device,
+    O: Write,
+{
+    match read_line(rt.alloc(), text.trim_end_matches('\n'))? {
+        Some(Line::Nothing) => Ok(false),
+        Some(Line::Restart) => Ok(true),
+        Some(Line::Client { name, action }) => {
+            act(rt, server, users, name, action, out)?;
+            Ok(false)
+        }
+        None => Err(Refused::Script),
     }
 }
 
@@ -106,21 +145,54 @@ where
     D: Device,
     O: Write,
 {
-    let alloc = rt.alloc();
     if let Action::Hello { uid, gid } = action {
-        forget(server, users, name)?;
-        let connection = connect(rt, server)?;
-        let mut user = User::new(alloc, name, uid, gid, connection)?;
-        hello(alloc, server, &mut user, out)?;
-        return Ok(users.push(user)?);
+        return begin(rt, server, users, name, (uid, gid), out);
     }
-    let Some(user) = users.iter_mut().find(|user| user.name.as_str() == name) else {
-        return Err(Refused::Script);
-    };
+    match users.iter_mut().find(|user| user.name.as_str() == name) {
+        Some(user) => act_as(rt, server, user, action, out),
+        None => Err(Refused::Script),
+    }
+}
+
+/// Makes a user of this name.
+fn begin<R, D, O>(
+    rt: &R,
+    server: &mut Server<D>,
+    users: &mut Vec<User<R::Stream>>,
+    name: &str,
+    ids: (u32, u32),
+    out: &mut O,
+) -> Result<(), Refused>
+where
+    R: Net + AllocGlobal,
+    D: Device,
+    O: Write,
+{
+    forget(server, users, name)?;
+    let connection = connect(rt, server)?;
+    let (uid, gid) = ids;
+    let mut user = User::new(rt.alloc(), name, uid, gid, connection)?;
+    hello(rt.alloc(), server, &mut user, out)?;
+    Ok(users.push(user)?)
+}
+
+/// Does what a line asks of this user, which is there.
+fn act_as<R, D, O>(
+    rt: &R,
+    server: &mut Server<D>,
+    user: &mut User<R::Stream>,
+    action: Action<'_>,
+    out: &mut O,
+) -> Result<(), Refused>
+where
+    R: Net + AllocGlobal,
+    D: Device,
+    O: Write,
+{
     match action {
         Action::Hello { .. } => Ok(()),
-        Action::Session => session(alloc, server, user, out),
-        Action::Call(operations) => call(alloc, server, user, &operations),
+        Action::Session => session(rt.alloc(), server, user, out),
+        Action::Call(operations) => call(rt.alloc(), server, user, &operations),
         Action::Turn => turn(server, user, out),
         Action::Take => take(server, user, out),
         Action::Retry => retry(rt, server, user),

@@ -4,8 +4,9 @@ use crate::host::Host;
 use crate::machine::Machine;
 use crate::refused::Refused;
 use disk::Device;
-use std::io::{ErrorKind, Write};
+use std::io::{ErrorKind, Read, Write};
 use std::net::{Ipv4Addr, OpenListener, OpenStream, TcpListener};
+use std::time::Clock;
 
 /// Mounts the device's volume, listens on this port of 127.0.0.1, or on one that the system picks for 0, tells the port, and
 /// serves so many connections, one after the other.
@@ -17,10 +18,24 @@ where
 {
     let mut host = Host::mount(rt.alloc(), device)?;
     let listener = TcpListener::bind(rt, (Ipv4Addr::LOCALHOST, port))?;
+    tell_port(&listener, out)?;
+    serve_peers(rt, &mut host, &listener, count)
+}
+
+fn tell_port<L: OpenListener, O: Write>(listener: &L, out: &mut O) -> Result<(), Refused> {
     writeln!(out, "serving {}", listener.local_addr()?.port())?;
-    out.flush()?;
+    Ok(out.flush()?)
+}
+
+fn serve_peers<R, D, L>(rt: &R, host: &mut Host<D>, listener: &L, count: u32) -> Result<(), Refused>
+where
+    R: Clock + AllocGlobal,
+    D: Device,
+    L: OpenListener,
+    L::Stream: Read + Write + OpenStream,
+{
     for _ in 0..count {
-        if let Some(peer) = accept(&listener)? {
+        if let Some(peer) = accept(listener)? {
             host.serve(rt, peer)?;
         }
     }

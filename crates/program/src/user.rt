@@ -5,7 +5,6 @@ ghost use Rattle.wire_client.specs.ArgumentFits.{ArgumentFits};
 
 use crate::link;
 use crate::loopback::Connection;
-use crate::operation::Verb;
 use crate::refused::Refused;
 use client::{Client, ClientFault};
 use disk::Device;
@@ -20,7 +19,7 @@ use wire::{Argument, Outcome};
 const FIRST_XID: u32 = 1;
 
 /// What EXCHANGE_ID answers of a client.
-#[derive(Clone, Copy, Debug, PartialEq, Eq)]
+#[derive(Clone, Copy)]
 pub struct Known {
     /// The client's number.
     pub id: u64,
@@ -36,7 +35,7 @@ pub struct User<S> {
     pub has_session: bool,
     client: Client,
     /// The words for what its last record asks.
-    pub verbs: Vec<Verb>,
+    pub words: Vec<&'static str>,
     /// None behind a restart of the server.
     connection: Option<Connection<S>>,
 }
@@ -67,7 +66,7 @@ impl<S: Read + Write + Drop> User<S> {
             known: None,
             has_session: false,
             client: Client::new(alloc, &cred, b"", FIRST_XID)?,
-            verbs: Vec::new(alloc),
+            words: Vec::new(alloc),
             connection: Some(connection),
         })
     }
@@ -95,7 +94,7 @@ impl<S: Read + Write + Drop> User<S> {
         &mut self,
         server: &mut Server<D>,
         arguments: &[Argument<'_>],
-        verbs: Vec<Verb>,
+        words: Vec<&'static str>,
     ) -> Result<(), Refused>
         requires { All ArgumentFits arguments.now }
     {
@@ -103,7 +102,7 @@ impl<S: Read + Write + Drop> User<S> {
             return Err(Refused::Script);
         }
         self.client.request(arguments)?;
-        self.verbs = verbs;
+        self.words = words;
         self.begin();
         self.send(server)
     }

@@ -7,7 +7,7 @@ use std::alloc::{AllocError, Global};
 use std::convert::AsStr;
 
 /// What the program is asked for.
-#[derive(Clone, Copy, Debug, PartialEq, Eq)]
+#[derive(Clone, Copy)]
 pub enum Request<'a> {
     /// Run the script of the standard input on a volume in memory.
     Script,
@@ -36,71 +36,102 @@ pub enum Request<'a> {
     Usage,
 }
 
+/// The commands, and the words that each has behind it.
+const COMMANDS: [(&str, &[&str]); 4] = [
+    ("format", &["FILE", "SECTORS", "NODES"]),
+    ("run", &["FILE", "SCRIPT"]),
+    ("check", &["FILE"]),
+    ("serve", &["FILE", "PORT", "COUNT"]),
+];
+
 /// Reads the words behind the program's name.
 pub fn read_words<'a, S: AsStr>(alloc: Global, words: &'a [S]) -> Result<Request<'a>, AllocError> {
-    let command = Command::new(alloc, "nfs41")
-        .no_binary_name(true)
-        .subcommand(format_command(alloc)?)?
-        .subcommand(run_command(alloc)?)?
-        .subcommand(check_command(alloc)?)?
-        .subcommand(serve_command(alloc)?)?;
+    match matches_of(whole_command(alloc)?, words)? {
+        Some(matches) => Ok(request_of(&matches)),
+        None => Ok(Request::Usage),
+    }
+}
+
+/// What the words are to the command; none where they have no form.
+fn matches_of<'a, S: AsStr>(
+    command: Command<'a>,
+    words: &'a [S],
+) -> Result<Option<ArgMatches<'a>>, AllocError> {
     match command.try_get_matches_from(words) {
-        Ok(matches) => Ok(request_of(&matches)),
+        Ok(matches) => Ok(Some(matches)),
         Err(error) => match error.kind() {
             ErrorKind::OutOfMemory => Err(AllocError),
-            _ => Ok(Request::Usage),
+            _ => Ok(None),
         },
     }
 }
 
-fn format_command<'a>(alloc: Global) -> Result<Command<'a>, AllocError> {
-    Command::new(alloc, "format")
-        .arg(Arg::new(alloc, "FILE").required(true))?
-        .arg(Arg::new(alloc, "SECTORS").required(true))?
-        .arg(Arg::new(alloc, "NODES").required(true))
+fn whole_command<'a>(alloc: Global) -> Result<Command<'a>, AllocError> {
+    let mut command = Command::new(alloc, "nfs41").no_binary_name(true);
+    for (name, words) in COMMANDS {
+        command = with_command(command, command_of(alloc, name, words)?)?;
+    }
+    Ok(command)
 }
 
-fn run_command<'a>(alloc: Global) -> Result<Command<'a>, AllocError> {
-    Command::new(alloc, "run")
-        .arg(Arg::new(alloc, "FILE").required(true))?
-        .arg(Arg::new(alloc, "SCRIPT").required(true))
+fn with_command<'a>(command: Command<'a>, other: Command<'a>) -> Result<Command<'a>, AllocError> {
+    command.subcommand(other)
 }
 
-fn check_command<'a>(alloc: Global) -> Result<Command<'a>, AllocError> {
-    Command::new(alloc, "check").arg(Arg::new(alloc, "FILE").required(true))
+/// The command of this name, behind which all of these words have to stand.
+fn command_of<'a>(
+    alloc: Global,
+    name: &'a str,
+    words: &[&'a str],
+) -> Result<Command<'a>, AllocError> {
+    let mut command = Command::new(alloc, name);
+    for word in words {
+        command = with_word(alloc, command, *word)?;
+    }
+    Ok(command)
 }
 
-fn serve_command<'a>(alloc: Global) -> Result<Command<'a>, AllocError> {
-    Command::new(alloc, "serve")
-        .arg(Arg::new(alloc, "FILE").required(true))?
-        .arg(Arg::new(alloc, "PORT").required(true))?
-        .arg(Arg::new(alloc, "COUNT").required(true))
+fn with_word<'a>(
+    alloc: Global,
+    command: Command<'a>,
+    word: &'a str,
+) -> Result<Command<'a>, AllocError> {
+    command.arg(Arg::new(alloc, word).required(true))
 }
 
 fn request_of<'a>(matches: &ArgMatches<'a>) -> Request<'a> {
-    if let Some(words) = matches.subcommand_matches("format") {
+    if let Some(words) = command_in(matches, "format") {
         return format_of(words).unwrap_or(Request::Usage);
     }
-    if let Some(words) = matches.subcommand_matches("run") {
+    if let Some(words) = command_in(matches, "run") {
         return run_of(words).unwrap_or(Request::Usage);
     }
-    if let Some(words) = matches.subcommand_matches("check") {
+    if let Some(words) = command_in(matches, "check") {
         return check_of(words).unwrap_or(Request::Usage);
     }
-    if let Some(words) = matches.subcommand_matches("serve") {
+    if let Some(words) = command_in(matches, "serve") {
         return serve_of(words).unwrap_or(Request::Usage);
     }
     Request::Script
 }
 
+/// What stands behind the command of this name, where that is the one that is given.
+fn command_in<'a, 'b>(matches: &'b ArgMatches<'a>, name: &str) -> Option<&'b ArgMatches<'a>> {
+    matches.subcommand_matches(name)
+}
+
+fn word_in<'a>(words: &ArgMatches<'a>, name: &str) -> Option<&'a str> {
+    words.get_str(name)
+}
+
 fn format_of<'a>(words: &ArgMatches<'a>) -> Option<Request<'a>> {
-    let sectors = decimal(words.get_str("SECTORS")?)?;
-    let nodes = decimal(words.get_str("NODES")?)?;
+    let sectors = decimal(word_in(words, "SECTORS")?)?;
+    let nodes = decimal(word_in(words, "NODES")?)?;
     if !(256..=65536).contains(&sectors) || !(2..=16384).contains(&nodes) {
         return None;
     }
     Some(Request::Format {
-        file: words.get_str("FILE")?,
+        file: word_in(words, "FILE")?,
         sectors,
         nodes,
     })
@@ -108,22 +139,22 @@ fn format_of<'a>(words: &ArgMatches<'a>) -> Option<Request<'a>> {
 
 fn run_of<'a>(words: &ArgMatches<'a>) -> Option<Request<'a>> {
     Some(Request::Run {
-        file: words.get_str("FILE")?,
-        script: words.get_str("SCRIPT")?,
+        file: word_in(words, "FILE")?,
+        script: word_in(words, "SCRIPT")?,
     })
 }
 
 fn check_of<'a>(words: &ArgMatches<'a>) -> Option<Request<'a>> {
     Some(Request::Check {
-        file: words.get_str("FILE")?,
+        file: word_in(words, "FILE")?,
     })
 }
 
 fn serve_of<'a>(words: &ArgMatches<'a>) -> Option<Request<'a>> {
-    let port = decimal(words.get_str("PORT")?)?;
+    let port = decimal(word_in(words, "PORT")?)?;
     Some(Request::Serve {
-        file: words.get_str("FILE")?,
+        file: word_in(words, "FILE")?,
         port: u16::try_from(port).ok()?,
-        count: decimal(words.get_str("COUNT")?)?,
+        count: decimal(word_in(words, "COUNT")?)?,
     })
 }
