@@ -69,16 +69,57 @@ fn expect(rt: &impl Abort, alloc: Global, reply: &[u8], words: &str) -> Result<(
     Ok(())
 }
 
-/// Hands in a record, runs so many operations, and takes the reply that the last one gives.
-fn ask(
+/// A record, how many operations it runs, and the reply that the last one gives.
+type Row = (&'static str, u32, &'static str);
+
+/// Asks each row on connection 0.
+fn play(
     rt: &impl Abort,
     alloc: Global,
     server: &mut Server<MemDevice>,
-    conn: usize,
-    record: &str,
-    turns: u32,
-    reply: &str,
+    rows: &[Row],
 ) -> Result<(), Fail> {
-    feed(server, conn, &bytes_of(alloc, record)?)?;
-    expect(rt, alloc, &end(server, conn, turns)?, reply)
+    for (record, turns, reply) in rows.iter().copied() {
+        feed(server, 0, &bytes_of(alloc, record)?)?;
+        expect(rt, alloc, &end(server, 0, turns)?, reply)?;
+    }
+    Ok(())
+}
+
+/// A record, the places of a number in it, and how many operations it runs.
+type Numbered = (&'static str, &'static [usize], u32);
+
+/// Asks with this number: the reply.
+fn ask_numbered(
+    alloc: Global,
+    server: &mut Server<MemDevice>,
+    asked: Numbered,
+    number: u32,
+) -> Result<Vec<u8>, Fail> {
+    let (words, places, turns) = asked;
+    let mut record = bytes_of(alloc, words)?;
+    for place in places {
+        put(&mut record, *place, number);
+    }
+    feed(server, 0, &record)?;
+    end(server, 0, turns)
+}
+
+/// The place of a reply's status.
+const STATUS: usize = 28;
+
+/// Each of the numbers up to this one is answered OK.
+fn ask_each(
+    rt: &impl Abort,
+    alloc: Global,
+    server: &mut Server<MemDevice>,
+    asked: Numbered,
+    last: u32,
+) -> Result<(), Fail> {
+    for number in 1..=last {
+        let reply = ask_numbered(alloc, server, asked, number)?;
+        let status = reply.get(STATUS..STATUS + 4);
+        assert_eq!(rt; status, Some([0; 4].as_slice()), "{number}");
+    }
+    Ok(())
 }

@@ -1,7 +1,7 @@
 //! Records that end too soon.
 
-use super::records::{CREATE_SESSION, EXCHANGE_ID, NULL, NULL_REPLY};
-use super::{bytes_of, end, expect, feed, new_server, put};
+use super::records::{CREATE_SESSION, CREATES, EXCHANGE_ID, EXCHANGES, NULL, NULL_REPLY};
+use super::{bytes_of, end, expect, feed, new_server, play, put};
 use disk::MemDevice;
 use server::{Server, ServerFault, Turn};
 use server_drivers as drivers;
@@ -87,10 +87,7 @@ fn records_are_cut_behind_each_byte(rt: HostRuntime) -> Result<(), Fail> {
 #[test]
 fn a_session_is_cut_behind_each_byte(rt: HostRuntime) -> Result<(), Fail> {
     let mut server = new_server(rt.alloc())?;
-    for words in [EXCHANGE_ID, CREATE_SESSION] {
-        feed(&mut server, 0, &bytes_of(rt.alloc(), words)?)?;
-        assert!(rt; is_answered(&mut server)?);
-    }
+    play(&rt, rt.alloc(), &mut server, &[EXCHANGES, CREATES])?;
     let mut record = bytes_of(rt.alloc(), MAKE_A)?;
     let mut number = 1_u32;
     for cut in HEADER..=record.len() {

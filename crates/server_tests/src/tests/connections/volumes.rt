@@ -22,35 +22,49 @@ fn changed(alloc: Global, place: usize, bytes: &[u8]) -> Result<MemDevice, Fail>
     Ok(device)
 }
 
+/// Why a device is not mounted, and the device.
+fn refused(alloc: Global, device: MemDevice) -> Option<(MountFault, MemDevice)> {
+    match Server::mount(alloc, device) {
+        Ok(_) => None,
+        Err(unmounted) => Some((unmounted.fault, unmounted.device)),
+    }
+}
+
 /// A mount is refused so, and nothing was written.
-fn expect_refused(rt: &impl Abort, device: MemDevice, alloc: Global, fault: MountFault) {
+fn expect_refused(
+    rt: &impl Abort,
+    alloc: Global,
+    device: MemDevice,
+    want: MountFault,
+) -> Result<(), Fail> {
     let before = device.calls().len();
-    let Err(refused) = Server::mount(alloc, device) else {
-        assert!(rt; false, "mounted");
-        return;
-    };
-    assert_eq!(rt; refused.fault, fault);
-    for call in refused.device.calls().iter().skip(before) {
+    let (fault, device) = refused(alloc, device).ok_or("mounted")?;
+    assert_eq!(rt; fault, want);
+    for call in device.calls().iter().skip(before) {
         assert!(rt; matches!(call, Call::Sync));
     }
+    Ok(())
+}
+
+/// The restart count of a new server.
+fn first_run(alloc: Global) -> Result<u32, Fail> {
+    Ok(new_server(alloc)?.restart_count())
 }
 
 #[test]
 fn the_first_mount_has_run_1(rt: HostRuntime) -> Result<(), Fail> {
-    assert_eq!(rt; new_server(rt.alloc())?.restart_count(), 1);
+    assert_eq!(rt; first_run(rt.alloc())?, 1);
     Ok(())
 }
 
 #[test]
 fn a_full_restart_count_is_worn(rt: HostRuntime) -> Result<(), Fail> {
     let device = changed(rt.alloc(), 20, &[255; 4])?;
-    expect_refused(&rt, device, rt.alloc(), MountFault::Worn);
-    Ok(())
+    expect_refused(&rt, rt.alloc(), device, MountFault::Worn)
 }
 
 #[test]
 fn another_magic_is_no_volume(rt: HostRuntime) -> Result<(), Fail> {
     let device = changed(rt.alloc(), 0, &[0])?;
-    expect_refused(&rt, device, rt.alloc(), MountFault::NotVolume);
-    Ok(())
+    expect_refused(&rt, rt.alloc(), device, MountFault::NotVolume)
 }
