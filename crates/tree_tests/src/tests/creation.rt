@@ -1,260 +1,254 @@
 //! CREATE and LOOKUP of directories, computed by the oracle: refusals in their order, and what is made.
 
-use super::steps::{
-    FIRST, MODE_755, ROOT, acl_of, allow, cred, deny, fresh, is_done, is_refused, mode, run,
-    run_within, words,
-};
-use acl_eval::{Acl, Cred, Who};
-use model::limits::Limits;
+use super::asking::ask;
+use super::call::{Call, Entry, Given, Told};
+use super::rows::{INVALID, MODE_755, Row, play};
+use super::world::{FIRST, ROOT, World, callers, fresh, node};
+use acl_eval::{AceKind, Cred, NodeKind, Who};
 use model::status::Status;
-use oracle::answers::Outcome;
-use oracle_refusals::state::{Context, Place, State};
 use oracle_tree::edit::{put_name, put_node};
 use oracle_tree::keyed::at;
-use oracle_tree::places::names_at;
-use oracle_tree::tree::{Content, DirEntry, Node};
+use oracle_tree::tree::DirEntry;
 use std::alloc::Global;
 use std::test::Fail;
-use wire::{Argument, Attributes, Bitmap, CreateArguments};
-use xdr::Words;
 
-const RIGHTS: u32 = 0x1F_01E7;
+const RIGHTS: [Entry; 1] = [(AceKind::Allow, Who::Everyone, 0, 0x1F_01E7)];
+
+const NO_RIGHTS: [Entry; 1] = [(AceKind::Allow, Who::Everyone, 0, 0)];
+
+const NODES: [(u128, u8, NodeKind, &[Entry]); 2] = [
+    (2, b'f', NodeKind::File, &RIGHTS),
+    (3, b'd', NodeKind::Directory, &NO_RIGHTS),
+];
 
 // A root that holds the file `f`, number 2, and the directory `d`, number 3, on which no one has a right.
-fn grown<'a>(alloc: Global, cred: &'a Cred) -> Result<State<'a>, Fail> {
-    let mut state = fresh(alloc, cred)?;
-    let file = Content::File(Vec::new(alloc));
-    let directory = Content::Directory(Vec::new(alloc));
-    for (number, name, mask, content) in [(2, b"f", RIGHTS, file), (3, b"d", 0, directory)] {
-        let node = Node {
-            owner: 0,
-            group: 0,
-            acl: Acl::from_slice(alloc, &[allow(Who::Everyone, 0, mask)])?,
-            change: number,
-            time_modify: 0,
-            content,
-        };
-        put_node(&mut state.tree, number, node)?;
+fn grown<'a>(alloc: Global, callers: &'a [Cred; 2]) -> Result<World<'a>, Fail> {
+    let mut world = fresh(alloc, callers)?;
+    for (number, name, kind, entries) in NODES {
+        let mut node = node(alloc, 0, kind, entries)?;
+        node.change = number;
+        put_node(&mut world.state.tree, number, node)?;
         let entry = DirEntry {
-            name: Vec::from_slice(alloc, name.as_slice())?,
+            name: Vec::from_slice(alloc, &[name])?,
             number,
         };
-        put_name(alloc, &mut state.tree, ROOT, number, entry)?;
+        put_name(alloc, &mut world.state.tree, ROOT, number, entry)?;
     }
-    Ok(state)
+    Ok(world)
 }
 
-// The node of this number is the current one, whether it is there or not.
-fn move_to(state: &mut State<'_>, number: u128) {
-    let place = Place {
-        number,
-        state: None,
-    };
-    state.context = Context {
-        current: Some(place),
-        ..state.context
-    };
-}
+/// The root is the current node.
+const TO_ROOT: Row = (Call::MoveTo(ROOT), Told::Done, b"");
 
-fn create(
-    alloc: Global,
-    limits: &Limits,
-    state: &mut State<'_>,
-    name: &[u8],
-    attributes: Attributes<'_>,
-) -> Result<Outcome, Fail> {
-    let asked = CreateArguments::NewDirectory { name, attributes };
-    run_within(alloc, limits, state, &Argument::Create(asked))
-}
-
-fn volume() -> Limits {
-    Limits::of_volume(256, 16)
-}
-
-fn nothing() -> Attributes<'static> {
-    Attributes {
-        bitmap: Words::new(),
-        values: &[],
-    }
-}
+const NOTHING: Given<'static> = (&[], b"");
 
 // Where, the name, the bitmap's two words, the values, and what is answered. What a row is refused for stands in front of what
 // the rows behind it are.
-const REFUSED: [(u128, &[u8], [u32; 2], &[u8], Status); 10] = [
-    (9, b"", [0x4000, 2], b"", Status::Stale),
-    (2, b"", [0x4000, 2], b"", Status::NotDir),
-    (3, b"", [0x4000, 2], b"", Status::Inval),
-    (3, b"..", [0x4000, 2], b"", Status::BadName),
-    (3, b"f", [0x4002, 2], b"", Status::AttrNotSupp),
-    (3, b"f", [2, 2], b"", Status::Inval),
-    (3, b"f", [0, 2], b"\0\0\x02", Status::BadXdr),
-    (3, b"f", [0, 2], b"\0\0\x02\0", Status::Inval),
-    (3, b"f", [0, 2], b"\0\0\x01\xFF", Status::Access),
-    (1, b"f", [0, 2], b"\0\0\x01\xFF", Status::Exist),
+const REFUSED: [(u128, &[u8], &[u32], &[u8], Status); 10] = [
+    (9, b"", &[0x4000, 2], b"", Status::Stale),
+    (2, b"", &[0x4000, 2], b"", Status::NotDir),
+    (3, b"", &[0x4000, 2], b"", Status::Inval),
+    (3, b"..", &[0x4000, 2], b"", Status::BadName),
+    (3, b"f", &[0x4002, 2], b"", Status::AttrNotSupp),
+    (3, b"f", &[2, 2], b"", Status::Inval),
+    (3, b"f", &[0, 2], b"\0\0\x02", Status::BadXdr),
+    (3, b"f", &[0, 2], b"\0\0\x02\0", Status::Inval),
+    (3, b"f", &[0, 2], b"\0\0\x01\xFF", Status::Access),
+    (1, b"f", &[0, 2], b"\0\0\x01\xFF", Status::Exist),
 ];
 
 #[test]
 fn refuses_in_order(rt: HostRuntime) -> Result<(), Fail> {
-    let cred = cred(7);
-    let mut state = grown(rt.alloc(), &cred)?;
-    for (parent, name, [first, second], values, want) in REFUSED {
-        move_to(&mut state, parent);
-        let attributes = Attributes {
-            bitmap: words(first, second),
-            values,
-        };
-        let outcome = create(rt.alloc(), &volume(), &mut state, name, attributes)?;
-        assert!(rt; is_refused(&outcome, want), "{want:?}");
+    let callers = callers();
+    let mut world = grown(rt.alloc(), &callers)?;
+    for (parent, name, bitmap, values, want) in REFUSED {
+        let rows = [
+            (Call::MoveTo(parent), Told::Done, b"".as_slice()),
+            (
+                Call::MakeDir(name, (bitmap, values)),
+                Told::Refused(want),
+                b"",
+            ),
+        ];
+        play(&rt, &mut world, &rows)?;
     }
     Ok(())
 }
 
+const LOOKUPS: [(u128, &[u8], Status); 5] = [
+    (9, b"f", Status::Stale),
+    (2, b"f", Status::NotDir),
+    (3, b".", Status::BadName),
+    (3, b"f", Status::Access),
+    (1, b"g", Status::NoEnt),
+];
+
 #[test]
 fn lookups_are_refused_in_order(rt: HostRuntime) -> Result<(), Fail> {
-    let cred = cred(7);
-    let mut state = grown(rt.alloc(), &cred)?;
-    for (directory, name, want) in [
-        (9, b"f".as_slice(), Status::Stale),
-        (2, b"f", Status::NotDir),
-        (3, b".", Status::BadName),
-        (3, b"f", Status::Access),
-        (1, b"g", Status::NoEnt),
-    ] {
-        move_to(&mut state, directory);
-        let outcome = run(rt.alloc(), &mut state, &Argument::Lookup(name))?;
-        assert!(rt; is_refused(&outcome, want), "{want:?}");
+    let callers = callers();
+    let mut world = grown(rt.alloc(), &callers)?;
+    for (directory, name, want) in LOOKUPS {
+        let rows = [
+            (Call::MoveTo(directory), Told::Done, b"".as_slice()),
+            (Call::LookUp(name), Told::Refused(want), b""),
+        ];
+        play(&rt, &mut world, &rows)?;
     }
     Ok(())
 }
 
 // How many nodes there may be, how many changes the run had, and what is answered.
-const FULL: [(usize, u32, Option<Status>); 3] = [
-    (3, u32::MAX, Some(Status::NoSpc)),
-    (4, u32::MAX, Some(Status::ServerFault)),
-    (4, u32::MAX - 1, None),
+const FULL: [(usize, u32, Told); 3] = [
+    (3, u32::MAX, Told::Refused(Status::NoSpc)),
+    (4, u32::MAX, Told::Refused(Status::ServerFault)),
+    (4, u32::MAX - 1, Told::Done),
 ];
 
 #[test]
 fn room_is_tested_before_stamps(rt: HostRuntime) -> Result<(), Fail> {
-    let cred = cred(7);
+    let callers = callers();
     for run in [1, u32::MAX] {
         for (nodes, changes, want) in FULL {
-            let mut state = grown(rt.alloc(), &cred)?;
-            state.changes = changes;
-            state.context.run = run;
-            move_to(&mut state, ROOT);
-            let limits = Limits { nodes, ..volume() };
-            let outcome = create(rt.alloc(), &limits, &mut state, b"n", nothing())?;
-            let is_wanted = match want {
-                Some(status) => is_refused(&outcome, status),
-                None => is_done(&outcome),
-            };
-            assert!(rt; is_wanted, "{nodes} nodes, run {run}");
+            let mut world = grown(rt.alloc(), &callers)?;
+            world.limits.nodes = nodes;
+            world.state.changes = changes;
+            let rows = [
+                (Call::Run(run), Told::Done, b"".as_slice()),
+                TO_ROOT,
+                (Call::MakeDir(b"n", NOTHING), want, b""),
+            ];
+            play(&rt, &mut world, &rows)?;
         }
     }
     Ok(())
 }
 
+const MADE: [Row; 5] = [
+    TO_ROOT,
+    (Call::MakeDir(b"n", NOTHING), Told::Done, b""),
+    (Call::Nodes, Told::Count(4), b""),
+    (Call::Names(ROOT), Told::Count(3), b""),
+    (Call::Name(ROOT, 2), Told::Name(FIRST, FIRST), b"n"),
+];
+
 #[test]
 fn the_change_has_one_stamp(rt: HostRuntime) -> Result<(), Fail> {
-    let cred = cred(7);
-    let mut state = grown(rt.alloc(), &cred)?;
-    move_to(&mut state, ROOT);
-    let outcome = create(rt.alloc(), &volume(), &mut state, b"n", nothing())?;
-    assert!(rt; is_done(&outcome) && state.tree.len() == 4);
-    let root = at(ROOT, &state.tree).ok_or("no root")?;
+    let callers = callers();
+    let mut world = grown(rt.alloc(), &callers)?;
+    play(&rt, &mut world, &MADE)?;
+    let root = at(ROOT, &world.state.tree).ok_or("no root")?;
     assert!(rt; root.change == FIRST && root.time_modify == 5);
-    let names = names_at(&state.tree, ROOT);
-    assert!(rt;
-        names.last().is_some_and(|(stamp, entry)| *stamp == FIRST
-            && entry.number == FIRST
-            && entry.name.as_slice() == b"n".as_slice())
-    );
-    let new = at(FIRST, &state.tree).ok_or("no directory")?;
+    let new = at(FIRST, &world.state.tree).ok_or("no directory")?;
     assert!(rt; new.owner == 7 && new.group == 7 && new.change == FIRST && new.time_modify == 5);
     assert!(rt; new.is_directory() && new.names().is_empty() && new.acl.as_slice().is_empty());
     Ok(())
 }
 
-// One entry of a list as it is spelled, ALLOW of the right 1 to a who of one byte, behind the count of entries.
-fn entry(kind: u8, flags: u8, right: u8, who: u8) -> [u8; 24] {
-    [
-        0, 0, 0, 1, 0, 0, 0, kind, 0, 0, 0, flags, right, 0, 0, 1, 0, 0, 0, 1, who, 0, 0, 0,
-    ]
-}
-
 // The attribute acl.
-fn list_alone() -> Bitmap {
-    words(0x1000, 0)
-}
+const LIST: &[u32] = &[0x1000, 0];
+
+// A list of one entry as it is spelled, alone and beside the mode 755.
+const LIST_ALONE: &[u8] = b"\0\0\0\x01\0\0\0\0\0\0\0\x03\0\0\0\x01\0\0\0\x017\0\0\0";
+
+const BESIDE_MODE: &[u8] = b"\0\0\0\x01\0\0\0\0\0\0\0\x03\0\0\0\x01\0\0\0\x017\0\0\0\0\0\x01\xED";
+
+const ONE_ENTRY: [Entry; 1] = [(AceKind::Allow, Who::User(7), 3, 1)];
+
+// A mode alone is a list of its own.
+const LIST_755: [Entry; 4] = [
+    (AceKind::Allow, Who::Owner, 0, 0x67),
+    (AceKind::Allow, Who::Group, 0, 0x21),
+    (AceKind::Deny, Who::Group, 0, 0x46),
+    (AceKind::Allow, Who::Everyone, 0, 0x21),
+];
+
+const STANDING: [(Given<'static>, &[Entry]); 3] = [
+    ((LIST, LIST_ALONE), &ONE_ENTRY),
+    ((&[0x1000, 2], BESIDE_MODE), &ONE_ENTRY),
+    (MODE_755, &LIST_755),
+];
 
 #[test]
 fn a_list_that_is_given_stands(rt: HostRuntime) -> Result<(), Fail> {
-    let cred = cred(7);
-    let given = [allow(Who::User(7), 3, 1)];
-    let alone = entry(0, 3, 0, b'7');
-    let mut beside_mode = Vec::from_slice(rt.alloc(), &alone)?;
-    beside_mode.extend_from_slice(&MODE_755)?;
-    for (bitmap, values) in [
-        (list_alone(), alone.as_slice()),
-        (words(0x1000, 2), beside_mode.as_slice()),
-    ] {
-        let mut state = grown(rt.alloc(), &cred)?;
-        move_to(&mut state, ROOT);
-        let attributes = Attributes { bitmap, values };
-        let outcome = create(rt.alloc(), &volume(), &mut state, b"n", attributes)?;
-        assert!(rt; is_done(&outcome));
-        assert!(rt; acl_of(&state, FIRST) == Some(given.as_slice()));
+    let callers = callers();
+    for (given, entries) in STANDING {
+        let mut world = grown(rt.alloc(), &callers)?;
+        let rows = [
+            TO_ROOT,
+            (Call::MakeDir(b"n", given), Told::Done, b""),
+            (Call::HasList(FIRST, entries), Told::Is(true), b""),
+        ];
+        play(&rt, &mut world, &rows)?;
     }
-    // A mode alone is a list of its own.
-    let mut state = grown(rt.alloc(), &cred)?;
-    move_to(&mut state, ROOT);
-    let outcome = create(rt.alloc(), &volume(), &mut state, b"n", mode(&MODE_755))?;
-    assert!(rt; is_done(&outcome));
-    let want = [
-        allow(Who::Owner, 0, 0x67),
-        allow(Who::Group, 0, 0x21),
-        deny(Who::Group, 0x46),
-        allow(Who::Everyone, 0, 0x21),
-    ];
-    assert!(rt; acl_of(&state, FIRST) == Some(want.as_slice()));
     Ok(())
 }
 
+// Lists of one entry: another kind, two flags, a right, and a who that are none.
+const UNFIT: [(&[u8], Status); 5] = [
+    (
+        b"\0\0\0\x01\0\0\0\x02\0\0\0\0\0\0\0\x01\0\0\0\x017\0\0\0",
+        Status::AttrNotSupp,
+    ),
+    (
+        b"\0\0\0\x01\0\0\0\0\0\0\0\x80\0\0\0\x01\0\0\0\x017\0\0\0",
+        Status::AttrNotSupp,
+    ),
+    (
+        b"\0\0\0\x01\0\0\0\0\0\0\0\0\x80\0\0\x01\0\0\0\x017\0\0\0",
+        Status::AttrNotSupp,
+    ),
+    (
+        b"\0\0\0\x01\0\0\0\0\0\0\0\0\0\0\0\x01\0\0\0\x01x\0\0\0",
+        Status::BadOwner,
+    ),
+    (
+        b"\0\0\0\x01\0\0\0\0\0\0\0\x04\0\0\0\x01\0\0\0\x017\0\0\0",
+        Status::AttrNotSupp,
+    ),
+];
+
 #[test]
 fn lists_are_refused(rt: HostRuntime) -> Result<(), Fail> {
-    let cred = cred(7);
-    for (values, want) in [
-        (entry(2, 0, 0, b'7'), Status::AttrNotSupp),
-        (entry(0, 0x80, 0, b'7'), Status::AttrNotSupp),
-        (entry(0, 0, 0x80, b'7'), Status::AttrNotSupp),
-        (entry(0, 0, 0, b'x'), Status::BadOwner),
-        (entry(0, 4, 0, b'7'), Status::AttrNotSupp),
-    ] {
-        let mut state = grown(rt.alloc(), &cred)?;
-        move_to(&mut state, ROOT);
-        let attributes = Attributes {
-            bitmap: list_alone(),
-            values: &values,
-        };
-        let outcome = create(rt.alloc(), &volume(), &mut state, b"n", attributes)?;
-        assert!(rt; is_refused(&outcome, want), "{values:?}");
+    let callers = callers();
+    for (values, want) in UNFIT {
+        let mut world = grown(rt.alloc(), &callers)?;
+        let rows = [
+            TO_ROOT,
+            (
+                Call::MakeDir(b"n", (LIST, values)),
+                Told::Refused(want),
+                b"",
+            ),
+        ];
+        play(&rt, &mut world, &rows)?;
     }
-    // A client sets at most 32 entries.
-    for (count, is_taken) in [(32, true), (33, false)] {
-        let mut values = Vec::from_slice(rt.alloc(), &[0, 0, 0, count])?;
-        for _ in 0..count {
-            values.extend_from_slice(&entry(0, 0, 0, b'7')[4..])?;
-        }
-        let mut state = grown(rt.alloc(), &cred)?;
-        move_to(&mut state, ROOT);
-        let attributes = Attributes {
-            bitmap: list_alone(),
-            values: &values,
-        };
-        let outcome = create(rt.alloc(), &volume(), &mut state, b"n", attributes)?;
-        assert!(rt; is_done(&outcome) == is_taken);
-        assert!(rt; is_taken || is_refused(&outcome, Status::Inval));
+    Ok(())
+}
+
+// An entry of a list as it is spelled.
+const ENTRY: &[u8] = b"\0\0\0\0\0\0\0\0\0\0\0\x01\0\0\0\x017\0\0\0";
+
+// A list of so many entries is given to a new directory.
+fn give(alloc: Global, world: &mut World<'_>, count: u8) -> Result<Told, Fail> {
+    let mut values = Vec::from_slice(alloc, &[0, 0, 0, count])?;
+    for _ in 0..count {
+        values.extend_from_slice(ENTRY)?;
+    }
+    ask(
+        world,
+        Call::MakeDir(b"n", (LIST, &values)),
+        &mut Vec::new(alloc),
+    )
+}
+
+#[test]
+fn a_client_sets_at_most_32_entries(rt: HostRuntime) -> Result<(), Fail> {
+    let callers = callers();
+    for (count, want) in [(32, Told::Done), (33, INVALID)] {
+        let mut world = grown(rt.alloc(), &callers)?;
+        play(&rt, &mut world, &[TO_ROOT])?;
+        let told = give(rt.alloc(), &mut world, count)?;
+        assert!(rt; told == want, "{count}: {told:?}");
     }
     Ok(())
 }

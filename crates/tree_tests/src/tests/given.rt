@@ -8,6 +8,7 @@ use settings::{
     Attributes, Refusal, SETTABLE_AT_CREATION, SETTABLE_AT_SETATTR, SUPPORTED, check_attributes,
     has_one_outside,
 };
+use std::alloc::Global;
 use std::test::Fail;
 use wire::trimmed;
 use wire_attributes::numbers_of;
@@ -62,36 +63,75 @@ fn attributes_are_checked(rt: HostRuntime) -> Result<(), Fail> {
     Ok(())
 }
 
-// What SETATTR may set, and the statuses in their order.
+const UNSUPPORTED: Option<Refusal> = Some(Refusal::Status(Status::AttrNotSupp));
+
+const INVALID: Option<Refusal> = Some(Refusal::Status(Status::Inval));
+
+const BAD_XDR: Option<Refusal> = Some(Refusal::Status(Status::BadXdr));
+
+const TOO_BIG: Option<Refusal> = Some(Refusal::Status(Status::FBig));
+
+const BAD_OWNER: Option<Refusal> = Some(Refusal::Status(Status::BadOwner));
+
+/// A bitmap, and the values.
+type Row = (&'static [u32], &'static [u8], Option<Refusal>);
+
+/// What SETATTR may set, and the statuses in their order. The lists have one entry.
+const VALUES: [Row; 12] = [
+    (&[0x4000], b"", UNSUPPORTED),
+    (&[2], b"", INVALID),
+    (&[0x10], b"\0\0\0\0\x01\0\0", BAD_XDR),
+    (&[0x10], b"\0\0\0\0\x01\0\0\x01", TOO_BIG),
+    (&[0x10], b"\0\0\0\0\x01\0\0\0", None),
+    (&[0, 0x10], b"\0\0\0\x017\0\0\0", None),
+    (&[0, 0x10], b"\0\0\0\x01x\0\0\0", BAD_OWNER),
+    (
+        &[0x1000],
+        b"\0\0\0\x01\0\0\0\0\0\0\0\0\0\0\0\x01\0\0\0\x017\0\0\0",
+        None,
+    ),
+    (
+        &[0x1000],
+        b"\0\0\0\x01\0\0\0\0\0\0\0\x40\0\0\0\x01\0\0\0\x017\0\0\0",
+        None,
+    ),
+    (
+        &[0x1000],
+        b"\0\0\0\x01\0\0\0\0\0\0\0\x01\0\0\0\x01\0\0\0\x017\0\0\0",
+        UNSUPPORTED,
+    ),
+    (
+        &[0x1000],
+        b"\0\0\0\x01\0\0\0\0\0\0\0\x01\0\0\0\x01\0\0\0\x01x\0\0\0",
+        BAD_OWNER,
+    ),
+    (
+        &[0x1000],
+        b"\0\0\0\x01\0\0\0\0\0\0\0\x80\0\0\0\x01\0\0\0\x01x\0\0\0",
+        UNSUPPORTED,
+    ),
+];
+
+// The call stands here once, since it brings all that it promises to its caller.
+fn refusal_of(alloc: Global, bitmap: &[u32], values: &[u8]) -> Result<Option<Refusal>, Fail> {
+    if bitmap.len() > 8 {
+        return Err("a long bitmap".into());
+    }
+    let checked = check_attributes(
+        alloc,
+        &Limits::of_volume(256, 16),
+        NodeKind::File,
+        &SETTABLE_AT_SETATTR,
+        Attributes { bitmap, values },
+    );
+    Ok(checked.err())
+}
+
 #[test]
 fn each_value_is_checked(rt: HostRuntime) -> Result<(), Fail> {
-    let limits = Limits::of_volume(256, 16);
-    let check = |bitmap: &[u32], values: &[u8]| {
-        let given = Attributes { bitmap, values };
-        check_attributes(
-            rt.alloc(),
-            &limits,
-            NodeKind::File,
-            &SETTABLE_AT_SETATTR,
-            given,
-        )
-        .err()
-    };
-    let status = |status| Some(Refusal::Status(status));
-    assert!(rt; check(&[0x4000], b"") == status(Status::AttrNotSupp));
-    assert!(rt; check(&[2], b"") == status(Status::Inval));
-    assert!(rt; check(&[0x10], b"\0\0\0\0\x01\0\0") == status(Status::BadXdr));
-    assert!(rt; check(&[0x10], b"\0\0\0\0\x01\0\0\x01") == status(Status::FBig));
-    assert!(rt; check(&[0x10], b"\0\0\0\0\x01\0\0\0").is_none());
-    assert!(rt; check(&[0, 0x10], b"\0\0\0\x017\0\0\0").is_none());
-    assert!(rt; check(&[0, 0x10], b"\0\0\0\x01x\0\0\0") == status(Status::BadOwner));
-    let entry = |flags, who| [
-        0, 0, 0, 1, 0, 0, 0, 0, 0, 0, 0, flags, 0, 0, 0, 1, 0, 0, 0, 1, who, 0, 0, 0,
-    ];
-    assert!(rt; check(&[0x1000], &entry(0, b'7')).is_none());
-    assert!(rt; check(&[0x1000], &entry(0x40, b'7')).is_none());
-    assert!(rt; check(&[0x1000], &entry(1, b'7')) == status(Status::AttrNotSupp));
-    assert!(rt; check(&[0x1000], &entry(1, b'x')) == status(Status::BadOwner));
-    assert!(rt; check(&[0x1000], &entry(0x80, b'x')) == status(Status::AttrNotSupp));
+    for (bitmap, values, want) in VALUES {
+        let refusal = refusal_of(rt.alloc(), bitmap, values)?;
+        assert!(rt; refusal == want, "{bitmap:?} {values:?}: {refusal:?}");
+    }
     Ok(())
 }
