@@ -133,8 +133,8 @@ fn create_session(alloc: Global) -> Argument<'static>
     })
 }
 
-fn argument_of(kind: Kind, data: &[u8]) -> Argument<'_>
-    requires { length data.now ≤ 8192 }
+fn argument_of(kind: Kind, bytes: &[u8]) -> Argument<'_>
+    requires { length bytes.now ≤ 8192 }
     ensures { ArgumentFits result }
 {
     match kind {
@@ -145,7 +145,7 @@ fn argument_of(kind: Kind, data: &[u8]) -> Argument<'_>
             },
             offset: 0,
             stable: 2,
-            data,
+            data: bytes,
         }),
         Kind::GetAttr => {
             let mut asked = Bitmap::new();
