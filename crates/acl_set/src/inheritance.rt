@@ -125,11 +125,11 @@ fn first_unfit(kind: NodeKind, acl: &[Ace]) -> Option<usize>
 /// A file's entries have no flags. A directory's have NO_PROPAGATE or INHERIT_ONLY only beside FILE_INHERIT or
 /// DIRECTORY_INHERIT, and no other flag than these four: that a number is a group's stands in the name.
 pub fn first_refused(kind: NodeKind, acl: &[Ace]) -> Option<usize>
-    ensures { result ≡ first_refused Acl.MOST_SET kind acl.now }
+    ensures { result ≡ first_refused Acl.MAX_SET kind acl.now }
 {
     let place = first_unfit(kind, acl)
         .unwrap_or(acl.len())
-        .min(Acl::MOST_SET);
+        .min(Acl::MAX_SET);
     (place < acl.len()).then_some(place)
 }
 
@@ -146,7 +146,7 @@ pub fn at_creation(
     requires { ForSome given.now.mode (λ mode. mode ≤ 511) }
     ensures list { IfOk result (λ list. list
         ≡ created parent.now kind given.now.empty given.now.mode (option_copied given.now.acl)) }
-    ensures refused { MatchOption (refused_of Acl.MOST_SET kind (option_copied given.now.acl))
+    ensures refused { MatchOption (refused_of Acl.MAX_SET kind (option_copied given.now.acl))
         (IsOkUnless result AclFault.Memory)
         (λ place. result ≡ Err (AclFault.Ace place)) }
 {

@@ -18,7 +18,7 @@ pub const REPLIES: u32 = 32;
 /// The values of the attributes that GETATTR answers.
 const VALUES_BYTES: usize = 112;
 /// The most bytes of results.
-const MOST_RESULT_BYTES: usize = 16_384;
+const MAX_RESULT_BYTES: usize = 16_384;
 
 /// Writes replies with the results of SEQUENCE, PUTFH and GETATTR, each over the one before.
 #[derive(Drop)]
@@ -75,7 +75,7 @@ fn write_record<'a>(
 ) -> Result<Vec<u8>, Refusal>
     requires { length tag.now ≤ 255 }
 {
-    if results.len() > MOST_RESULT_BYTES {
+    if results.len() > MAX_RESULT_BYTES {
         return Err(Refusal::Long);
     }
     let result = CompoundResult {

@@ -19,7 +19,7 @@ const ROUNDS: usize = 10;
 /// How long a round lasts, in milliseconds.
 const ROUND_MILLISECONDS: u64 = 100;
 /// The most turns of a round.
-const MOST_TURNS: u32 = u32::MAX;
+const MAX_TURNS: u32 = u32::MAX;
 
 /// How many things the work does a second, in the best round.
 pub fn best_rate<R: Clock, W: Work>(rt: &R, work: &mut W) -> anyhow::Result<u64> {
@@ -55,7 +55,7 @@ fn round_rates<R: Clock, W: Undone>(rt: &R, work: &mut W) -> anyhow::Result<(u64
     let round = Duration::from_millis(ROUND_MILLISECONDS);
     let (mut done, mut undone) = (0u64, 0u64);
     let (mut doing, mut undoing) = (Duration::ZERO, Duration::ZERO);
-    for _ in 0..MOST_TURNS {
+    for _ in 0..MAX_TURNS {
         let start = Instant::now(rt)?;
         done = done.saturating_add(work.turn()?);
         let middle = Instant::now(rt)?;
@@ -73,7 +73,7 @@ fn round_rate<R: Clock, W: Work>(rt: &R, work: &mut W) -> anyhow::Result<u64> {
     let round = Duration::from_millis(ROUND_MILLISECONDS);
     let start = Instant::now(rt)?;
     let mut done = 0u64;
-    for _ in 0..MOST_TURNS {
+    for _ in 0..MAX_TURNS {
         done = done.saturating_add(work.turn()?);
         if start.elapsed(rt)? >= round {
             break;

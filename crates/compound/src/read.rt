@@ -23,7 +23,7 @@ const FRONT: usize = 8;
 const PART_BYTES: usize = 8_192;
 
 /// The most zero bytes behind those of the file.
-const MOST_PAD: usize = 3;
+const MAX_PAD: usize = 3;
 
 impl Running<'_> {
     ghost use Rattle.std.specs.Prelude.{◌≡◌, ℕ, false, IfOk};
@@ -79,7 +79,7 @@ fn room_for(alloc: Global, count: u32) -> Result<Vec<u8>, Fault>
     ensures err { IfErr result (λ fault. fault ≡ Memory) }
 {
     let most = (count as usize).min(PART_BYTES);
-    let mut values = Vec::with_capacity(alloc, FRONT + most + MOST_PAD)?;
+    let mut values = Vec::with_capacity(alloc, FRONT + most + MAX_PAD)?;
     values.extend_from_slice(&[0; FRONT])?;
     Ok(values)
 }
@@ -124,6 +124,6 @@ fn pad(values: &mut Vec<u8>, len: usize) -> Result<(), Fault>
     ensures err { IfErr result (λ fault. fault ≡ Memory) }
 {
     let count = (4 - len % 4) % 4;
-    values.extend_from_slice(&[0; MOST_PAD][..count])?;
+    values.extend_from_slice(&[0; MAX_PAD][..count])?;
     Ok(())
 }

@@ -13,7 +13,7 @@ use wire::{Answer, Operation, Outcome};
 use xdr::opaque_size;
 
 /// The most bytes of a reply up to the end of an OK result, the record's header not counted.
-const MOST_REPLY_BYTES: usize = 16_368;
+const MAX_REPLY_BYTES: usize = 16_368;
 
 /// The bytes of a reply round the tag and the results: the xid, the message type and four words up to the accept status;
 /// the status and the number of results.
@@ -61,7 +61,7 @@ impl Running<'_> {
             + opaque_size(self.compound.tag.bytes)
             + self.progress.results.len()
             + result_size;
-        size <= MOST_REPLY_BYTES
+        size <= MAX_REPLY_BYTES
     }
 
     /// What an operation comes to that nothing else refuses: it is refused where the reply has no room for its answer.

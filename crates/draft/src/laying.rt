@@ -13,7 +13,7 @@ use crate::numbers::{give_numbers, take_numbers};
 use crate::updates::Updates;
 use cards::Card;
 use disk::SECTOR;
-use extents::{MOST_RUNS, Run, write_run_sector};
+use extents::{MAX_RUNS, Run, write_run_sector};
 use freemap::Bitmap;
 use inode::to_sector;
 use std::alloc::{AllocError, Global};
@@ -29,8 +29,8 @@ fn lay_runs(updates: &mut Updates, numbers: &[u32], runs: &[Run]) -> Result<(), 
     ensures count { length updates.new ≤ length updates.old + length numbers.now }
 {
     for i in 0..numbers.len() {
-        let from = MOST_RUNS * i;
-        let to = runs.len().min(from + MOST_RUNS);
+        let from = MAX_RUNS * i;
+        let to = runs.len().min(from + MAX_RUNS);
         let mut content = [0; SECTOR];
         write_run_sector(&runs[from..to], &mut content);
         updates.put(numbers[i], &content)?;
@@ -74,7 +74,7 @@ fn lay_card(
     ensures count { length updates.new
         ≤ length updates.old + 1 + sectors_for (length runs.items) }
 {
-    let wanted = (runs.len() + 499) / MOST_RUNS;
+    let wanted = (runs.len() + 499) / MAX_RUNS;
     give_numbers(places, 148 + nodes, &mut card.inode.run_sectors, wanted);
     card.inode.runs = runs.len() as u16;
     card.runs = runs;
@@ -101,7 +101,7 @@ pub(crate) fn rerun(
         < sectors_for (set_blocks card.old.blocks) }
 {
     let runs = card.blocks.to_runs(alloc)?;
-    let wanted = (runs.len() + 499) / MOST_RUNS;
+    let wanted = (runs.len() + 499) / MAX_RUNS;
     take_numbers(places, 148 + nodes, &mut card.inode.run_sectors, wanted)?;
     lay_card(updates, places, nodes, place, card, runs)?;
     Ok(())

@@ -11,7 +11,7 @@ use sector::{SIZE, put_bytes, put_u16, put_u32, put_zeros, u16_at, u32_at};
 use std::alloc::{AllocError, Global};
 
 /// The most runs of a sector.
-pub const MOST_RUNS: usize = 500;
+pub const MAX_RUNS: usize = 500;
 
 /// Where the runs begin in a sector, and how long each is.
 const FIRST: usize = 96;
@@ -64,7 +64,7 @@ fn runs_in(alloc: Global, sector: &[u8; 4096]) -> Result<Vec<Run>, AllocError>
         → sector.now ≡ run_sector others → runs.items ≡ others) }
 {
     let mut runs = Vec::new(alloc);
-    for i in 0..MOST_RUNS {
+    for i in 0..MAX_RUNS {
         let run = run_at(sector, FIRST + WIDTH * i);
         if run.length == 0 {
             return Ok(runs);

@@ -41,7 +41,7 @@ impl Inode {
     ghost use Rattle.inode.specs.Fields.{fields_of};
 
     /// The most run sectors of a node.
-    pub const MOST_RUN_SECTORS: usize = 9;
+    pub const MAX_RUN_SECTORS: usize = 9;
 
     /// The same node once more, in memory of its own.
     pub fn try_clone(&self, alloc: Global) -> Result<Inode, AllocError>
@@ -66,7 +66,7 @@ impl Inode {
         ensures same { fields_of self.new ≡ fields_of self.old }
         ensures room { OnOk result (9 ≤ vec_capacity self.new.run_sectors) }
     {
-        let additional = Inode::MOST_RUN_SECTORS.saturating_sub(self.run_sectors.len());
+        let additional = Inode::MAX_RUN_SECTORS.saturating_sub(self.run_sectors.len());
         self.run_sectors.reserve(additional)
     }
 }

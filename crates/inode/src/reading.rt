@@ -18,7 +18,7 @@ use sector::{SIZE, u16_at, u32_at, u64_at};
 use std::alloc::Global;
 
 /// The most runs that nine run sectors keep.
-const MOST_RUNS: u16 = 4500;
+const MAX_RUNS: u16 = 4500;
 
 fn kind_from(byte: u8) -> Option<NodeKind>
     ensures { (kind : NodeKind) → byte ≡ kind_byte kind → result ≡ Some kind }
@@ -100,10 +100,10 @@ fn inode_in(alloc: Global, sector: &[u8; 4096]) -> Result<Inode, InodeFault>
     };
     let aces = usize::from(sector[5]);
     let runs = u16_at(sector, 6);
-    if aces > Acl::MOST_STORED {
+    if aces > Acl::MAX_STORED {
         return Err(InodeFault::NotInode);
     }
-    if runs > MOST_RUNS {
+    if runs > MAX_RUNS {
         return Err(InodeFault::NotInode);
     }
     let run_sectors = run_sectors_in(alloc, sector, usize::from(runs).div_ceil(500))?;

@@ -27,7 +27,7 @@ use Rattle.model.specs.StateIds.{has_opens}
 use Rattle.model.specs.Status.{code_of}
 use Rattle.model.specs.WireAnswers.{behind_refusal}
 use Rattle.model.specs.World.{ServerLimits, InProgress, Connection, Quiet, Waiting, Busy, Replied, Closed, World, Entry, HasRun, Gives, Replays, Next, Refuses, Reads, Turned, next_operation, exchanged, created_by, tabled, started_in, begun, reclaimed, run, outcome_text, reply_with, has_room, in_room, status_of, with_result, result_of, kept_by, ends, goes_on, behind, has_run, operates, in_progress, requested, called, turned, with_connection, entry_of, refuses, one, arrived, arrives_at, changed, arrives, without_reply, takes, can_connect, connects, is_busy, without_connection, hangs_up, operations_left, turns, hung_up, is_last}
-use Rattle.model.specs.KeptReplies.{reply_so_far, most_kept, is_short_state, keeps_short, IsShort, HasRoom, KeepsShort}
+use Rattle.model.specs.KeptReplies.{reply_so_far, max_kept, is_short_state, keeps_short, IsShort, HasRoom, KeepsShort}
 use Rattle.model.proofs.KeyedLaws.{at-with_same, at-with_other, at-without_same, at-without_other}
 use Rattle.model.proofs.SlotLaw.{exchange_same, destroy_client_same, reclaim_same}
 use Rattle.model.proofs.TableLaws.{all-filter, all-append, all-map}
@@ -190,7 +190,7 @@ request_fits call =
 pub record Leaves (world : World) (request : InProgress) (after : World) (left : InProgress) : Type 0 where
   pub limits : after.limits ≡ world.limits
   pub connections : after.connections ≡ world.connections
-  pub short : AllShort (most_kept world.limits) after.table.sessions
+  pub short : AllShort (max_kept world.limits) after.table.sessions
   pub tag : left.tag ≡ request.tag
   pub results : left.results ≡ request.results
 
@@ -198,23 +198,23 @@ abbrev HasLeft : World → InProgress → HasRun → Type 0
 HasLeft world request (Gives outcome after left) = Leaves world request after left
 HasLeft world request (Replays result session slot) = Unit {0}
 
-module _ (world : World) (request : InProgress) (short : AllShort (most_kept world.limits) world.table.sessions) where
+module _ (world : World) (request : InProgress) (short : AllShort (max_kept world.limits) world.table.sessions) where
   leaves_same : Leaves world request world request
   leaves_same = record { limits = refl; connections = refl; short = short; tag = refl; results = refl }
 
-  leaves_table : (table : Table) → AllShort (most_kept world.limits) table.sessions → Leaves world request (record world { table = table }) request
+  leaves_table : (table : Table) → AllShort (max_kept world.limits) table.sessions → Leaves world request (record world { table = table }) request
   leaves_table table is = record { limits = refl; connections = refl; short = is; tag = refl; results = refl }
 
-  exchanged_leaves : (r : Result ExchangeIdAnswer Status × Table) → AllShort (most_kept world.limits) r.1.sessions → HasLeft world request (exchanged world request r)
+  exchanged_leaves : (r : Result ExchangeIdAnswer Status × Table) → AllShort (max_kept world.limits) r.1.sessions → HasLeft world request (exchanged world request r)
   exchanged_leaves (Err reason, table) is = leaves_table table is
   exchanged_leaves (Ok answer, table) is = leaves_table table is
 
-  created_leaves : (o : CreateSessionOutcome) (answer : Result CreateSessionAnswer Status) → AllShort (most_kept world.limits) o.table.sessions
+  created_leaves : (o : CreateSessionOutcome) (answer : Result CreateSessionAnswer Status) → AllShort (max_kept world.limits) o.table.sessions
       → HasLeft world request (created_by world request o answer)
   created_leaves o (Err reason) is = leaves_same
   created_leaves o (Ok answer) is = record { limits = refl; connections = refl; short = is; tag = refl; results = refl }
 
-  tabled_leaves : (operation : ℕ) (answer : Answer) (r : Option Status × Table) → AllShort (most_kept world.limits) r.1.sessions
+  tabled_leaves : (operation : ℕ) (answer : Answer) (r : Option Status × Table) → AllShort (max_kept world.limits) r.1.sessions
       → HasLeft world request (tabled world request operation answer r)
   tabled_leaves operation answer (Some reason, table) is = leaves_table table is
   tabled_leaves operation answer (None, table) is = leaves_table table is
@@ -225,8 +225,8 @@ module _ (world : World) (request : InProgress) (short : AllShort (most_kept wor
   begun_leaves arguments (sessions.Replays reply) = tt
   begun_leaves arguments sessions.Runs = by_session (find (is_session arguments.session) world.table.sessions)
     where
-      started_short : AllShort (most_kept world.limits) (started request.context.cred.uid arguments world.table).sessions
-      started_short = slotted_short (most_kept world.limits) arguments.session arguments.slot
+      started_short : AllShort (max_kept world.limits) (started request.context.cred.uid arguments world.table).sessions
+      started_short = slotted_short (max_kept world.limits) arguments.session arguments.slot
           (λ _. record { last = arguments.sequence; uid = request.context.cred.uid; state = sessions.Running }) (λ s. refl) world.table.sessions short
 
       by_session : (known : Option Session) → HasLeft world request (started_in world request arguments known)
@@ -239,17 +239,17 @@ module _ (world : World) (request : InProgress) (short : AllShort (most_kept wor
 
   run_leaves : (now : ℕ) (operation : Argument) → HasLeft world request (run world request now operation)
   unfolding run create_session destroy_session started
-  run_leaves now (Argument.ExchangeId arguments) = exchanged_leaves _ (ap (list_all (keeps_short (most_kept world.limits))) (exchange_same world.limits.sessions (has_opens world.opens) request.context.cred.uid arguments world.table).sessions ∙ short)
+  run_leaves now (Argument.ExchangeId arguments) = exchanged_leaves _ (ap (list_all (keeps_short (max_kept world.limits))) (exchange_same world.limits.sessions (has_opens world.opens) request.context.cred.uid arguments world.table).sessions ∙ short)
   run_leaves now (Argument.CreateSession arguments) =
-      created_leaves (sessions.create_session world.limits.sessions request.context.cred.uid arguments world.table) _ (create_short (most_kept world.limits) world.limits.sessions request.context.cred.uid arguments world.table (find (is_client arguments.client) world.table.clients) short)
+      created_leaves (sessions.create_session world.limits.sessions request.context.cred.uid arguments world.table) _ (create_short (max_kept world.limits) world.limits.sessions request.context.cred.uid arguments world.table (find (is_client arguments.client) world.table.clients) short)
   run_leaves now (Argument.DestroySession id) =
-      tabled_leaves 44 Answer.DestroySession _ (destroy_short (most_kept world.limits) id world.table (find (is_session id) world.table.sessions) short)
+      tabled_leaves 44 Answer.DestroySession _ (destroy_short (max_kept world.limits) id world.table (find (is_session id) world.table.sessions) short)
   run_leaves now (Argument.DestroyClientId client) =
-      tabled_leaves 57 Answer.DestroyClientId _ (ap (list_all (keeps_short (most_kept world.limits))) (destroy_client_same (has_opens world.opens) client world.table).sessions ∙ short)
+      tabled_leaves 57 Answer.DestroyClientId _ (ap (list_all (keeps_short (max_kept world.limits))) (destroy_client_same (has_opens world.opens) client world.table).sessions ∙ short)
   run_leaves now (Argument.Sequence arguments) = begun_leaves arguments _
   run_leaves now (Argument.ReclaimComplete true) = reclaimed_leaves _
   run_leaves now (Argument.ReclaimComplete false) =
-      tabled_leaves 58 Answer.ReclaimComplete _ (ap (list_all (keeps_short (most_kept world.limits))) (reclaim_same request.context.client world.table).sessions ∙ short)
+      tabled_leaves 58 Answer.ReclaimComplete _ (ap (list_all (keeps_short (max_kept world.limits))) (reclaim_same request.context.client world.table).sessions ∙ short)
   run_leaves now operation = record { limits = refl; connections = refl; short = short; tag = refl; results = refl }
 
 -- A turn
@@ -267,13 +267,13 @@ busy_request a b same = cc
 
 -- a connection that is put down in place of another
 put_down : (limits : ServerLimits) (connections : Keyed Connection) (here : ℕ) (new : Connection) (world : World) → world.limits ≡ limits
-    → world.connections ≡ with connections here new → AllShort (most_kept limits) world.table.sessions
+    → world.connections ≡ with connections here new → AllShort (max_kept limits) world.table.sessions
     → ((other : ℕ) (request : InProgress) → at other connections ≡ Some (Busy request) → weight request ≤ limits.reply_bytes)
     → ((request : InProgress) → new ≡ Busy request → weight request ≤ limits.reply_bytes) → Bounded limits world
 put_down limits connections here new world limits_are are short others mine = record {
   same = limits_are;
   short = record {
-    kept = subst (λ (l : ServerLimits). AllShort (most_kept l) world.table.sessions) (sym limits_are) short;
+    kept = subst (λ (l : ServerLimits). AllShort (max_kept l) world.table.sessions) (sym limits_are) short;
     busy = λ other request busy.
         let there : at other (with connections here new) ≡ Some (Busy request) = ap (at other) (sym are) ∙ busy in
         let light : weight request ≤ limits.reply_bytes = by_place other request there (cases_eq other here) in
@@ -299,20 +299,20 @@ module _ (world : World) (short : IsShort world) (here : ℕ) where
 
   -- the reply is there
   replied : (reply : List ℕ) (after : World) → after.limits ≡ limits → after.connections ≡ with world.connections here (Replied reply)
-      → AllShort (most_kept limits) after.table.sessions → Bounded limits after
+      → AllShort (max_kept limits) after.table.sessions → Bounded limits after
   replied reply after same are kept =
       put_down limits world.connections here (Replied reply) after same are kept (light_in world short) (λ request wrong. absurd (never request wrong))
     where
       never : (request : InProgress) → Replied reply ≡ Busy request → ⊥
       never request wrong = cc
 
-  kept_short : (slot : Option (List ℕ × ℕ)) (result : List ℕ) (table : Table) → length result ≤ most_kept limits → AllShort (most_kept limits) table.sessions
-      → AllShort (most_kept limits) (kept_by slot result table).sessions
+  kept_short : (slot : Option (List ℕ × ℕ)) (result : List ℕ) (table : Table) → length result ≤ max_kept limits → AllShort (max_kept limits) table.sessions
+      → AllShort (max_kept limits) (kept_by slot result table).sessions
   unfolding finish
   kept_short None result table fits kept = kept
   kept_short (Some slot) result table fits kept =
-      slotted_short (most_kept limits) slot.0 slot.1 (λ s. record (slot_at s slot.1) { state = sessions.Kept result })
-      (λ s. le-leb (length result) (most_kept limits) fits) table.sessions kept
+      slotted_short (max_kept limits) slot.0 slot.1 (λ s. record (slot_at s slot.1) { state = sessions.Kept result })
+      (λ s. le-leb (length result) (max_kept limits) fits) table.sessions kept
 
   module _ (request : InProgress) (after : World) (left : InProgress) (leaves : Leaves world request after left) (light : weight request ≤ limits.reply_bytes) where
     same_weight : weight left ≡ weight request
@@ -323,7 +323,7 @@ module _ (world : World) (short : IsShort world) (here : ℕ) where
         → Bounded limits (ends after here (with_result left outcome) last None).world
     ended outcome last fits =
         let size = result_length last left.tag (left.answered + 1) (left.results ++ outcome_text outcome) in
-        let most : length (result_of (with_result left outcome) last) ≤ most_kept limits =
+        let most : length (result_of (with_result left outcome) last) ≤ max_kept limits =
         omega (arith, size, with_length left outcome, same_weight, fits) in
         replied (marks.framed (reply_text left.xid (Success (result_of (with_result left outcome) last))))
         (ends after here (with_result left outcome) last None).world leaves.limits

@@ -297,33 +297,33 @@ list_parts true true false e = absurd (false≢true e)
 list_parts true false few e = absurd (false≢true e)
 list_parts false short few e = absurd (false≢true e)
 
-list_from : (most_set most_stored : ℕ) (of : NodeKind) (acl : List Ace) → All (Fits of) acl → length acl ≤ most_stored → size is_other acl ≤ most_set → is_list_for most_set most_stored of acl ≡ true
+list_from : (max_set max_stored : ℕ) (of : NodeKind) (acl : List Ace) → All (Fits of) acl → length acl ≤ max_stored → size is_other acl ≤ max_set → is_list_for max_set max_stored of acl ≡ true
 unfolding is_list_for
-list_from most_set most_stored of acl fit short few =
+list_from max_set max_stored of acl fit short few =
     and_from _ _
-    (and_from _ _ (list_all-from_AllPass (is_entry_for of) acl fit) (le-leb (length acl) most_stored short))
-    (rw (← length-filter is_other acl) (le-leb (size is_other acl) most_set few))
+    (and_from _ _ (list_all-from_AllPass (is_entry_for of) acl fit) (le-leb (length acl) max_stored short))
+    (rw (← length-filter is_other acl) (le-leb (size is_other acl) max_set few))
 
-record Parts (most_set most_stored : ℕ) (of : NodeKind) (acl : List Ace) : Type 0 where
+record Parts (max_set max_stored : ℕ) (of : NodeKind) (acl : List Ace) : Type 0 where
   fit : All (Fits of) acl
-  few : size is_other acl ≤ most_set
+  few : size is_other acl ≤ max_set
 
-parts_of : (most_set most_stored : ℕ) (of : NodeKind) (acl : List Ace) → is_list_for most_set most_stored of acl ≡ true → Parts most_set most_stored of acl
+parts_of : (max_set max_stored : ℕ) (of : NodeKind) (acl : List Ace) → is_list_for max_set max_stored of acl ≡ true → Parts max_set max_stored of acl
 unfolding is_list_for
-parts_of most_set most_stored of acl e =
+parts_of max_set max_stored of acl e =
     let three = list_parts _ _ _ e in
     record {
       fit = AllPass-from_list_all (is_entry_for of) acl three.0;
-      few = rw (length-filter is_other acl) (leb-true (count_by is_other acl) most_set three.2);
+      few = rw (length-filter is_other acl) (leb-true (count_by is_other acl) max_set three.2);
     }
 
 pub modes_keep_limits : ModesKeepLimits
-modes_keep_limits most_set most_stored room of acl mode e =
-    let parts = parts_of most_set most_stored of acl e in
+modes_keep_limits max_set max_stored room of acl mode e =
+    let parts = parts_of max_set max_stored of acl e in
     let few = parts.few in
     let long = moded_length of acl mode in
     let others = moded_others of acl mode in
-    list_from most_set most_stored of (moded of acl mode) (moded_fits of acl mode parts.fit) (omega arith) (omega arith)
+    list_from max_set max_stored of (moded of acl mode) (moded_fits of acl mode parts.fit) (omega arith) (omega arith)
 
 meets_some : (flags : ℕ) → (meets flags 2 || (meets flags 1 && not (meets flags 4))) ≡ true → meets flags 3 ≡ true
 meets_some flags h =
@@ -360,14 +360,14 @@ inherited_fits node.Directory ace h e =
 
 pub inheritance_keeps_limits : InheritanceKeepsLimits
 unfolding inherited
-inheritance_keeps_limits most_set most_stored room of parent e =
-    let parts = parts_of most_set most_stored node.Directory parent e in
+inheritance_keeps_limits max_set max_stored room of parent e =
+    let parts = parts_of max_set max_stored node.Directory parent e in
     let few = parts.few in
     let taken = filter (is_inherited_by of) parent in
     let others = size-weaker (is_inherited_by of) is_other (inherited_other of) parent in
     let long = length-map taken (as_inherited of) in
     let left = size-le is_other (map (as_inherited of) taken) in
-    list_from most_set most_stored of (map (as_inherited of) taken)
+    list_from max_set max_stored of (map (as_inherited of) taken)
     (All-map (Fits of) (as_inherited of) taken
     (λ k d h. inherited_fits of (get_or taken k d) (filter_passes (is_inherited_by of) parent k d h) (All-filter (is_inherited_by of) (Fits node.Directory) parent parts.fit k d h)))
     (omega arith) (omega arith)
@@ -391,19 +391,19 @@ none_if false n e = refl
 
 pub set_lists_are_within_limits : SetListsAreWithinLimits
 unfolding first_refused
-set_lists_are_within_limits most_set most_stored room of acl e =
-    let behind : length acl ≤ min most_set (position_or_len (λ ace. not (is_entry_for of ace)) acl) = ltb-false _ _ (none_if _ _ e) in
+set_lists_are_within_limits max_set max_stored room of acl e =
+    let behind : length acl ≤ min max_set (position_or_len (λ ace. not (is_entry_for of ace)) acl) = ltb-false _ _ (none_if _ _ e) in
     let few = size-le is_other acl in
-    list_from most_set most_stored of acl
+    list_from max_set max_stored of acl
     (All-from_recursion (Fits of) acl (all_from_position (is_entry_for of) acl (omega arith)))
     (omega arith) (omega arith)
 
-without_list : (most_set most_stored : ℕ) → most_set + 5 ≤ most_stored → (of : NodeKind) (parent : List Ace) (is_empty : Bool) (mode : Option ℕ) → is_list_for most_set most_stored node.Directory parent ≡ true → is_list_for most_set most_stored of (created_without_list parent of is_empty mode) ≡ true
-without_list most_set most_stored room of parent is_empty (Some mode) e =
-    modes_keep_limits most_set most_stored room of (inherited parent of) mode (inheritance_keeps_limits most_set most_stored (omega arith) of parent e)
-without_list most_set most_stored room of parent true None e = list_from most_set most_stored of [] (All-nil (Fits of)) (omega arith) (omega arith)
-without_list most_set most_stored room of parent false None e = inheritance_keeps_limits most_set most_stored (omega arith) of parent e
+without_list : (max_set max_stored : ℕ) → max_set + 5 ≤ max_stored → (of : NodeKind) (parent : List Ace) (is_empty : Bool) (mode : Option ℕ) → is_list_for max_set max_stored node.Directory parent ≡ true → is_list_for max_set max_stored of (created_without_list parent of is_empty mode) ≡ true
+without_list max_set max_stored room of parent is_empty (Some mode) e =
+    modes_keep_limits max_set max_stored room of (inherited parent of) mode (inheritance_keeps_limits max_set max_stored (omega arith) of parent e)
+without_list max_set max_stored room of parent true None e = list_from max_set max_stored of [] (All-nil (Fits of)) (omega arith) (omega arith)
+without_list max_set max_stored room of parent false None e = inheritance_keeps_limits max_set max_stored (omega arith) of parent e
 
 pub creation_keeps_limits : CreationKeepsLimits
-creation_keeps_limits most_set most_stored room of parent is_empty mode None e taken = without_list most_set most_stored room of parent is_empty mode e
-creation_keeps_limits most_set most_stored room of parent is_empty mode (Some acl) e taken = set_lists_are_within_limits most_set most_stored (omega arith) of acl taken
+creation_keeps_limits max_set max_stored room of parent is_empty mode None e taken = without_list max_set max_stored room of parent is_empty mode e
+creation_keeps_limits max_set max_stored room of parent is_empty mode (Some acl) e taken = set_lists_are_within_limits max_set max_stored (omega arith) of acl taken

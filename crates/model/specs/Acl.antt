@@ -163,5 +163,5 @@ is_plain ace = is_special ace.who && counts ace && not (meets ace.flags.0 (file_
 
 -- whether a node of this kind may have the list, where a client may set so many entries and so many may be stored
 unfoldable pub is_list_for : ℕ → ℕ → NodeKind → List Ace → Bool
-is_list_for most_set most_stored of acl =
-    list_all (is_entry_for of) acl && nat_le (length acl) most_stored && nat_le (count_by (λ ace. not (is_plain ace)) acl) most_set
+is_list_for max_set max_stored of acl =
+    list_all (is_entry_for of) acl && nat_le (length acl) max_stored && nat_le (count_by (λ ace. not (is_plain ace)) acl) max_set

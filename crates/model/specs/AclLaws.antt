@@ -21,22 +21,22 @@ NumbersStayWithinTheGroup = (of : NodeKind) (acl : List Ace) (mode : ℕ) → Al
 
 -- a list that a node may have is still one after a mode was set, where five more entries may be stored than set
 abbrev pub ModesKeepLimits : Type 0
-ModesKeepLimits = (most_set most_stored : ℕ) → most_set + 5 ≤ most_stored
-    → (of : NodeKind) (acl : List Ace) (mode : ℕ) → is_list_for most_set most_stored of acl ≡ true → is_list_for most_set most_stored of (moded of acl mode) ≡ true
+ModesKeepLimits = (max_set max_stored : ℕ) → max_set + 5 ≤ max_stored
+    → (of : NodeKind) (acl : List Ace) (mode : ℕ) → is_list_for max_set max_stored of acl ≡ true → is_list_for max_set max_stored of (moded of acl mode) ≡ true
 
 -- what is inherited of a list that a directory may have is a list that the new node may have
 abbrev pub InheritanceKeepsLimits : Type 0
-InheritanceKeepsLimits = (most_set most_stored : ℕ) → most_set ≤ most_stored
-    → (of : NodeKind) (parent : List Ace) → is_list_for most_set most_stored node.Directory parent ≡ true → is_list_for most_set most_stored of (inherited parent of) ≡ true
+InheritanceKeepsLimits = (max_set max_stored : ℕ) → max_set ≤ max_stored
+    → (of : NodeKind) (parent : List Ace) → is_list_for max_set max_stored node.Directory parent ≡ true → is_list_for max_set max_stored of (inherited parent of) ≡ true
 
 -- a list of which a client may set every entry is one that the node may have
 abbrev pub SetListsAreWithinLimits : Type 0
-SetListsAreWithinLimits = (most_set most_stored : ℕ) → most_set ≤ most_stored
-    → (of : NodeKind) (acl : List Ace) → first_refused most_set of acl ≡ None → is_list_for most_set most_stored of acl ≡ true
+SetListsAreWithinLimits = (max_set max_stored : ℕ) → max_set ≤ max_stored
+    → (of : NodeKind) (acl : List Ace) → first_refused max_set of acl ≡ None → is_list_for max_set max_stored of acl ≡ true
 
 -- the list of a new node is one that it may have
 abbrev pub CreationKeepsLimits : Type 0
-CreationKeepsLimits = (most_set most_stored : ℕ) → most_set + 5 ≤ most_stored
+CreationKeepsLimits = (max_set max_stored : ℕ) → max_set + 5 ≤ max_stored
     → (of : NodeKind) (parent : List Ace) (is_empty : Bool) (mode : Option ℕ) (acl : Option (List Ace))
-    → is_list_for most_set most_stored node.Directory parent ≡ true → IfSome acl (λ list. first_refused most_set of list ≡ None)
-    → is_list_for most_set most_stored of (created parent of is_empty mode acl) ≡ true
+    → is_list_for max_set max_stored node.Directory parent ≡ true → IfSome acl (λ list. first_refused max_set of list ≡ None)
+    → is_list_for max_set max_stored of (created parent of is_empty mode acl) ≡ true

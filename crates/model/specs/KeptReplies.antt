@@ -14,8 +14,8 @@ reply_so_far request = reply_text request.xid (Success (result_of request status
 
 -- of a record, the most that a kept result has: the header of its reply, 24 bytes, is left out, and a refused result, of at most
 -- 12 bytes, may stand behind those that had room
-abbrev pub most_kept : ServerLimits → ℕ
-most_kept limits = limits.reply_bytes - 12
+abbrev pub max_kept : ServerLimits → ℕ
+max_kept limits = limits.reply_bytes - 12
 
 abbrev pub is_short_state : (most : ℕ) → SlotState → Bool
 is_short_state most Free = true
@@ -26,7 +26,7 @@ abbrev pub keeps_short : (most : ℕ) → Session → Bool
 keeps_short most session = list_all (λ slot. is_short_state most slot.state) session.slots
 
 pub record IsShort (world : World) : Type 0 where
-  pub kept : IsTrue (list_all (keeps_short (most_kept world.limits)) world.table.sessions)
+  pub kept : IsTrue (list_all (keeps_short (max_kept world.limits)) world.table.sessions)
   pub busy : (number : ℕ) (request : InProgress) → at number world.connections ≡ Some (Busy request)
       → length (reply_so_far request) ≤ world.limits.reply_bytes
 

@@ -179,10 +179,10 @@ impl Model for Acl {
 
 impl Acl {
     /// How many entries a client may set.
-    pub const MOST_SET: usize = 32;
+    pub const MAX_SET: usize = 32;
 
     /// How many entries a node's list may have.
-    pub const MOST_STORED: usize = 40;
+    pub const MAX_STORED: usize = 40;
 
     /// A list without entries.
     pub fn new(alloc: Global) -> Acl

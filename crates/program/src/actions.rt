@@ -19,7 +19,7 @@ use wire::{
 };
 
 /// The longest owner id.
-const MOST_OWNER_BYTES: usize = 1024;
+const MAX_OWNER_BYTES: usize = 1024;
 
 /// What a user asks of both channels of its session.
 const CHANNEL: Channel = Channel {
@@ -222,7 +222,7 @@ fn exchange_id(name: &str) -> Result<Argument<'_>, Refused>
     ensures { IfOk result ArgumentFits }
 {
     let owner = name.as_bytes();
-    if owner.len() > MOST_OWNER_BYTES {
+    if owner.len() > MAX_OWNER_BYTES {
         return Err(Refused::Script);
     }
     Ok(Argument::ExchangeId(ExchangeIdArguments {

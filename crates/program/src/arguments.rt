@@ -25,13 +25,13 @@ const CURRENT: StateId = StateId {
 const BOTH: u32 = 3;
 
 /// The longest name of an owner.
-const MOST_OWNER_BYTES: usize = 1024;
+const MAX_OWNER_BYTES: usize = 1024;
 
 /// The most bytes of a name, or that a script writes at once: more than a record has room for.
-const MOST_BYTES: usize = 65_536;
+const MAX_BYTES: usize = 65_536;
 
 /// The most bytes of a filehandle.
-const MOST_HANDLE_BYTES: usize = 128;
+const MAX_HANDLE_BYTES: usize = 128;
 
 /// How a WRITE is to be stored (`stable_how4`, section 18.32).
 #[derive(Clone, Copy)]
@@ -143,7 +143,7 @@ pub fn opening<'a>(
     ensures { IfOk result OpenFits }
 {
     let owner = owner.as_bytes();
-    if owner.len() > MOST_OWNER_BYTES {
+    if owner.len() > MAX_OWNER_BYTES {
         return Err(Refused::Script);
     }
     Ok(OpenArguments {
@@ -189,7 +189,7 @@ pub fn reading(offset: u64, count: u32) -> ReadArguments {
 pub fn writing(offset: u64, stable: Stable, data: &[u8]) -> Result<WriteArguments<'_>, Refused>
     ensures { IfOk result WriteFits }
 {
-    if data.len() > MOST_BYTES {
+    if data.len() > MAX_BYTES {
         return Err(Refused::Script);
     }
     Ok(WriteArguments {
@@ -217,7 +217,7 @@ pub fn name_bytes(name: &str) -> Result<&[u8], Refused>
     ensures { IfOk result (λ bytes. length bytes.now ≤ 65536) }
 {
     let bytes = name.as_bytes();
-    if bytes.len() > MOST_BYTES {
+    if bytes.len() > MAX_BYTES {
         return Err(Refused::Script);
     }
     Ok(bytes)
@@ -227,7 +227,7 @@ pub fn name_bytes(name: &str) -> Result<&[u8], Refused>
 pub fn handle_bytes(handle: &[u8]) -> Result<&[u8], Refused>
     ensures { IfOk result (λ bytes. length bytes.now ≤ 128) }
 {
-    if handle.len() > MOST_HANDLE_BYTES {
+    if handle.len() > MAX_HANDLE_BYTES {
         return Err(Refused::Script);
     }
     Ok(handle)

@@ -3,7 +3,7 @@ use Rattle.std.proofs.Common.{◌≡◌, ℕ, zero, suc, ◌+◌, ◌*◌, ◌-�
 use Rattle.std.proofs.lemmas.List.{length-drop}
 use Rattle.std.specs.Int.{w32, from_be_bytes}
 use Rattle.model.specs.Record.{Gathered, nothing_gathered, Fragment, Waits, Refuses, Brings, behind_header, fragment, Front, Partial, Refused, Whole, gathered_with, front_from, front, behind_fragment}
-use Rattle.rpc.specs.Assembly.{record_limits, most_received}
+use Rattle.rpc.specs.Assembly.{record_limits, max_received}
 
 by_test : (P : Fragment → Type 0) (b : Bool) (x y : Fragment) → (b ≡ true → P x) → (b ≡ false → P y) → P (cond b x y)
 by_test P true x y holds fails = holds refl
@@ -18,7 +18,7 @@ record Bounded (gathered : Gathered) : Type 0 where
   number : gathered.fragments ≤ 64
 
 abbrev Measured : Gathered → List ℕ → Fragment → Type 0
-Measured gathered bytes Waits = came gathered bytes < most_received
+Measured gathered bytes Waits = came gathered bytes < max_received
 Measured gathered bytes (Refuses fault) = Unit {0}
 Measured gathered bytes (Brings part is_last rest) = (length bytes ≡ 4 + length part + length rest) × Bounded (gathered_with gathered part)
 
@@ -49,7 +49,7 @@ measured gathered bytes b =
 
 -- of a record that is not whole, and of a whole one
 abbrev Fits : (came : ℕ) → Front → Type 0
-Fits came Partial = came < most_received
+Fits came Partial = came < max_received
 Fits came (Refused fault) = Unit {0}
 Fits came (Whole request rest) = came ≤ 16640 + length rest
 
@@ -82,20 +82,20 @@ fits bytes =
     subst (λ (size : ℕ). Fits size (front record_limits bytes)) same
     (fits_from (length bytes) nothing_gathered bytes (record { size = omega arith; number = omega arith }) (omega arith))
 
-pub partial_fits : (bytes : List ℕ) → front record_limits bytes ≡ Partial → length bytes < most_received
+pub partial_fits : (bytes : List ℕ) → front record_limits bytes ≡ Partial → length bytes < max_received
 partial_fits bytes is = subst (Fits (length bytes)) is (fits bytes)
 
 pub whole_fits : (bytes request rest : List ℕ) → front record_limits bytes ≡ Whole request rest → length bytes ≤ 16640 + length rest
 whole_fits bytes request rest is = subst (Fits (length bytes)) is (fits bytes)
 
 -- there is room for what is taken of a piece
-pub room_for_piece : (old piece : List ℕ) (spare : ℕ) → front record_limits (old ++ piece) ≡ Partial → most_received ≤ length old + spare → length piece ≤ spare
+pub room_for_piece : (old piece : List ℕ) (spare : ℕ) → front record_limits (old ++ piece) ≡ Partial → max_received ≤ length old + spare → length piece ≤ spare
 room_for_piece old piece spare is room =
     let fits = partial_fits (old ++ piece) is in
     let both = length-append old piece in
     omega arith
 
-pub room_for_front : (old piece rest request : List ℕ) (count spare : ℕ) → front record_limits (old ++ piece) ≡ Whole request rest → most_received ≤ length old + spare
+pub room_for_front : (old piece rest request : List ℕ) (count spare : ℕ) → front record_limits (old ++ piece) ≡ Whole request rest → max_received ≤ length old + spare
     → count ≡ length piece - length rest → length (take count piece) ≤ spare
 room_for_front old piece rest request count spare is room count_is =
     let fits = whole_fits (old ++ piece) request rest is in

@@ -82,8 +82,8 @@ is_sound (Holds request) = is_call_read (read_call request)
 is_sound (Refuses fault) = true
 
 -- what may come of one record: its bytes, a header for each fragment, and one that is not whole
-abbrev pub most_received : ℕ
-most_received = 16644
+abbrev pub max_received : ℕ
+max_received = 16644
 
 abbrev pub IsWithin : State → List ℕ → Type 0
 IsWithin states.Gathers bytes = Unit {0}
@@ -94,7 +94,7 @@ IsWithin (states.Refuses fault) bytes = Unit {0}
 pub record Stands (state : State) (bytes : List ℕ) (spare : ℕ) : Type 0 where
   pub sound : is_sound (assembly_of state bytes) ≡ true
   pub within : IsWithin state bytes
-  pub room : most_received ≤ length bytes + spare
+  pub room : max_received ≤ length bytes + spare
 
 -- Steps
 

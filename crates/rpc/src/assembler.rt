@@ -7,7 +7,7 @@ ghost use Rattle.model.specs.World.{Closed, arrives_at, taken_at};
 ghost use Rattle.rpc.specs.Assembly.{record_limits, Gathers, Holds, connection_of, released, IsRefused};
 
 use crate::fault::RecordFault;
-use crate::fragment::MOST_RECEIVED;
+use crate::fragment::MAX_RECEIVED;
 use crate::receive::{Progress, receive_piece};
 use crate::state::State;
 use bytes::BytesMut;
@@ -40,7 +40,7 @@ impl Assembler {
         ensures { IfOk result (λ assembler. assembler ≡ Gathers []) }
     {
         Ok(Assembler {
-            buffer: BytesMut::with_capacity(alloc, MOST_RECEIVED)?,
+            buffer: BytesMut::with_capacity(alloc, MAX_RECEIVED)?,
             state: State::Gathers,
         })
     }

@@ -14,7 +14,7 @@ const CALL: u32 = 0;
 /// The version of RPC that is spoken.
 const RPC_VERSION: u32 = 2;
 /// The most bytes of a credential or a verifier.
-const MOST_AUTH_BYTES: u32 = 400;
+const MAX_AUTH_BYTES: u32 = 400;
 
 /// What stands behind the RPC version of a call. The verifier is read, and not looked at.
 #[derive(Clone, Copy, Debug)]
@@ -137,7 +137,7 @@ fn read_auth<'a>(r: &mut Reader<'a>) -> Result<Auth<'a>, Refusal>
 {
     let mut at = r.fork();
     let flavour = at.read_u32()?;
-    let body = at.read_opaque(MOST_AUTH_BYTES)?;
+    let body = at.read_opaque(MAX_AUTH_BYTES)?;
     *r = at;
     Ok(Auth { flavour, body })
 }

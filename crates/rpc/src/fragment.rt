@@ -11,11 +11,11 @@ pub const HEADER_BYTES: usize = 4;
 /// The mark of a record's last fragment.
 const LAST_FRAGMENT: u32 = 1 << 31;
 /// The most bytes and fragments of a record.
-const MOST_BYTES: usize = 16384;
+const MAX_BYTES: usize = 16384;
 
-const MOST_FRAGMENTS: usize = 64;
+const MAX_FRAGMENTS: usize = 64;
 /// The most bytes of a stream that are kept of one record: the record's, a header for each fragment, and one that is not whole.
-pub const MOST_RECEIVED: usize = MOST_BYTES + (MOST_FRAGMENTS + 1) * HEADER_BYTES;
+pub const MAX_RECEIVED: usize = MAX_BYTES + (MAX_FRAGMENTS + 1) * HEADER_BYTES;
 
 /// A place in a record, between two fragments.
 #[derive(Clone, Copy)]
@@ -80,10 +80,10 @@ pub fn fragment_at(old: &[u8], piece: &[u8], place: Place) -> Fragment
     }
     let header = header_at(old, piece, place.at);
     let size = (header % LAST_FRAGMENT) as usize;
-    if place.size + size > MOST_BYTES {
+    if place.size + size > MAX_BYTES {
         return Fragment::TooBig;
     }
-    if place.fragments >= MOST_FRAGMENTS {
+    if place.fragments >= MAX_FRAGMENTS {
         return Fragment::TooMany;
     }
     if left - HEADER_BYTES < size {

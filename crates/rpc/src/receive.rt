@@ -2,7 +2,7 @@
 
 ghost use Rattle.std.specs.Prelude.{◌≡◌, ◌≤◌, ◌+◌, length};
 ghost use Rattle.model.specs.Record.{Partial, front};
-ghost use Rattle.rpc.specs.Assembly.{record_limits, most_received, Receives};
+ghost use Rattle.rpc.specs.Assembly.{record_limits, max_received, Receives};
 
 use crate::call::read_call;
 use crate::fault::RecordFault;
@@ -25,7 +25,7 @@ pub enum Progress {
 /// fragments hold is left.
 pub fn receive_piece(bytes: &mut BytesMut, piece: &[u8]) -> Progress
     requires partial { front record_limits bytes.old.items ≡ Partial }
-    requires room { most_received ≤ length bytes.old.items + bytes.old.spare }
+    requires room { max_received ≤ length bytes.old.items + bytes.old.spare }
     ensures received { Receives bytes.old.items piece.now result bytes.new.items }
     ensures kept { length bytes.new.items + bytes.new.spare
         ≡ length bytes.old.items + bytes.old.spare }

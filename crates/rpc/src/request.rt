@@ -27,7 +27,7 @@ const AUTH_NONE: u32 = 0;
 
 const AUTH_SYS: u32 = 1;
 /// The most bytes of a tag.
-const MOST_TAG_BYTES: u32 = 255;
+const MAX_TAG_BYTES: u32 = 255;
 /// The minor version that is served.
 const MINOR_VERSION: u32 = 1;
 
@@ -131,7 +131,7 @@ fn read_head<'a>(r: &mut Reader<'a>) -> Result<Head<'a>, Refusal>
     ensures { Scans head_view (compound_head.read) r.old r.new result }
 {
     let mut at = r.fork();
-    let bytes = at.read_opaque(MOST_TAG_BYTES)?;
+    let bytes = at.read_opaque(MAX_TAG_BYTES)?;
     let minor = at.read_u32()?;
     let count = at.read_u32()?;
     *r = at;

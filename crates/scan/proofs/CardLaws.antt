@@ -17,7 +17,7 @@ use Rattle.layout.specs.Laid.{runs_of_sector}
 use Rattle.layout.specs.Marks.{times, times_set, named_by, mark_by}
 use Rattle.layout.proofs.Frame.{times-at, times_set-at}
 use Rattle.scan.specs.Cards.{uses, FindsBlocks, FindsRest, FindsPlace}
-use Rattle.scan.specs.Marking.{most_marks, CanMark, AreMarked}
+use Rattle.scan.specs.Marking.{max_marks, CanMark, AreMarked}
 use Rattle.scan.specs.Names.{AreSetWithin, FindsContent}
 use Rattle.scan.specs.Places.{FindsNode, FindsFields}
 use Rattle.scan.specs.Runs.{AreWithin, FindsRuns}
@@ -53,7 +53,7 @@ same_blocks word image fields runs others a b w fits first second =
 
 -- What was marked can be read
 
-marked_within : (first : ℕ) (old new : List Bool) (often : ℕ → ℕ) (size n : ℕ) → ((n : ℕ) → mark_by first new n ≤ most_marks first (length new) n) → AreMarked first old new often → first + length old ≡ size → 0 < often n → n < size
+marked_within : (first : ℕ) (old new : List Bool) (often : ℕ → ℕ) (size n : ℕ) → ((n : ℕ) → mark_by first new n ≤ max_marks first (length new) n) → AreMarked first old new often → first + length old ≡ size → 0 < often n → n < size
 marked_within first old new often size n most marked long some =
     let there = most-some first (length new) n (omega (arith, most n, marked.marks n)) in
     omega (arith, there.1, marked.len)

@@ -6,18 +6,18 @@ use Rattle.freemap.specs.Places.{bit_from}
 use Rattle.layout.specs.Marks.{once_if, times, times_set, mark_by}
 use Rattle.layout.proofs.Frame.{once_same}
 use Rattle.layout.proofs.MarkProofs.{mark-front, mark-back, each_mark}
-use Rattle.scan.specs.Marking.{most_marks, CanMark, AreMarked}
+use Rattle.scan.specs.Marking.{max_marks, CanMark, AreMarked}
 
-most-front : (first count n : ℕ) → n < first → most_marks first count n ≡ 0
+most-front : (first count n : ℕ) → n < first → max_marks first count n ≡ 0
 most-front first count n h = rw (lt-leb first n h) refl
 
-most-behind : (first count n : ℕ) → first + count ≤ n → most_marks first count n ≡ 0
+most-behind : (first count n : ℕ) → first + count ≤ n → max_marks first count n ≡ 0
 most-behind first count n h = rw (le-leb first n (omega arith), le-ltb n (first + count) h) refl
 
-pub most-in : (first count n : ℕ) → first ≤ n → n < first + count → most_marks first count n ≡ 1
+pub most-in : (first count n : ℕ) → first ≤ n → n < first + count → max_marks first count n ≡ 1
 most-in first count n low high = rw (le-leb first n low, lt-ltb n (first + count) high) refl
 
-pub most-some : (first count n : ℕ) → 0 < most_marks first count n → (first ≤ n) × (n < first + count)
+pub most-some : (first count n : ℕ) → 0 < max_marks first count n → (first ≤ n) × (n < first + count)
 most-some first count n some = elim (cases_lt n first) [
   | inl low ↦ absurd (omega (arith, most-front first count n low))
   | inr high ↦ elim (cases_lt n (first + count)) [
@@ -26,7 +26,7 @@ most-some first count n some = elim (cases_lt n first) [
   ]
 ]
 
-pub most-le : (first count n : ℕ) → most_marks first count n ≤ 1
+pub most-le : (first count n : ℕ) → max_marks first count n ≤ 1
 most-le first count n = elim (cases_lt n first) [
   | inl low ↦ omega (arith, most-front first count n low)
   | inr high ↦ elim (cases_lt n (first + count)) [
@@ -36,7 +36,7 @@ most-le first count n = elim (cases_lt n first) [
 ]
 
 -- where a sector has all its marks it cannot be marked once more
-cannot : (first : ℕ) (places : List Bool) (sector : ℕ) → most_marks first (length places) sector ≤ mark_by first places sector → CanMark first places (λ n. once_if (eqb n sector)) → ⊥
+cannot : (first : ℕ) (places : List Bool) (sector : ℕ) → max_marks first (length places) sector ≤ mark_by first places sector → CanMark first places (λ n. once_if (eqb n sector)) → ⊥
 cannot first places sector full can = omega (arith, can sector, once_same sector)
 
 pub cannot_front : (first : ℕ) (places : List Bool) (sector : ℕ) → sector < first → CanMark first places (λ n. once_if (eqb n sector)) → ⊥
@@ -71,7 +71,7 @@ marked_more first old mid new often more all sums was is = record {
 
 pub can_more : (first : ℕ) (old mid : List Bool) (often more all : ℕ → ℕ) → ((n : ℕ) → often n + more n ≤ all n) → AreMarked first old mid often → CanMark first old all → CanMark first mid more
 can_more first old mid often more all sums was can n =
-    let same : most_marks first (length mid) n ≡ most_marks first (length old) n = ap (λ (count : ℕ). most_marks first count n) was.len in
+    let same : max_marks first (length mid) n ≡ max_marks first (length old) n = ap (λ (count : ℕ). max_marks first count n) was.len in
     omega (arith, can n, was.marks n, sums n, same)
 
 pub times-take : (n : ℕ) (sectors : List ℕ) (i d : ℕ) → i < length sectors → times n (take (i + 1) sectors) ≡ times n (take i sectors) + once_if (eqb n (get_or sectors i d))
@@ -110,7 +110,7 @@ times_set-one n block sector is = ap (λ (b : Option ℕ). times_set n (b ∷ []
     plus k = omega arith
 
 -- marks are at most these
-pub can_marked : (first : ℕ) (places : List Bool) (n : ℕ) → mark_by first places n ≤ most_marks first (length places) n
+pub can_marked : (first : ℕ) (places : List Bool) (n : ℕ) → mark_by first places n ≤ max_marks first (length places) n
 can_marked first places n =
     let each = each_mark first places 0 in
     elim (cases_lt n first) [

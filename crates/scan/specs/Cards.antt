@@ -8,7 +8,7 @@ use Rattle.extents.specs.Runs.{AreRunsOf}
 use Rattle.inode.specs.Fields.{Fields}
 use Rattle.layout.specs.Cards.{Card, node_sector, block_count}
 use Rattle.layout.specs.Marks.{times, times_set, named, mark_by}
-use Rattle.scan.specs.Marking.{most_marks}
+use Rattle.scan.specs.Marking.{max_marks}
 use Rattle.scan.specs.Names.{FindsContent}
 use Rattle.scan.specs.Places.{FindsNode}
 use Rattle.scan.specs.Runs.{FindsRuns}
@@ -57,7 +57,7 @@ pub record CanHold (word : Type 0) (image : Image) (nodes count : ℕ) (cards : 
     : Type 0 where
   pub many : length cards ≡ nodes
   pub each : ArePlaces word image nodes cards
-  pub once : (n : ℕ) → named n cards ≤ most_marks (148 + nodes) count n
+  pub once : (n : ℕ) → named n cards ≤ max_marks (148 + nodes) count n
 
 -- the numbers of the nodes
 abbrev pub numbers_of : List (Option Card) → List ℕ

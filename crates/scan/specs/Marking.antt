@@ -4,13 +4,13 @@ use Rattle.layout.specs.Marks.{once_if, mark_by}
 
 -- how often a sector may be named in all: once where it lies in the data region, which has so many
 -- sectors
-abbrev pub most_marks : (first count : ℕ) → (n : ℕ) → ℕ
-most_marks first count n = once_if (nat_le first n && nat_lt n (first + count))
+abbrev pub max_marks : (first count : ℕ) → (n : ℕ) → ℕ
+max_marks first count n = once_if (nat_le first n && nat_lt n (first + count))
 
 -- sectors can be marked this often beside those that are marked
 abbrev pub CanMark : (first : ℕ) → List Bool → (often : ℕ → ℕ) → Type 0
 CanMark first places often =
-    (n : ℕ) → mark_by first places n + often n ≤ most_marks first (length places) n
+    (n : ℕ) → mark_by first places n + often n ≤ max_marks first (length places) n
 
 -- they have been, and nothing else
 pub record AreMarked (first : ℕ) (old new : List Bool) (often : ℕ → ℕ) : Type 0 where

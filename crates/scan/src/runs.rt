@@ -11,7 +11,7 @@ ghost use Rattle.layout.specs.Health.{Reads};
 use crate::fault::ScanFault;
 use crate::sectors::fetch;
 use disk::SECTOR;
-use extents::{BlockList, MOST_RUNS, Run, read_run_sector};
+use extents::{BlockList, MAX_RUNS, Run, read_run_sector};
 use layout::sectors::Sectors;
 use model::node::NodeKind;
 use std::alloc::Global;
@@ -74,7 +74,7 @@ pub(crate) fn read_runs<S: Sectors>(
     let mut runs = Vec::new(alloc);
     for number in numbers {
         let left = count - runs.len();
-        let mut part = read_part(alloc, sectors, *number, left.min(MOST_RUNS))?;
+        let mut part = read_part(alloc, sectors, *number, left.min(MAX_RUNS))?;
         runs.append(&mut part)?;
     }
     Ok(runs)

@@ -1,6 +1,6 @@
 //! Making a volume, and serving one.
 
-use crate::server::{MOST_CONNECTIONS, Server};
+use crate::server::{MAX_CONNECTIONS, Server};
 use disk::Device;
 use fs::{FormatFault, Fs, MountFault, Unmounted};
 use opens::Opens;
@@ -56,7 +56,7 @@ impl<D: Device> Server<D> {
         ensures refused { D.keeps_word → IfErr result (λ refused.
             IsRefused (D.size device) (D.history device) (D.history refused.device) refused.fault) }
     {
-        let connections = match Slab::with_capacity(alloc, MOST_CONNECTIONS) {
+        let connections = match Slab::with_capacity(alloc, MAX_CONNECTIONS) {
             Ok(connections) => connections,
             Err(_) => {
                 return Err(Unmounted {

@@ -18,7 +18,7 @@ use slab::Slab;
 use std::alloc::Global;
 
 /// The most connections at a time.
-pub(crate) const MOST_CONNECTIONS: usize = 16;
+pub(crate) const MAX_CONNECTIONS: usize = 16;
 
 /// A mounted volume, the clients and sessions of this run, and connections.
 #[derive(Drop)]
@@ -83,7 +83,7 @@ impl<D: Device> Server<D> {
         if self.fs.is_down() {
             return Err(ServerFault::Device);
         }
-        if self.connections.len() >= MOST_CONNECTIONS {
+        if self.connections.len() >= MAX_CONNECTIONS {
             return Err(ServerFault::Full);
         }
         let connection = Connection::new(self.alloc)?;

@@ -1,6 +1,6 @@
 ghost use Rattle.std.specs.Prelude.{◌≤◌, ◌<◌, length};
 
-use extents::{BlockList, ExtentsFault, MOST_RUNS, Run, read_run_sector, write_run_sector};
+use extents::{BlockList, ExtentsFault, MAX_RUNS, Run, read_run_sector, write_run_sector};
 use std::alloc::{AllocError, Global};
 use std::test::Fail;
 
@@ -58,7 +58,7 @@ fn reads_the_layout(rt: HostRuntime) -> Result<(), Fail> {
     bytes[96..112].copy_from_slice(&[0, 1, 0, 2, 0, 0, 1, 0, 0, 4, 0, 1, 0, 0, 0, 7]);
     let runs = runs_in(rt.alloc(), &bytes)?;
     assert_eq!(rt; runs.as_slice(), [run(1, 2, 256), run(4, 1, 7)].as_slice());
-    assert!(rt; runs.len() <= MOST_RUNS && sector_of(&runs) == bytes);
+    assert!(rt; runs.len() <= MAX_RUNS && sector_of(&runs) == bytes);
     let list = list_of(rt.alloc(), 6, &runs)?;
     assert_eq!(rt; list.count(), 6);
     let wanted = [None, Some(256), Some(257), None, Some(7), None, None];
@@ -140,7 +140,7 @@ fn largest_files(rt: HostRuntime) -> Result<(), Fail> {
     assert_eq!(rt; runs.len(), 4096);
     let again = list_of(rt.alloc(), BlockList::MOST, &runs)?;
     assert_eq!(rt; at(&again, 4095), Some(51_810));
-    let Some(front) = runs.get(..MOST_RUNS) else {
+    let Some(front) = runs.get(..MAX_RUNS) else {
         return Err("too few runs".into());
     };
     let first = runs_in(rt.alloc(), &sector_of(front))?;

@@ -143,6 +143,6 @@ fn forty_entries(rt: HostRuntime) -> Result<(), Fail> {
         sector[at..at + 16].copy_from_slice(&ENTRIES[16..]);
     }
     let inode = from_sector(rt.alloc(), Form::One, &sector)?;
-    assert_eq!(rt; inode.acl.as_slice().len(), Acl::MOST_STORED);
+    assert_eq!(rt; inode.acl.as_slice().len(), Acl::MAX_STORED);
     Ok(())
 }

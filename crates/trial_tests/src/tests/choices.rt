@@ -6,9 +6,9 @@ use super::operation::{
 };
 use super::seed::Seed;
 use super::simple::stateids::Open;
-use super::simple::{MOST_OPERATIONS, World};
+use super::simple::{MAX_OPERATIONS, World};
 
-type Operations = [Operation; MOST_OPERATIONS];
+type Operations = [Operation; MAX_OPERATIONS];
 
 impl Seed {
     /// What a client asks for in one COMPOUND.
@@ -25,7 +25,7 @@ impl Seed {
 
     /// Any operations, mostly from the root on.
     fn anything(&mut self, world: &World) -> Operations {
-        let mut operations = [Operation::Root; MOST_OPERATIONS];
+        let mut operations = [Operation::Root; MAX_OPERATIONS];
         for place in operations.iter_mut().skip(1) {
             *place = self.operation(world);
         }
@@ -40,7 +40,7 @@ impl Seed {
         let Some(open) = self.open_of(world, client) else {
             return self.anything(world);
         };
-        let mut operations = [Operation::Handle(open.opener.number); MOST_OPERATIONS];
+        let mut operations = [Operation::Handle(open.opener.number); MAX_OPERATIONS];
         for place in operations.iter_mut().skip(1) {
             let state = Stateid::Open(self.near(open.state));
             *place = self.on_file(state);
@@ -50,7 +50,7 @@ impl Seed {
 
     /// An OPEN, and what is done by the current stateid.
     fn with_a_new_open(&mut self) -> Operations {
-        let mut operations = [Operation::Root; MOST_OPERATIONS];
+        let mut operations = [Operation::Root; MAX_OPERATIONS];
         operations[1] = self.in_or_out();
         operations[2] = Operation::Open(self.opening());
         for place in operations.iter_mut().skip(3) {
@@ -61,7 +61,7 @@ impl Seed {
 
     /// A RENAME from one directory to another.
     fn with_a_move(&mut self) -> Operations {
-        let mut operations = [Operation::Root; MOST_OPERATIONS];
+        let mut operations = [Operation::Root; MAX_OPERATIONS];
         operations[1] = self.in_or_out();
         operations[2] = Operation::Save;
         let name = self.name();
@@ -76,7 +76,7 @@ impl Seed {
     /// A file that is removed while it is open.
     fn with_a_removal(&mut self) -> Operations {
         let opening = self.opening();
-        let mut operations = [Operation::Root; MOST_OPERATIONS];
+        let mut operations = [Operation::Root; MAX_OPERATIONS];
         operations[1] = Operation::Open(opening);
         operations[2] = self.on_file(Stateid::Current);
         operations[4] = Operation::Remove(opening.name);
@@ -87,7 +87,7 @@ impl Seed {
     /// A file in whose place another one is put while it is open.
     fn with_a_replacement(&mut self) -> Operations {
         let opening = self.opening();
-        let mut operations = [Operation::Root; MOST_OPERATIONS];
+        let mut operations = [Operation::Root; MAX_OPERATIONS];
         operations[1] = Operation::Save;
         operations[2] = Operation::Open(opening);
         operations[4] = Operation::Rename(self.name(), opening.name);

@@ -31,7 +31,7 @@ pub(super) const MODE: u32 = 2;
 pub(super) const CHANGE_AND_SIZE: u32 = 0x18;
 
 /// The most bytes of a WRITE: what a record has room for, and more.
-const MOST_BYTES: usize = 65_536;
+const MAX_BYTES: usize = 65_536;
 
 /// A stateid that an OPEN gave.
 #[derive(Clone, Copy, Debug, PartialEq, Eq)]
@@ -359,7 +359,7 @@ fn write_read(call: &mut Writer, reading: Reading) -> Result<(), Fail> {
 
 fn write_write(alloc: Global, call: &mut Writer, writing: Writing) -> Result<(), Fail> {
     let bytes = writing.data.bytes(alloc)?;
-    if bytes.len() > MOST_BYTES {
+    if bytes.len() > MAX_BYTES {
         return Err("too many bytes".into());
     }
     let stable = writing.stable.number();

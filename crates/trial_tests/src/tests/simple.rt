@@ -17,7 +17,7 @@ use std::alloc::{AllocError, Global};
 use tree::Tree;
 
 /// The most operations behind a SEQUENCE.
-pub(super) const MOST_OPERATIONS: usize = 6;
+pub(super) const MAX_OPERATIONS: usize = 6;
 
 /// A COMPOUND that a client sends.
 #[derive(Clone, Copy, Debug)]
@@ -26,7 +26,7 @@ pub(super) struct Request {
     pub(super) client: usize,
     pub(super) slot: usize,
     pub(super) number: u32,
-    pub(super) operations: [Operation; MOST_OPERATIONS],
+    pub(super) operations: [Operation; MAX_OPERATIONS],
     pub(super) count: usize,
 }
 

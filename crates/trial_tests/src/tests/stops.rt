@@ -6,8 +6,8 @@ use super::operation::{
 };
 use super::simple::refused::{EXIST, OK, STALE};
 use super::simple::tree::{Room, Tree};
-use super::simple::{MOST_OPERATIONS, Request, World};
-use super::twin::{MOST_TURNS, Setting, Twin, status_of};
+use super::simple::{MAX_OPERATIONS, Request, World};
+use super::twin::{MAX_TURNS, Setting, Twin, status_of};
 use disk::{CrashDevice, Device, Stop};
 use std::alloc::Global;
 use std::process::Abort;
@@ -38,7 +38,7 @@ const THIRD_OPEN: Stateid = Stateid::Open(OpenState {
 /// What a client asks for, and the status that it is answered.
 #[derive(Clone, Copy)]
 struct Asked {
-    operations: [Operation; MOST_OPERATIONS],
+    operations: [Operation; MAX_OPERATIONS],
     count: usize,
     status: u32,
 }
@@ -47,7 +47,7 @@ struct Asked {
 type Round = [Asked; 2];
 
 fn asks(operations: &[Operation], status: u32) -> Asked {
-    let mut all = [Operation::Root; MOST_OPERATIONS];
+    let mut all = [Operation::Root; MAX_OPERATIONS];
     for (place, operation) in all.iter_mut().zip(operations) {
         *place = *operation;
     }
@@ -342,7 +342,7 @@ impl<D: Device> Twin<D> {
 
     /// Turns of both connections, one each at a time. Whether the device stopped.
     fn take_turns(&mut self, rt: &impl Abort) -> Result<bool, Fail> {
-        for _ in 0..MOST_TURNS {
+        for _ in 0..MAX_TURNS {
             if self.turn(rt, 0)? || self.turn(rt, 1)? {
                 return Ok(true);
             }

@@ -16,10 +16,10 @@ use xdr::Reader;
 
 pub(super) const SLOTS: usize = 3;
 
-const MOST_CONNECTIONS: usize = 16;
+const MAX_CONNECTIONS: usize = 16;
 
 /// More turns than a COMPOUND takes.
-pub(super) const MOST_TURNS: usize = 8;
+pub(super) const MAX_TURNS: usize = 8;
 
 /// What stands on both sides.
 #[derive(Drop)]
@@ -52,7 +52,7 @@ pub(super) fn ask<D: Device>(
     sent: &[u8],
 ) -> Result<Option<Vec<u8>>, ServerFault> {
     drivers::feed(server, conn, sent)?;
-    for _ in 0..MOST_TURNS {
+    for _ in 0..MAX_TURNS {
         if drivers::turn(server, conn)? == Turn::Answered {
             break;
         }
@@ -116,13 +116,13 @@ impl<D: Device> Twin<D> {
     pub(super) fn connect(&mut self, rt: &impl Abort) -> Result<(), Fail> {
         match drivers::connect(&mut self.server) {
             Ok(conn) => {
-                assert!(rt; self.lines.len() < MOST_CONNECTIONS);
+                assert!(rt; self.lines.len() < MAX_CONNECTIONS);
                 assert!(rt; self.lines.iter().all(|line| line.conn != conn));
                 self.lines.push(Line::new(self.alloc, conn))?;
             }
             Err(fault) => {
                 assert_eq!(rt; fault, ServerFault::Full);
-                assert_eq!(rt; self.lines.len(), MOST_CONNECTIONS);
+                assert_eq!(rt; self.lines.len(), MAX_CONNECTIONS);
             }
         }
         Ok(())

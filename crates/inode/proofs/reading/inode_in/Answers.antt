@@ -8,12 +8,12 @@ pub returns-in_default-clause-err : goal.returns-in_default-clause-err
 returns-in_default-clause-err c = λ is form fields fits e.
     c.in_default.not-Some fields.kind (c.kind_from.ensures fields.kind (kind_there form fields c.args.sector.now e))
 
-pub returns-then-aces-gt-MOST_STORED-clause-err : goal.returns-then-aces-gt-MOST_STORED-clause-err
-returns-then-aces-gt-MOST_STORED-clause-err c = λ is form fields fits e.
+pub returns-then-aces-gt-MAX_STORED-clause-err : goal.returns-then-aces-gt-MAX_STORED-clause-err
+returns-then-aces-gt-MAX_STORED-clause-err c = λ is form fields fits e.
     let count = count_there form fields c.args.sector.now e in omega (arith, fits.acl)
 
-pub returns-then-runs-gt-MOST_RUNS-clause-err : goal.returns-then-runs-gt-MOST_RUNS-clause-err
-returns-then-runs-gt-MOST_RUNS-clause-err c = λ is form fields fits e.
+pub returns-then-runs-gt-MAX_RUNS-clause-err : goal.returns-then-runs-gt-MAX_RUNS-clause-err
+returns-then-runs-gt-MAX_RUNS-clause-err c = λ is form fields fits e.
     let runs = runs_there form fields c.args.sector.now e fits c.u16_at-runs.result c.u16_at-runs.ensures.only in omega (arith, fits.runs)
 
 pub returns-in_err-run_sectors-clause-err : goal.returns-in_err-run_sectors-clause-err

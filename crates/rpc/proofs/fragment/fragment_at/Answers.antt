@@ -10,16 +10,16 @@ returns-then-left-lt-HEADER_BYTES c = λ gathered size number.
     let both = length-append c.args.old.now c.args.piece.now in
     waits gathered (drop c.args.place.at all) (omega arith)
 
-pub returns-then-place-size-gt-MOST_BYTES : goal.returns-then-place-size-gt-MOST_BYTES
-returns-then-place-size-gt-MOST_BYTES c = λ gathered size number.
+pub returns-then-place-size-gt-MAX_BYTES : goal.returns-then-place-size-gt-MAX_BYTES
+returns-then-place-size-gt-MAX_BYTES c = λ gathered size number.
     let all = c.args.old.now ++ c.args.piece.now in
     let left = length-drop c.args.place.at all in
     let both = length-append c.args.old.now c.args.piece.now in
     let long : 4 ≤ length (drop c.args.place.at all) = omega arith in
     (long, refuses_size gathered (drop c.args.place.at all) c.header_at-header.result long c.header_at-header.ensures (omega arith))
 
-pub returns-then-place-ge-MOST_FRAGMENTS : goal.returns-then-place-ge-MOST_FRAGMENTS
-returns-then-place-ge-MOST_FRAGMENTS c = λ gathered size number.
+pub returns-then-place-ge-MAX_FRAGMENTS : goal.returns-then-place-ge-MAX_FRAGMENTS
+returns-then-place-ge-MAX_FRAGMENTS c = λ gathered size number.
     let all = c.args.old.now ++ c.args.piece.now in
     let left = length-drop c.args.place.at all in
     let both = length-append c.args.old.now c.args.piece.now in

@@ -4,7 +4,7 @@ use Rattle.std.proofs.lemmas.List.{length_push}
 use Rattle.layout.specs.Cards.{Card}
 use Rattle.layout.specs.Marks.{named, named_by, mark_by}
 use Rattle.scan.specs.Cards.{FindsPlace}
-use Rattle.scan.specs.Marking.{AreMarked, most_marks}
+use Rattle.scan.specs.Marking.{AreMarked, max_marks}
 use Rattle.scan.specs.declared.fault.ScanFault.{ScanFault}
 use Rattle.scan.proofs.MarkingLaws.{marked_more}
 use Rattle.scan.proofs.SectorLaws.{same_fault}
@@ -19,7 +19,7 @@ returns-in_err-card-clause-damaged g c = λ word is cards can.
     let first = 148 + c.args.nodes in
     let front : List (Option Card) = c.loop-place.cards.items in
     let here : get_or cards (length front) None ≡ get_or cards place None = ap (λ (k : ℕ). get_or cards k None) inv.long in
-    let count : most_marks first (length c.loop-place.places) ≡ most_marks first (length c.args.places.now) = ap (most_marks first) inv.marked.len in
+    let count : max_marks first (length c.loop-place.places) ≡ max_marks first (length c.args.places.now) = ap (max_marks first) inv.marked.len in
     c.in_err-card.ensures.damaged word (ap (λ (e : ScanFault). Err e) (same_fault c.from_residual-in_err-card.result c.in_err-card.field-0.0 c.from_residual-in_err-card.ensures.1 is)) (get_or cards place None)
     (subst (λ kept. FindsPlace g.S.Sectors.keeps_word (g.S.Sectors.image kept) place (get_or cards place None)) (sym inv.kept) (can.each place c.loop-place-test.true))
     (λ n.

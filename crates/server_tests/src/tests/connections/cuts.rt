@@ -22,7 +22,7 @@ const NUMBER: usize = 96;
 const SEQUENCE_END: usize = 112;
 
 /// More turns than a COMPOUND of the records here takes.
-const MOST_TURNS: u32 = 5;
+const MAX_TURNS: u32 = 5;
 
 /// The last fragment of these bytes.
 fn framed(alloc: Global, bytes: &[u8]) -> Result<Vec<u8>, Fail> {
@@ -34,7 +34,7 @@ fn framed(alloc: Global, bytes: &[u8]) -> Result<Vec<u8>, Fail> {
 
 /// Whether the request on connection 0 is answered.
 fn is_answered(server: &mut Server<MemDevice>) -> Result<bool, Fail> {
-    for _ in 0..MOST_TURNS {
+    for _ in 0..MAX_TURNS {
         if drivers::turn(server, 0)? == Turn::Answered {
             return Ok(drivers::take_output(server, 0)?.is_some());
         }

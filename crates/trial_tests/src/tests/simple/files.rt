@@ -10,7 +10,7 @@ use crate::tests::operation::{
 };
 
 /// The most bytes that a READ gives.
-const MOST_READ: usize = 8192;
+const MAX_READ: usize = 8192;
 
 /// What an OPEN did to its file.
 #[derive(Clone, Copy)]
@@ -113,7 +113,7 @@ impl World {
         let from = usize::try_from(reading.offset)
             .unwrap_or(usize::MAX)
             .min(bytes.len());
-        let count = usize::try_from(reading.count).unwrap_or(0).min(MOST_READ);
+        let count = usize::try_from(reading.count).unwrap_or(0).min(MAX_READ);
         let end = from.saturating_add(count).min(bytes.len());
         work.results.done(Operation::Read(reading))?;
         work.results.word(u32::from(end == bytes.len()))?;

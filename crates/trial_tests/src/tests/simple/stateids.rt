@@ -5,7 +5,7 @@ use crate::tests::operation::{OpenState, Opening, Share, Stateid};
 use std::alloc::{AllocError, Global};
 
 /// The most opens.
-const MOST_OPENS: usize = 256;
+const MAX_OPENS: usize = 256;
 
 /// What an operation needs an open for.
 #[derive(Clone, Copy, Debug, PartialEq, Eq)]
@@ -81,7 +81,7 @@ impl Opens {
 
     /// Whether there is room for what may be one open more; the file is not there yet where it has no number.
     pub(crate) fn check_room(&self, opener: Opener) -> Result<(), Refused> {
-        unless(self.is_open(opener) || self.known.len() < MOST_OPENS, DELAY)
+        unless(self.is_open(opener) || self.known.len() < MAX_OPENS, DELAY)
     }
 
     /// Opens a file: the stateid.

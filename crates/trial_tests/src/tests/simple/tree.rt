@@ -6,7 +6,7 @@ use std::alloc::{AllocError, Global};
 pub(crate) const ROOT: u64 = 1;
 
 /// The most bytes of a file.
-const MOST_BYTES: u64 = 16_777_216;
+const MAX_BYTES: u64 = 16_777_216;
 
 /// How many bytes, and how many names, a sector holds; and for how many of these there is one sector more.
 const BLOCK_BYTES: u64 = 4096;
@@ -394,5 +394,5 @@ impl Node {
 
 /// Whether a file may have this size.
 pub(crate) fn check_size(size: u64) -> Result<(), Refused> {
-    unless(size <= MOST_BYTES, FBIG)
+    unless(size <= MAX_BYTES, FBIG)
 }

@@ -12,9 +12,9 @@ use Rattle.server.proofs.SlabLaws.{count_of, with_slot, stands_none, grew}
 use Rattle.server.proofs.Worlds.{quiet_of_run, can_connect_by, connected, inserted_of_run, inserted_count}
 use Rattle.server.proofs.server.Server.connect.Goals as goal
 
-pub returns-then-len-ge-MOST_CONNECTIONS-clause-full : goal.returns-then-len-ge-MOST_CONNECTIONS-clause-full
+pub returns-then-len-ge-MAX_CONNECTIONS-clause-full : goal.returns-then-len-ge-MAX_CONNECTIONS-clause-full
 unfolding world_of
-returns-then-len-ge-MOST_CONNECTIONS-clause-full g c = λ is. omega (arith, count_of c.args.self.now.connections, c.args.self.now.few)
+returns-then-len-ge-MAX_CONNECTIONS-clause-full g c = λ is. omega (arith, count_of c.args.self.now.connections, c.args.self.now.few)
 
 pub invariant_of-self : goal.invariant_of-self
 invariant_of-self g c =
