@@ -16,4 +16,4 @@ pub use laws::reads_back;
 pub use listing::ListAfter;
 pub use names::Names;
 pub use paging::every_paging;
-pub use sectors::{RECORDS, read_records};
+pub use sectors::{MAX_NAME_BYTES, RECORDS, read_records};

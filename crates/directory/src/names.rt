@@ -13,7 +13,8 @@ use crate::entry::Entry;
 use crate::fault::DirectoryFault;
 use crate::listing::ListAfter;
 use crate::order::{self, Placed};
-use crate::sectors::{self, RECORDS};
+use crate::sectors::{self, MAX_NAME_BYTES, RECORDS};
+use sector::SIZE;
 use std::alloc::{AllocError, Global};
 use std::marker::Model;
 
@@ -43,7 +44,7 @@ impl Model for Names {
 
 impl Names {
     /// The most names of a directory.
-    pub const MOST: usize = 1024;
+    pub const MAX_NAMES: usize = 1024;
 
     /// No names.
     pub fn new(alloc: Global) -> Names
@@ -66,7 +67,7 @@ impl Names {
         ensures none { IfOk result (λ names.
             IfNone names (¬ IsDirectory (map record_of entries.items))) }
     {
-        if entries.len() > Names::MOST || !are_records(&entries) || !are_apart(&entries) {
+        if entries.len() > Names::MAX_NAMES || !are_records(&entries) || !are_apart(&entries) {
             return Ok(None);
         }
         let order = order::order_of(alloc, &entries)?;
@@ -145,12 +146,12 @@ impl Names {
     /// `Full` exactly where the name is new and there are 1,024 names.
     pub fn put(&mut self, name: &[u8], stamp: u64, number: u64) -> Result<usize, DirectoryFault>
         requires some { 0 < length name.now }
-        requires few { length name.now ≤ 255 }
+        requires few { length name.now ≤ MAX_NAME_BYTES }
         ensures ok { OnOk result
             (self.new ≡ with_record self.old (record_from stamp name.now number)) }
         ensures place { IfOk result (λ place. place ≡ place_of name.now self.old) }
         ensures full { IsErrOf result DirectoryFault.Full
-            → (place_of name.now self.old ≡ length self.old) × (length self.old ≡ 1024) }
+            → (place_of name.now self.old ≡ length self.old) × (length self.old ≡ Names.MAX_NAMES) }
         ensures err { OnErr result (self.new ≡ self.old) }
 
         // The map from names, and the map by stamp.
@@ -168,7 +169,7 @@ impl Names {
             entry.stamp = stamp;
             entry.number = number;
         } else {
-            if place >= Names::MOST {
+            if place >= Names::MAX_NAMES {
                 return Err(DirectoryFault::Full);
             }
             let name = Vec::from_slice(self.alloc, name)?;
@@ -184,8 +185,8 @@ impl Names {
     }
 
     /// Writes the sector of the records from `first` on, 15 at most.
-    pub fn to_sector(&self, first: usize, sector: &mut [u8; 4096])
-        ensures { sector.new ≡ directory_sector (take 15 (drop first self.now)) }
+    pub fn to_sector(&self, first: usize, sector: &mut [u8; SIZE])
+        ensures { sector.new ≡ directory_sector (take RECORDS (drop first self.now)) }
     {
         let from = first.min(self.entries.len());
         let to = self.entries.len().min(from + RECORDS);
@@ -243,7 +244,7 @@ fn are_records(entries: &[Entry]) -> bool
 fn is_record(entry: &Entry) -> bool
     ensures { IsTrue result ↔ IsRecord (record_of entry.now) }
 {
-    !entry.name.is_empty() && entry.name.len() <= 255
+    !entry.name.is_empty() && entry.name.len() <= MAX_NAME_BYTES
 }
 
 // Whether no two entries have one name.

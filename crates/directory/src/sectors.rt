@@ -13,27 +13,30 @@ use std::alloc::Global;
 /// The records of a sector.
 pub const RECORDS: usize = 15;
 
+/// The most bytes of a name.
+pub const MAX_NAME_BYTES: usize = 255;
+
 /// How long a record is.
 const WIDTH: usize = 272;
 
-fn put_record(sector: &mut [u8; 4096], at: usize, entry: &Entry)
-    requires within { at + 272 ≤ 4096 }
-    requires few { length entry.now.name.items ≤ 255 }
-    ensures front { take (at + 272) sector.new
+fn put_record(sector: &mut [u8; SIZE], at: usize, entry: &Entry)
+    requires within { at + WIDTH ≤ SIZE }
+    requires few { length entry.now.name.items ≤ MAX_NAME_BYTES }
+    ensures front { take (at + WIDTH) sector.new
         ≡ take at sector.old ++ record_bytes (record_of entry.now) }
-    ensures len { length sector.new ≡ 4096 }
+    ensures len { length sector.new ≡ SIZE }
 {
     let len = entry.name.len();
     put_u64(sector, at, entry.number);
     put_u64(sector, at + 8, entry.stamp);
     put_bytes(sector, at + 16, &[len as u8]);
     put_bytes(sector, at + 17, &entry.name);
-    put_zeros(sector, at + 17 + len, 255 - len);
+    put_zeros(sector, at + 17 + len, MAX_NAME_BYTES - len);
 }
 
 /// Writes the sector of these records.
-pub(crate) fn write(entries: &[Entry], sector: &mut [u8; 4096])
-    requires few { length entries.now ≤ 15 }
+pub(crate) fn write(entries: &[Entry], sector: &mut [u8; SIZE])
+    requires few { length entries.now ≤ RECORDS }
     requires each { AllByRecursion IsRecord (map record_of entries.now) }
     ensures { sector.new ≡ directory_sector (map record_of entries.now) }
 {
@@ -45,8 +48,8 @@ pub(crate) fn write(entries: &[Entry], sector: &mut [u8; 4096])
 }
 
 /// The record that would stand at place `at`, whatever stands behind the name.
-fn entry_at(alloc: Global, sector: &[u8; 4096], at: usize) -> Result<Entry, RecordsFault>
-    requires { at + 272 ≤ 4096 }
+fn entry_at(alloc: Global, sector: &[u8; SIZE], at: usize) -> Result<Entry, RecordsFault>
+    requires { at + WIDTH ≤ SIZE }
     ensures fits { IfOk result (λ entry. IsRecord (record_of entry)) }
     ensures only { (other : Record) (rest : List ℕ) → IsRecord other
         → drop at sector.now ≡ record_bytes other ++ rest
@@ -68,8 +71,8 @@ fn entry_at(alloc: Global, sector: &[u8; 4096], at: usize) -> Result<Entry, Reco
 }
 
 /// The first records.
-fn entries_in(alloc: Global, count: usize, sector: &[u8; 4096]) -> Result<Vec<Entry>, RecordsFault>
-    requires { count ≤ 15 }
+fn entries_in(alloc: Global, count: usize, sector: &[u8; SIZE]) -> Result<Vec<Entry>, RecordsFault>
+    requires { count ≤ RECORDS }
     ensures count { IfOk result (λ entries. length entries.items ≡ count) }
     ensures fits { IfOk result (λ entries. AllByRecursion IsRecord (map record_of entries.items)) }
     ensures only { (others : List Record) → AllByRecursion IsRecord others → length others ≡ count
@@ -94,9 +97,9 @@ fn entries_in(alloc: Global, count: usize, sector: &[u8; 4096]) -> Result<Vec<En
 pub fn read_records(
     alloc: Global,
     count: usize,
-    sector: &[u8; 4096],
+    sector: &[u8; SIZE],
 ) -> Result<Vec<Entry>, RecordsFault>
-    requires { count ≤ 15 }
+    requires { count ≤ RECORDS }
     ensures count { IfOk result (λ entries. length entries.items ≡ count) }
     ensures fits { IfOk result (λ entries. AllByRecursion IsRecord (map record_of entries.items)) }
     ensures found { IfOk result (λ entries. sector.now

@@ -26,12 +26,12 @@ impl Model for BlockList {
 
     ghost view = { λ list. list.sectors.items };
 
-    ghost invariant = { λ list. length list.sectors.items ≤ 4096 };
+    ghost invariant = { λ list. length list.sectors.items ≤ BlockList.MAX_BLOCKS };
 }
 
 impl BlockList {
     /// The most blocks of a node.
-    pub const MOST: u32 = 4096;
+    pub const MAX_BLOCKS: u32 = 4096;
 
     /// No blocks.
     pub fn new(alloc: Global) -> BlockList
@@ -53,7 +53,7 @@ impl BlockList {
     /// How many blocks there are, holes included.
     pub fn count(&self) -> u32
         ensures count { result ≡ length self.now }
-        ensures most { length self.now ≤ 4096 }
+        ensures most { length self.now ≤ BlockList.MAX_BLOCKS }
     {
         self.sectors.len() as u32
     }
@@ -68,7 +68,7 @@ impl BlockList {
     /// Puts a block into a sector. The blocks between the last one and this one become holes. An
     /// `Err` changes nothing.
     pub fn set(&mut self, block: u32, sector: u32) -> Result<(), AllocError>
-        requires { block < 4096 }
+        requires { block < BlockList.MAX_BLOCKS }
         ensures ok { OnOk result
             (self.new ≡ slice_set (with_holes self.old (block + 1)) block (Some sector)) }
         ensures err { OnErr result (self.new ≡ self.old) }
@@ -83,7 +83,7 @@ impl BlockList {
 
     /// Puts holes at the end, so that there are at least `count` blocks. An `Err` changes nothing.
     pub fn grow(&mut self, count: u32) -> Result<(), AllocError>
-        requires { count ≤ 4096 }
+        requires { count ≤ BlockList.MAX_BLOCKS }
         ensures ok { OnOk result (self.new ≡ with_holes self.old count) }
         ensures err { OnErr result (self.new ≡ self.old) }
     {
@@ -109,7 +109,7 @@ impl BlockList {
         // Each has a spelling, and there are at most as many as there are blocks that are no holes.
         ensures each { IfOk result (λ runs. AllByRecursion IsRun runs.items) }
         ensures few { IfOk result (λ runs. vec_len runs ≤ count_by is_some self.now) }
-        ensures most { IfOk result (λ runs. vec_len runs ≤ 4096) }
+        ensures most { IfOk result (λ runs. vec_len runs ≤ BlockList.MAX_BLOCKS) }
     {
         runs_of(alloc, &self.sectors)
     }
@@ -120,7 +120,7 @@ impl BlockList {
     /// `NotRuns` exactly where these are runs of no so many blocks: one is empty, begins before the
     /// end of the one in front of it, or passes the last block or the last number of a sector.
     pub fn from_runs(alloc: Global, count: u32, runs: &[Run]) -> Result<BlockList, ExtentsFault>
-        requires { count ≤ 4096 }
+        requires { count ≤ BlockList.MAX_BLOCKS }
         ensures count { IfOk result (λ list. length list ≡ count) }
         ensures runs { IfOk result (λ list. AreRunsOf runs.now list) }
         ensures not_runs { IsErrOf result ExtentsFault.NotRuns → ¬ AreRising 0 count runs.now }
@@ -153,7 +153,7 @@ fn follows(sector: Option<u32>, first: u32, count: usize) -> bool
 
 /// How many blocks from `start` on, whose sector is `first`, stand one behind the other.
 fn run_length(sectors: &[Option<u32>], start: usize, first: u32) -> u16
-    requires small { length sectors.now ≤ 4096 }
+    requires small { length sectors.now ≤ BlockList.MAX_BLOCKS }
     requires within { start < length sectors.now }
     requires starts { slice_index_or sectors.now start None ≡ Some first }
     ensures run { IsRunAt sectors.now start first result }
@@ -167,7 +167,7 @@ fn run_length(sectors: &[Option<u32>], start: usize, first: u32) -> u16
 }
 
 fn runs_of(alloc: Global, sectors: &[Option<u32>]) -> Result<Vec<Run>, AllocError>
-    requires { length sectors.now ≤ 4096 }
+    requires { length sectors.now ≤ BlockList.MAX_BLOCKS }
     ensures runs { IfOk result (λ runs. AreRunsOf runs.items sectors.now) }
     ensures shortest { IfOk result (λ runs. AreApart runs.items) }
     ensures each { IfOk result (λ runs. AllByRecursion IsRun runs.items) }
@@ -220,7 +220,7 @@ fn fits(run: Run, from: usize, count: usize) -> bool
 }
 
 fn laid_out(alloc: Global, count: usize, runs: &[Run]) -> Result<Vec<Option<u32>>, ExtentsFault>
-    requires { count ≤ 4096 }
+    requires { count ≤ BlockList.MAX_BLOCKS }
     ensures count { IfOk result (λ list. length list.items ≡ count) }
     ensures runs { IfOk result (λ list. AreRunsOf runs.now list.items) }
     ensures not_runs { IsErrOf result ExtentsFault.NotRuns → ¬ AreRising 0 count runs.now }

@@ -18,21 +18,21 @@ const FIRST: usize = 96;
 
 const WIDTH: usize = 8;
 
-fn put_run(sector: &mut [u8; 4096], at: usize, run: Run)
-    requires { at + 8 ≤ 4096 }
-    ensures front { take (at + 8) sector.new ≡ take at sector.old ++ run_bytes run }
-    ensures len { length sector.new ≡ 4096 }
+fn put_run(sector: &mut [u8; SIZE], at: usize, run: Run)
+    requires { at + WIDTH ≤ SIZE }
+    ensures front { take (at + WIDTH) sector.new ≡ take at sector.old ++ run_bytes run }
+    ensures len { length sector.new ≡ SIZE }
 {
     put_u16(sector, at, run.block);
     put_u16(sector, at + 2, run.length);
     put_u32(sector, at + 4, run.sector);
 }
 
-fn run_at(sector: &[u8; 4096], at: usize) -> Run
-    requires { at + 8 ≤ 4096 }
+fn run_at(sector: &[u8; SIZE], at: usize) -> Run
+    requires { at + WIDTH ≤ SIZE }
     ensures run { (run : Run) (rest : List ℕ) → IsRun run
         → drop at sector.now ≡ run_bytes run ++ rest → result ≡ run }
-    ensures none { (rest : List ℕ) → drop at sector.now ≡ replicate 8 0 ++ rest
+    ensures none { (rest : List ℕ) → drop at sector.now ≡ replicate WIDTH 0 ++ rest
         → result.length ≡ 0 }
 {
     Run {
@@ -43,8 +43,8 @@ fn run_at(sector: &[u8; 4096], at: usize) -> Run
 }
 
 /// Writes a run sector.
-pub fn write_run_sector(runs: &[Run], sector: &mut [u8; 4096])
-    requires { length runs.now ≤ 500 }
+pub fn write_run_sector(runs: &[Run], sector: &mut [u8; SIZE])
+    requires { length runs.now ≤ MAX_RUNS }
     ensures { sector.new ≡ run_sector runs.now }
 {
     put_bytes(sector, 0, b"RUNS");
@@ -57,8 +57,8 @@ pub fn write_run_sector(runs: &[Run], sector: &mut [u8; 4096])
 }
 
 /// The runs that would stand in a sector, whatever else stands there.
-fn runs_in(alloc: Global, sector: &[u8; 4096]) -> Result<Vec<Run>, AllocError>
-    ensures few { IfOk result (λ runs. vec_len runs ≤ 500) }
+fn runs_in(alloc: Global, sector: &[u8; SIZE]) -> Result<Vec<Run>, AllocError>
+    ensures few { IfOk result (λ runs. vec_len runs ≤ MAX_RUNS) }
     ensures each { IfOk result (λ runs. AllByRecursion IsRun runs.items) }
     ensures only { IfOk result (λ runs. (others : List Run) → FillSector others
         → sector.now ≡ run_sector others → runs.items ≡ others) }
@@ -78,7 +78,7 @@ fn runs_in(alloc: Global, sector: &[u8; 4096]) -> Result<Vec<Run>, AllocError>
 ///
 /// # Errors
 /// `NotRuns` exactly where no runs have these bytes.
-pub fn read_run_sector(alloc: Global, sector: &[u8; 4096]) -> Result<Vec<Run>, ExtentsFault>
+pub fn read_run_sector(alloc: Global, sector: &[u8; SIZE]) -> Result<Vec<Run>, ExtentsFault>
     ensures fill { IfOk result (λ runs. FillSector runs.items) }
     ensures found { IfOk result (λ runs. sector.now ≡ run_sector runs.items) }
     ensures not_runs { IsErrOf result ExtentsFault.NotRuns

@@ -5,12 +5,9 @@ ghost use Rattle.freemap.specs.Places.{Shows, Show, OneSet, OneSpelling};
 ghost use Rattle.freemap.specs.Kept.{free_places};
 
 use crate::fault::{BitmapFault, Full};
-use crate::sectors;
+use crate::sectors::{self, SECTOR_BYTES, SECTOR_PLACES};
 use std::alloc::{AllocError, Global};
 use std::marker::Model;
-
-/// The bytes of a sector.
-const SECTOR_BYTES: usize = 4096;
 
 /// Which places are used: the two bitmap sectors as they lie on the device, end to end, and where to look for a free place.
 ///
@@ -37,9 +34,12 @@ impl Model for Bitmap {
 }
 
 impl Bitmap {
+    /// The most places of a set.
+    pub const MAX_PLACES: u32 = 65536;
+
     /// A set of `count` places, all free.
     pub fn new(alloc: Global, count: u32) -> Result<Bitmap, AllocError>
-        requires { count ≤ 65536 }
+        requires { count ≤ Bitmap.MAX_PLACES }
         ensures { IfOk result (λ places. places ≡ replicate count false) }
     {
         let bits = vec![in alloc; 0; sectors::BYTES]?;
@@ -58,10 +58,10 @@ impl Bitmap {
     pub fn from_sectors(
         alloc: Global,
         count: u32,
-        low: &[u8; 4096],
-        high: &[u8; 4096],
+        low: &[u8; SECTOR_BYTES],
+        high: &[u8; SECTOR_BYTES],
     ) -> Result<Bitmap, BitmapFault>
-        requires { count ≤ 65536 }
+        requires { count ≤ Bitmap.MAX_PLACES }
         ensures ok { IfOk result (λ places. Show low.now high.now count places) }
         ensures past_end { IsErrOf result BitmapFault.PastEnd
             → (places : List Bool) → ¬ Show low.now high.now count places }
@@ -102,9 +102,9 @@ impl Bitmap {
     }
 
     /// Writes bitmap sector `part`, 0 or 1, which shows the places from `32768 * part` on.
-    pub fn to_sector(&self, part: u32, sector: &mut [u8; 4096])
+    pub fn to_sector(&self, part: u32, sector: &mut [u8; SECTOR_BYTES])
         requires { part < 2 }
-        ensures { Shows sector.new self.now (32768 * part) }
+        ensures { Shows sector.new self.now (SECTOR_PLACES * part) }
     {
         let first = SECTOR_BYTES * part as usize;
         sector.copy_from_slice(&self.bits[first..first + SECTOR_BYTES]);

@@ -7,6 +7,11 @@ ghost use Rattle.freemap.specs.Kept.{free_places, IsClearFrom, IsSetBelow, BitBe
 use byteorder::{BigEndian, ByteOrder};
 use std::alloc::{AllocError, Global};
 
+/// The bytes of a sector, and the places that it shows.
+pub(crate) const SECTOR_BYTES: usize = 4096;
+
+pub(crate) const SECTOR_PLACES: u32 = 32768;
+
 /// The bytes of the two sectors, and the places that they show.
 pub(crate) const BYTES: usize = 8192;
 
@@ -20,8 +25,8 @@ const WORD_PLACES: usize = 64;
 /// The bytes of two sectors, end to end.
 pub(crate) fn joined(
     alloc: Global,
-    low: &[u8; 4096],
-    high: &[u8; 4096],
+    low: &[u8; SECTOR_BYTES],
+    high: &[u8; SECTOR_BYTES],
 ) -> Result<Vec<u8>, AllocError>
     ensures { IfOk result (λ bits. bits.items ≡ low.now ++ high.now) }
 {
@@ -33,8 +38,8 @@ pub(crate) fn joined(
 
 /// Whether the bit of a place is set.
 pub(crate) fn is_set(bits: &[u8], place: usize) -> bool
-    requires len { length bits.now ≡ 8192 }
-    requires within { place < 65536 }
+    requires len { length bits.now ≡ BYTES }
+    requires within { place < PLACES }
     ensures { bit_from result ≡ bit_of bits.now place }
 {
     (bits[place / 8] >> (7 - place % 8)) % 2 == 1
@@ -42,8 +47,8 @@ pub(crate) fn is_set(bits: &[u8], place: usize) -> bool
 
 /// Sets the bit of a place.
 pub(crate) fn set_bit(bits: &mut [u8], place: usize)
-    requires len { length bits.old ≡ 8192 }
-    requires within { place < 65536 }
+    requires len { length bits.old ≡ BYTES }
+    requires within { place < PLACES }
     ensures { BitBecomes bits.old bits.new place 1 }
 {
     bits[place / 8] |= 1 << (7 - place % 8);
@@ -51,8 +56,8 @@ pub(crate) fn set_bit(bits: &mut [u8], place: usize)
 
 /// Clears the bit of a place.
 pub(crate) fn clear_bit(bits: &mut [u8], place: usize)
-    requires len { length bits.old ≡ 8192 }
-    requires within { place < 65536 }
+    requires len { length bits.old ≡ BYTES }
+    requires within { place < PLACES }
     ensures { BitBecomes bits.old bits.new place 0 }
 {
     bits[place / 8] &= !(1 << (7 - place % 8));
@@ -60,8 +65,8 @@ pub(crate) fn clear_bit(bits: &mut [u8], place: usize)
 
 /// Whether no bit is set from a place on.
 pub(crate) fn is_clear_from(bits: &[u8], first: usize) -> bool
-    requires len { length bits.now ≡ 8192 }
-    requires within { first ≤ 65536 }
+    requires len { length bits.now ≡ BYTES }
+    requires within { first ≤ PLACES }
     ensures { IsTrue result ↔ IsClearFrom bits.now first }
 {
     for place in first..PLACES {
@@ -74,8 +79,8 @@ pub(crate) fn is_clear_from(bits: &[u8], first: usize) -> bool
 
 /// How many of the first places are free.
 pub(crate) fn count_free(bits: &[u8], count: usize) -> u32
-    requires len { length bits.now ≡ 8192 }
-    requires within { count ≤ 65536 }
+    requires len { length bits.now ≡ BYTES }
+    requires within { count ≤ PLACES }
     ensures { result ≡ free_places (places_in bits.now count) }
 {
     let mut free = 0;
@@ -89,10 +94,10 @@ pub(crate) fn count_free(bits: &[u8], count: usize) -> u32
 
 /// A place from `from` on below which all bits are set: no word between the two has a clear one.
 fn skip_words(bits: &[u8], from: usize) -> usize
-    requires len { length bits.now ≡ 8192 }
+    requires len { length bits.now ≡ BYTES }
     requires below { IsSetBelow bits.now from }
-    requires within { from ≤ 65536 }
-    ensures within { result ≤ 65536 }
+    requires within { from ≤ PLACES }
+    ensures within { result ≤ PLACES }
     ensures below { IsSetBelow bits.now result }
 {
     let mut word = from / WORD_PLACES;
@@ -104,18 +109,18 @@ fn skip_words(bits: &[u8], from: usize) -> usize
 
 /// Whether each bit of the word in front is set.
 fn is_full(bytes: &[u8]) -> bool
-    requires { 8 ≤ length bytes.now }
-    ensures { IsTrue result → IsSetBelow bytes.now 64 }
+    requires { WORD_BYTES ≤ length bytes.now }
+    ensures { IsTrue result → IsSetBelow bytes.now WORD_PLACES }
 {
     BigEndian::read_u64(bytes) == u64::MAX
 }
 
 /// The same as `skip_words`, byte by byte.
 fn skip_bytes(bits: &[u8], from: usize) -> usize
-    requires len { length bits.now ≡ 8192 }
+    requires len { length bits.now ≡ BYTES }
     requires below { IsSetBelow bits.now from }
-    requires within { from ≤ 65536 }
-    ensures within { result ≤ 65536 }
+    requires within { from ≤ PLACES }
+    ensures within { result ≤ PLACES }
     ensures below { IsSetBelow bits.now result }
 {
     let mut byte = from / 8;
@@ -127,9 +132,9 @@ fn skip_bytes(bits: &[u8], from: usize) -> usize
 
 /// The first clear bit below the one of place `count`, where none below `from` is clear.
 pub(crate) fn first_clear(bits: &[u8], from: usize, count: usize) -> Option<usize>
-    requires len { length bits.now ≡ 8192 }
-    requires within { count ≤ 65536 }
-    requires begins { from ≤ 65536 }
+    requires len { length bits.now ≡ BYTES }
+    requires within { count ≤ PLACES }
+    requires begins { from ≤ PLACES }
     requires below { IsSetBelow bits.now from }
     ensures found { IfSome result (λ place. (place < count) × (bit_of bits.now place ≡ 0)) }
     ensures first { IfSome result (IsSetBelow bits.now) }

@@ -9,7 +9,10 @@ ghost use Rattle.inode.specs.Spelling.{ace_bytes, ace_kind_byte, who_byte};
 
 use bitflags::Flags;
 use model::acl::{Ace, AceFlags, AceKind, Mask, Who};
-use sector::{put_bytes, put_u32, put_zeros, u32_at};
+use sector::{SIZE, put_bytes, put_u32, put_zeros, u32_at};
+
+/// How long an entry is.
+pub(crate) const WIDTH: usize = 16;
 
 fn kind_byte(kind: AceKind) -> u8
     ensures { result ≡ ace_kind_byte kind }
@@ -59,11 +62,11 @@ fn who_from(byte: u8, id: u32) -> Option<Who>
 }
 
 /// Writes the 16 bytes of an entry from place `at` on.
-pub fn put_ace(sector: &mut [u8; 4096], at: usize, ace: Ace)
-    requires within { at + 16 ≤ 4096 }
+pub fn put_ace(sector: &mut [u8; SIZE], at: usize, ace: Ace)
+    requires within { at + WIDTH ≤ SIZE }
     requires ace { IsAce ace }
-    ensures front { take (at + 16) sector.new ≡ take at sector.old ++ ace_bytes ace }
-    ensures len { length sector.new ≡ 4096 }
+    ensures front { take (at + WIDTH) sector.new ≡ take at sector.old ++ ace_bytes ace }
+    ensures len { length sector.new ≡ SIZE }
 {
     let (who, id) = who_bytes(ace.who);
     let flags = ace.flags.bits() as u8;
@@ -74,8 +77,8 @@ pub fn put_ace(sector: &mut [u8; 4096], at: usize, ace: Ace)
 }
 
 /// The entry that would stand at place `at`, whatever stands in the bytes that an entry has zero; none where no entry does.
-pub fn ace_at(sector: &[u8; 4096], at: usize) -> Option<Ace>
-    requires { at + 16 ≤ 4096 }
+pub fn ace_at(sector: &[u8; SIZE], at: usize) -> Option<Ace>
+    requires { at + WIDTH ≤ SIZE }
     ensures fits { IfSome result IsAce }
     ensures only { (ace : Ace) (rest : List ℕ) → IsAce ace
         → drop at sector.now ≡ ace_bytes ace ++ rest → result ≡ Some ace }

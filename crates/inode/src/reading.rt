@@ -8,10 +8,10 @@ ghost use Rattle.inode.specs.declared.node.Form.{Form};
 ghost use Rattle.inode.specs.Fields.{Fields, fields_of, IsAce, IsRunSector, IsInode};
 ghost use Rattle.inode.specs.Spelling.{inode_sector, ace_bytes, number_bytes, kind_byte};
 
-use crate::entries::ace_at;
+use crate::entries::{WIDTH, ace_at};
 use crate::fault::InodeFault;
 use crate::node::{Form, Inode};
-use crate::writing::{ENTRIES, RUN_SECTORS, WIDTH, to_sector};
+use crate::writing::{ENTRIES, RUN_SECTORS, to_sector};
 use model::acl::Acl;
 use model::node::NodeKind;
 use sector::{SIZE, u16_at, u32_at, u64_at};
@@ -31,8 +31,8 @@ fn kind_from(byte: u8) -> Option<NodeKind>
 }
 
 /// The number of a run sector at place `at`; none where 0 stands there.
-fn run_sector_at(sector: &[u8; 4096], at: usize) -> Option<u32>
-    requires { at + 4 ≤ 4096 }
+fn run_sector_at(sector: &[u8; SIZE], at: usize) -> Option<u32>
+    requires { at + 4 ≤ SIZE }
     ensures fits { IfSome result IsRunSector }
     ensures only { (number : ℕ) (rest : List ℕ) → IsRunSector number
         → drop at sector.now ≡ number_bytes number ++ rest → result ≡ Some number }
@@ -42,17 +42,17 @@ fn run_sector_at(sector: &[u8; 4096], at: usize) -> Option<u32>
 }
 
 /// The numbers of the first run sectors.
-fn run_sectors_in(alloc: Global, sector: &[u8; 4096], count: usize) -> Result<Vec<u32>, InodeFault>
-    requires { count ≤ 9 }
+fn run_sectors_in(alloc: Global, sector: &[u8; SIZE], count: usize) -> Result<Vec<u32>, InodeFault>
+    requires { count ≤ Inode.MAX_RUN_SECTORS }
     ensures fits { IfOk result (λ numbers. (vec_len numbers ≡ count)
         × AllByRecursion IsRunSector numbers.items) }
     ensures only { (numbers : List ℕ) (rest : List ℕ) → AllByRecursion IsRunSector numbers
         → length numbers ≡ count
-        → drop 48 sector.now ≡ flat_map number_bytes numbers ++ rest
+        → drop RUN_SECTORS sector.now ≡ flat_map number_bytes numbers ++ rest
         → IfOk result (λ found. found.items ≡ numbers) }
     ensures err { IsErrOf result InodeFault.NotInode → (numbers : List ℕ) (rest : List ℕ)
         → AllByRecursion IsRunSector numbers
-        → length numbers ≡ count → drop 48 sector.now ≡ flat_map number_bytes numbers ++ rest → ⊥ }
+        → length numbers ≡ count → drop RUN_SECTORS sector.now ≡ flat_map number_bytes numbers ++ rest → ⊥ }
 {
     let mut numbers = Vec::new(alloc);
     for i in 0..count {
@@ -65,15 +65,15 @@ fn run_sectors_in(alloc: Global, sector: &[u8; 4096], count: usize) -> Result<Ve
 }
 
 /// The first entries.
-fn acl_in(alloc: Global, sector: &[u8; 4096], count: usize) -> Result<Acl, InodeFault>
-    requires { count ≤ 40 }
+fn acl_in(alloc: Global, sector: &[u8; SIZE], count: usize) -> Result<Acl, InodeFault>
+    requires { count ≤ Acl.MAX_STORED }
     ensures fits { IfOk result (λ acl. (length acl ≡ count) × AllByRecursion IsAce acl) }
     ensures only { (aces : List Ace) (rest : List ℕ) → AllByRecursion IsAce aces
         → length aces ≡ count
-        → drop 128 sector.now ≡ flat_map ace_bytes aces ++ rest → IfOk result (λ acl. acl ≡ aces) }
+        → drop ENTRIES sector.now ≡ flat_map ace_bytes aces ++ rest → IfOk result (λ acl. acl ≡ aces) }
     ensures err { IsErrOf result InodeFault.NotInode → (aces : List Ace) (rest : List ℕ)
         → AllByRecursion IsAce aces
-        → length aces ≡ count → drop 128 sector.now ≡ flat_map ace_bytes aces ++ rest → ⊥ }
+        → length aces ≡ count → drop ENTRIES sector.now ≡ flat_map ace_bytes aces ++ rest → ⊥ }
 {
     let mut acl = Acl::new(alloc);
     for i in 0..count {
@@ -86,7 +86,7 @@ fn acl_in(alloc: Global, sector: &[u8; 4096], count: usize) -> Result<Acl, Inode
 }
 
 /// The inode that would stand in a sector, whatever stands in the bytes between its fields.
-fn inode_in(alloc: Global, sector: &[u8; 4096]) -> Result<Inode, InodeFault>
+fn inode_in(alloc: Global, sector: &[u8; SIZE]) -> Result<Inode, InodeFault>
     ensures fits { IfOk result (λ inode. IsInode (fields_of inode)) }
     ensures only { (form : Form) (fields : Fields) → IsInode fields
         → sector.now ≡ inode_sector form fields
@@ -126,7 +126,7 @@ fn inode_in(alloc: Global, sector: &[u8; 4096]) -> Result<Inode, InodeFault>
 ///
 /// # Errors
 /// `NotInode` exactly where no inode has them: whatever is read is written again, and has to give each byte back.
-pub fn from_sector(alloc: Global, form: Form, sector: &[u8; 4096]) -> Result<Inode, InodeFault>
+pub fn from_sector(alloc: Global, form: Form, sector: &[u8; SIZE]) -> Result<Inode, InodeFault>
     ensures fits { IfOk result (λ inode. IsInode (fields_of inode)) }
     ensures found { IfOk result (λ inode. sector.now ≡ inode_sector form (fields_of inode)) }
     ensures not_inode { IsErrOf result InodeFault.NotInode → (fields : Fields) → IsInode fields

@@ -6,20 +6,18 @@ ghost use Rattle.inode.specs.Fields.{fields_of, IsAce, IsInode};
 ghost use Rattle.inode.specs.Spelling.{inode_sector, head, nine, magic, acl_bytes};
 ghost use Rattle.inode.specs.Spelling as spelled;
 
-use crate::entries::put_ace;
+use crate::entries::{WIDTH, put_ace};
 use crate::node::{Form, Inode};
-use model::acl::Ace;
+use model::acl::{Ace, Acl};
 use model::node::NodeKind;
 use sector::{SIZE, put_bytes, put_u16, put_u32, put_u64, put_zeros};
 
-/// Where the run sectors, the zeros behind them and the entries begin, and how long an entry is.
+/// Where the run sectors, the zeros after them and the entries begin.
 pub(crate) const RUN_SECTORS: usize = 48;
 
 const ZEROS: usize = 84;
 
 pub(crate) const ENTRIES: usize = 128;
-
-pub(crate) const WIDTH: usize = 16;
 
 fn kind_byte(kind: NodeKind) -> u8
     ensures { result ≡ spelled.kind_byte kind }
@@ -38,10 +36,10 @@ fn magic_of(form: Form) -> [u8; 4]
     }
 }
 
-fn put_head(inode: &Inode, form: Form, sector: &mut [u8; 4096])
-    requires { length inode.now.acl ≤ 40 }
-    ensures front { take 48 sector.new ≡ head form (fields_of inode.now) }
-    ensures len { length sector.new ≡ 4096 }
+fn put_head(inode: &Inode, form: Form, sector: &mut [u8; SIZE])
+    requires { length inode.now.acl ≤ Acl.MAX_STORED }
+    ensures front { take RUN_SECTORS sector.new ≡ head form (fields_of inode.now) }
+    ensures len { length sector.new ≡ SIZE }
 {
     let count = inode.acl.as_slice().len() as u8;
     put_bytes(sector, 0, &magic_of(form));
@@ -55,10 +53,10 @@ fn put_head(inode: &Inode, form: Form, sector: &mut [u8; 4096])
     put_u64(sector, 40, inode.size);
 }
 
-fn put_run_sectors(numbers: &[u32], sector: &mut [u8; 4096])
-    requires { length numbers.now ≤ 9 }
-    ensures front { take 84 sector.new ≡ take 48 sector.old ++ nine numbers.now }
-    ensures len { length sector.new ≡ 4096 }
+fn put_run_sectors(numbers: &[u32], sector: &mut [u8; SIZE])
+    requires { length numbers.now ≤ Inode.MAX_RUN_SECTORS }
+    ensures front { take ZEROS sector.new ≡ take RUN_SECTORS sector.old ++ nine numbers.now }
+    ensures len { length sector.new ≡ SIZE }
 {
     for (i, number) in numbers.iter().enumerate() {
         put_u32(sector, RUN_SECTORS + 4 * i, *number);
@@ -67,10 +65,10 @@ fn put_run_sectors(numbers: &[u32], sector: &mut [u8; 4096])
     put_zeros(sector, end, ZEROS - end);
 }
 
-fn put_entries(aces: &[Ace], sector: &mut [u8; 4096])
-    requires few { length aces.now ≤ 40 }
+fn put_entries(aces: &[Ace], sector: &mut [u8; SIZE])
+    requires few { length aces.now ≤ Acl.MAX_STORED }
     requires each { AllByRecursion IsAce aces.now }
-    ensures { sector.new ≡ take 128 sector.old ++ acl_bytes aces.now }
+    ensures { sector.new ≡ take ENTRIES sector.old ++ acl_bytes aces.now }
 {
     for (i, ace) in aces.iter().enumerate() {
         put_ace(sector, ENTRIES + WIDTH * i, *ace);
@@ -80,7 +78,7 @@ fn put_entries(aces: &[Ace], sector: &mut [u8; 4096])
 }
 
 /// Writes the sector of a node, each byte of it.
-pub fn to_sector(inode: &Inode, form: Form, sector: &mut [u8; 4096])
+pub fn to_sector(inode: &Inode, form: Form, sector: &mut [u8; SIZE])
     requires { IsInode (fields_of inode.now) }
     ensures { sector.new ≡ inode_sector form (fields_of inode.now) }
 {

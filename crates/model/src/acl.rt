@@ -219,7 +219,7 @@ impl Acl {
     }
 }
 
-/// The groups that a caller is a member of beside the first one: at most [`Gids::MOST`] (RFC 5531, appendix A).
+/// The groups that a caller is a member of beside the first one: at most [`Gids::MAX_GIDS`] (RFC 5531, appendix A).
 ///
 /// Contracts see the list of their numbers.
 #[derive(Drop, Debug)]
@@ -236,7 +236,7 @@ impl Model for Gids {
 }
 
 impl Gids {
-    pub const MOST: usize = 16;
+    pub const MAX_GIDS: usize = 16;
 
     /// No groups.
     pub fn new() -> Gids

@@ -139,7 +139,7 @@ fn read_names<S: Sectors>(
     ensures health { Reads (S.health sectors.old) (S.health sectors.new)
         (IsErrOf result ScanFault.Device) }
 {
-    if size > Names::MOST as u64 {
+    if size > Names::MAX_NAMES as u64 {
         return Err(ScanFault::Damaged);
     }
     let entries = read_entries(alloc, sectors, blocks, size as usize)?;

@@ -89,7 +89,7 @@ fn count_of(kind: NodeKind, size: u64) -> Option<u32>
         NodeKind::File => size.div_ceil(4096),
         NodeKind::Directory => size.div_ceil(15),
     };
-    if count > u64::from(BlockList::MOST) {
+    if count > u64::from(BlockList::MAX_BLOCKS) {
         return None;
     }
     Some(count as u32)

@@ -11,8 +11,8 @@ use byteorder::{BigEndian, ByteOrder};
 pub const SIZE: usize = 4096;
 
 /// Writes a number of two bytes from place `at` on.
-pub fn put_u16(sector: &mut [u8; 4096], at: usize, number: u16)
-    requires { at + 2 ≤ 4096 }
+pub fn put_u16(sector: &mut [u8; SIZE], at: usize, number: u16)
+    requires { at + 2 ≤ SIZE }
     ensures { Places sector.old sector.new at (to_be_bytes w16 number) }
 {
     let mut bytes = [0; 2];
@@ -21,8 +21,8 @@ pub fn put_u16(sector: &mut [u8; 4096], at: usize, number: u16)
 }
 
 /// Writes a number of four bytes from place `at` on.
-pub fn put_u32(sector: &mut [u8; 4096], at: usize, number: u32)
-    requires { at + 4 ≤ 4096 }
+pub fn put_u32(sector: &mut [u8; SIZE], at: usize, number: u32)
+    requires { at + 4 ≤ SIZE }
     ensures { Places sector.old sector.new at (to_be_bytes w32 number) }
 {
     let mut bytes = [0; 4];
@@ -31,8 +31,8 @@ pub fn put_u32(sector: &mut [u8; 4096], at: usize, number: u32)
 }
 
 /// Writes a number of eight bytes from place `at` on.
-pub fn put_u64(sector: &mut [u8; 4096], at: usize, number: u64)
-    requires { at + 8 ≤ 4096 }
+pub fn put_u64(sector: &mut [u8; SIZE], at: usize, number: u64)
+    requires { at + 8 ≤ SIZE }
     ensures { Places sector.old sector.new at (to_be_bytes w64 number) }
 {
     let mut bytes = [0; 8];
@@ -41,24 +41,24 @@ pub fn put_u64(sector: &mut [u8; 4096], at: usize, number: u64)
 }
 
 /// Writes bytes from place `at` on.
-pub fn put_bytes(sector: &mut [u8; 4096], at: usize, bytes: &[u8])
-    requires { at + length bytes.now ≤ 4096 }
+pub fn put_bytes(sector: &mut [u8; SIZE], at: usize, bytes: &[u8])
+    requires { at + length bytes.now ≤ SIZE }
     ensures { Places sector.old sector.new at bytes.now }
 {
     sector[at..at + bytes.len()].copy_from_slice(bytes);
 }
 
 /// Writes zeros from place `at` on.
-pub fn put_zeros(sector: &mut [u8; 4096], at: usize, count: usize)
-    requires { at + count ≤ 4096 }
+pub fn put_zeros(sector: &mut [u8; SIZE], at: usize, count: usize)
+    requires { at + count ≤ SIZE }
     ensures { Places sector.old sector.new at (replicate count 0) }
 {
     sector[at..at + count].fill(0);
 }
 
 /// The number of two bytes from place `at` on.
-pub fn u16_at(sector: &[u8; 4096], at: usize) -> u16
-    requires { at + 2 ≤ 4096 }
+pub fn u16_at(sector: &[u8; SIZE], at: usize) -> u16
+    requires { at + 2 ≤ SIZE }
     ensures value { result ≡ from_be_bytes w16 (drop at sector.now) }
     ensures only { Reads 2 sector.now at result }
 {
@@ -66,8 +66,8 @@ pub fn u16_at(sector: &[u8; 4096], at: usize) -> u16
 }
 
 /// The number of four bytes from place `at` on.
-pub fn u32_at(sector: &[u8; 4096], at: usize) -> u32
-    requires { at + 4 ≤ 4096 }
+pub fn u32_at(sector: &[u8; SIZE], at: usize) -> u32
+    requires { at + 4 ≤ SIZE }
     ensures value { result ≡ from_be_bytes w32 (drop at sector.now) }
     ensures only { Reads 4 sector.now at result }
 {
@@ -75,8 +75,8 @@ pub fn u32_at(sector: &[u8; 4096], at: usize) -> u32
 }
 
 /// The number of eight bytes from place `at` on.
-pub fn u64_at(sector: &[u8; 4096], at: usize) -> u64
-    requires { at + 8 ≤ 4096 }
+pub fn u64_at(sector: &[u8; SIZE], at: usize) -> u64
+    requires { at + 8 ≤ SIZE }
     ensures value { result ≡ from_be_bytes w64 (drop at sector.now) }
     ensures only { Reads 8 sector.now at result }
 {

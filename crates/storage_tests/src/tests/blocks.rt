@@ -128,7 +128,7 @@ fn sets_grows_and_cuts(rt: HostRuntime) -> Result<(), Fail> {
 fn largest_files(rt: HostRuntime) -> Result<(), Fail> {
     let mut whole = BlockList::new(rt.alloc());
     let mut scattered = BlockList::new(rt.alloc());
-    for block in 0..BlockList::MOST {
+    for block in 0..BlockList::MAX_BLOCKS {
         set(&mut whole, block, 300 + block)?;
         set(&mut scattered, block, 60_000 - 2 * block)?;
     }
@@ -138,7 +138,7 @@ fn largest_files(rt: HostRuntime) -> Result<(), Fail> {
     );
     let runs = runs_of(rt.alloc(), &scattered)?;
     assert_eq!(rt; runs.len(), 4096);
-    let again = list_of(rt.alloc(), BlockList::MOST, &runs)?;
+    let again = list_of(rt.alloc(), BlockList::MAX_BLOCKS, &runs)?;
     assert_eq!(rt; at(&again, 4095), Some(51_810));
     let Some(front) = runs.get(..MAX_RUNS) else {
         return Err("too few runs".into());

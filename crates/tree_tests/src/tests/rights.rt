@@ -55,7 +55,7 @@ fn the_owner_is_not_locked_out(rt: HostRuntime) {
 #[test]
 fn groups_and_inherit_only(rt: HostRuntime) -> Result<(), std::test::Fail> {
     let mut cred = caller(7);
-    assert!(rt; cred.gids.as_slice().len() < Gids::MOST);
+    assert!(rt; cred.gids.as_slice().len() < Gids::MAX_GIDS);
     cred.gids.push(9);
     let group = entry(AceKind::Allow, Who::Group, 0x1);
     let number = entry(AceKind::Allow, Who::NamedGroup(9), 0x2);

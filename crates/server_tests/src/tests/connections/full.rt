@@ -6,7 +6,7 @@ use std::alloc::AllocGlobal;
 use std::test::Fail;
 
 /// The most opens of a server.
-const MOST: u32 = 256;
+const MAX_OPENS: u32 = 256;
 
 /// A number of slot 0 and an owner of four bytes, which are the places 96 and 144 of the record: PUTROOTFH, OPEN of `f`, which is
 /// made where it is not there.
@@ -50,6 +50,6 @@ fn a_full_table_makes_no_file(rt: HostRuntime) -> Result<(), Fail> {
     let alloc = rt.alloc();
     let mut server = new_server(alloc)?;
     play(&rt, alloc, &mut server, &[EXCHANGES, CREATES])?;
-    ask_each(&rt, alloc, &mut server, OPEN_F, MOST)?;
+    ask_each(&rt, alloc, &mut server, OPEN_F, MAX_OPENS)?;
     play(&rt, alloc, &mut server, &BEHIND)
 }
