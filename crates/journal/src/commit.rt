@@ -7,7 +7,7 @@ ghost use Rattle.journal.specs.Layout.{AreTargets, targets};
 ghost use Rattle.journal.specs.Phase.{IsGated, FailsCounted};
 ghost use Rattle.journal.specs.Commit.{AddsEither, Records, IsShown, IsRecorded, KeepsShown, IsCopiedHome, IsCommitted};
 
-use crate::layout::GATE;
+use crate::layout::{FIRST_TARGET, GATE, PAYLOAD_SECTORS};
 use crate::{gate, phase};
 use disk::{Device, DiskFault, Update};
 
@@ -18,9 +18,9 @@ pub(crate) fn commit<D: Device>(
     updates: &[Update],
 ) -> Result<(), DiskFault>
     requires named { to.now ≡ targets updates.now }
-    requires few { length updates.now ≤ 96 }
+    requires few { length updates.now ≤ PAYLOAD_SECTORS }
     requires fit { AreTargets (D.size device.old) (targets updates.now) }
-    requires large { 98 ≤ D.size device.old }
+    requires large { FIRST_TARGET ≤ D.size device.old }
     ensures moments { D.keeps_word → IsGated [] (D.history device.old)
         → AddsEither (D.size device.old) updates.now (seen (D.history device.old).now)
         (D.history device.old) (D.history device.new) }
@@ -42,9 +42,9 @@ pub(crate) fn record<D: Device>(
     updates: &[Update],
 ) -> Result<(), DiskFault>
     requires named { to.now ≡ targets updates.now }
-    requires few { length updates.now ≤ 96 }
+    requires few { length updates.now ≤ PAYLOAD_SECTORS }
     requires fit { AreTargets (D.size device.old) (targets updates.now) }
-    requires large { 98 ≤ D.size device.old }
+    requires large { FIRST_TARGET ≤ D.size device.old }
     ensures moments { D.keeps_word → IsGated [] (D.history device.old)
         → Records (D.size device.old) updates.now (D.history device.old) (D.history device.new) }
     ensures ok { D.keeps_word → IsGated [] (D.history device.old)
@@ -60,9 +60,9 @@ pub(crate) fn record<D: Device>(
 
 /// Writes home, from memory, what the open gate shows, and then closes the gate.
 pub(crate) fn copy_home<D: Device>(device: &mut D, updates: &[Update]) -> Result<(), DiskFault>
-    requires few { length updates.now ≤ 96 }
+    requires few { length updates.now ≤ PAYLOAD_SECTORS }
     requires fit { AreTargets (D.size device.old) (targets updates.now) }
-    requires large { 98 ≤ D.size device.old }
+    requires large { FIRST_TARGET ≤ D.size device.old }
     ensures moments { D.keeps_word → IsShown updates.now (D.history device.old)
         → KeepsShown (D.size device.old) (targets updates.now)
         (D.history device.old) (D.history device.new) }
@@ -79,9 +79,9 @@ pub(crate) fn copy_home<D: Device>(device: &mut D, updates: &[Update]) -> Result
 
 /// Copies the payload to the targets of the open gate, and then closes it.
 pub(crate) fn replay<D: Device>(device: &mut D, to: &[u32]) -> Result<(), DiskFault>
-    requires few { length to.now ≤ 96 }
+    requires few { length to.now ≤ PAYLOAD_SECTORS }
     requires fit { AreTargets (D.size device.old) to.now }
-    requires large { 98 ≤ D.size device.old }
+    requires large { FIRST_TARGET ≤ D.size device.old }
     ensures moments { D.keeps_word → IsGated to.now (D.history device.old)
         → KeepsShown (D.size device.old) to.now (D.history device.old) (D.history device.new) }
     ensures ok { D.keeps_word → IsGated to.now (D.history device.old)

@@ -13,7 +13,7 @@ const OPEN: u32 = 1;
 
 /// The gate sector for these targets; for none it is closed.
 pub(crate) fn encode(targets: &[u32]) -> [u8; SECTOR]
-    requires { length targets.now ≤ 96 }
+    requires { length targets.now ≤ PAYLOAD_SECTORS }
     ensures { result ≡ gate targets.now }
 {
     let mut sector = closed();
@@ -33,8 +33,8 @@ pub(crate) fn closed() -> [u8; SECTOR]
 
 /// Writes an open gate's words to the front of a sector.
 fn write_words(targets: &[u32], sector: &mut [u8])
-    requires few { length targets.now ≤ 96 }
-    requires long { length sector.old ≡ 4096 }
+    requires few { length targets.now ≤ PAYLOAD_SECTORS }
+    requires long { length sector.old ≡ SECTOR }
     ensures { sector.new ≡ words (gate_words targets.now)
         ++ drop (4 * length (gate_words targets.now)) sector.old }
 {
@@ -45,7 +45,7 @@ fn write_words(targets: &[u32], sector: &mut [u8])
 
 /// Whether a gate sector has a form: then `targets` holds what it names.
 pub(crate) fn decode(sector: &[u8; SECTOR], sectors: u32, named: &mut Vec<u32>) -> bool
-    requires { 96 ≤ vec_capacity named.old }
+    requires { PAYLOAD_SECTORS ≤ vec_capacity named.old }
     ensures found { IsTrue result → NamesTargets sectors sector.now named.new.items }
     ensures missing { result ≡ false → (to : List ℕ) → NamesTargets sectors sector.now to → ⊥ }
     ensures capacity { vec_capacity named.new ≡ vec_capacity named.old }
@@ -58,11 +58,11 @@ pub(crate) fn decode(sector: &[u8; SECTOR], sectors: u32, named: &mut Vec<u32>) 
 
 /// Reads a gate sector's words; false where they tell of more targets than a gate has.
 fn read_words(sector: &[u8], named: &mut Vec<u32>) -> bool
-    requires room { 96 ≤ vec_capacity named.old }
-    requires long { length sector.now ≡ 4096 }
-    ensures many { result ≡ false → 96 < big_number 4 (drop 4 sector.now) }
+    requires room { PAYLOAD_SECTORS ≤ vec_capacity named.old }
+    requires long { length sector.now ≡ SECTOR }
+    ensures many { result ≡ false → PAYLOAD_SECTORS < big_number 4 (drop 4 sector.now) }
     ensures named { IsTrue result
-        → (length named.new.items ≤ 96) × (named.new.items ≡ words_in sector.now) }
+        → (length named.new.items ≤ PAYLOAD_SECTORS) × (named.new.items ≡ words_in sector.now) }
     ensures capacity { vec_capacity named.new ≡ vec_capacity named.old }
 {
     named.clear();

@@ -10,7 +10,7 @@ ghost use Rattle.journal.specs.MountAnswers.{ComesBack, HasMounted, IsNew, IsRef
 ghost use Rattle.journal.specs.Phase.{FailsCounted};
 ghost use Rattle.journal.specs.Transactions.{FitTogether, gathered, sectors_of};
 
-use crate::layout::{self, MAX_UPDATES, PAYLOAD_SECTORS, SUPERBLOCK};
+use crate::layout::{self, MAX_UPDATES, MIN_SECTORS, PAYLOAD_SECTORS, SUPERBLOCK};
 use crate::{JournalFault, MountFault, View, commit, list, phase, recover};
 use disk::{Device, DiskFault, SECTOR, Update};
 use std::alloc::Global;
@@ -52,7 +52,7 @@ impl<D: Device> Journal<D> {
         sector0: &[u8; SECTOR],
         updates: &[Update],
     ) -> Result<(), JournalFault>
-        requires large { 256 ≤ D.size device.old }
+        requires large { MIN_SECTORS ≤ D.size device.old }
         requires fit { AreTargets (D.size device.old) (targets updates.now) }
         ensures moments { D.keeps_word → AddsFormats (D.size device.old) sector0.now updates.now
             (D.history device.old) (D.history device.new) }
@@ -78,7 +78,7 @@ impl<D: Device> Journal<D> {
     /// The device comes back with the reason: `Damaged` where the gate has no form, and then
     /// nothing was written; `Fault` where the device failed; `Memory`, and then it was not touched.
     pub fn mount(alloc: Global, device: D) -> Result<Journal<D>, MountFault<D>>
-        requires { 256 ≤ D.size device }
+        requires { MIN_SECTORS ≤ D.size device }
         ensures new { IfOk result (λ journal.
             IsNew (D.size device) (D.failed device) (log_of journal) (failures_of journal)) }
         ensures mounted { D.keeps_word → IfOk result (λ journal.
@@ -126,7 +126,7 @@ impl<D: Device> Journal<D> {
     /// As [`Journal::mount`], with the device: `Damaged` where the gate has no form, `Fault` where
     /// the device failed, and `Memory`.
     pub fn view(alloc: Global, device: &mut D) -> Result<View<'_, D>, MountFault<&mut D>>
-        requires { 256 ≤ D.size device.old }
+        requires { MIN_SECTORS ≤ D.size device.old }
         ensures new { IfOk result (λ view. IsNew (D.size device.old) (D.failed device.old)
             (view_of view) (view_failures view)) }
         ensures viewed { D.keeps_word → IfOk result (λ view.
@@ -264,7 +264,7 @@ impl<D: Device> Journal<D> {
     /// Takes the list into the base if the updates would not fit the payload beside it.
     fn make_room(&mut self, updates: &[Update]) -> Result<(), DiskFault>
         requires up { (log_of self.old).is_down ≡ false }
-        requires short { length updates.now ≤ 48 }
+        requires short { length updates.now ≤ MAX_UPDATES }
         requires fit { AreTargets (log_of self.old).size (targets updates.now) }
         ensures part { IsPart D.keeps_word (log_of self.old) (log_of self.new)
             (failures_of self.old) (failures_of self.new) result }
@@ -275,7 +275,7 @@ impl<D: Device> Journal<D> {
         ensures emptied { OnOk result ((FitTogether (list_with (log_of self.old) updates.now) → ⊥)
             → self.new.list.items ≡ []) }
         ensures room { OnOk result
-            (length (gathered self.new.named.items (targets updates.now)) ≤ 96) }
+            (length (gathered self.new.named.items (targets updates.now)) ≤ PAYLOAD_SECTORS) }
     {
         if list::fits(&self.named, updates) {
             return Ok(());
@@ -295,12 +295,12 @@ impl<D: Device> Journal<D> {
     pub fn apply(&mut self, updates: Vec<Update>) -> Result<(), JournalFault>
         requires { AreTargets (log_of self.old).size (targets updates.items) }
         ensures safe { IsSafe D.keeps_word (log_of self.old) (log_of self.new) }
-        ensures bounded { length (sectors_of (log_of self.new).list) ≤ 96 }
+        ensures bounded { length (sectors_of (log_of self.new).list) ≤ PAYLOAD_SECTORS }
         ensures ok { OnOk result
             (HasApplied D.keeps_word updates.items (log_of self.old) (log_of self.new)) }
         // Refused
         ensures too_many { (log_of self.old).is_down ≡ false
-            → IsErrOf result JournalFault.TooMany ↔ (48 < length updates.items) }
+            → IsErrOf result JournalFault.TooMany ↔ (MAX_UPDATES < length updates.items) }
         ensures unchanged { IsErrOf result JournalFault.TooMany
             → log_of self.new ≡ log_of self.old }
         ensures answers { Answers (log_of self.old) (log_of self.new)

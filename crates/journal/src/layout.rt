@@ -5,6 +5,9 @@ ghost use Rattle.disk.specs.Calls.{zero_sector};
 
 use disk::SECTOR;
 
+/// The least sectors of a device.
+pub const MIN_SECTORS: u32 = 256;
+
 /// The sector that the caller writes by itself.
 pub(crate) const SUPERBLOCK: u32 = 0;
 
@@ -15,13 +18,13 @@ pub(crate) const GATE: u32 = 1;
 pub(crate) const PAYLOAD: u32 = 2;
 
 /// The number of sectors of the payload, and so the most targets of a gate.
-pub(crate) const PAYLOAD_SECTORS: usize = 96;
+pub const PAYLOAD_SECTORS: usize = 96;
 
 /// The first sector that a transaction may write.
-pub(crate) const FIRST_TARGET: u32 = 98;
+pub const FIRST_TARGET: u32 = 98;
 
 /// The most sectors of one transaction.
-pub(crate) const MAX_UPDATES: usize = 48;
+pub const MAX_UPDATES: usize = 48;
 
 /// A sector of zeros.
 #[tactic(auto, unfolding(disk::specs::Calls::zero_sector))]

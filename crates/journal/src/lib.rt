@@ -13,4 +13,5 @@ mod view;
 
 pub use fault::{JournalFault, MountFault};
 pub use journal::Journal;
+pub use layout::{FIRST_TARGET, MAX_UPDATES, MIN_SECTORS, PAYLOAD_SECTORS};
 pub use view::View;

@@ -6,7 +6,7 @@ ghost use Rattle.disk.specs.Moments.{Image, applied, put as with};
 ghost use Rattle.journal.specs.Layout.{targets};
 ghost use Rattle.journal.specs.Transactions.{gathered, has, IsLastPlace};
 
-use crate::layout::PAYLOAD_SECTORS;
+use crate::layout::{MAX_UPDATES, PAYLOAD_SECTORS};
 use disk::{SECTOR, Update};
 
 /// The newest content that the updates give sector `n`, or else what was found before.
@@ -43,10 +43,10 @@ pub(crate) fn find(named: &[u32], n: u32) -> Option<usize>
 
 /// Whether the sectors that are named and those of the updates are few enough for one payload.
 pub(crate) fn fits(named: &[u32], updates: &[Update]) -> bool
-    requires few { length named.now ≤ 96 }
-    requires short { length updates.now ≤ 48 }
+    requires few { length named.now ≤ PAYLOAD_SECTORS }
+    requires short { length updates.now ≤ MAX_UPDATES }
     requires apart { AllPairs (λ a b. a ≢ b) (targets updates.now) }
-    ensures { IsTrue result ↔ (length (gathered named.now (targets updates.now)) ≤ 96) }
+    ensures { IsTrue result ↔ (length (gathered named.now (targets updates.now)) ≤ PAYLOAD_SECTORS) }
 {
     let mut fresh = 0;
     for update in updates {
@@ -60,9 +60,9 @@ pub(crate) fn fits(named: &[u32], updates: &[Update]) -> bool
 /// Puts an update in the place of the one of its sector, or else behind the others.
 pub(crate) fn put(list: &mut Vec<Update>, named: &mut Vec<u32>, update: Update)
     requires named_are { named.old.items ≡ targets list.old.items }
-    requires few { length (gathered named.old.items (update.target ∷ [])) ≤ 96 }
-    requires room { 96 ≤ vec_capacity list.old }
-    requires named_room { 96 ≤ vec_capacity named.old }
+    requires few { length (gathered named.old.items (update.target ∷ [])) ≤ PAYLOAD_SECTORS }
+    requires room { PAYLOAD_SECTORS ≤ vec_capacity list.old }
+    requires named_room { PAYLOAD_SECTORS ≤ vec_capacity named.old }
     ensures applied { (image : Image) (n : ℕ) → applied list.new.items image n
         ≡ with (applied list.old.items image) update n }
     ensures targets { targets list.new.items
@@ -83,9 +83,9 @@ pub(crate) fn put(list: &mut Vec<Update>, named: &mut Vec<u32>, update: Update)
 /// Puts updates one after the other.
 pub(crate) fn put_all(list: &mut Vec<Update>, named: &mut Vec<u32>, updates: Vec<Update>)
     requires named_are { named.old.items ≡ targets list.old.items }
-    requires few { length (gathered named.old.items (targets updates.items)) ≤ 96 }
-    requires room { 96 ≤ vec_capacity list.old }
-    requires named_room { 96 ≤ vec_capacity named.old }
+    requires few { length (gathered named.old.items (targets updates.items)) ≤ PAYLOAD_SECTORS }
+    requires room { PAYLOAD_SECTORS ≤ vec_capacity list.old }
+    requires named_room { PAYLOAD_SECTORS ≤ vec_capacity named.old }
     ensures applied { (image : Image) (n : ℕ) → applied list.new.items image n
         ≡ applied updates.items (applied list.old.items image) n }
     ensures targets { targets list.new.items

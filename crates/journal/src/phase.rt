@@ -6,14 +6,14 @@ ghost use Rattle.journal.specs.Layout.{AreTargets, placed, copies, targets};
 ghost use Rattle.journal.specs.Format.{fresh};
 ghost use Rattle.journal.specs.Phase.{AddsUpdates, IsFixedAs, FailsCounted};
 
-use crate::layout::{self, PAYLOAD};
+use crate::layout::{self, FIRST_TARGET, MIN_SECTORS, PAYLOAD, PAYLOAD_SECTORS};
 use crate::list;
 use disk::{Device, DiskFault, SECTOR, Update};
 
 /// Writes the updates' contents to the payload, one after the other.
 pub(crate) fn write_payload<D: Device>(device: &mut D, updates: &[Update]) -> Result<(), DiskFault>
-    requires few { length updates.now ≤ 96 }
-    requires large { 98 ≤ D.size device.old }
+    requires few { length updates.now ≤ PAYLOAD_SECTORS }
+    requires large { FIRST_TARGET ≤ D.size device.old }
     ensures moments { D.keeps_word → AddsUpdates (placed 2 updates.now)
         (D.history device.old) (D.history device.new) }
     ensures ok { D.keeps_word → OnOk result (IsFixedAs (placed 2 updates.now)
@@ -47,9 +47,9 @@ pub(crate) fn write_homes<D: Device>(device: &mut D, updates: &[Update]) -> Resu
 
 /// Copies the payload to its targets.
 pub(crate) fn copy_payload<D: Device>(device: &mut D, targets: &[u32]) -> Result<(), DiskFault>
-    requires few { length targets.now ≤ 96 }
+    requires few { length targets.now ≤ PAYLOAD_SECTORS }
     requires fit { AreTargets (D.size device.old) targets.now }
-    requires large { 98 ≤ D.size device.old }
+    requires large { FIRST_TARGET ≤ D.size device.old }
     ensures moments { D.keeps_word
         → AddsUpdates (copies (seen (D.history device.old).now) 2 targets.now)
         (D.history device.old) (D.history device.new) }
@@ -91,7 +91,7 @@ pub(crate) fn write_sector<D: Device>(
 
 /// Writes every sector but sector 0: what the updates say, and zeros elsewhere.
 pub(crate) fn write_fresh<D: Device>(device: &mut D, updates: &[Update]) -> Result<(), DiskFault>
-    requires { 256 ≤ D.size device.old }
+    requires { MIN_SECTORS ≤ D.size device.old }
     ensures moments { D.keeps_word
         → AddsUpdates (fresh (D.size device.old) updates.now)
         (D.history device.old) (D.history device.new) }

@@ -6,14 +6,15 @@ ghost use Rattle.journal.specs.Layout.{AreTargets, NamesTargets, gate};
 ghost use Rattle.journal.specs.Settled.{SettlesAs};
 ghost use Rattle.journal.specs.Recover.{Recovers, LeavesOnlySynced, IsClosed, WritesNothing, FaultsCounted};
 
+use crate::layout::{MIN_SECTORS, PAYLOAD_SECTORS};
 use crate::{JournalFault, commit, gate, layout};
 use disk::{Device, DiskFault, SECTOR};
 
 /// Syncs, since contents of an earlier run may still be unsynced, and then copies an open gate's
 /// payload home. Where that went well, `named` is left empty, with the room that it had.
 pub(crate) fn recover<D: Device>(device: &mut D, named: &mut Vec<u32>) -> Result<(), JournalFault>
-    requires large { 256 ≤ D.size device.old }
-    requires room { 96 ≤ vec_capacity named.old }
+    requires large { MIN_SECTORS ≤ D.size device.old }
+    requires room { PAYLOAD_SECTORS ≤ vec_capacity named.old }
     ensures moments { D.keeps_word
         → AddsOnly (SettlesAs (D.size device.old) (seen (D.history device.old).now))
         (D.history device.old) (D.history device.new) }
@@ -45,9 +46,9 @@ pub(crate) fn recover<D: Device>(device: &mut D, named: &mut Vec<u32>) -> Result
 
 /// Reads the gate: where it has a form, `named` holds what it names.
 pub(crate) fn read_gate<D: Device>(device: &mut D, named: &mut Vec<u32>) -> Result<(), JournalFault>
-    requires large { 256 ≤ D.size device.old }
-    requires room { 96 ≤ vec_capacity named.old }
-    ensures few { OnOk result (length named.new.items ≤ 96) }
+    requires large { MIN_SECTORS ≤ D.size device.old }
+    requires room { PAYLOAD_SECTORS ≤ vec_capacity named.old }
+    ensures few { OnOk result (length named.new.items ≤ PAYLOAD_SECTORS) }
     ensures fit { OnOk result (AreTargets (D.size device.old) named.new.items) }
     ensures gate_is { D.keeps_word
         → OnOk result (seen (D.history device.old).now 1 ≡ gate named.new.items) }

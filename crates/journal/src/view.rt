@@ -4,7 +4,7 @@ ghost use Rattle.std.specs.Prelude.{◌≡◌, ◌≤◌, ◌<◌, ◌⊎◌, ta
 ghost use Rattle.journal.specs.Layout.{home};
 
 use crate::JournalFault;
-use crate::layout::{PAYLOAD, PAYLOAD_SECTORS};
+use crate::layout::{FIRST_TARGET, MIN_SECTORS, PAYLOAD, PAYLOAD_SECTORS};
 use disk::{Device, SECTOR};
 
 /// What the journal of a device has in its base, without a mount.
@@ -24,7 +24,7 @@ pub struct View<'a, D: Device> {
 
 /// The targets of a gate, and zeros behind them.
 fn padded(targets: &[u32]) -> [u32; PAYLOAD_SECTORS]
-    requires { length targets.now ≤ 96 }
+    requires { length targets.now ≤ PAYLOAD_SECTORS }
     ensures { take (length targets.now) result ≡ targets.now }
 {
     let mut named = [0; PAYLOAD_SECTORS];
@@ -34,9 +34,9 @@ fn padded(targets: &[u32]) -> [u32; PAYLOAD_SECTORS]
 
 /// Where sector `n` stands, behind a gate that names these targets.
 fn place_of(named: &[u32], n: u32) -> u32
-    requires { length named.now ≤ 96 }
+    requires { length named.now ≤ PAYLOAD_SECTORS }
     ensures place { result ≡ home named.now 2 n }
-    ensures within { (result < 98) ⊎ (result ≡ n) }
+    ensures within { (result < FIRST_TARGET) ⊎ (result ≡ n) }
 {
     for (i, target) in named.iter().enumerate() {
         if *target == n {
@@ -55,8 +55,8 @@ impl<'a, D: Device> View<'a, D> {
 
     /// A view of a device behind a gate of these targets.
     pub(crate) fn new(device: &'a mut D, targets: &[u32]) -> View<'a, D>
-        requires large { 256 ≤ D.size device.old }
-        requires few { length targets.now ≤ 96 }
+        requires large { MIN_SECTORS ≤ D.size device.old }
+        requires few { length targets.now ≤ PAYLOAD_SECTORS }
         ensures view { view_of result
             ≡ viewed targets.now (D.size device.old) (D.history device.old) }
         ensures failures { view_failures result ≡ D.failed device.old }
