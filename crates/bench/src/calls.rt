@@ -32,7 +32,7 @@ const CHANNEL: Channel = Channel {
 /// The attributes that GETATTR asks for: type, change, size, fsid and fileid; mode, links, owner, group, space and times.
 pub const ASKED: [u32; 2] = [0x0010_011a, 0x0030_a03a];
 
-/// Calls of one kind, each behind a SEQUENCE and a PUTFH.
+/// Calls of one kind, each after a SEQUENCE and a PUTFH.
 #[derive(Clone, Copy, Debug)]
 pub enum Kind {
     /// WRITE of 8,192 bytes.
@@ -41,7 +41,7 @@ pub enum Kind {
     GetAttr,
 }
 
-/// Records, one behind the other.
+/// Records, one after the other.
 #[derive(Drop)]
 pub struct Stream {
     pub bytes: Vec<u8>,

@@ -65,7 +65,7 @@ pub fn reply_of(alloc: Global, xid: u32, outcome: &Outcome<'_>) -> Result<Vec<u8
     write_record(Writer::new(alloc), xid, &[], 1, results.as_slice())
 }
 
-/// The record of a reply with so many results, behind the bytes of `out`.
+/// The record of a reply with so many results, after the bytes of `out`.
 fn write_record<'a>(
     out: Writer,
     xid: u32,

@@ -59,7 +59,7 @@ module _ (index : Keyed ℕ) (above : IsAbove 0 index) (number : ℕ) where
     ]);
   }
 
--- a key above all others stands behind the last
+-- a key above all others stands after the last
 
 pub with-last : (entries : Keyed ℕ) (least key value : ℕ) → IsAbove least entries → ((k v : ℕ) → at k entries ≡ Some v → k < key) → with entries key value ≡ entries ++ (key, value) ∷ []
 with-last [] least key value above below = refl

@@ -15,7 +15,7 @@ use std::marker::Model;
 /// A card, or none, at each place of a volume's node table. Contracts see their list.
 ///
 /// Finding a number takes one step for each doubling of the table. A node that is made or replaced
-/// changes one place of each list; of the numbers behind one that is removed each moves.
+/// changes one place of each list; of the numbers after one that is removed each moves.
 #[derive(Drop)]
 pub struct Table {
     cards: Vec<Option<Card>>,

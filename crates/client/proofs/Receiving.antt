@@ -102,7 +102,7 @@ is_whole old mid new size count header is_last before room body h reads small fe
       long = long;
     }
 
--- One after the other: what is gathered stands in the room, behind the place of a header
+-- One after the other: what is gathered stands in the room, after the place of a header
 
 abbrev pub gathered_in : (room : List ℕ) → (size fragments : ℕ) → Gathered
 gathered_in room size fragments = record { bytes = take size (drop 4 room); fragments = fragments }
@@ -153,7 +153,7 @@ refused old now new size fragments room after g f =
       long = f.long ∙ g.long;
     }
 
--- the front of the room, behind the place of a header
+-- the front of the room, after the place of a header
 front_of : (size : ℕ) (room : List ℕ) → take size (drop 4 room) ≡ drop 4 (take (4 + size) room)
 front_of size room = sym (drop-take 4 size room)
 

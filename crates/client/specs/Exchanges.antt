@@ -20,7 +20,7 @@ reply_in client (Refused fault) = NoReply
 reply_in client (Whole bytes rest) = reply_to client (framed bytes)
 
 -- What the bytes read tell: Io while they are no whole record, Garbled where a header is refused, and else what `reply` answers of the
--- record, behind which nothing is read.
+-- record, after which nothing is read.
 abbrev pub Tells : Client → Front → Result (Vec Outcome) ClientFault → Type 0
 Tells client Partial r = r ≡ Err faults.Io
 Tells client (Refused fault) r = r ≡ Err faults.Garbled

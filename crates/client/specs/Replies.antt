@@ -54,7 +54,7 @@ abbrev pub gives_by : List Outcome → (code : ℕ) → Option Status → ReplyR
 gives_by results code None = NoReply
 gives_by results code (Some last) = if code_of last == code then Gives results last else NoReply
 
--- behind an accepted reply's head: nothing may follow the results
+-- after an accepted reply's head: nothing may follow the results
 abbrev pub result_by : (tag operations : List ℕ) → Result ((ℕ × (List ℕ × List Outcome)) × List ℕ) Refusal → ReplyRead
 result_by tag operations (Err fault) = NoReply
 result_by tag operations (Ok read) =
@@ -82,7 +82,7 @@ abbrev pub message_by : (tag : List ℕ) → Sent → Option (List ℕ) → Repl
 message_by tag sent None = NoReply
 message_by tag sent (Some message) = reply_by tag sent (told_by (read_reply message))
 
--- the bytes behind the header of a record of one fragment
+-- the bytes after the header of a record of one fragment
 abbrev pub behind_header : Result (ℕ × List ℕ) Refusal → Option (List ℕ)
 behind_header (Err fault) = None
 behind_header (Ok read) = if read.0 == 2 ^ 31 + length read.1 then Some read.1 else None
@@ -161,7 +161,7 @@ replied_sent client sent NoReply = client
 replied_sent client sent Rejects = record client { sent = Some (answered_sent sent) }
 replied_sent client sent (Gives results last) = with_results client sent results
 
--- the client behind a reply to its record
+-- the client after a reply to its record
 abbrev pub replied_by : Client → Option Sent → ReplyRead → Client
 replied_by client None read = client
 replied_by client (Some sent) read = replied_sent client sent read

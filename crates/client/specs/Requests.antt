@@ -1,4 +1,4 @@
--- What a client sends: a COMPOUND of minor version 1 in one record, behind a SEQUENCE where it needs one.
+-- What a client sends: a COMPOUND of minor version 1 in one record, after a SEQUENCE where it needs one.
 use Rattle.std.specs.Prelude.{ℕ, ◌+◌, ◌%◌, ◌^◌, Bool, true, false, not, List, [], ◌∷◌, ◌++◌, map, length, Option, None, Some, if◌then◌else◌}
 use Rattle.std.specs.List.{flat_map}
 use Rattle.std.specs.Option.{option_map}

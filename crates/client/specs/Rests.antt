@@ -1,4 +1,4 @@
--- What is spelled behind the first fields of longer forms.
+-- What is spelled after the first fields of longer forms.
 use Rattle.std.specs.Prelude.{ℕ, Option, None, Some, List, [], ◌∷◌, ◌++◌}
 use Rattle.std.specs.Int.{w32}
 use Rattle.xdr.specs.Grammar.{number}
@@ -11,7 +11,7 @@ use Rattle.wire.specs.declared.argument.Argument.{Argument}
 use Rattle.client.specs.declared.sent.Session.{Session}
 use Rattle.wire.specs.ArgumentView.{argument_view}
 
--- behind the machine's name
+-- after the machine's name
 abbrev pub ids_text : Cred → List ℕ
 ids_text cred = number w32 cred.uid ++ (number w32 cred.gid ++ elements (λ n. number w32 n) cred.gids)
 
@@ -19,7 +19,7 @@ ids_text cred = number w32 cred.uid ++ (number w32 cred.gid ++ elements (λ n. n
 abbrev pub auths_text : (credential : List ℕ) → List ℕ
 auths_text credential = opaque_auth.spelling (1, credential) ++ opaque_auth.spelling (0, [])
 
--- behind the version of RPC
+-- after the version of RPC
 abbrev pub procedure_text : (credential : List ℕ) → List ℕ
 procedure_text credential = number w32 100003 ++ (number w32 4 ++ (number w32 1 ++ auths_text credential))
 

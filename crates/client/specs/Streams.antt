@@ -41,7 +41,7 @@ pub record ReadsHeader (old new : Option (List ℕ)) (header : Option ℕ) : Typ
   pub reads : Consumes old new read
   pub is : IsHeader read header
 
--- what the bytes read are, behind fragments that hold so many bytes; what the fragment holds stands in the room behind theirs
+-- what the bytes read are, after fragments that hold so many bytes; what the fragment holds stands in the room after theirs
 abbrev pub IsFetched : (size : ℕ) → (read room : List ℕ) → Gathered → Fetched → Type 0
 IsFetched size read room gathered fetched.Ended = fragment record_limits gathered read ≡ spec.Waits
 IsFetched size read room gathered fetched.Refused =
@@ -57,7 +57,7 @@ pub record Fetches (old new : Option (List ℕ)) (size fragments : ℕ) (before 
   pub front : take (4 + size) room ≡ take (4 + size) before
   pub long : length room ≡ length before
 
--- what the bytes read are: the whole record stands in the room behind the place of its header
+-- what the bytes read are: the whole record stands in the room after the place of its header
 abbrev pub IsReceived : (read room : List ℕ) → Received → Type 0
 IsReceived read room received.Ended = front record_limits read ≡ Partial
 IsReceived read room received.Refused = (fault : spec.RecordFault) × (front record_limits read ≡ Refused fault)

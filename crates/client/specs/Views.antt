@@ -111,7 +111,7 @@ Refuses (replies.Gives results last) e = (last ≢ status.Ok) × IsStatus result
 abbrev pub Answers : replies.ReplyRead → List answers.Outcome → Type 0
 Answers read results = read ≡ replies.Gives results status.Ok
 
--- what the client knows behind a call of `reply`: all that the reply tells, but where there was no memory for it
+-- what the client knows after a call of `reply`: all that the reply tells, but where there was no memory for it
 abbrev pub known : spec.Client → replies.ReplyRead → Result (Vec Outcome) ClientFault → spec.Client
 known client read (Ok results) = replies.replied client read
 known client read (Err faults.Memory) = client

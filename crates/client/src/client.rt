@@ -79,7 +79,7 @@ impl Client {
         })
     }
 
-    /// Makes the record of these operations, behind a SEQUENCE on slot 0 unless they are EXCHANGE_ID, CREATE_SESSION,
+    /// Makes the record of these operations, after a SEQUENCE on slot 0 unless they are EXCHANGE_ID, CREATE_SESSION,
     /// DESTROY_SESSION or DESTROY_CLIENTID alone. The client keeps it, and `retry` gives it.
     ///
     /// `Pending` while a record waits for its reply, and where there is no session yet that the operations need.

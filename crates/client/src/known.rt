@@ -32,7 +32,7 @@ pub(crate) fn is_delayed(results: &[Outcome<'_>]) -> bool
     }
 }
 
-/// The session behind one result.
+/// The session after one result.
 fn session_behind(session: Option<Session>, one: &Outcome<'_>) -> Option<Session>
     ensures { option_map session_of result
         ≡ session_behind (option_map session_of session) (outcome_view one.now) }
@@ -68,7 +68,7 @@ fn session_behind_all(session: Option<Session>, results: &[Outcome<'_>]) -> Opti
     session
 }
 
-/// The session and the record behind results.
+/// The session and the record after results.
 pub(crate) fn learn(
     session: Option<Session>,
     sent: Option<Sent>,

@@ -41,7 +41,7 @@ pub enum Received {
     Whole(usize),
 }
 
-/// Writes a record as it is, and reads the record of its reply, handed out behind the header of one fragment.
+/// Writes a record as it is, and reads the record of its reply, handed out after the header of one fragment.
 ///
 /// `Memory` where there is none for the reply: then nothing is written. `Io` where the writer failed, or the reader failed
 /// or ended before the record was whole; `Garbled` where it has more than 16,384 bytes or 64 fragments.
@@ -83,7 +83,7 @@ fn put_header(room: &mut [u8], size: usize)
     room[..HEADER_BYTES].copy_from_slice(&header.to_be_bytes());
 }
 
-/// Reads a record into the room, behind the place of its header.
+/// Reads a record into the room, after the place of its header.
 fn receive<R: Read>(reader: &mut R, room: &mut [u8]) -> Received
     requires { length room.old ≡ 16388 }
     ensures { Receives (R.remaining reader.old) (R.remaining reader.new) room.new result }
@@ -105,7 +105,7 @@ fn receive<R: Read>(reader: &mut R, room: &mut [u8]) -> Received
     }
 }
 
-/// Reads a fragment into the room, behind so many bytes of the fragments before.
+/// Reads a fragment into the room, after so many bytes of the fragments before.
 fn fetch<R: Read>(reader: &mut R, room: &mut [u8], size: usize, fragments: usize) -> Fetched
     requires room { length room.old ≡ 16388 }
     requires small { size ≤ 16384 }

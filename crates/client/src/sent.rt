@@ -60,7 +60,7 @@ fn stands_alone(operation: Operation) -> bool
     }
 }
 
-/// The record of these operations, behind the SEQUENCE of a session where there is one. It has less than 2^31 bytes.
+/// The record of these operations, after the SEQUENCE of a session where there is one. It has less than 2^31 bytes.
 #[tactic(auto, unfolding(crate::specs::Requests::record_text))]
 pub(crate) fn make_record(
     alloc: Global,
@@ -136,7 +136,7 @@ fn write_sequence(w: &mut Writer, session: Session) -> Result<(), Refusal>
     Ok(())
 }
 
-/// The numbers of operations, perhaps behind that of SEQUENCE.
+/// The numbers of operations, perhaps after that of SEQUENCE.
 fn numbers_of(
     alloc: Global,
     session: Option<Session>,

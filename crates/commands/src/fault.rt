@@ -18,7 +18,7 @@ pub enum Fault {
     /// A step has no form.
     #[error("not a step")]
     Step,
-    /// Behind `\` there are no two hexadecimal digits.
+    /// After `\` there are no two hexadecimal digits.
     #[error("no two hexadecimal digits")]
     Escape,
 }

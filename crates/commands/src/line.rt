@@ -13,7 +13,7 @@ pub enum Line<'a> {
     Text { stream: Stream, text: &'a str },
     /// The line of text above goes on.
     More(&'a str),
-    /// A step, by its verb and the words behind it.
+    /// A step, by its verb and the words after it.
     Step { verb: &'a str, words: &'a str },
 }
 

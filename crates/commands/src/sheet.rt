@@ -74,7 +74,7 @@ impl<'a> Sheet<'a> {
         }
     }
 
-    /// Puts a step behind those of the last case.
+    /// Puts a step after those of the last case.
     fn add_step(
         &mut self,
         alloc: Global,

@@ -139,7 +139,7 @@ module _ (now : ℕ) (fs : FileSystem) (request : InProgress) (kind : Argument)
         (room_of table opens world rest on size.0 size.2 ∙ none) (done state there on.opens)
         ∙ ap (λ (after : World). refuses after (with_rest request rest) (operation_of kind) status.RepTooBig) (sym (state_same world (shared fs table opens) on))))
 
-    -- with room the tree behind it is that of the definition
+    -- with room the tree after it is that of the definition
     pub tree_given : (table : Table) (opens : Opens) (world : World) (rest : List ℕ) → room ≡ true → HasState world (shared fs table opens)
         → tree_by world (run_in_room world (with_rest request rest) now kind) ≡ (does fs.volume.limits (state_of world (with_rest request rest)) now kind).state.tree
     unfolding does

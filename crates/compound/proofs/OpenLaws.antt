@@ -39,7 +39,7 @@ module _ (limits : Limits) (state : State) (now : ℕ) where
       ap (λ (first : Option Status). unless_refused state (Argument.Open arguments) first (effect limits state now (Argument.Open arguments)))
       (behind_some (not (has_current state.context)) (not (is_key (current state) state.tree)) reason _ is)
 
-  -- behind them, it is not served
+  -- after them, it is not served
   pub refused_opening : (seqid access deny client : ℕ) (owner : List ℕ) (opening : Opening) → current_refusal state ≡ None
       → first_refusal (opening_refusals opening) ≡ Some status.NotSupp
       → does limits state now (Argument.Open (record { seqid = seqid; access = access; deny = deny; client = client; owner = owner; opening = opening }))

@@ -27,7 +27,7 @@ fits_more asked progress fit = ltb-true progress.answered asked.compound.count (
     first_true true b is = refl
     first_true false b is = is
 
--- behind an OK result that is not the last one the COMPOUND goes on
+-- after an OK result that is not the last one the COMPOUND goes on
 pub goes_on : (table : Table) (asked : Asked) (request : InProgress) (answer : Answer) (progress : Progress) → is_last request ≡ false
     → resumed asked progress ≡ with_result request (Done answer) → StandsBehind table table asked request (Done answer) (stepped.Ran progress)
 goes_on table asked request answer progress more pushed = λ world number executed here. rw (more, ← pushed, ← here) (refl, refl)

@@ -14,7 +14,7 @@ use Rattle.compound.specs.declared.operated.Effect.TheVariants as effect
 use Rattle.compound.specs.declared.step.Stepped.{Stepped}
 use Rattle.compound.specs.declared.step.Stepped.TheVariants as stepped
 
--- what an operation leaves does not touch the bytes behind it
+-- what an operation leaves does not touch the bytes after it
 pub left_rest : (left : Effect) (request : InProgress) (rest : List ℕ) → left_by left (with_rest request rest) ≡ with_rest (left_by left request) rest
 left_rest effect.Stays request rest = refl
 left_rest (effect.Moves number) request rest = refl

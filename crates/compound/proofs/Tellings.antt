@@ -108,7 +108,7 @@ pub can_spell : (request : InProgress) (result : Told) → CanBeTold request res
 can_spell request (told.Whole outcome) can = can.fits
 can_spell request (told.Spelled operation values) can = tt
 
--- Behind an OK result that is not the last one the COMPOUND goes on
+-- After an OK result that is not the last one the COMPOUND goes on
 
 goes_on_by : (table : Table) (asked : Asked) (request : InProgress) (outcome : Outcome) (progress : Progress) → is_done outcome ≡ true → is_last request ≡ false
     → resumed asked progress ≡ with_result request outcome → StandsBehind table table asked request outcome (stepped.Ran progress)

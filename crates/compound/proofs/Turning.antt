@@ -47,7 +47,7 @@ turns_read now old new request operation rest (operated.Replays slot) next ran =
   λ world number served. read_turn world number now request operation rest _ next (ran.3 world rest served),
 )
 
--- The tree behind a turn
+-- The tree after a turn
 
 either : (test : Bool) (one other : Turned) (tree : Tree) → one.world.tree ≡ tree → other.world.tree ≡ tree
     → (if test then one else other).world.tree ≡ tree

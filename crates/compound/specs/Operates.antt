@@ -39,24 +39,24 @@ left_by (effect.Joins slot client) request = record request { context = record r
 abbrev pub run_in_room : World → InProgress → (now : ℕ) → Argument → HasRun
 run_in_room world request now operation = in_room world request (operation_of operation) (run world request now operation)
 
--- in each such world, whatever stands behind it, the operation comes to this, before its room is tested
+-- in each such world, whatever follows it, the operation comes to this, before its room is tested
 abbrev pub RunsTo : (now : ℕ) → (old new : SharedState) → (request left : InProgress) → Argument → model.Outcome → Type 0
 RunsTo now old new request left operation outcome =
     (world : World) (rest : List ℕ) → HasState world old
     → run world (with_rest request rest) now operation ≡ turns.Gives outcome (with_state world new) (with_rest left rest)
 
--- in each such world, whatever stands behind it, the operation gives this
+-- in each such world, whatever follows it, the operation gives this
 abbrev pub GivesIn : (now : ℕ) → (old new : SharedState) → (request left : InProgress) → Argument → model.Outcome → Type 0
 GivesIn now old new request left operation outcome =
     (world : World) (rest : List ℕ) → HasState world old
     → run_in_room world (with_rest request rest) now operation
     ≡ turns.Gives outcome (with_state world new) (with_rest left rest)
 
--- a result's number, the status OK, and these values behind it
+-- a result's number, the status OK, and these values after it
 abbrev pub spelled_text : (operation : ℕ) → (values : List ℕ) → List ℕ
 spelled_text operation values = number w32 operation ++ (number w32 0 ++ values)
 
--- this answer of the operation is spelled so behind its status
+-- this answer of the operation is spelled so after its status
 pub record Spells (operation : ℕ) (values : List ℕ) (answer : model.Answer) : Type 0 where
   pub number_is : (answers.answer_told answer).number ≡ operation
   pub values_are : (answers.answer_told answer).text ≡ values
@@ -97,17 +97,17 @@ abbrev pub ChangesOpens : (old new : FileSystem) → (before after : Opens) → 
 ChangesOpens old new before after now request operation done = (table : Table)
     → Operates now (shared old table before) (shared new table after) request operation done
 
--- the tree behind it
+-- the tree after it
 abbrev pub tree_by : World → HasRun → Tree
 tree_by world (turns.Gives outcome after left) = after.tree
 tree_by world (turns.Replays reply session slot) = world.tree
 
--- an OK result has room in the reply, whatever stands behind the operation
+-- an OK result has room in the reply, whatever follows the operation
 abbrev pub HasRoom : InProgress → model.Outcome → Type 0
 HasRoom request (model.Done answer) = length (reply_with request (model.Done answer)) ≤ 16368
 HasRoom request (model.Refused operation reason) = ⊤
 
--- a reply has room for these bytes behind the results so far
+-- a reply has room for these bytes after the results so far
 abbrev pub HasRoomFor : InProgress → (text : List ℕ) → Type 0
 HasRoomFor request text = 32 + length (counted request.tag) + length request.results + length text ≤ 16368
 

@@ -15,7 +15,7 @@ abbrev pub turn_by : Stepped → Turn
 turn_by (stepped.Ran progress) = world.Ran
 turn_by (stepped.Answered reply) = world.Answered
 
--- the connection of this COMPOUND behind a step
+-- the connection of this COMPOUND after a step
 abbrev pub connection_by : Asked → Stepped → Connection
 connection_by asked (stepped.Ran progress) = Busy (resumed asked progress)
 connection_by asked (stepped.Answered reply) = Replied reply.items
@@ -37,7 +37,7 @@ abbrev pub GoesFurther : InProgress → Stepped → Type 0
 GoesFurther request (stepped.Ran progress) = progress.answered ≡ request.answered + 1
 GoesFurther request (stepped.Answered reply) = Unit {0}
 
--- the COMPOUND can be resumed behind a step
+-- the COMPOUND can be resumed after a step
 abbrev pub still_fits : Asked → Stepped → Bool
 still_fits asked (stepped.Ran progress) = fits asked progress
 still_fits asked (stepped.Answered reply) = true

@@ -42,7 +42,7 @@ abbrev pub CanBeTold : InProgress → Told → Type 0
 CanBeTold request (told.Whole outcome) = IsSpelled request (outcome_view outcome.now)
 CanBeTold request (told.Spelled operation values) = HasRoomFor request (spelled_text (number_of operation) values.now)
 
--- the request behind it
+-- the request after it
 abbrev pub with_told : InProgress → Told → InProgress
 with_told request result = record request { answered = request.answered + 1; results = request.results ++ told_text result }
 

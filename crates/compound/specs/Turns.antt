@@ -1,4 +1,4 @@
--- How a turn is made of an operation that ran, and of what stands behind its result.
+-- How a turn is made of an operation that ran, and of what follows its result.
 use Rattle.std.specs.Prelude.{◌≡◌, ℕ, List, Option, Some, None}
 use Rattle.model.specs.Answer as model
 use Rattle.model.specs.Record.{framed}
@@ -28,7 +28,7 @@ repeated world number request reply session slot = record {
   replays = Some (session, slot);
 }
 
--- on each connection of each such world, a turn of the request comes to this result, behind which it is left so
+-- on each connection of each such world, a turn of the request comes to this result, after which it is left so
 abbrev pub TurnsTo : (now : ℕ) → (old new : SharedState) → (request left : InProgress) → model.Outcome → Type 0
 TurnsTo now old new request left outcome =
     (world : World) (number : ℕ) → HasState world old

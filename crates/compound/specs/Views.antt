@@ -79,12 +79,12 @@ abbrev pub next_view : (operations : List ℕ) → Next → world.Next
 next_view operations (nexts.Refuses operation status) = world.Refuses operation status
 next_view operations (nexts.Reads argument position) = world.Reads (argument_view argument) (drop position operations)
 
--- the first test that holds, or what comes behind all of them
+-- the first test that holds, or what comes after all of them
 abbrev pub refused_or : Option (ℕ × Status) → world.Next → world.Next
 refused_or None next = next
 refused_or (Some refusal) next = world.Refuses refusal.0 refusal.1
 
--- what stands behind the operation is some of these bytes
+-- what follows the operation is some of these bytes
 abbrev pub IsWithin : (operations : List ℕ) → Next → Type 0
 IsWithin operations (nexts.Refuses operation status) = Unit {0}
 IsWithin operations (nexts.Reads argument position) = position ≤ length operations

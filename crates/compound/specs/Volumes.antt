@@ -39,7 +39,7 @@ abbrev pub executed_by : World → InProgress → Argument → HasRun → Option
 executed_by world request operation (turns.Gives outcome after left) = Some (entry_of world request operation outcome after)
 executed_by world request operation (turns.Replays reply session slot) = None
 
--- in some world that has this, whatever stands behind the operation, it leaves this tree, and has to last or not
+-- in some world that has this, whatever follows the operation, it leaves this tree, and has to last or not
 pub record OperationGives (state : SharedState) (request : InProgress) (now : ℕ) (operation : Argument) (after : Tree) (lasting : Bool) : Type 0 where
   pub world : World
   pub rest : List ℕ

@@ -65,7 +65,7 @@ impl Running<'_> {
         }
     }
 
-    /// The serial of the open that ends, behind all tests but that of the room of the reply.
+    /// The serial of the open that ends, after all tests but that of the room of the reply.
     fn open_to_close<D: Device>(
         &self,
         fs: &Fs<D>,

@@ -31,7 +31,7 @@ impl Running<'_> {
     ghost use Rattle.compound.specs.Views.{in_progress_of};
     ghost use Rattle.compound.specs.declared.fault.Fault.TheVariants.{Memory};
 
-    /// READDIR: a page of the current directory, of the entries behind a cookie.
+    /// READDIR: a page of the current directory, of the entries after a cookie.
     pub(crate) fn list<D: Device>(
         &self,
         fs: &Fs<D>,

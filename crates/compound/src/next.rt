@@ -59,7 +59,7 @@ pub enum Next<'a> {
         operation: u32,
         status: Status,
     },
-    /// It runs; behind it stand the bytes from this position on.
+    /// It runs; after it come the bytes from this position on.
     Reads {
         argument: Argument<'a>,
         position: usize,
@@ -83,7 +83,7 @@ impl Running<'_> {
     ///
     /// In this order: an operation's number that is not there whole answers BADXDR, and one outside 3 to 58 OP_ILLEGAL, both
     /// under result number 10044; as the first operation OP_NOT_IN_SESSION and NOT_ONLY_OP, as a later one NOTSUPP and
-    /// SEQUENCE_POS; arguments that cannot be read, and bytes behind the last operation, BADXDR.
+    /// SEQUENCE_POS; arguments that cannot be read, and bytes after the last operation, BADXDR.
     #[tactic(auto, unfolding(crate::specs::Views::in_progress_of, model::specs::World::next_operation))]
     pub fn next_operation(&self, alloc: Global) -> Result<Next<'_>, Fault>
         ensures ok { IfOk result (λ next.
@@ -134,7 +134,7 @@ impl Running<'_> {
         Ok(Next::Reads { argument, position })
     }
 
-    /// Whether bytes stand behind the arguments of the last operation, where they are looked at.
+    /// Whether bytes follow the arguments of the last operation, where they are looked at.
     fn has_too_much(&self, argument: &Argument<'_>, rest: &[u8]) -> bool
         ensures { result ≡ is_last (in_progress_of self.now)
             && (not (looks_no_further (argument_view argument.now)) && not (is_empty rest.now)) }
@@ -150,7 +150,7 @@ impl Running<'_> {
         self.compound.count - self.progress.answered == 1
     }
 
-    /// Goes on behind an operation, to the bytes from this position on.
+    /// Goes on after an operation, to the bytes from this position on.
     #[tactic(auto, unfolding(crate::specs::Views::in_progress_of))]
     pub fn advance(&mut self, position: usize)
         requires { position ≤ length self.old.compound.operations.now }
@@ -240,7 +240,7 @@ fn is_one_of(operations: &[Operation], number: u32) -> bool
     operations.iter().any(|known| known.number() == number)
 }
 
-/// Whether what stands behind the arguments is not looked at.
+/// Whether what follows the arguments is not looked at.
 fn looks_no_further(argument: &Argument<'_>) -> bool
     ensures { result ≡ looks_no_further (argument_view argument.now) }
 {

@@ -30,7 +30,7 @@ pub enum Operated {
         outcome: Outcome<'static>,
         effect: Effect,
     },
-    /// An OK result, spelled: the values behind its status. Nothing changes.
+    /// An OK result, spelled: the values after its status. Nothing changes.
     GivesSpelled {
         operation: Operation,
         values: Vec<u8>,

@@ -22,7 +22,7 @@ const FRONT: usize = 8;
 /// The most bytes of a file that room is taken for: as many as one READ gives.
 const PART_BYTES: usize = 8_192;
 
-/// The most zero bytes behind those of the file.
+/// The most zero bytes after those of the file.
 const MAX_PAD: usize = 3;
 
 impl Running<'_> {
@@ -84,7 +84,7 @@ fn room_for(alloc: Global, count: u32) -> Result<Vec<u8>, Fault>
     Ok(values)
 }
 
-/// Writes what stands before the bytes of the file, and the zeros behind them.
+/// Writes what stands before the bytes of the file, and the zeros after them.
 fn finish(values: &mut Vec<u8>, is_end: bool) -> Result<(), Fault>
     ensures ok { OnOk result ((front part : List ℕ) → values.old.items ≡ front ++ part
         → length front ≡ 8 → length part < 2 ^ 32
@@ -117,7 +117,7 @@ fn put_front(values: &mut [u8], front: &[u8; 8])
     }
 }
 
-/// Zeros behind this many bytes.
+/// Zeros after this many bytes.
 fn pad(values: &mut Vec<u8>, len: usize) -> Result<(), Fault>
     ensures ok { OnOk result (values.new.items
         ≡ values.old.items ++ replicate (padding len) 0) }

@@ -160,7 +160,7 @@ impl Progress {
     ghost use Rattle.compound.specs.Told.{CanBeSpelled, told_text, with_told};
     ghost use Rattle.compound.specs.Views.{Asked, resumed};
 
-    /// With one result more, behind those so far.
+    /// With one result more, after those so far.
     pub(crate) fn with_result(self, told: Told<'_>) -> Progress
         requires spelled { CanBeSpelled told }
         requires more { self.answered + 1 < 2 ^ 32 }

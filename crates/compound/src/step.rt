@@ -183,7 +183,7 @@ impl Running<'_> {
         });
     }
 
-    /// The COMPOUND behind this result: it goes on, or the reply is there, since this result is the last one or not OK.
+    /// The COMPOUND after this result: it goes on, or the reply is there, since this result is the last one or not OK.
     fn answer(self, table: &mut Table, told: Told<'_>) -> Stepped
         requires { CanBeTold (in_progress_of self) told }
         ensures stands { (outcome : model.Outcome) → Tells told.entry outcome
@@ -214,7 +214,7 @@ fn refused(operation: u32, status: Status) -> Operated
 /// An operation that ran, or was refused before.
 #[derive(Drop)]
 struct Ran {
-    /// Where the bytes behind it begin.
+    /// Where the bytes after it begin.
     position: usize,
     done: Operated,
 }

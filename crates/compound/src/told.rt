@@ -8,7 +8,7 @@ use xdr::{Refusal, Writer};
 #[derive(Clone, Copy)]
 pub(crate) enum Told<'a> {
     Whole(&'a Outcome<'static>),
-    /// An OK result, of which the values behind the status are spelled already.
+    /// An OK result, of which the values after the status are spelled already.
     Spelled {
         operation: Operation,
         values: &'a [u8],
@@ -36,7 +36,7 @@ impl Told<'_> {
         }
     }
 
-    /// It is spelled behind other results.
+    /// It is spelled after other results.
     pub(crate) fn write(&self, results: Writer) -> Writer
         requires spelled { CanBeSpelled self.now }
         requires room { length results.bytes + length (told_text self.now) ≤ results.capacity }
@@ -100,7 +100,7 @@ fn write_front(w: &mut Writer, operation: Operation) -> Result<(), Refusal>
     w.write_u32(0)
 }
 
-/// The bytes that were written, and others behind them as they are.
+/// The bytes that were written, and others after them as they are.
 fn append(front: Writer, values: &[u8]) -> Writer
     requires { length front.bytes + length values.now ≤ front.capacity }
     ensures bytes { result.bytes ≡ front.bytes ++ values.now }

@@ -54,7 +54,7 @@ pub enum Answer {
     Refused(ServerFault),
 }
 
-/// Bytes, shown as words of four bytes in hex, each behind a blank. Replies are whole words.
+/// Bytes, shown as words of four bytes in hex, each after a blank. Replies are whole words.
 #[derive(Debug, Drop)]
 pub struct Words(pub Vec<u8>);
 

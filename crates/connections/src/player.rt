@@ -113,7 +113,7 @@ fn fed(server: &mut Server<MemDevice>, connection: usize, piece: &[u8]) -> Answe
     }
 }
 
-/// Hands in a record byte by byte, each behind a turn that is idle.
+/// Hands in a record byte by byte, each after a turn that is idle.
 fn drip(
     server: &mut Server<MemDevice>,
     connection: usize,

@@ -14,7 +14,7 @@ const LAST_FRAGMENT: u32 = 0x8000_0000;
 pub enum Part {
     /// A number of four bytes, so many times.
     Word { number: u32, times: u16 },
-    /// `<length>`: the header of a last fragment, of all that is behind it.
+    /// `<length>`: the header of a last fragment, of all that follows it.
     Length,
     /// `<number>`: how many of the row's steps so far are `tries`.
     Number,
@@ -67,7 +67,7 @@ impl<'a> Records<'a> {
         Ok(())
     }
 
-    /// Puts words behind those of the last record.
+    /// Puts words after those of the last record.
     pub fn extend(&mut self, words: &str) -> Result<(), Fault> {
         let Some(record) = self.records.last_mut() else {
             return Err(Fault::Line);
@@ -176,7 +176,7 @@ fn repeat(bytes: &mut Vec<u8>, number: u32, times: u16) -> Result<(), AllocError
     Ok(())
 }
 
-/// Makes the first four bytes the header of a last fragment, of all that is behind them.
+/// Makes the first four bytes the header of a last fragment, of all that follows them.
 fn set_header(record: &mut [u8]) {
     let length = u32::try_from(record.len().saturating_sub(HEADER)).unwrap_or(u32::MAX);
     let header = (LAST_FRAGMENT | length).to_be_bytes();

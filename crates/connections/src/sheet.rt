@@ -79,7 +79,7 @@ impl<'a> Sheet<'a> {
         Ok(())
     }
 
-    /// Puts a step behind those of the last row.
+    /// Puts a step after those of the last row.
     fn add_step(&mut self, alloc: Global, line: u32, words: &str) -> Result<(), Fault> {
         let Some(row) = self.rows.last_mut() else {
             return Err(Fault::Line);

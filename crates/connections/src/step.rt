@@ -13,12 +13,12 @@ pub enum Step {
         connection: usize,
         record: Vec<u8>,
     },
-    /// Hands in a record byte by byte, each behind a turn that is idle.
+    /// Hands in a record byte by byte, each after a turn that is idle.
     Drips {
         connection: usize,
         record: Vec<u8>,
     },
-    /// Runs one operation, behind which more remain.
+    /// Runs one operation, after which more remain.
     Runs {
         connection: usize,
     },

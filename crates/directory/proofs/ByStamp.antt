@@ -1,4 +1,4 @@
--- The map of records by stamp, and what it has behind a cookie.
+-- The map of records by stamp, and what it has after a cookie.
 use Rattle.std.proofs.Common.{ℕ, List, [], ◌∷◌, ◌≡◌, ◌≢◌, ◌<◌, ◌≤◌, ◌∙◌, Some, None, inl, inr, refl, sym, ap, arith, ne_eqb, eq-eqb}
 use Rattle.std.proofs.lemmas.Bool.{cases_order, cases_eq, cases_lt, lt-ltb, le-ltb}
 use Rattle.model.specs.Keyed.{Keyed, at, with, IsAbove}
@@ -48,7 +48,7 @@ pub rising_by_stamp : (records : List Record) → IsRising (by_stamp records)
 rising_by_stamp [] = tt
 rising_by_stamp (entry ∷ rest) = rising_with (by_stamp rest) entry.0 entry.1 (rising_by_stamp rest)
 
--- What is behind a cookie
+-- What comes after a cookie
 
 pub keeps : (cookie : ℕ) (entry : Record) (rest : Keyed DirEntry) → cookie < entry.0 → after cookie (entry ∷ rest) ≡ entry ∷ after cookie rest
 keeps cookie entry rest above = rw (lt-ltb cookie entry.0 above) refl
@@ -100,7 +100,7 @@ after_first cookie key value (entry ∷ rest) rising above is none = elim (cases
 
 -- The record of the least stamp above the cookie
 
--- is the first behind it
+-- is the first after it
 pub first_behind : (cookie : ℕ) (records : List Record) (least : Record) → IsLeast cookie records (Some least)
     → after cookie (by_stamp records) ≡ least ∷ after least.0 (by_stamp records)
 first_behind cookie records least is =

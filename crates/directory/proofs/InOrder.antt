@@ -38,7 +38,7 @@ entry_stands entries place d within =
     stands (map record_of entries) (record { stamp = (get_or entries place d).stamp; place = place }) (record_of d) (omega (arith, length-map entries record_of))
     (sym (ap stamp_of (get_or-map record_of entries place d (record_of d) within)))
 
--- A record behind the last
+-- A record after the last
 
 module _ (order : List Placed) (xs : List Record) (one : Placed) (kept : IsOrder order xs) (behind : one.place ≡ length xs) where
   pub fresh : Contains order one → ⊥
@@ -247,7 +247,7 @@ module _ (order : List Placed) (xs : List Record) (cookie next : ℕ) (kept : Is
     high : cookie < one.stamp
     high = leb-false one.stamp cookie (subst (λ x. leb x.stamp cookie ≡ false) (sym found) (point.1 next one (omega arith) within))
 
-    -- any other one that is above the cookie is behind it
+    -- any other one that is above the cookie comes after it
     others_behind : (other : Placed) → Contains order other → cookie < other.stamp → other ≢ one → is_before one other ≡ true
     others_behind other has up apart =
         let far : next ≤ has.0 = above other has up in

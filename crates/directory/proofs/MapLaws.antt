@@ -153,7 +153,7 @@ module _ {K : Type 0} (key_of : Record → K) (same : K → K → Bool) (same-tr
             λ is. none_has key xs from.from e none from.from_within (sym (ap key_of from.is) ∙ is)) ∙ sym none
         step (Some found) is = stays key d other found (some_stands key xs found d is) ∙ sym is
 
-  -- A record is put in the place of another, or behind the last
+  -- A record is put in the place of another, or after the last
 
   pub set_other : (key : K) (xs : List Record) (p : ℕ) (new d : Record) → p < length xs → key ≢ key_of new → key ≢ key_of (get_or xs p d)
       → first key (set xs p new) ≡ first key xs

@@ -10,7 +10,7 @@ use Rattle.directory.specs.Records.{Record}
 use Rattle.directory.specs.Listing.{by_stamp, after, behind, last_cookie, Page, IsListing, all_shown, EveryPaging}
 use Rattle.directory.proofs.ByStamp.{IsRising, rising_above, rising_by_stamp, after_all, keeps, drops}
 
--- What is behind a cookie is above it, and has what the map has there
+-- What comes after a cookie is above it, and has what the map has there
 
 after_above : (cookie : ℕ) (entries : Keyed DirEntry) → IsRising entries → IsAbove cookie (after cookie entries)
 after_above cookie [] rising = tt
@@ -32,7 +32,7 @@ at_after cookie key (entry ∷ rest) above = elim (cases_lt cookie entry.0) [
       ∙ (at_after cookie key rest above ∙ sym (at-rest entry.0 key entry.1 rest (omega arith)))
 ]
 
--- Entries behind one another
+-- Entries one after another
 
 last_high : (cookie : ℕ) (entries : Keyed DirEntry) → IsAbove cookie entries → cookie ≤ last_cookie cookie entries
 last_high cookie [] above = omega arith
@@ -75,7 +75,7 @@ at_past cookie key (entry ∷ rest) above past =
     let high : entry.0 ≤ last_cookie entry.0 rest = last_high entry.0 rest above.1 in
     at-rest entry.0 key entry.1 rest (omega arith) ∙ at_past entry.0 key rest above.1 past
 
--- an entry of the whole that is not behind the front's last is in the front
+-- an entry of the whole that does not come after the front's last is in the front
 in_front : (cookie key : ℕ) (value : DirEntry) (front rest : Keyed DirEntry) → IsAbove cookie (front ++ rest) → key ≤ last_cookie cookie front
     → at key (front ++ rest) ≡ Some value → at key front ≡ Some value
 in_front cookie key value front rest above low is = step (at key front) refl

@@ -67,7 +67,7 @@ none_in : (found : Option Record) → entry_in found ≡ None → found ≡ None
 none_in None none = refl
 none_in (Some entry) none = absurd (some≢none entry.1 none)
 
--- a name that stands behind the last record is none's
+-- a name that stands after the last record is none's
 pub absent_name : (name : List ℕ) (xs : List Record) → length xs ≤ place_of name xs → entry_of name xs ≡ None
 absent_name name xs past = entry_of-place name xs ∙ slice_get-behind xs (place_of name xs) past
 
@@ -141,7 +141,7 @@ module _ (xs : List Record) (new : Record) (apart : ApartBy name_of xs) where
   abbrev target : ℕ
   target = place_of (name_of new) xs
 
-  -- in the place of its record, or behind the last
+  -- in the place of its record, or after the last
   data Put : Type 0 where
     Replaced : target < length xs → with_record xs new ≡ set xs target new → Put
     Added : length xs ≤ target → with_record xs new ≡ xs ++ new ∷ [] → Put

@@ -26,7 +26,7 @@ pub record RemovesByStamp (old new : List Record) (name : List ℕ) : Type 0 whe
   pub stamped : AreStamped new
   pub entries : by_stamp new ≡ without_entry (by_stamp old) (entry_of name old)
 
--- what is behind a cookie
+-- what comes after a cookie
 abbrev pub after : (cookie : ℕ) → Keyed DirEntry → Keyed DirEntry
 after cookie entries = filter (λ entry. nat_lt cookie entry.0) entries
 
@@ -46,11 +46,11 @@ abbrev pub last_cookie : (cookie : ℕ) → Keyed DirEntry → ℕ
 last_cookie cookie [] = cookie
 last_cookie cookie (entry ∷ rest) = last_cookie entry.0 rest
 
--- a page shows as many of the entries behind the cookie, from the first on, as fit
+-- a page shows as many of the entries after the cookie, from the first on, as fit
 abbrev pub IsPage : (cookie : ℕ) → Page → Type 0
 IsPage cookie page = (rest : Keyed DirEntry) × (behind cookie page ≡ page.shown ++ rest)
 
--- the calls of a listing that begins behind a cookie: each next one goes on behind the last entry shown, and the last one shows
+-- the calls of a listing that begins after a cookie: each next one goes on after the last entry shown, and the last one shows
 -- all that is left
 abbrev pub IsListing : (cookie : ℕ) → List Page → Type 0
 IsListing cookie [] = ⊥

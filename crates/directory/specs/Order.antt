@@ -1,4 +1,4 @@
--- The records of a directory by rising stamp, so that a search finds the next one behind a cookie.
+-- The records of a directory by rising stamp, so that a search finds the next one after a cookie.
 use Rattle.std.specs.Prelude.{◌≡◌, ◌≢◌, ◌<◌, ◌↔◌, ◌⊎◌, ◌==◌, Bool, List, [], ◌∷◌, nat_lt, length, IsTrue, if◌then◌else◌, slice_index_or}
 use Rattle.std.specs.List.{AllByRecursion, Contains}
 use Rattle.directory.specs.declared.order.Placed.{Placed}
@@ -8,7 +8,7 @@ use Rattle.directory.specs.Records.{Record, stamp_of, IsDirectory}
 abbrev pub is_before : Placed → Placed → Bool
 is_before one other = if one.stamp == other.stamp then nat_lt one.place other.place else nat_lt one.stamp other.stamp
 
--- each is before those behind it
+-- each is before those after it
 abbrev pub AreRising : List Placed → Type 0
 AreRising [] = Unit {0}
 AreRising (one ∷ rest) = AllByRecursion (λ other. IsTrue (is_before one other)) rest × AreRising rest

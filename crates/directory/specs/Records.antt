@@ -21,12 +21,12 @@ record_of entry = record_from entry.stamp entry.name.items entry.number
 abbrev pub is_named : List ℕ → Record → Bool
 is_named name entry = bytes_eq name entry.1.name
 
--- where a name stands: behind the last record, where none has it
+-- where a name stands: after the last record, where none has it
 abbrev pub place_of : List ℕ → List Record → ℕ
 place_of name [] = 0
 place_of name (entry ∷ rest) = if is_named name entry then 0 else place_of name rest + 1
 
--- the records with this one, in the place of the one of its name, or behind the last
+-- the records with this one, in the place of the one of its name, or after the last
 abbrev pub with_record : List Record → Record → List Record
 with_record [] new = new ∷ []
 with_record (entry ∷ rest) new = if is_named new.1.name entry then new ∷ rest else entry ∷ with_record rest new

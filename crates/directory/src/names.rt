@@ -89,7 +89,7 @@ impl Names {
         })
     }
 
-    /// The names whose stamps are above this one, by rising stamp: what READDIR gives behind a
+    /// The names whose stamps are above this one, by rising stamp: what READDIR gives after a
     /// cookie. Takes no memory.
     pub fn list_after(&self, stamp: u64) -> ListAfter<'_>
         ensures { rest_of result ≡ after stamp (by_stamp self.entry.now) }
@@ -139,7 +139,7 @@ impl Names {
         Some((entry.stamp, entry.number))
     }
 
-    /// Puts a name: in the place of its record, or behind the last record. The answer is the
+    /// Puts a name: in the place of its record, or after the last record. The answer is the
     /// record's place. An `Err` changes nothing.
     ///
     /// # Errors
@@ -259,7 +259,7 @@ fn are_apart(entries: &[Entry]) -> bool
     true
 }
 
-/// Where a name stands: behind the last entry where none has it.
+/// Where a name stands: after the last entry where none has it.
 fn place_in(entries: &[Entry], name: &[u8]) -> usize
     ensures place { result ≡ place_of name.now (map record_of entries.now) }
     ensures within { result ≤ length entries.now }

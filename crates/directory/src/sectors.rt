@@ -47,7 +47,7 @@ pub(crate) fn write(entries: &[Entry], sector: &mut [u8; SIZE])
     put_zeros(sector, end, SIZE - end);
 }
 
-/// The record that would stand at place `at`, whatever stands behind the name.
+/// The record that would stand at place `at`, whatever follows the name.
 fn entry_at(alloc: Global, sector: &[u8; SIZE], at: usize) -> Result<Entry, RecordsFault>
     requires { at + WIDTH ≤ SIZE }
     ensures fits { IfOk result (λ entry. IsRecord (record_of entry)) }

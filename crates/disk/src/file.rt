@@ -207,7 +207,7 @@ impl Device for FileDevice {
         Ok(())
     }
 
-    /// Nothing is gathered behind a sync that succeeded.
+    /// Nothing is gathered after a sync that succeeded.
     fn sync(&mut self) -> Result<(), DiskFault>
         ensures handed { OnOk result ((n : ℕ) → gathered self.new n ≡ None) }
         ensures kept { (n : ℕ) → KeepsOrHandsOver self.old self.new n }

@@ -42,7 +42,7 @@ impl Run {
         self.first
     }
 
-    /// The contents of all its sectors, one behind the other.
+    /// The contents of all its sectors, one after the other.
     pub(crate) fn bytes(&self) -> &[u8]
         ensures { result.now ≡ flat_map (λ content. content) (contents_of self.now) }
     {
@@ -59,7 +59,7 @@ impl Run {
         self.sectors.get((n - self.first) as usize)
     }
 
-    /// Whether sector `n` is in the run or just behind it, with room left: an empty run takes any.
+    /// Whether sector `n` is in the run or just after it, with room left: an empty run takes any.
     pub(crate) fn takes(&self, n: u32) -> bool
         ensures { IsTrue result ↔ Takes self.now n }
     {

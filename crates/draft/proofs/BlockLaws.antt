@@ -204,7 +204,7 @@ gets_new first places taken blocks block sector in_blocks hole takes = record {
   count = length-set blocks block (Some sector);
 }
 
--- behind holes at the end, where one more block at most is new
+-- after holes at the end, where one more block at most is new
 pub writes_one : (first : ℕ) (places is_places : List Bool) (old new : Image) (was is : List (Option ℕ)) (block sector : ℕ) (content : List ℕ) → block ≤ length was → HaveMarks first places was
     → GetsSector first places is_places (with_holes was (block + 1)) is block sector → IsPut old new sector content → WritesOne old new was is block content
 writes_one first places is_places old new was is block sector content in_blocks marked gets put =

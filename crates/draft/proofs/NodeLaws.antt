@@ -173,7 +173,7 @@ module _ (old new : Draft) (place : ℕ) (was is : Card) (known : IsKnown old) (
   away : (image : Image) (n : ℕ) → n ≢ 148 + place → applied new.updates image n ≡ applied old.updates image n
   away image = elsewhere (applied old.updates image) (applied new.updates image) (148 + place) (inode_sector is.form is.fields) (put image)
 
-  -- what the node names lies behind the node table
+  -- what the node names lies after the node table
   apart : (n : ℕ) → 0 < times n was.fields.run_sectors + times_set n was.blocks → n ≢ 148 + place
   apart n some e = let each = each_mark first_here old.places 0 in omega (arith, within_here, once n, each.behind n)
 

@@ -9,7 +9,7 @@ use Rattle.layout.specs.Cards.{Card}
 use Rattle.layout.specs.Known.{IsCard}
 use Rattle.draft.specs.Laying.{HasEnough}
 
--- what runs have in front of the first, in it, and behind it
+-- what runs have before the first, in it, and after it
 
 before : (from limit k : ℕ) (runs : List Run) → AreRising from limit runs → k < from → sector_by runs k ≡ None
 before from limit k [] rising low = refl

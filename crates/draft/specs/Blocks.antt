@@ -62,7 +62,7 @@ pub record FindsNone (places : List Bool) (blocks : List (Option ℕ)) (block : 
   pub hole : slice_index_or blocks block None ≡ None
   pub full : free_places places ≡ 0
 
--- One block holds this content, which is a new one behind the last where there was none, and each
+-- One block holds this content, which is a new one after the last where there was none, and each
 -- other one what it held. No sector has changed but of these blocks.
 pub record WritesOne (old new : Image) (was is : List (Option ℕ)) (block : ℕ)
     (content : List ℕ) : Type 0 where

@@ -23,7 +23,7 @@ abbrev pub AreApart : List Update → Type 0
 AreApart [] = Unit {0}
 AreApart (update ∷ updates) = HasNot update.target updates × AreApart updates
 
--- with this update in place of the one of its sector, or behind the others
+-- with this update in place of the one of its sector, or after the others
 abbrev pub updated : List Update → Update → List Update
 updated [] update = update ∷ []
 updated (first ∷ updates) update =
@@ -34,7 +34,7 @@ abbrev pub AreBetween : (first end : ℕ) → List Update → Type 0
 AreBetween first end updates = (i : ℕ) → i < length updates
     → (first ≤ target_of updates i) × (target_of updates i < end)
 
--- the updates of a whole transaction: of sectors behind the journal's, below the volume's size, and
+-- the updates of a whole transaction: of sectors after the journal's, below the volume's size, and
 -- all different
 pub record AreTargets (size : ℕ) (updates : List Update) : Type 0 where
   pub between : AreBetween 98 size updates

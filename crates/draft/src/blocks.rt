@@ -197,7 +197,7 @@ fn sector_for(
     }
 }
 
-/// Writes the names of a block, which may be a new one behind the last.
+/// Writes the names of a block, which may be a new one after the last.
 pub(crate) fn write_names(
     updates: &mut Updates,
     places: &mut Bitmap,
@@ -246,7 +246,7 @@ pub(crate) fn rewrite_names(
     Ok(())
 }
 
-/// Puts zeros behind byte `size` of these blocks, as far as its block reaches.
+/// Puts zeros from byte `size` of these blocks on, as far as its block reaches.
 pub(crate) fn clear_tail<S: Sectors>(
     updates: &mut Updates,
     base: &mut S,

@@ -184,7 +184,7 @@ impl<'a> Draft<'a> {
         Ok(())
     }
 
-    /// Puts a new name behind the others of a directory.
+    /// Puts a new name after the others of a directory.
     ///
     /// # Errors
     ///

@@ -32,7 +32,7 @@ use Rattle.model.specs.Tree.{Tree, Node, File, Directory, DirEntry, bytes_of, na
 use Rattle.directory.specs.Listing.{by_stamp}
 use Rattle.directory.specs.Records.{Record, place_of, with_record, without_place}
 
--- clauses that hold of what was answered Ok, one behind the other
+-- clauses that hold of what was answered Ok, one after the other
 pub all_ok : {T E A B C D : Type 0} (result : Result T E) → OnOk result A → OnOk result B → OnOk result C → (A → B → C → D) → OnOk result D
 all_ok (Ok done) a b c then = then a b c
 all_ok (Err fault) a b c then = tt

@@ -1,4 +1,4 @@
--- The trees behind each front of a list of edits, from the outline of cards on.
+-- The trees after each front of a list of edits, from the outline of cards on.
 use Rattle.std.proofs.Common.{◌≡◌, ◌≢◌, ◌≤◌, ◌<◌, ◌+◌, ◌⊎◌, ℕ, zero, suc, List, [], ◌∷◌, Option, Some, None, length, take, get_or, refl, sym, ap, ◌∙◌, arith, inl, inr, subst}
 use Rattle.std.proofs.lemmas.Bool.{cases_eq}
 use Rattle.std.proofs.Math.Seq.{take-length}
@@ -24,11 +24,11 @@ use Rattle.model.specs.Keyed.{at, with, total, IsAbove}
 use Rattle.model.specs.Tree.{Tree, Node, names_of, names_at, names_of_node}
 use Rattle.model.proofs.KeyedLaws.{at-with_same, at-with_other}
 
--- the tree behind so many of the edits
+-- the tree after so many of the edits
 abbrev pub behind_front : Tree → List Edit → ℕ → Tree
 behind_front tree edits count = edited (edits_of (take count edits)) tree
 
--- the edit behind a front can be done, and makes the next tree
+-- the edit after a front can be done, and makes the next tree
 pub record IsNext (tree : Tree) (edits : List Edit) (count : ℕ) (edit : Edit) : Type 0 where
   pub can : CanDo (behind_front tree edits count) edit
   pub next : behind_front tree edits (suc count) ≡ done (edit_of edit) (behind_front tree edits count)

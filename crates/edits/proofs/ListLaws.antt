@@ -1,4 +1,4 @@
--- Edits one behind the other.
+-- Edits one after the other.
 use Rattle.std.proofs.Common.{◌≡◌, ◌≤◌, ◌<◌, ℕ, zero, suc, List, [], ◌∷◌, Some, length, get_or, take, refl, sym, ap, ◌∙◌, arith, inl, inr, ⊎_elim}
 use Rattle.std.specs.List.{IsAmong}
 use Rattle.disk.specs.Moments.{Image}

@@ -23,7 +23,7 @@ use Rattle.model.specs.Keyed.{Keyed, at, here_or, with, without}
 use Rattle.model.proofs.KeyedLaws.{at-with_same}
 use Rattle.model.specs.Tree.{Tree, Node, DirEntry, entry_of, names_at, names_of, found_or}
 
--- a name that is not among records stands behind the last
+-- a name that is not among records stands after the last
 pub place_behind : (name : List ℕ) (names : List Record) → entry_of name names ≡ None → place_of name names ≡ length names
 place_behind name [] none = refl
 place_behind name (entry ∷ names) none = by_name (place_behind name names) (bytes_eq name entry.1.name) none
@@ -85,7 +85,7 @@ module _ (nodes : ℕ) (mark : ℕ → ℕ) (cards : List (Option Card)) (known 
     unstamped : at stamp it.card.names ≡ None
     unstamped = sym (stamp_is stamp) ∙ new.new_stamp
 
-    -- there is room for it where few names stand behind it
+    -- there is room for it where few names stand after it
     pub room_there : IsTrue (few_names 1024 (altered (name_put stamp (record { name = name; number = to })) (outline_of cards) number)) → length it.card.names < 1024
     unfolding node_of
     room_there few =

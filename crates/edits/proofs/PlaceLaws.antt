@@ -90,7 +90,7 @@ module _ (cards : List (Option Card)) (apart : AreNumbered cards) (place number 
   unfolding node_of
   names_there is = ap names_of_node there_node ∙ ap (λ (k : NodeKind). names_of (content_of (λ n. []) k it.card)) is
 
--- The outline behind a change of a card
+-- The outline after a change of a card
 
 module _ (nodes : ℕ) (mark : ℕ → ℕ) (cards : List (Option Card)) (known : AreCards nodes mark cards) where
   above : AreAbove cards
@@ -117,7 +117,7 @@ module _ (nodes : ℕ) (mark : ℕ → ℕ) (cards : List (Option Card)) (known 
       → outline_of (set cards place None) ≡ without (outline_of cards) was.fields.number
   outline_dropped place was there = tree-drop (λ n. []) (λ n. []) cards place was there (λ i card off e. refl) above (own place was was there refl)
 
--- The numbers behind a change of a card
+-- The numbers after a change of a card
 
 none_at : (cards : List (Option Card)) (place : ℕ) → get_or (set cards place None) place None ≡ None
 none_at [] place = refl
@@ -148,7 +148,7 @@ made_put cards place card numbers within from other number is = elim (cases_eq o
     some_same : {x y : ℕ} → Some x ≡ Some y → x ≡ y
     some_same e = cc
 
--- The forms behind a change of a card
+-- The forms after a change of a card
 
 pub none_forms : (cards : List (Option Card)) (place : ℕ) → HaveForms version_1 cards → HaveForms version_1 (set cards place None)
 none_forms cards place forms other card there = elim (cases_eq other place) [

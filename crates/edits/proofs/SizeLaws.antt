@@ -1,4 +1,4 @@
--- What a node has behind an edit that changes it, and what stays.
+-- What a node has after an edit that changes it, and what stays.
 use Rattle.std.proofs.Common.{◌≡◌, ◌≢◌, ◌+◌, ◌-◌, ◌⊎◌, ℕ, Option, Some, None, length, refl, sym, ap, ◌∙◌, arith, inl, inr, subst}
 use Rattle.std.proofs.lemmas.Bool.{cases_eq}
 use Rattle.std.specs.Prelude.{option_map, IsTrue, IsFalse}

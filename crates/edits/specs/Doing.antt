@@ -70,7 +70,7 @@ pub record HasRoom (sectors places : ℕ) (tree : Tree) : Type 0 where
   pub charge : total charge tree ≤ sectors
   pub nodes : length tree ≤ places
 
--- for the tree behind so many of the edits there is no room
+-- for the tree after so many of the edits there is no room
 pub record Overfills (draft : Draft) (edits : List Edit) : Type 0 where
   pub count : ℕ
   pub within : count ≤ length edits

@@ -116,14 +116,14 @@ abbrev pub AreDoable : Tree → List Edit → Type 0
 AreDoable tree [] = Unit {0}
 AreDoable tree (edit ∷ edits) = CanDo tree edit × AreDoable (done (edit_of edit) tree) edits
 
--- and no directory has more than 1,024 names behind any of them
+-- and no directory has more than 1,024 names after any of them
 abbrev pub StayFew : Tree → List Edit → Type 0
 StayFew tree [] = Unit {0}
 StayFew tree (edit ∷ edits) = IsTrue (few_names 1024 (done (edit_of edit) tree))
     × StayFew (done (edit_of edit) tree) edits
 
 -- what can be done to a tree can be done to each other one that is blanked alike, and as few names
--- stand behind it
+-- stand after it
 abbrev pub DoableAlike : Type 0
 DoableAlike = (tree other : Tree) (edits : List Edit) → blanked other ≡ blanked tree
     → AreDoable tree edits → AreDoable other edits

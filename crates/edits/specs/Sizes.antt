@@ -65,7 +65,7 @@ number_of (declared.DropName directory stamp name) = directory
 number_of (declared.PutBytes file offset bytes) = file
 number_of (declared.SetSize file size) = file
 
--- what that node has behind the edit
+-- what that node has after the edit
 abbrev pub resized_by : Edit → Option Size → Option Size
 resized_by (declared.PutNode number kind shown) size = Some (record { kind = kind; count = 0 })
 resized_by (declared.DropNode number) size = None

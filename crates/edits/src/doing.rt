@@ -247,12 +247,12 @@ fn edit_one<S: Sectors>(
 }
 
 /// Does edits one after the other. Each must be one that can be done in the tree that those before
-/// it give, and behind none of them may a directory have more than 1,024 names.
+/// it give, and after none of them may a directory have more than 1,024 names.
 ///
 /// # Errors
 ///
 /// The draft is to be dropped then. [`DraftFault::Device`] where the device failed,
-/// [`DraftFault::Memory`], and [`DraftFault::Full`], only where the tree behind one of the edits
+/// [`DraftFault::Memory`], and [`DraftFault::Full`], only where the tree after one of the edits
 /// has no room.
 pub fn edit_all<S: Sectors>(
     draft: &mut Draft<'_>,

@@ -1,4 +1,4 @@
-//! Whether there is room for the tree behind edits.
+//! Whether there is room for the tree after edits.
 
 ghost use Rattle.std.specs.Prelude.{◌≡◌, ◌≤◌, ◌<◌, ◌+◌, ◌^◌, ℕ, length};
 ghost use Rattle.edits.specs.Edits.{AreDoable, edits_of};
@@ -82,7 +82,7 @@ fn file(count: u128) -> Option<Size>
     })
 }
 
-/// What the node that an edit changes has behind it.
+/// What the node that an edit changes has after it.
 fn resized(size: Option<Size>, edit: &Edit<'_>) -> Option<Size>
     requires { IsBelow (2 ^ 66) size }
     ensures size { result ≡ resized_by edit.now size }
@@ -107,7 +107,7 @@ fn resized(size: Option<Size>, edit: &Edit<'_>) -> Option<Size>
     }
 }
 
-/// What a node has in the tree behind edits: each of them that changes it is gone through.
+/// What a node has in the tree after edits: each of them that changes it is gone through.
 fn size_behind(table: &Table, edits: &[Edit<'_>], number: u64) -> Option<Size>
     requires cards { (nodes : ℕ) × (mark : ℕ → ℕ) × AreCards nodes mark table.now }
     requires can { AreDoable (outline_of table.now) edits.now }
@@ -163,7 +163,7 @@ fn names_in(size: Option<Size>) -> u128
     }
 }
 
-/// What the nodes of the tree behind edits take: each edit changes what one of them does.
+/// What the nodes of the tree after edits take: each edit changes what one of them does.
 fn taken_behind(table: &Table, edits: &[Edit<'_>]) -> Taken
     requires cards { (nodes : ℕ) × (mark : ℕ → ℕ) × AreCards nodes mark table.now }
     requires can { AreDoable (outline_of table.now) edits.now }
@@ -182,7 +182,7 @@ fn taken_behind(table: &Table, edits: &[Edit<'_>]) -> Taken
     Taken { charge, nodes }
 }
 
-/// Whether no directory has more names than so many behind edits. Those that no edit changes have
+/// Whether no directory has more names than so many after edits. Those that no edit changes have
 /// 1,024 at most.
 fn have_few_names(table: &Table, edits: &[Edit<'_>], most: usize) -> bool
     requires cards { (nodes : ℕ) × (mark : ℕ → ℕ) × AreCards nodes mark table.now }
@@ -199,7 +199,7 @@ fn have_few_names(table: &Table, edits: &[Edit<'_>], most: usize) -> bool
     true
 }
 
-/// Whether the tree behind edits has room: its charges come to the data region at most, its nodes
+/// Whether the tree after edits has room: its charges come to the data region at most, its nodes
 /// to their limit, and no directory has too many names. Each edit must be one that can be done in
 /// the tree that those before it give. Takes no memory, and steps as the square of the edits, of
 /// which there are few, with two searches by number for each of them.

@@ -3,7 +3,7 @@ use Rattle.std.proofs.Common.{◌≡◌, ◌≤◌, ◌-◌, ℕ, zero, suc, Lis
 use Rattle.std.proofs.lemmas.List.{append-nil, take_all}
 use Rattle.extents.specs.Runs.{with_holes}
 
--- a hole at the end reads as what is behind the end
+-- a hole at the end reads as what is past the end
 get_or-replicate_None : (n k : ℕ) → get_or {A = Option ℕ} (replicate n None) k None ≡ None
 get_or-replicate_None zero k = refl
 get_or-replicate_None (suc n) zero = refl

@@ -1,4 +1,4 @@
--- Blocks that runs lay out, one run behind the other.
+-- Blocks that runs lay out, one run after the other.
 use Rattle.std.proofs.Common.{◌≡◌, ◌<◌, ◌≤◌, ◌+◌, ◌-◌, ◌^◌, ℕ, true, false, cond, ltb, List, [], ◌∷◌, ◌++◌, Option, Some, None, length, get_or, take, drop, replicate, sym, ap, subst, ◌∙◌, arith, inl, inr}
 use Rattle.std.proofs.lemmas.Bool.{cases_lt, cases_eq, lt-ltb, le-ltb}
 use Rattle.std.proofs.lemmas.List.{length-append, length_push, take_all, take_more, drop_more, get_or_past, get_or_push, get_or_append_left}
@@ -87,7 +87,7 @@ pub record AreLaid (count : ℕ) (runs : List Run) (i : ℕ) (blocks : List (Opt
   pub same : (k : ℕ) → get_or blocks k None ≡ sector_by (take i runs) k
   pub rest : AreRising 0 count runs → AreRising (length blocks) count (drop i runs)
 
--- what is asked of a run behind `from` blocks
+-- what is asked of a run after `from` blocks
 abbrev pub IsNext : (from count : ℕ) → Run → Type 0
 IsNext from count run = (from ≤ run.block) × (0 < run.length) × (run.block + run.length ≤ count) × (run.sector + run.length ≤ 2 ^ 32)
 

@@ -10,7 +10,7 @@ use Rattle.extents.specs.Sector.{IsRun}
 use Rattle.sector.specs.Written.{each_push}
 use Rattle.extents.proofs.RunLemmas.{AreRising-widen, AreRising-push, sector_by-behind, sector_by-push_other, sector_by-push_new, one-before, one-yes}
 
--- the run does not go on behind its last block
+-- the run does not go on after its last block
 abbrev pub IsEnded : List (Option ℕ) → Run → Type 0
 IsEnded blocks run = get_or blocks (run.block + run.length) None ≢ Some (run.sector + run.length)
 
@@ -66,7 +66,7 @@ module _ (blocks : List (Option ℕ)) (runs : List Run) (run : Run) (far : AreRu
       let one : count_by is_some (take (run.block + 1) blocks) ≡ count_by is_some (take run.block blocks) + 1 = count_by_more_yes is_some blocks run.block None (omega (arith, at.some, at.within)) set in
       omega (arith, length_push runs run, far.few, one, at.some, count-take blocks (run.block + 1) (run.block + run.length) (omega (arith, at.some)))
 
-  -- a run that has ended is not joined with one behind it
+  -- a run that has ended is not joined with one after it
   none_joins : (rs : List Run) → AllByRecursion (IsEnded blocks) rs → AllByRecursion (λ r. ¬ CanJoin r run) rs
   none_joins [] h = tt
   none_joins (r ∷ rs) h =

@@ -75,7 +75,7 @@ AreRising-push from count more [] run h le behind some within fits = (omega arit
 AreRising-push from count more (r ∷ runs) run h le behind some within fits =
     (h.0, h.1, omega (arith, h.2), h.3, AreRising-push (r.block + r.length) count more runs run h.4 h.2 behind some within fits)
 
--- runs have no block behind the last one's
+-- runs have no block after the last one's
 pub sector_by-behind : (from count : ℕ) (runs : List Run) (k : ℕ) → AreRising from count runs → count ≤ k → sector_by runs k ≡ None
 sector_by-behind from count [] k h le = refl
 sector_by-behind from count (run ∷ runs) k h le =

@@ -36,7 +36,7 @@ IsWritten-more old new runs n at run far h is place front len =
       len = len;
     }
 
--- the zeros behind the last run end the sector
+-- the zeros after the last run end the sector
 pub run_sector-written : (old new : List ℕ) (runs : List Run) (end count : ℕ) → IsWritten old runs (length runs) → length runs ≤ 500 → end ≡ 96 + 8 * length runs → count ≡ 4096 - end → take (end + length (replicate {A = ℕ} count 0)) new ≡ take end old ++ replicate count 0
     → length new ≡ 4096 → new ≡ run_sector runs
 run_sector-written old new runs end count far few place rest front len =
@@ -49,7 +49,7 @@ run_sector-written old new runs end count far few place rest front len =
 
 -- ---- reading
 
--- behind the header
+-- after the header
 behind_header : (runs : List Run) → drop 96 (run_sector runs) ≡ flat_map run_bytes runs ++ replicate (4000 - 8 * length runs) 0
 behind_header runs = ap (drop 96) (append_assoc header (flat_map run_bytes runs) (replicate (4000 - 8 * length runs) 0))
 
@@ -58,7 +58,7 @@ pub run_there : (runs : List Run) (k : ℕ) (d : Run) → k < length runs
 run_there runs k d h =
     sym (drop-drop (8 * k) 96 (run_sector runs)) ∙ ap (drop (8 * k)) (behind_header runs) ∙ drop-record run_bytes 8 wide k runs (replicate (4000 - 8 * length runs) 0) d h
 
--- behind the last run eight zeros stand, while room is left
+-- after the last run eight zeros stand, while room is left
 pub no_run_there : (runs : List Run) → length runs < 500
     → drop (96 + 8 * length runs) (run_sector runs) ≡ replicate 8 0 ++ replicate (3992 - 8 * length runs) 0
 no_run_there runs h =

@@ -33,7 +33,7 @@ pub record AreRunsOf (runs : List Run) (blocks : List (Option ℕ)) : Type 0 whe
   pub rising : AreRising 0 (length blocks) runs
   pub same : (block : ℕ) → slice_index_or blocks block None ≡ sector_by runs block
 
--- two runs that could be one: the second begins behind the last block of the first, and in the sector behind its last one
+-- two runs that could be one: the second begins after the last block of the first, and in the sector after its last one
 abbrev pub CanJoin : Run → Run → Type 0
 CanJoin run next = (next.block ≡ run.block + run.length) × (next.sector ≡ run.sector + run.length)
 
@@ -43,7 +43,7 @@ AreApart [] = Unit {0}
 AreApart (run ∷ []) = Unit {0}
 AreApart (run ∷ next ∷ runs) = (¬ CanJoin run next) × AreApart (next ∷ runs)
 
--- from block `start` on, so many blocks stand in sectors one behind the other
+-- from block `start` on, so many blocks stand in sectors one after the other
 pub record IsRunAt (blocks : List (Option ℕ)) (start first count : ℕ) : Type 0 where
   pub some : 0 < count
   pub within : start + count ≤ length blocks

@@ -58,7 +58,7 @@ impl BlockList {
         self.sectors.len() as u32
     }
 
-    /// The sector of a block; none where it is a hole, or behind the last block.
+    /// The sector of a block; none where it is a hole, or past the last block.
     pub fn at(&self, block: u32) -> Option<u32>
         ensures { result ≡ slice_index_or self.now block None }
     {
@@ -139,7 +139,7 @@ fn sector_at(sectors: &[Option<u32>], block: usize) -> Option<u32>
     }
 }
 
-/// Whether a block stands `count` sectors behind the first one of a run.
+/// Whether a block stands `count` sectors after the first one of a run.
 fn follows(sector: Option<u32>, first: u32, count: usize) -> bool
     requires { count < 2 ^ 32 }
     ensures value { IsTrue result ↔ (sector ≡ Some (first + count)) }
@@ -151,7 +151,7 @@ fn follows(sector: Option<u32>, first: u32, count: usize) -> bool
     }
 }
 
-/// How many blocks from `start` on, whose sector is `first`, stand one behind the other.
+/// How many blocks from `start` on, whose sector is `first`, stand one after the other.
 fn run_length(sectors: &[Option<u32>], start: usize, first: u32) -> u16
     requires small { length sectors.now ≤ BlockList.MAX_BLOCKS }
     requires within { start < length sectors.now }
@@ -192,7 +192,7 @@ fn runs_of(alloc: Global, sectors: &[Option<u32>]) -> Result<Vec<Run>, AllocErro
     Ok(runs)
 }
 
-/// Puts a run behind the blocks so far, with holes in between.
+/// Puts a run after the blocks so far, with holes in between.
 fn put_run(sectors: &mut Vec<Option<u32>>, run: Run) -> Result<(), AllocError>
     requires behind { vec_len sectors.old ≤ run.block }
     requires sectors { run.sector + run.length ≤ 2 ^ 32 }
@@ -206,7 +206,7 @@ fn put_run(sectors: &mut Vec<Option<u32>>, run: Run) -> Result<(), AllocError>
     Ok(())
 }
 
-/// Whether a run begins at block `from` or behind it, and passes neither the last block nor the last
+/// Whether a run begins at block `from` or after it, and passes neither the last block nor the last
 /// number of a sector.
 fn fits(run: Run, from: usize, count: usize) -> bool
     ensures { IsTrue result ↔ ((from ≤ run.block) × (0 < run.length)

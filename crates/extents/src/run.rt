@@ -1,4 +1,4 @@
-//! Blocks that stand one behind the other in sectors one behind the other.
+//! Blocks that stand one after the other in sectors one after the other.
 
 /// So many blocks from one on, in as many sectors from one on.
 #[derive(Clone, Copy, Debug, PartialEq, Eq)]

@@ -6,7 +6,7 @@ use Rattle.model.specs.ReadDir.{fitting}
 use Rattle.wire_attributes.specs.Listed.{EntryFits, entry_view}
 use Rattle.wire_attributes.specs.declared.listed.ListedEntry.{ListedEntry}
 
--- what is shown so far, the room that it leaves, and the entries behind it
+-- what is shown so far, the room that it leaves, and the entries after it
 pub record IsFilled (whole room : ℕ) (all rest : List Entry) (shown : List ListedEntry) : Type 0 where
   pub front : fitting whole all ≡ map entry_view shown ++ fitting room rest
   pub count : length shown + length rest ≡ length all

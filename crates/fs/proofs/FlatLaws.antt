@@ -69,7 +69,7 @@ flat_name_put tree flat number stamp entry = flat_altered (name_put stamp entry)
 pub flat_node_dropped : (tree : Tree) → blanked tree ≡ tree → (number : ℕ) → blanked (done (DropNode number) tree) ≡ done (DropNode number) tree
 flat_node_dropped tree flat number = blanked-without tree number ∙ ap (λ (t : Tree). without t number) flat
 
--- Numbers behind edits
+-- Numbers after edits
 
 pub key-altered : (change : Node → Node) (tree : Tree) (number other : ℕ) → is_key other (altered change tree number) ≡ is_key other tree
 key-altered change tree number other = by_node (at number tree) refl

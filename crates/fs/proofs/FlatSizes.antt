@@ -1,4 +1,4 @@
--- A file whose size is set, and what it shows then, on the tree with zeros for the bytes of files: the tree behind it may stand, and what fits behind both edits fits behind each.
+-- A file whose size is set, and what it shows then, on the tree with zeros for the bytes of files: the tree after it may stand, and what fits after both edits fits after each.
 use Rattle.std.proofs.Common.{◌≡◌, ◌≤◌, ◌<◌, ◌+◌, ℕ, zero, suc, true, false, List, [], ◌∷◌, Some, length, take, refl, sym, ap, ◌∙◌, arith, subst}
 use Rattle.std.proofs.Math.Logic.{∥∥₁_map, ∥∥₁_elim}
 use Rattle.std.proofs.Props.{props}
@@ -70,7 +70,7 @@ module _ (fs : FileSystem) (formed : MayStand fs.volume fs.changes) (number : �
   flat_there : at number flat ≡ Some (blank_node node)
   flat_there = at-blanked tree number ∙ ap (option_map blank_node) there
 
-  -- The trees behind the edits
+  -- The trees after the edits
 
   abbrev last : Node
   last = showing shown (sized node)
@@ -93,7 +93,7 @@ module _ (fs : FileSystem) (formed : MayStand fs.volume fs.changes) (number : �
   fits_flat : fits limits (with flat number last_flat) ≡ fits limits after
   fits_flat = ap (fits limits) seen ∙ fits_blanked limits after
 
-  -- The tree behind them may stand
+  -- The tree after them may stand
 
   module _ (well : IsWellFormed limits flat) where
     was : All (λ byte. byte < 256) (bytes_of (blank node.content)) × (length (bytes_of (blank node.content)) ≤ limits.file_bytes)

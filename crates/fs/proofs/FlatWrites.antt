@@ -1,4 +1,4 @@
--- WRITE of bytes that passed its tests, on the tree with zeros for the bytes of files: there it is WRITE of as many zeros. So the tree behind it may stand.
+-- WRITE of bytes that passed its tests, on the tree with zeros for the bytes of files: there it is WRITE of as many zeros. So the tree after it may stand.
 use Rattle.std.proofs.Common.{◌≡◌, ◌≤◌, ◌<◌, ◌+◌, ◌-◌, ◌^◌, ℕ, zero, suc, Bool, true, false, List, [], ◌∷◌, ◌++◌, Option, Some, None, length, take, drop, replicate, refl, sym, ap, ap₂, ◌∙◌, arith, subst, not}
 use Rattle.std.proofs.Math.Logic.{∥∥₁_elim}
 use Rattle.std.proofs.Props.{props}
@@ -138,7 +138,7 @@ module _ (fs : FileSystem) (formed : MayStand fs.volume fs.changes) (counted : f
   pub flat_there : at number flat ≡ Some (blank_node node)
   flat_there = at-blanked tree number ∙ ap (option_map blank_node) there
 
-  -- The trees behind the edits
+  -- The trees after the edits
 
   abbrev put : List ℕ → Node → Node
   put bytes old = with_content old (File (overwritten (bytes_of old.content) offset bytes))

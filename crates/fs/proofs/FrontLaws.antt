@@ -1,4 +1,4 @@
--- A tree that is well formed, a node and its name more: what fits behind all of it fits behind each part.
+-- A tree that is well formed, a node and its name more: what fits after all of it fits after each part.
 use Rattle.std.proofs.Common.{◌≡◌, ◌≢◌, ◌<◌, ◌&&◌, ℕ, zero, suc, Bool, List, [], ◌∷◌, Option, Some, None, length, take, refl, sym, ap, ap₂, ◌∙◌, arith, inl, inr}
 use Rattle.std.specs.Prelude.{IsTrue}
 use Rattle.std.proofs.lemmas.Bool.{cases_eq, le-leb}

@@ -1,4 +1,4 @@
--- What every change asks of its edits, said once for all operations: the tree behind it may stand, and so it may be kept.
+-- What every change asks of its edits, said once for all operations: the tree after it may stand, and so it may be kept.
 use Rattle.std.proofs.Common.{◌≡◌, ◌≤◌, ◌<◌, ◌+◌, ◌^◌, ◌⊎◌, ℕ, List, [], length, sym, ap, ap₂, ◌∙◌, arith, subst}
 use Rattle.std.proofs.Math.Logic.{∥∥₁_map, ∥∥₁_elim}
 use Rattle.std.proofs.Props.{props}
@@ -41,7 +41,7 @@ module _ (fs : FileSystem) (formed : MayStand fs.volume fs.changes) (counted : f
     room_for_mode = subst (λ (l : Limits). l.aces_set + 5 ≤ l.aces) (sym limited) (omega arith);
   }
 
-  -- what a change leaves of such a state may stand behind it, and so may each tree with these zeros for its bytes
+  -- what a change leaves of such a state may stand after it, and so may each tree with these zeros for its bytes
   pub formed_by : (state : State) (now : ℕ) (operation : Argument) (stepped : Stepped) (after : Tree)
       → state.tree ≡ blanked fs.volume.tree → state.changes ≡ fs.changes → state.context.run ≡ fs.volume.run
       → does limits state now operation ≡ stepped → stepped.state.changes ≡ fs.changes + 1 → stepped.state.tree ≡ blanked after
@@ -59,7 +59,7 @@ module _ (fs : FileSystem) (formed : MayStand fs.volume fs.changes) (counted : f
             (subst (λ (n : ℕ). IsBefore n stepped.state.tree) (ap₂ next_stamp run_then more) (kept well).before));
       }
 
-  -- edits that are a change, whose tree has room and may stand behind it
+  -- edits that are a change, whose tree has room and may stand after it
   pub planned_by : (edits : List Edit) → updates_of_all edits ≤ 46 → AreDoable fs.volume.tree edits
       → length (named_by edits) ≤ 1 → (made_by edits ≡ []) ⊎ (made_by edits ≡ named_by edits)
       → ((number : ℕ) → IsAmong (made_by edits) number → IsAboveAll fs.volume number)

@@ -88,7 +88,7 @@ roomy_second all shown (inr whole) = elim (cases_eq shown 0) [
   | inr some ↦ ap (λ (b : Bool). nat_lt 0 all && b) (ne_eqb shown 0 some) ∙ nothing_and (nat_lt 0 all)
 ]
 
--- Records that come by stamp, behind a cookie, are records
+-- Records that come by stamp, after a cookie, are records
 
 module _ (P : Record → Type 0) where
   each_with : (entries : Keyed DirEntry) (entry : Record) → AllByRecursion P entries → P entry → AllByRecursion P (with entries entry.0 entry.1)

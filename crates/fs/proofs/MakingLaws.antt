@@ -1,4 +1,4 @@
--- A node and its name more, whichever operation makes them: the tree behind them may stand, and what fits behind all edits fits behind each of them.
+-- A node and its name more, whichever operation makes them: the tree after them may stand, and what fits after all edits fits after each of them.
 use Rattle.std.proofs.Common.{◌≡◌, ◌≢◌, ◌≤◌, ◌<◌, ◌+◌, ◌-◌, ◌/◌, ◌^◌, ℕ, zero, suc, true, false, List, [], ◌∷◌, Option, Some, None, length, refl, sym, ap, ap₂, ◌∙◌, arith, subst, is_some}
 use Rattle.std.proofs.Math.Logic.{∥∥₁_map, ∥∥₁_elim}
 use Rattle.std.proofs.Props.{props}
@@ -113,7 +113,7 @@ module _ (fs : FileSystem) (formed : MayStand fs.volume fs.changes) (now number 
   pub new_stamp : at own (names_of parent.content) ≡ None
   new_stamp = none_unless (at own (names_of parent.content)) (λ one is. (let less = formed.before.entry number parent own one flat_there is in omega (arith, less)))
 
-  -- A node of this kind, that has this size behind the edits
+  -- A node of this kind, that has this size after the edits
 
   module _ (of : NodeKind) (size : ℕ) (made : Shown) where
     abbrev pub child : Node
@@ -154,7 +154,7 @@ module _ (fs : FileSystem) (formed : MayStand fs.volume fs.changes) (now number 
     fits_flat : fits limits (edited wanted flat) ≡ fits limits after
     fits_flat = fits_alike limits after (edited wanted flat) (edits_blanked wanted tree)
 
-    -- The tree behind them may stand
+    -- The tree after them may stand
 
     module _ (may : MayBeMade fs number name child) (fit : fits limits after ≡ true) where
       directory_flat : is_directory_at flat number ≡ true
@@ -220,18 +220,18 @@ module _ (fs : FileSystem) (formed : MayStand fs.volume fs.changes) (now number 
           let less = charge_more (length (names_of parent.content)) in
           omega (arith, ap charge_of_blocks old, ap charge_of_blocks new, less)
 
-      -- behind the name
+      -- after the name
       pub name_room : IsTrue (fits limits (edited wanted flat)) → IsTrue (fits limits with_name)
       name_room all =
           let is = after_is flat own number child parent entry shown apart flat_there in
           let again : done (Show number shown) with_name ≡ with with_name number (showing shown named) = ap (λ (o : Option Node). altered_at (showing shown) with_name number o) named_there in
           sym (show_room limits with_name number shown above_name) ∙ ap (fits limits) (again ∙ sym is) ∙ all
 
-      -- behind the node
+      -- after the node
       pub child_room : IsTrue (fits limits (edited wanted flat)) → IsTrue (fits limits with_child)
       child_room all = replaced_room_back with_child number named parent above_child parent_there limits charged (omega (arith, more)) (name_room all)
 
-      -- behind the node that has no size yet
+      -- after the node that has no size yet
       pub first_room : IsTrue (fits limits (edited wanted flat)) → IsTrue (fits limits with_first)
       first_room all =
           let none : charge first ≡ 0 = nothing_charged of in

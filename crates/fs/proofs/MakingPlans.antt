@@ -123,7 +123,7 @@ module _ (fs : FileSystem) (formed : MayStand fs.volume fs.changes) (counted : f
   off = laws.apart fs formed now number spelled.now parent names there content
 
   module _ (shown_is : shown_of parent_shown ≡ touched (Some parent) own now) where
-    -- The trees behind the edits
+    -- The trees after the edits
 
     behind_first : (size : ℕ) → IsSizeOf of (suc size) → done (SetSize own (suc size)) (with tree own first) ≡ with_child (suc size)
     behind_first size has =
@@ -189,7 +189,7 @@ module _ (fs : FileSystem) (formed : MayStand fs.volume fs.changes) (counted : f
       ),
     )
 
-    -- What stands behind each of them fits
+    -- What stands after each of them fits
 
     abbrev flat : Tree
     flat = blanked tree
@@ -239,7 +239,7 @@ module _ (fs : FileSystem) (formed : MayStand fs.volume fs.changes) (counted : f
     fronts size has count fit = ∥∥₁_elim formed.well_formed (Prim.hlevel props) (λ well.
         sym (alike (front size count)) ∙ front_flat well size has count (all_flat size has fit) (alike (edits_of (list size)) ∙ fit))
 
-    -- The name is there behind all of them
+    -- The name is there after all of them
 
     put_there : (size : ℕ) → at own (names_at (tree_with fs number spelled.now (child size) now) number) ≡ Some entry
     put_there size = ap (λ (t : Tree). at own (names_at t number)) (laws.after_wanted fs formed now number spelled.now parent names there content of size made)

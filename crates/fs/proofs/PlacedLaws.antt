@@ -1,4 +1,4 @@
--- A name in place of another one, in a well-formed tree: its edits can be done one after the other, and the name is there behind them.
+-- A name in place of another one, in a well-formed tree: its edits can be done one after the other, and the name is there after them.
 use Rattle.std.proofs.Common.{◌≡◌, ◌≢◌, ◌≤◌, ◌<◌, ◌+◌, ◌⊎◌, ℕ, Bool, true, false, List, [], ◌∷◌, Option, Some, None, length, eqb, refl, sym, ap, ◌∙◌, arith, is_some, inl, inr, bytes_eq, lt_irrefl, true≢false}
 use Rattle.std.proofs.lemmas.Bool.{cases_eq, cases_Bool, eqb-true}
 use Rattle.directory.specs.Records.{record_from}
@@ -67,7 +67,7 @@ entry_stays name (entry ∷ rest) stamp found is apart =
     by_test false (inr other) told is others = ap (λ (b : Bool). entry_of name (kept_or_not b entry (without rest stamp))) other ∙ ap (λ (b : Bool). found_or b entry (entry_of name (without rest stamp))) told
         ∙ others is
 
--- names behind edits
+-- names after edits
 pub names-shown : (tree : Tree) (number : ℕ) (shown : model.Shown) (other : ℕ) → names_at (done (Show number shown) tree) other ≡ names_at tree other
 names-shown tree number shown other = by_node (at number tree) refl
   where

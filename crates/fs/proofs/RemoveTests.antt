@@ -103,7 +103,7 @@ module _ (limits : Limits) (state : State) (now : ℕ) (name : List ℕ) (has : 
   abbrev filled : Bool
   filled = has_names state.tree (number_named state.tree (current state) name)
 
-  -- the tests of rights and behind them, as the definitions have them
+  -- the tests of rights and those after them, as the definitions have them
   abbrev last : Refusals
   last = (without_rights state (need_first state.tree state.context (Argument.Remove name)), status.Access)
       ∷ (without_rights state (need_then state.tree state.context (Argument.Remove name)), status.Access)

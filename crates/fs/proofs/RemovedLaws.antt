@@ -1,4 +1,4 @@
--- REMOVE of a name that passed its tests: its edits can be done, the tree behind them always has room, and it may stand.
+-- REMOVE of a name that passed its tests: its edits can be done, the tree after them always has room, and it may stand.
 use Rattle.std.proofs.Common.{◌≡◌, ◌≢◌, ◌<◌, ◌+◌, ◌^◌, ℕ, zero, suc, Bool, true, false, not, List, [], ◌∷◌, ◌++◌, Option, Some, None, take, length, refl, sym, ap, ◌∙◌, is_some, true≢false, arith}
 use Rattle.std.proofs.Math.Logic.{∥∥₁_elim}
 use Rattle.std.proofs.Props.{props}
@@ -131,7 +131,7 @@ module _ (fs : FileSystem) (formed : MayStand fs.volume fs.changes) (counted : f
   directory_there = key-dropped (done (DropName number entry.0) tree) entry.1.number number apart
       ∙ key-altered (name_dropped entry.0) tree number number ∙ directory_key (is_key number tree) is.directory refl
 
-  -- The tree behind each of them has room
+  -- The tree after each of them has room
 
   module _ (well : IsWellFormed limits flat) where
     first : Tree

@@ -163,7 +163,7 @@ module _ (fs : FileSystem) (formed : MayStand fs.volume fs.changes) (counted : f
   pub doable : AreDoable fs.volume.tree list
   doable = doable_alike flat fs.volume.tree list (sym (blanked-twice fs.volume.tree)) (doable_by target under moved)
 
-  -- the name is there behind them
+  -- the name is there after them
   put_flat : at own (names_at (edited (edits_of list) flat) asked.to) ≡ Some put
   put_flat = ap (λ (l : List model.Edit). at own (names_at (edited l flat) asked.to)) (edits_are_of asked.to asked.new_name target (moving_edits asked old_stamp number own from_shown to_shown))
       ∙ ap (λ (t : Tree). at own (names_at t asked.to)) (laws.cleared_is asked.to target (edits_of (moving_edits asked old_stamp number own from_shown to_shown)) flat)

@@ -78,7 +78,7 @@ module _ (limits : Limits) (state : State) (now : ℕ) (arguments : RenameArgume
   names = name_refusals limits arguments.old_name ++ (name_refusals limits arguments.new_name
       ++ ((not (is_named state.tree (saved state) arguments.old_name), status.NoEnt) ∷ []))
 
-  -- the tests of rights and behind them, as the definitions have them
+  -- the tests of rights and those after them, as the definitions have them
   abbrev last : Refusals
   last = (without_rights state (need_first state.tree state.context (Argument.Rename arguments)), status.Access)
       ∷ (without_rights state (need_then state.tree state.context (Argument.Rename arguments)), status.Access)

@@ -1,4 +1,4 @@
--- RENAME of a name that passed its tests, and is not given to itself: its edits can be done, and the tree behind them may stand where it fits.
+-- RENAME of a name that passed its tests, and is not given to itself: its edits can be done, and the tree after them may stand where it fits.
 use Rattle.std.proofs.Common.{◌≡◌, ◌<◌, ◌+◌, ◌^◌, ◌&&◌, ◌||◌, ℕ, zero, suc, Bool, true, false, List, [], ◌∷◌, ◌++◌, Option, Some, None, take, eq-eqb, refl, sym, ap, ap₂, ◌∙◌, arith, is_some, bytes_eq, true≢false, inl, inr}
 use Rattle.std.proofs.Math.Logic.{∥∥₁_elim}
 use Rattle.std.proofs.Props.{props}
@@ -143,7 +143,7 @@ empty_by tree cred asked found under placed =
     ∙ neither _ (has_names tree (target_in tree asked.to (arguments_of asked)))
     (second_false (is_named tree asked.to asked.new_name.now) _ exists.0 (ap is_some under)))
 
--- the entry that goes, and the tree behind that
+-- the entry that goes, and the tree after that
 abbrev pub dropping : (to : ℕ) → Option (ℕ × ℕ) → List Edit
 dropping to None = []
 dropping to (Some found) = DropName to found.0 ∷ DropNode found.1 ∷ []

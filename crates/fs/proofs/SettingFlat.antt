@@ -1,4 +1,4 @@
--- SETATTR that passed its tests, on the tree with zeros for the bytes of files: there it sets the same, with as many zeros. So the tree behind it may stand.
+-- SETATTR that passed its tests, on the tree with zeros for the bytes of files: there it sets the same, with as many zeros. So the tree after it may stand.
 use Rattle.std.proofs.Common.{◌≡◌, ◌<◌, ◌+◌, ◌^◌, ℕ, zero, suc, Bool, true, false, List, [], ◌∷◌, ◌++◌, Option, Some, None, length, take, refl, sym, ap, ◌∙◌, not}
 use Rattle.std.proofs.Math.Logic.{∥∥₁_elim}
 use Rattle.std.proofs.Props.{props}
@@ -120,7 +120,7 @@ module _ (fs : FileSystem) (formed : MayStand fs.volume fs.changes) (counted : f
       tests_are limits flat cred number (Ok tt) given false None None false
       (ap not (key-blanked tree number) ∙ stale.0) (ap (λ (of : NodeKind). first_refusal (attributes of)) kind_flat ∙ values.0) size_there (ap not may_flat ∙ right.0)
 
-  -- The trees behind the edits
+  -- The trees after the edits
 
   seen : edited wanted flat ≡ blanked after
   seen = sym (flat_set flat (blanked-twice tree) number (size_given given) shown) ∙ edits_blanked wanted tree

@@ -23,7 +23,7 @@ abbrev pub verdict_refusals : Result (Unit {0}) Status → Refusals
 verdict_refusals (Ok done) = []
 verdict_refusals (Err reason) = (true, reason) ∷ []
 
--- The tests behind that of a current filehandle
+-- The tests after that of a current filehandle
 
 abbrev pub file_refusals : Tree → (number : ℕ) → Refusals
 file_refusals tree number =

@@ -51,7 +51,7 @@ PageFits page = AllByRecursion EntryFits page.entries.items
 
 -- The tests of a current filehandle and of all but the page's size, in their order
 
--- whether the lists of all entries behind the cookie may be read
+-- whether the lists of all entries after the cookie may be read
 abbrev pub may_read_lists : Tree → Cred → (number cookie : ℕ) → Bool
 may_read_lists tree cred number cookie =
     list_all (λ (name : ℕ × DirEntry). may_read_list cred (at name.1.number tree))

@@ -35,7 +35,7 @@ first_node of size shown = record {
   content = first_content of size;
 }
 
--- the tests of each change of the tree, behind all others: room, and a stamp that is left
+-- the tests of each change of the tree, after all others: room, and a stamp that is left
 abbrev pub room_tests : FileSystem → (after : Tree) → Refusals
 room_tests fs after = (not (fits fs.volume.limits after), status.NoSpc)
     ∷ (not (is_stamp_left fs.changes), status.ServerFault)

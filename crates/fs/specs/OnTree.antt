@@ -35,7 +35,7 @@ LooksUpIn limits tree cred number name result = (state : State) (now : ℕ) → 
 
 -- CREATE of a directory
 
--- its tests behind that of a current filehandle, and before those of room and of stamps
+-- its tests after that of a current filehandle, and before those of room and of stamps
 abbrev pub new_directory_refusals : Limits → Tree → Cred → (number : ℕ) → (name : List ℕ) → Attributes → Refusals
 new_directory_refusals limits tree cred number name given =
     (not (is_key number tree), status.Stale)

@@ -73,7 +73,7 @@ set_by effect.Nothing of = []
 set_by effect.Cut of = size_alone
 set_by effect.Made of = trimmed (given_by of).bitmap
 
--- the tree and the count of changes behind it, and among the opens the one of this file
+-- the tree and the count of changes after it, and among the opens the one of this file
 abbrev pub after_open : Tree → (changes : ℕ) → State → OpenArguments → OpenType → Opened → Stepped
 after_open tree changes state arguments of made =
     let now = opened state.opens
@@ -150,7 +150,7 @@ OpensCurrent fs state now number arguments (Ok done) = does_on fs state now (Arg
 OpensCurrent fs state now number arguments (Err reason) =
     IsRefused fs state now (Argument.Open arguments) reason
 
--- Its tests, behind that of a current filehandle
+-- Its tests, after that of a current filehandle
 
 -- of the current file
 abbrev pub handle_tests : State → OpenArguments → OpenType → Refusals
@@ -171,7 +171,7 @@ place_tests limits state arguments name = (not (is_key (current state) state.tre
       status.Access,
     ) ∷ [])))
 
--- and behind that
+-- and after that
 abbrev pub file_tests : Limits → State → (access : ℕ) → OpenType → (name : List ℕ) → Refusals
 file_tests limits state access of name = name_opening_refusals limits state of name
     ++ ((
@@ -182,7 +182,7 @@ file_tests limits state access of name = name_opening_refusals limits state of n
 
 -- Before it is kept
 
--- a call by a name, behind the tests of its place
+-- a call by a name, after the tests of its place
 pub record IsPlaced (fs : FileSystem) (cred : Cred) (asked : Opening) (is_full : Bool)
     (state : State) (arguments : OpenArguments) : Type 0 where
   pub on : IsOn fs cred asked.directory state

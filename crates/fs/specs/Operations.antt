@@ -95,7 +95,7 @@ IsNotDone fs state now operation fault.Down = fs.volume.is_down ≡ true
 abbrev pub new_directory : (name : List ℕ) → Attributes → Argument
 new_directory name given = Argument.Create (NewDirectory name given)
 
--- the tree and the count of changes behind it, and the new directory is the current one
+-- the tree and the count of changes after it, and the new directory is the current one
 abbrev pub created : Tree → (changes : ℕ) → State → Attributes → Created → Stepped
 created tree changes state given made = answered
     (record {

@@ -17,7 +17,7 @@ use Rattle.fs.specs.FileSystem.{FileSystem}
 use Rattle.volume.specs.Edits.{IsChange, edited_by}
 use Rattle.volume.specs.Formed.{IsFormed}
 
--- the tree behind it fits, a stamp is left, and behind that the tree has no later one
+-- the tree after it fits, a stamp is left, and after that the tree has no later one
 pub record IsPlanned (fs : FileSystem) (edits : List Edit) : Type 0 where
   pub change : IsChange fs.volume edits
   pub fitting : IsTrue (fits fs.volume.limits (edited_by fs.volume edits))

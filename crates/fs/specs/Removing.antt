@@ -20,7 +20,7 @@ use Rattle.fs.specs.declared.removing.Removed.{Removed}
 use Rattle.fs.specs.FileSystem.{FileSystem}
 use Rattle.fs.specs.Operations.{does_on, IsNotDone}
 
--- the tree and the count of changes behind it, and the node that is gone has no opens
+-- the tree and the count of changes after it, and the node that is gone has no opens
 abbrev pub removed : Tree → (changes : ℕ) → State → Removed → Stepped
 removed tree changes state made = answered
     (record {
@@ -48,7 +48,7 @@ abbrev pub may_remove : Tree → Cred → (directory : ℕ) → (name : List ℕ
 may_remove tree cred directory name =
     list_any (is_granted tree cred) (removable tree directory name)
 
--- those behind that of a current filehandle, and before those of room and of stamps
+-- those after that of a current filehandle, and before those of room and of stamps
 abbrev pub removal_refusals : Limits → Tree → Cred → (directory : ℕ) → (name : List ℕ) → Refusals
 removal_refusals limits tree cred directory name =
     (not (is_key directory tree), status.Stale)

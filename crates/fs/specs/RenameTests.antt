@@ -26,7 +26,7 @@ use Rattle.volume.specs.Nodes.{IsNodeOf}
 use Rattle.fs.specs.declared.renaming.Moving.{Moving}
 use Rattle.fs.specs.declared.renaming.Renaming.{Renaming}
 
--- Those before the caller's rights, behind that of a current filehandle
+-- Those before the caller's rights, after that of a current filehandle
 
 abbrev pub moving_refusals : Limits → Tree → (from to : ℕ) → RenameArguments → Refusals
 moving_refusals limits tree from to arguments =
@@ -38,7 +38,7 @@ moving_refusals limits tree from to arguments =
     ++ (name_refusals limits arguments.new_name
     ++ ((not (is_named tree from arguments.old_name), status.NoEnt) ∷ [])))
 
--- Rights and what stands behind them, of a name that is not given to itself
+-- Rights and what comes after them, of a name that is not given to itself
 
 abbrev pub may_rename : Tree → Cred → (from to : ℕ) → RenameArguments → Bool
 may_rename tree cred from to arguments =

@@ -57,7 +57,7 @@ abbrev pub opens_behind : Bool → Option ℕ → Opens → Opens
 opens_behind true replaced opens = opens
 opens_behind false replaced opens = without_replaced replaced opens
 
--- the tree and the count of changes behind it
+-- the tree and the count of changes after it
 abbrev pub renamed : Tree → (changes : ℕ) → State → RenameArguments → Renamed → Stepped
 renamed tree changes state arguments made = answered
     (record {

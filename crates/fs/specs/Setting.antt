@@ -35,7 +35,7 @@ pub record IsSetting (state : State) (asked : Setting) (arguments : SetAttrArgum
 
 -- What it leaves
 
--- the tree and the count of changes behind it
+-- the tree and the count of changes after it
 abbrev pub after_setting : Tree → (changes : ℕ) → State → SetAttrArguments → Stepped
 after_setting tree changes state arguments =
     answered (record state { tree = tree; changes = changes }) (was_set arguments)
@@ -72,7 +72,7 @@ abbrev pub IsSet : FileSystem → State → (now : ℕ) → SetAttrArguments →
 IsSet fs state now arguments edits = does_on fs state now (Argument.SetAttr arguments)
     ≡ after_setting (edited_by fs.volume edits) (fs.changes + 1) state arguments
 
--- Its tests, behind that of a current filehandle
+-- Its tests, after that of a current filehandle
 
 -- of a size that is set
 abbrev pub sized_refusals : (is_sized is_directory : Bool) → Result (Unit {0}) Status → Refusals
@@ -102,7 +102,7 @@ setting_tests limits tree cred number verdict given =
 
 -- Its edits
 
--- what a node shows behind it
+-- what a node shows after it
 abbrev pub shown_with : Fields → Settings → (stamp now : ℕ) → Shown
 shown_with fields settings stamp now = record {
   owner = unwrap_or settings.owner fields.owner;

@@ -34,7 +34,7 @@ pub record IsWriting (state : State) (verdict : Result (Unit {0}) Status) (asked
 abbrev pub bytes_taken : FileSystem → Writing → List ℕ
 bytes_taken fs asked = take fs.volume.limits.transfer_bytes asked.bytes.now
 
--- so many bytes were taken, the tree and the count of changes behind it
+-- so many bytes were taken, the tree and the count of changes after it
 abbrev pub after_write : Tree → (changes : ℕ) → State → WriteArguments → (count : ℕ) → Stepped
 after_write tree changes state arguments count = answered
     (record state { tree = tree; changes = changes })
@@ -74,7 +74,7 @@ pub record WritesTree (fs : FileSystem) (cred : Cred) (number now : ℕ)
   pub tree : after ≡ (does_on fs state now (Argument.Write arguments)).state.tree
   pub lasting_is : lasts ≡ is_lasting fs state now (Argument.Write arguments)
 
--- the tree behind edits, which has to last only where they are to be stable
+-- the tree after edits, which has to last only where they are to be stable
 abbrev pub IsPut : Held → List Edit → (is_stable : Bool) → Given
 IsPut held edits is_stable after lasts =
     (after ≡ edited_by held edits) × (lasts ≡ true → is_stable ≡ true)

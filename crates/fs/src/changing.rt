@@ -158,7 +158,7 @@ impl<D: Device> Fs<D> {
     ghost use Rattle.volume.specs.Edits.{IsEdited, edited_by};
     ghost use Rattle.volume.specs.Formed.{Shows};
 
-    /// The stamp of the next change: none where it has more than 64 bits, behind the last change of
+    /// The stamp of the next change: none where it has more than 64 bits, after the last change of
     /// the last run.
     pub(crate) fn next_stamp(&self) -> Option<u64>
         ensures { IfSome result (λ stamp.

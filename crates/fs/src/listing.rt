@@ -28,13 +28,13 @@ pub struct Listing<'a> {
     pub cookie: u64,
     /// The verifier that came with the cookie.
     pub verifier: [u8; 8],
-    /// How many bytes the result may take, behind its status.
+    /// How many bytes the result may take, after its status.
     pub max_count: u32,
     /// The bitmap of the attributes that are asked of each entry, of any length.
     pub asked: &'a [u32],
 }
 
-/// A page of a directory: its entries by rising cookie, and whether none is left behind them.
+/// A page of a directory: its entries by rising cookie, and whether none is left after them.
 #[derive(Drop)]
 pub struct Page<'a> {
     pub entries: Vec<ListedEntry<'a>>,
@@ -83,14 +83,14 @@ impl<D: Device> Fs<D> {
     ghost use Rattle.settings.specs.Given.{IsChecked};
     ghost use Rattle.wire_attributes.specs.Listed.{EntryFits, ListedFits, entry_view, listed_view};
 
-    /// READDIR (RFC 8881, section 18.23): a page of a directory, as many entries behind the cookie as
+    /// READDIR (RFC 8881, section 18.23): a page of a directory, as many entries after the cookie as
     /// the result has room for. The entries borrow the names and the nodes.
     ///
     /// # Errors
     ///
     /// Refused by the first of these that holds: STALE, NOTDIR, ACCESS without the right to list the
     /// directory, NOT_SAME where a cookie comes with a verifier that is not 0, ACCESS where lists are
-    /// asked without rdattr_error and that of an entry behind the cookie may not be read, and
+    /// asked without rdattr_error and that of an entry after the cookie may not be read, and
     /// TOOSMALL where there is no room for the first entry, or for a page of none.
     pub fn list<'a>(&'a self, cred: &Cred, listing: Listing<'a>) -> Result<Page<'a>, FsFault>
         ensures step { (state : State) (now dir_count : ℕ)

@@ -33,7 +33,7 @@ pub(crate) fn list_created(
     at_creation(alloc, parent, kind, &given).map_err(|_| AllocError)
 }
 
-/// The list of a node of this kind and list behind a SETATTR (RFC 8881, section 6.4.1): the one that
+/// The list of a node of this kind and list after a SETATTR (RFC 8881, section 6.4.1): the one that
 /// is set, which passed its tests, else that of the mode that is set.
 pub(crate) fn list_set(
     alloc: Global,

@@ -64,7 +64,7 @@ impl<D: Device> Fs<D> {
     ///
     /// Refused by the first of these that holds: STALE, NOTDIR, a name that is none, attributes that
     /// may not be set, ACCESS without the right to add a directory, EXIST, NOSPC, and SERVERFAULT
-    /// where the run has used up its stamps; then `NoRoom`. Memory may run out before or behind any
+    /// where the run has used up its stamps; then `NoRoom`. Memory may run out before or after any
     /// of them.
     pub fn make_dir(
         &mut self,

@@ -63,7 +63,7 @@ impl<D: Device> Fs<D> {
     /// given; ACCESS without the rights to read or to write the file, as it asks and as a cut does, or
     /// to add a file; DELAY where the table is full; and of a file that is made or cut NOSPC, and
     /// SERVERFAULT where the run has used up its stamps. Then `NoRoom`. Memory may run out before or
-    /// behind any of them.
+    /// after any of them.
     pub fn open_file(
         &mut self,
         cred: &Cred,
@@ -170,7 +170,7 @@ impl<D: Device> Fs<D> {
         Ok(card)
     }
 
-    /// An open of the file that the name leads to, behind the tests of its place.
+    /// An open of the file that the name leads to, after the tests of its place.
     fn plan_known<'a>(
         &self,
         cred: &Cred,
@@ -334,7 +334,7 @@ impl<D: Device> Fs<D> {
         Ok(edits)
     }
 
-    /// An open that makes its file, behind the tests of its place.
+    /// An open that makes its file, after the tests of its place.
     fn plan_new<'a>(
         &self,
         cred: &Cred,

@@ -139,7 +139,7 @@ impl<D: Device> Fs<D> {
 
     /// The number of the file that an OPEN by a name opens where nothing refuses it, by which a caller
     /// tells whether the table of opens has room: that which the name leads to, or that of the file
-    /// which is made. None behind the last change of the last run.
+    /// which is made. None after the last change of the last run.
     pub fn file_to_open(&self, asked: Opening<'_>) -> Option<u64>
         ensures { IfSome result (λ number. (state : State) (cred : _)
             → IsOn (fs_of self.now) cred asked.entry.directory state → file_opened state

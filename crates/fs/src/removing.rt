@@ -69,7 +69,7 @@ impl<D: Device> Fs<D> {
     /// Refused by the first of these that holds: STALE, NOTDIR, a name that is none, NOENT, ACCESS
     /// without the right to delete the node and that to delete a child of the directory, NOTEMPTY,
     /// and SERVERFAULT where the run has used up its stamps; then `NoRoom`. It is never NOSPC.
-    /// Memory may run out before or behind any of them.
+    /// Memory may run out before or after any of them.
     pub fn remove(
         &mut self,
         cred: &Cred,

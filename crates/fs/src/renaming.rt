@@ -164,7 +164,7 @@ impl<D: Device> Fs<D> {
     /// and to add a file or a directory to `to`; INVAL, where a directory would go below itself;
     /// EXIST, where one of both is a directory and not the other, or what stands there has names;
     /// NOSPC, and SERVERFAULT where the run has used up its stamps. Then `NoRoom`. Memory may run
-    /// out before or behind any of them.
+    /// out before or after any of them.
     pub fn rename(
         &mut self,
         cred: &Cred,
@@ -281,7 +281,7 @@ impl<D: Device> Fs<D> {
         })
     }
 
-    /// The change of a name that is not given to itself, behind the tests of both directories and
+    /// The change of a name that is not given to itself, after the tests of both directories and
     /// of the old name.
     fn plan_move<'a>(
         &self,

@@ -96,7 +96,7 @@ impl<D: Device> Fs<D> {
     /// is set, ISDIR of a directory and then the verdict's refusal; ACCESS without the right to write
     /// for a size, to write the list for a mode or a list, and to write the owner for an owner or a
     /// group; NOSPC, and SERVERFAULT where the run has used up its stamps; then `NoRoom`. Memory may
-    /// run out before or behind any of them.
+    /// run out before or after any of them.
     pub fn set_attributes(
         &mut self,
         cred: &Cred,

@@ -45,7 +45,7 @@ impl<D: Device> Fs<D> {
     ///
     /// Refused by the first of these that holds: STALE, ISDIR, the verdict's refusal, ACCESS without
     /// the right to write, FBIG where the bytes pass the limit of a file, NOSPC, and SERVERFAULT
-    /// where the run has used up its stamps; then `NoRoom`. Memory may run out before or behind any
+    /// where the run has used up its stamps; then `NoRoom`. Memory may run out before or after any
     /// of the last three.
     pub fn write(
         &mut self,

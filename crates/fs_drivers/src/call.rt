@@ -50,7 +50,7 @@ pub enum Call<'a> {
     Access(u64, u32),
     /// GETATTR by this bitmap.
     Attributes(u64, &'a [u32]),
-    /// READDIR behind a cookie with its verifier, of so many bytes, with the attributes of this bitmap.
+    /// READDIR after a cookie with its verifier, of so many bytes, with the attributes of this bitmap.
     List(u64, (u64, [u8; 8]), u32, &'a [u32]),
     MakeDir(u64, &'a [u8], Given<'a>),
     /// OPEN of a name to do this, and to deny that.

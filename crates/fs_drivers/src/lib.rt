@@ -1,4 +1,4 @@
-//! The calls of a file system as tests make them. Each stands here once, behind no contract: a call brings all that it promises
+//! The calls of a file system as tests make them. Each stands here once, with no contract: a call brings all that it promises
 //! into the proof of its caller.
 #![tactic(auto)]
 

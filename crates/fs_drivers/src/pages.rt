@@ -11,7 +11,7 @@ use std::alloc::Global;
 use wire_attributes::ListedEntry;
 use xdr::{Refusal, Writer};
 
-/// A page behind a directory's cookie, of so many bytes, with these attributes.
+/// A page after a directory's cookie, of so many bytes, with these attributes.
 pub(crate) fn list(
     alloc: Global,
     fs: &Tree,

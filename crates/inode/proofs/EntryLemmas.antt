@@ -17,7 +17,7 @@ aces_wide ace = refl
 pub numbers_wide : AreWide number_bytes 4
 numbers_wide number = refl
 
--- four parts of four bytes, one behind the other
+-- four parts of four bytes, one after the other
 pub chain : (s0 s1 s2 s3 s4 a b c d : List ℕ) (at : ℕ) → take (at + 4) s1 ≡ take at s0 ++ a → take (at + 4 + 4) s2 ≡ take (at + 4) s1 ++ b → take (at + 8 + 4) s3 ≡ take (at + 8) s2 ++ c
     → take (at + 12 + 4) s4 ≡ take (at + 12) s3 ++ d → take (at + 16) s4 ≡ take at s0 ++ (a ++ b ++ c ++ d)
 chain s0 s1 s2 s3 s4 a b c d at f1 f2 f3 f4 =

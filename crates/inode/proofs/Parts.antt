@@ -12,7 +12,7 @@ use Rattle.inode.specs.Fields.{Fields, IsInode}
 use Rattle.inode.specs.Spelling.{inode_sector, kind_byte, nine, number_bytes, ace_bytes, acl_bytes}
 use Rattle.inode.proofs.EntryLemmas.{numbers_wide}
 
--- behind the run sectors, and behind the entries
+-- after the run sectors, and after the entries
 abbrev pub rest_of_numbers : Fields → List ℕ
 rest_of_numbers fields = replicate (36 - 4 * length fields.run_sectors) 0 ++ (replicate 44 0 ++ acl_bytes fields.acl)
 

@@ -100,7 +100,7 @@ fronts_from all old mid image e moved front =
           (subst P e front.settles);
     }
 
--- a list's fronts, with more transactions behind it
+-- a list's fronts, with more transactions after it
 pub fronts_longer : (size : ℕ) (base : Image) (list more : List (List Update)) (image : Image) → StandsForFront size base list image
     → StandsForFront size base (list ++ more) image
 fronts_longer size base list more image front =

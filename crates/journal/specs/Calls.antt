@@ -9,7 +9,7 @@ use Rattle.journal.specs.Settled.{AreSame}
 use Rattle.journal.specs.Transactions.{FitTogether}
 
 -- However a call answers: a stop within it leaves a front, and where the journal is still up, one
--- behind it leaves the base.
+-- after it leaves the base.
 pub record IsSafe (keeps_word : Type 0) (old new : Log) : Type 0 where
   pub size : new.size ≡ old.size
   pub moments : keeps_word → AddsFronts old new

@@ -25,7 +25,7 @@ words numbers = flat_map (big_bytes 4) numbers
 abbrev pub gate_words : List ℕ → List ℕ
 gate_words to = 1 ∷ length to ∷ to
 
--- the gate sector: closed, all zeros; open, its words and zeros behind them
+-- the gate sector: closed, all zeros; open, its words and zeros after them
 unfoldable pub gate : List ℕ → List ℕ
 gate [] = zero_sector
 gate (target ∷ targets) =

@@ -45,7 +45,7 @@ abbrev pub DoesAs : List Update → List (List Update) → Type 0
 DoesAs updates list = (image : Image) (n : ℕ) → applied updates image n ≡ applied_all list image n
 
 -- The list, where neighbours may have become one: each transaction of the joined list does what the
--- next ones of the list do, and what is left behind the last one alters nothing. So each front of
+-- next ones of the list do, and what is left after the last one alters nothing. So each front of
 -- the joined list is a front of the list.
 abbrev pub IsJoined : List (List Update) → List (List Update) → Type 0
 IsJoined list [] = DoesAs [] list
@@ -69,7 +69,7 @@ abbrev pub Costs : ℕ → Log → Log → Type 0
 Costs count old new = moment new.history ≡ moment old.history + count
 
 -- What it costs to take a list into the base. Of each transaction: its contents are written to the
--- payload and to their homes, the gate is opened and closed, and behind each of the four is a sync.
+-- payload and to their homes, the gate is opened and closed, and after each of the four is a sync.
 abbrev pub flush_cost : List (List Update) → ℕ
 flush_cost [] = 0
 flush_cost (updates ∷ list) = 2 * length updates + 6 + flush_cost list

@@ -13,7 +13,7 @@ sectors_of (updates ∷ list) = targets updates ++ sectors_of list
 abbrev pub has : List ℕ → ℕ → Bool
 has numbers number = list_any (λ other. other == number) numbers
 
--- those of the numbers that are not seen yet, put behind the ones that are
+-- those of the numbers that are not seen yet, put after the ones that are
 abbrev pub gathered : List ℕ → List ℕ → List ℕ
 gathered seen [] = seen
 gathered seen (number ∷ numbers) =

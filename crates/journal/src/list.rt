@@ -57,7 +57,7 @@ pub(crate) fn fits(named: &[u32], updates: &[Update]) -> bool
     named.len() + fresh <= PAYLOAD_SECTORS
 }
 
-/// Puts an update in the place of the one of its sector, or else behind the others.
+/// Puts an update in the place of the one of its sector, or else after the others.
 pub(crate) fn put(list: &mut Vec<Update>, named: &mut Vec<u32>, update: Update)
     requires named_are { named.old.items ≡ targets list.old.items }
     requires few { length (gathered named.old.items (update.target ∷ [])) ≤ PAYLOAD_SECTORS }

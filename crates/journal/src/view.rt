@@ -22,7 +22,7 @@ pub struct View<'a, D: Device> {
     ghost few: { count ≤ 96 },
 }
 
-/// The targets of a gate, and zeros behind them.
+/// The targets of a gate, and zeros after them.
 fn padded(targets: &[u32]) -> [u32; PAYLOAD_SECTORS]
     requires { length targets.now ≤ PAYLOAD_SECTORS }
     ensures { take (length targets.now) result ≡ targets.now }

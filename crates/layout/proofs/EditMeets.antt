@@ -1,4 +1,4 @@
--- Edits of one file, one behind the other.
+-- Edits of one file, one after the other.
 use Rattle.std.proofs.Common.{◌≡◌, ◌+◌, ◌++◌, ℕ, List, Option, Some, None, length, refl, sym, ap, ◌∙◌}
 use Rattle.model.specs.Edit.{altered, altered_at, overwritten, resized, with_content}
 use Rattle.model.specs.Keyed.{at, with}

@@ -44,7 +44,7 @@ below-moved f g size c j k is same = elim (cases_lt k size) [
   | inr high ↦ below-past f (size - c) j (omega arith) ∙ sym (below-past g size k high)
 ]
 
--- the same bytes behind so many others
+-- the same bytes after so many others
 over-moved : (f g : ℕ → ℕ) (offset from c : ℕ) (part : List ℕ) (k j : ℕ) → offset ≡ c + from → k ≡ c + j → f k ≡ g j → over f offset part k ≡ over g from part j
 over-moved f g offset from c part k j at is same = elim (cases_lt j from) [
   | inl low ↦ over-front f offset part k (omega arith) ∙ same ∙ sym (over-front g from part j low)

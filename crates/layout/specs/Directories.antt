@@ -14,7 +14,7 @@ ChangesBlocks old new one other = (i : ℕ) → i ≢ one → i ≢ other → na
 abbrev pub block_of : (place : ℕ) → ℕ
 block_of place = place / 15
 
--- the block that a name is put into: its own, or the one behind the last record
+-- the block that a name is put into: its own, or the one after the last record
 abbrev pub block_put : List Record → Record → ℕ
 block_put names new = block_of (place_of (name_of new) names)
 

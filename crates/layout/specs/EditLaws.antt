@@ -1,10 +1,10 @@
--- Edits of one file, one behind the other.
+-- Edits of one file, one after the other.
 use Rattle.std.specs.Prelude.{◌≡◌, ◌≤◌, ◌+◌, ◌++◌, ℕ, List, Some, max, length}
 use Rattle.model.specs.Edit.{PutBytes, SetSize, done}
 use Rattle.model.specs.Keyed.{at}
 use Rattle.model.specs.Tree.{Tree, Node, bytes_of}
 
--- a part behind a part is one part, and a write over what has grown to its end at most is the write
+-- a part after a part is one part, and a write over what has grown to its end at most is the write
 pub record WritesMeet (tree : Tree) (number offset : ℕ) : Type 0 where
   pub on : (front part : List ℕ) → done (PutBytes number (offset + length front) part) (done (PutBytes number offset front) tree)
       ≡ done (PutBytes number offset (front ++ part)) tree

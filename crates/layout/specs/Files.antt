@@ -13,7 +13,7 @@ use Rattle.layout.specs.Cards.{content_at, byte_at, bytes_in}
 unfoldable pub over : (ℕ → ℕ) → (offset : ℕ) → List ℕ → ℕ → ℕ
 over byte offset part k = if nat_lt k offset then byte k else slice_index_or part (k - offset) (byte k)
 
--- what is below a size, and zeros behind it
+-- what is below a size, and zeros after it
 unfoldable pub below : (ℕ → ℕ) → (size : ℕ) → ℕ → ℕ
 below byte size k = if nat_lt k size then byte k else 0
 
@@ -99,7 +99,7 @@ abbrev pub GrownBytes : Type 0
 GrownBytes = (old new : Image) (was is : List (Option ℕ)) (bytes : List ℕ) (size : ℕ) → HoldBytes old was bytes
     → length bytes ≤ size → ((k : ℕ) → byte_at new is k ≡ byte_at old was k) → HoldBytes new is (resized bytes size)
 
--- a part behind a part is one part, and a write over what has grown to its end at most is the write
+-- a part after a part is one part, and a write over what has grown to its end at most is the write
 pub record WritesByParts (bytes : List ℕ) (offset : ℕ) : Type 0 where
   pub on : (front part : List ℕ) → overwritten (overwritten bytes offset front) (offset + length front) part
       ≡ overwritten bytes offset (front ++ part)

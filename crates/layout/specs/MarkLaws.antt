@@ -43,7 +43,7 @@ abbrev pub LaysMarks : Type 0
 LaysMarks = (version : Version) (size nodes count : ℕ) (old new : Image) (places : List Bool) (cards : List (Option Card))
     → WritesMarks version size nodes count old new places cards → IsLaid version size nodes new cards
 
--- Kept sectors alone are seen: the superblock, and what stands behind the gate and the payload
+-- Kept sectors alone are seen: the superblock, and what comes after the gate and the payload
 pub record SeesSame (version : Version) (size nodes : ℕ) (old new : Image) (cards : List (Option Card)) : Type 0 where
   pub laid : IsLaid version size nodes new cards
   pub same_cards : cards_in nodes new ≡ cards_in nodes old

@@ -107,7 +107,7 @@ pub record AreDirectories (old : Image) (was is : Card) : Type 0 where
   pub size : is.fields.size ≡ length is.names
   pub shows : ShowsSame was.fields is.fields
 
--- a name is put behind the last one, or in the place of its record
+-- a name is put after the last one, or in the place of its record
 pub record PutsName (old new : Image) (was is : Card) (entry : Record) : Type 0 where
   pub directories : AreDirectories old was is
   pub stamped : AreStamped is.names

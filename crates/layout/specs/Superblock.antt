@@ -6,7 +6,7 @@ use Rattle.std.specs.Int.{w32, to_be_bytes}
 abbrev pub magic : List ℕ
 magic = codes "NFS41VOL"
 
--- the numbers of sectors and nodes that a volume may have: 148 sectors lie before the node table, and 16 at least behind it
+-- the numbers of sectors and nodes that a volume may have: 148 sectors lie before the node table, and 16 at least after it
 abbrev pub is_size : (sectors nodes : ℕ) → Bool
 is_size sectors nodes =
     nat_le 256 sectors && nat_le sectors 65536 && nat_le 2 nodes && nat_le nodes 16384 && nat_le (164 + nodes) sectors

@@ -10,7 +10,7 @@ pub fn one_tree()
     ensures proof { OneProof }
 {}
 
-/// Of its sectors the first one and those behind the journal's alone are seen.
+/// Of its sectors the first one and those after the journal's alone are seen.
 pub fn kept()
     ensures cards { KeptAlone }
     ensures tree { StandsAlone }

@@ -123,7 +123,7 @@ answer_again (Answer.Sequence v) rest small fits = made_again sequence_answer An
 answer_again Answer.DestroyClientId rest small fits = refl
 answer_again Answer.ReclaimComplete rest small fits = refl
 
--- ---- a status, and what stands behind it
+-- ---- a status, and what follows it
 
 chosen_option : {A : Type 0} (b : Bool) (x y z : Option A) → cond b x y ≡ z → ((b ≡ true) × (x ≡ z)) ⊎ ((b ≡ false) × (y ≡ z))
 chosen_option b x y z e = chosen b x y z e

@@ -96,7 +96,7 @@ module _ (limits : RecordLimits) (small : limits.bytes < 2 ^ 31) where
   abbrev stream_of : List (List ℕ) → List ℕ → Option RecordFault → Stream
   stream_of all rest fault = record { records = all; rest = rest; fault = fault }
 
-  -- the records of the bytes with a piece behind them
+  -- the records of the bytes with a piece after them
   further : (bytes taken : List ℕ) (released : List (List ℕ)) (piece : List ℕ) → records limits taken ≡ stream_of released bytes None
       → (this : Front) → front limits (bytes ++ piece) ≡ this
       → records limits (taken ++ piece) ≡ fed_by limits piece (stream_of released bytes None) None

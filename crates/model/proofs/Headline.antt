@@ -108,7 +108,7 @@ StandsFor-append start done settled tree more within stands = record {
   beyond = λ i entry less e durable. stands.beyond i entry less (sym (slice_get-append done more i (omega arith)) ∙ e) durable;
 }
 
--- the tree behind the last one is that of all of them
+-- the tree after the last one is that of all of them
 latest : (start : Tree) (done : List Entry) (entry : Entry) (settled : ℕ) (tree : Tree) → settled ≤ length (done ++ entry ∷ []) → tree ≡ entry.after
     → StandsFor start (done ++ entry ∷ []) settled tree
 latest start done entry settled tree within same = record {
@@ -135,7 +135,7 @@ behind_one start done entry tree false e durable stands = record {
     by_place i other lasts (inl at) = stands.beyond i other (slice_get-within done i other at) at lasts
     by_place i other lasts (inr same) = absurd (differ (sym e ∙ ap is_durable (sym same) ∙ lasts))
 
--- The parts of `done` behind an event
+-- The parts of `done` after an event
 
 abbrev pub Joined : List Entry → Option Entry → List Entry
 Joined done executed = done ++ option_to_list executed

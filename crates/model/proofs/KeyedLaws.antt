@@ -93,7 +93,7 @@ module _ {A : Type 0} where
     ]
   ]
 
-  -- the same map but for its first value, or for what stands behind its first entry
+  -- the same map but for its first value, or for what follows its first entry
   at-first_other : (entry : ℕ × A) (rest : Keyed A) (key other : ℕ) (value : A) → key ≡ entry.0 → other ≢ key
       → at other ((key, value) ∷ rest) ≡ at other (entry ∷ rest)
   at-first_other entry rest key other value one apart =

@@ -7,7 +7,7 @@ use Rattle.std.specs.List.{flat_map}
 use Rattle.std.specs.Int.{w32, from_be_bytes}
 use Rattle.model.specs.Record.{RecordLimits, RecordFault, Gathered, nothing_gathered, Fragment, Waits, Refuses, Brings, behind_header, fragment, Front, Partial, Refused, Whole, gathered_with, behind_fragment, front_from, front, Stream, behind_front, records_from, records, framed, top_bit, fragment_text, record_text, joined, EveryFragmenting, fed_by, fed, EveryCut, SentIsRead}
 
--- What more bytes behind make of a fragment
+-- What more bytes after it make of a fragment
 
 abbrev Extends : List ℕ → Fragment → Fragment → Type 0
 Extends more Waits after = Unit {0}
@@ -89,7 +89,7 @@ fragment_shrinks limits gathered bytes =
     subst (λ (n : ℕ). Shrinks n (behind_header limits gathered (from_be_bytes w32 (take 4 bytes)) (drop 4 bytes))) most
     (header_shrinks limits gathered (from_be_bytes w32 (take 4 bytes)) (drop 4 bytes)))
 
--- What more bytes behind make of a record
+-- What more bytes after it make of a record
 
 abbrev pub Follows : List ℕ → Front → Front → Type 0
 Follows more Partial after = Unit {0}
@@ -185,7 +185,7 @@ records_by limits (suc n) bytes h =
     (λ rest less. same_records limits n (length rest) rest (omega arith) (omega arith))
     (front limits bytes) (front_leaves limits (length bytes) nothing_gathered bytes)
 
--- A piece behind
+-- A piece that follows
 
 fed_one : (limits : RecordLimits) (one piece : List ℕ) (stream : Stream) (fault : Option RecordFault)
     → fed_by limits piece (record stream { records = one ∷ stream.records }) fault ≡ record (fed_by limits piece stream fault) { records = one ∷ (fed_by limits piece stream fault).records }

@@ -70,7 +70,7 @@ brought limits gathered bytes part is_last rest are e =
     let long = let_through (nat_lt (length bytes) 4) Waits _ part rest is_last (waits_not part rest is_last) e in
     brought_by limits gathered bytes part is_last rest are long.0 long.1
 
--- the bytes behind a fragment are bytes
+-- the bytes after a fragment are bytes
 behind_bytes : (front rest bytes : List ℕ) → bytes ≡ front ++ rest → IsBytes bytes → IsBytes rest
 behind_bytes front rest bytes e are =
     subst IsBytes (ap (drop (length front)) e ∙ drop_at front rest (length front) refl) (IsBytes-drop (length front) bytes are)

@@ -110,7 +110,7 @@ module _ (world : World) (has : AllHave world) (here : ℕ) where
       never : (request : InProgress) → Replied reply ≡ Busy request → ⊥
       never request wrong = cc
 
-  -- the request goes on behind one more result
+  -- the request goes on after one more result
   module _ (request : InProgress) (has_been : HasResults request) (after : World) (left : InProgress) (leaves : Same world request after left) where
     one_further : (outcome : Outcome) → HasResults (with_result left outcome)
     one_further outcome = (

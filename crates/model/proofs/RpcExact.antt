@@ -43,7 +43,7 @@ call_head_exact = of_exact _ _ _ (λ _. refl) (λ _. refl)
 pub one_call_head : OneSpelling call_head
 one_call_head = one_spelling call_head call_head_exact
 
--- the first three words, and what stands behind them
+-- the first three words, and what follows them
 
 abbrev three : (xid type version : ℕ) → List ℕ
 three xid type version = number w32 xid ++ (number w32 type ++ number w32 version)
@@ -75,7 +75,7 @@ not_both true is = refl
 not_both false is = sym is
 
 module _ (bytes : List ℕ) (bytes_are : IsBytes bytes) where
-  -- behind the first three words of a call of version 2
+  -- after the first three words of a call of version 2
   by_header : (call : Call) (xid : ℕ) (behind : List ℕ) → xid < 2 ^ 32 → bytes ≡ three xid 0 2 ++ behind
       → (header : Result (Header × List ℕ) Refusal) → call_header.read behind ≡ header → behind_version xid header ≡ Calls call → IsCall bytes call
   by_header call xid behind small text (Err fault) read is = absurd (cc)
@@ -266,7 +266,7 @@ reply_head_exact = of_exact _ _ _ (λ _. refl) (λ _. refl)
 pub one_reply_head : OneSpelling reply_head
 one_reply_head = one_spelling reply_head reply_head_exact
 
--- a reply is its header, and its result behind it
+-- a reply is its header, and its result after it
 spelled_so : (xid : ℕ) (reply : Reply) → reply_text xid reply ≡ reply_head.spelling (head_of xid reply) ++ result_of reply
 unfolding reply_text
 spelled_so xid rpc.VersionRefused = simp (append_assoc, append-nil)

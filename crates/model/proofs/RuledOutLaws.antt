@@ -36,7 +36,7 @@ no_early_reply old new event entry happens e lasts changes among = changes (happ
     before_of : Entry → Tree
     before_of entry = entry.state.tree
 
--- what stands at a place stands there with more behind it
+-- what stands at a place stands there with more after it
 still_there : (done more : List Entry) (i : ℕ) (entry : Entry) → slice_get done i ≡ Some entry → slice_get (done ++ more) i ≡ Some entry
 still_there [] more i entry is = let never : ⊥ = cc in absurd never
 still_there (first ∷ done) more zero entry is = is
@@ -121,7 +121,7 @@ no_gap uid count arguments table session known e =
 
 -- One operation a turn
 
--- the same request, but for its context, its slot and what stands behind
+-- the same request, but for its context, its slot and what follows
 record IsSameRequest (request left : InProgress) : Type 0 where
   xid : left.xid ≡ request.xid
   tag : left.tag ≡ request.tag
@@ -205,7 +205,7 @@ in_room_keeps world request operation (Replays result session slot) keeps = keep
 
 -- What stands at the connection then
 
--- what the operation that stands next has come to, with the bytes behind it
+-- what the operation that stands next has come to, with the bytes after it
 record HasCome (old : World) (request : InProgress) (next : Next) (left : InProgress) (world : World) (outcome : Outcome) (entry : Option Entry) : Type 0 where
   rest : List ℕ
   same : IsSameRequest (record request { rest = rest }) left
@@ -329,7 +329,7 @@ quiet_turns (suc most) world number now e = ap (λ (b : Bool). cond b (turns mos
 busy_turns : (most : ℕ) (world : World) (number now : ℕ) → is_busy (at number world.connections) ≡ true → turns (suc most) world number now ≡ turns most (one world number now).world number now
 busy_turns most world number now e = ap (λ (b : Bool). cond b (turns most (one world number now).world number now) world) e
 
--- behind a turn, with what its further turns come to
+-- after a turn, with what its further turns come to
 turns_end : (most : ℕ) (world : World) (number now : ℕ) (request : InProgress) → at number world.connections ≡ Some (Busy request) → request.count ≡ request.answered + most
     → request.answered < request.count → is_busy (at number (turns most world number now).connections) ≡ false
 turns_end zero world number now request is left some = absurd (omega arith)

@@ -1,4 +1,4 @@
--- Which slots run, behind each call on the table of sessions.
+-- Which slots run, after each call on the table of sessions.
 use Rattle.std.proofs.Common.{◌≡◌, ℕ, zero, suc, ◌<◌, ◌≤◌, inl, inr, Bool, true, false, not, cond, ◌&&◌, ◌||◌, ◌==◌, nat_lt, List, [], ◌∷◌, ◌++◌, map, filter, length, get_or, set, replicate, find, Option, None, Some, refl, sym, ap, ◌∙◌, subst, arith, bytes_eq, eqb-true, eq-eqb, ltb-true, get_or-set_same, get_or-set_other}
 use Rattle.std.specs.List.{list_any}
 use Rattle.std.proofs.lemmas.Bool.{cases_eq, and_parts}
@@ -67,7 +67,7 @@ any-kept {A} p keeps (x ∷ xs) none = by_test (keeps x) refl (any-kept p keeps 
     by_test true is same = ap (λ b. b || list_any p (filter keeps xs)) (none x is) ∙ same
     by_test false is same = same
 
--- what is found passes behind the change
+-- what is found passes after the change
 pub any-found : {A : Type 0} (p q : A → Bool) (f : A → A) (xs : List A) (y : A) → find p xs ≡ Some y → q (f y) ≡ true → list_any q (map f xs) ≡ true
 any-found p q f [] y found passes = absurd (cc)
 any-found {A} p q f (x ∷ xs) y found passes = by_test (λ later. any-found p q f xs y later passes) (p x) found

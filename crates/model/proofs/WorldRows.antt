@@ -52,7 +52,7 @@ compound xid uid count operations =
 abbrev compound_reply : (xid status count : ℕ) → List ℕ → List ℕ
 compound_reply xid status count results = record_of (xid ∷ 1 ∷ 0 ∷ 0 ∷ 0 ∷ 0 ∷ status ∷ 0 ∷ count ∷ results)
 
--- the world behind a record that comes on a connection; behind so many turns there; the turn that is taken next
+-- the world after a record that comes on a connection; after so many turns there; the turn that is taken next
 comes : World → ℕ → List ℕ → World
 unfolding arrives front_from fragment behind_header read_call number number_at padded padded_at counted_at
 comes world connection bytes = arrives world connection bytes
@@ -66,7 +66,7 @@ next_turn : World → ℕ → Turn
 unfolding turned
 next_turn world connection = (one world connection 0).turn
 
--- a record, and the reply behind so many turns, which is taken
+-- a record, and the reply after so many turns, which is taken
 answer : ℕ → World → ℕ → List ℕ → Option (List ℕ)
 unfolding comes turned
 answer turns world connection bytes = reply_at (turned turns (comes world connection bytes) connection) connection
@@ -225,7 +225,7 @@ garbage : answer 1 made 0 padded_tag ≡ Some (record_of (10 ∷ 1 ∷ 0 ∷ 0 �
 unfolding made answer
 garbage = refl
 
--- A hang-up behind one turn runs the rest of the request: "h" is there, and a new connection gets the kept reply
+-- A hang-up after one turn runs the rest of the request: "h" is there, and a new connection gets the kept reply
 abbrev hang_call : List ℕ
 hang_call = compound 9 7 3 (begin_on 0 1 ++ (24 ∷ make_directory 0x68000000))
 
@@ -285,7 +285,7 @@ not_served : answer 2 made 0 (compound 10 7 2 (begin_on 0 2 ++ (44 ∷ [])))
 unfolding made answer
 not_served = refl
 
--- bytes behind the last operation: the slot is taken, and the last result is BADXDR
+-- bytes after the last operation: the slot is taken, and the last result is BADXDR
 bytes_behind_last : answer 2 made 0 (compound 10 7 2 (begin_on 0 2 ++ (24 ∷ 24 ∷ [])))
     ≡ Some (compound_reply 10 10036 2 (53 ∷ 0 ∷ 1 ∷ 1 ∷ 0 ∷ 1 ∷ 2 ∷ 0 ∷ 7 ∷ 7 ∷ 0 ∷ 24 ∷ 10036 ∷ []))
 unfolding made answer

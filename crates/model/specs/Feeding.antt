@@ -54,7 +54,7 @@ AreBytes (Releases ∷ steps) = AreBytes steps
 
 -- The law
 
--- Behind these requests the stream is refused: by a header, or because the next record is no call.
+-- After these requests the stream is refused: by a header, or because the next record is no call.
 pub record IsRefusedBehind (stream : Stream) (requests : List (List ℕ)) : Type 0 where
   pub more : List (List ℕ)
   pub behind : stream.records ≡ requests ++ more

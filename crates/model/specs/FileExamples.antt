@@ -199,7 +199,7 @@ pub record FileExamples : Type 0 where
   pub too_far : statuses volume file (write_at 16777216 0 (65 ∷ []) ∷ []) ≡ status.FBig ∷ []
   pub takes_as_many : (does (record volume { transfer_bytes = 3 }) file 1000 (write_at 0 0 hello)).outcome
       ≡ Outcome.Done (Answer.Write (record { count = 3; committed = 0; verifier = 0 ∷ 0 ∷ 0 ∷ 0 ∷ 0 ∷ 0 ∷ 0 ∷ 1 ∷ [] }))
-  -- READ: up to the end, and behind it
+  -- READ: up to the end, and beyond it
   pub reads_all : outcomes volume with_hello (read_by anonymous 1 20 ∷ [])
       ≡ Outcome.Done (Answer.Read (record { is_end = true; data_bytes = codes "ello" })) ∷ []
   pub reads_part : outcomes volume with_hello (read_by anonymous 1 3 ∷ [])

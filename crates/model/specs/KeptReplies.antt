@@ -13,7 +13,7 @@ abbrev pub reply_so_far : InProgress → List ℕ
 reply_so_far request = reply_text request.xid (Success (result_of request status.Ok))
 
 -- of a record, the most that a kept result has: the header of its reply, 24 bytes, is left out, and a refused result, of at most
--- 12 bytes, may stand behind those that had room
+-- 12 bytes, may follow those that had room
 abbrev pub max_kept : ServerLimits → ℕ
 max_kept limits = limits.reply_bytes - 12
 

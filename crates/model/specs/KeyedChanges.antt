@@ -1,4 +1,4 @@
--- Two changes of a map, one behind the other.
+-- Two changes of a map, one after the other.
 use Rattle.std.specs.Prelude.{ℕ, None, ◌≡◌, ◌≢◌, ◌<◌}
 use Rattle.model.specs.Keyed.{Keyed, at, with, without, IsAbove}
 

@@ -78,7 +78,7 @@ setting_rights context attributes =
     ++ right_if (is_among attributes mode_number || is_among attributes acl_number) (current_number context) write_acl
     ++ right_if (is_among attributes owner_number || is_among attributes owner_group_number) (current_number context) write_owner
 
--- each entry behind the cookie, where lists are asked and nothing tells that one may not be read
+-- each entry after the cookie, where lists are asked and nothing tells that one may not be read
 abbrev pub listing_rights : Tree → Context → ReadDirArguments → List (List Right)
 listing_rights tree context arguments =
     if asks_lists arguments.bitmap && not (asks_errors arguments.bitmap)

@@ -127,7 +127,7 @@ abbrev pub asked_open : State → OpenArguments → Open
 asked_open state arguments =
     new_open state.context.client arguments.owner (file_opened state arguments.opening) arguments.access
 
--- behind the rights: a full table
+-- after the rights: a full table
 abbrev pub late_at_open : Limits → State → OpenArguments → Refusals
 late_at_open limits state arguments = (is_table_full limits.opens state.opens (asked_open state arguments), status.Delay) ∷ []
 

@@ -12,7 +12,7 @@ abbrev pub page_size : List Entry → (is_end : Bool) → ℕ
 page_size entries is_end = length (answers.read_dir_answer.spelling (record { entries = entries; is_end = is_end }))
 
 pub record IsPage (limits : Limits) (state : State) (arguments : ReadDirArguments) : Type 0 where
-  -- its entries are the first of all behind the cookie, and it ends where they are all of them
+  -- its entries are the first of all after the cookie, and it ends where they are all of them
   pub rest : List Entry
   pub front : all_entries limits state arguments ≡ (page limits state arguments).entries ++ rest
   -- it has room, as it is spelled

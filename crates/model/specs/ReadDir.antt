@@ -26,7 +26,7 @@ asks_lists bitmap = is_among (attributes_of bitmap) acl_number
 abbrev pub asks_errors : (bitmap : List ℕ) → Bool
 asks_errors bitmap = is_among (attributes_of bitmap) rdattr_error_number
 
--- the names behind a cookie, whether an entry has it or not
+-- the names after a cookie, whether an entry has it or not
 abbrev pub names_after : (cookie : ℕ) → Keyed DirEntry → Keyed DirEntry
 names_after cookie names = filter (λ (name : ℕ × DirEntry). nat_lt cookie name.0) names
 
@@ -54,7 +54,7 @@ entry_of limits tree cred bitmap name = record {
 
 -- The page: the entries in their order, as many as have room
 
--- an entry stands behind a bool
+-- an entry stands after a bool
 abbrev pub entry_size : Entry → ℕ
 entry_size entry = 4 + length (answers.entry.spelling entry)
 

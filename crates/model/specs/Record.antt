@@ -25,7 +25,7 @@ nothing_gathered = record { bytes = []; fragments = 0 }
 
 -- One fragment
 
--- at the front of some bytes: no whole fragment, a header that is refused, or a fragment and the bytes behind it
+-- at the front of some bytes: no whole fragment, a header that is refused, or a fragment and the bytes after it
 pub data Fragment : Type 0 where
   Waits : Fragment
   Refuses : RecordFault → Fragment
@@ -47,7 +47,7 @@ fragment limits gathered bytes =
 
 -- One record
 
--- at the front of some bytes: no whole record, a header that is refused, or a record and the bytes behind it
+-- at the front of some bytes: no whole record, a header that is refused, or a record and the bytes after it
 pub data Front : Type 0 where
   Partial : Front
   Refused : RecordFault → Front
@@ -56,7 +56,7 @@ pub data Front : Type 0 where
 abbrev pub gathered_with : Gathered → List ℕ → Gathered
 gathered_with gathered bytes = record { bytes = gathered.bytes ++ bytes; fragments = gathered.fragments + 1 }
 
--- `further` looks for the fragment behind this one
+-- `further` looks for the fragment after this one
 abbrev pub behind_fragment : (Gathered → List ℕ → Front) → Gathered → Fragment → Front
 behind_fragment further gathered Waits = Partial
 behind_fragment further gathered (Refuses fault) = Refused fault
@@ -73,7 +73,7 @@ front limits bytes = front_from limits (length bytes) nothing_gathered bytes
 
 -- A stream
 
--- its whole records, and the bytes behind them, which begin no whole one; where a header is refused, none are kept
+-- its whole records, and the bytes after them, which begin no whole one; where a header is refused, none are kept
 pub record Stream : Type 0 where
   pub records : List (List ℕ)
   pub rest : List ℕ
@@ -144,7 +144,7 @@ EveryFragmenting = (limits : RecordLimits) (earlier : List (List ℕ)) (last res
     → length (joined earlier last) ≤ limits.bytes → length (joined earlier last) < 2 ^ 31 → length earlier < limits.fragments
     → front limits (record_text earlier last ++ rest) ≡ Whole (joined earlier last) rest
 
--- What is read is a record so sent, with the bytes behind it: nothing else is taken for one.
+-- What is read is a record so sent, with the bytes after it: nothing else is taken for one.
 pub record IsSent (limits : RecordLimits) (bytes one rest : List ℕ) : Type 0 where
   pub earlier : List (List ℕ)
   pub last : List ℕ

@@ -28,7 +28,7 @@ rename_refusals limits state arguments =
     ++ (name_refusals limits arguments.new_name
     ++ ((not (is_named state.tree (saved state) arguments.old_name), status.NoEnt) ∷ [])))
 
--- Tests behind them
+-- Tests after them
 
 abbrev pub is_other : (a b : Bool) → Bool
 is_other a b = if a then not b else b

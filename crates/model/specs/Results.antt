@@ -24,7 +24,7 @@ pub record AreResults (request : InProgress) (results : List Outcome) : Type 0 w
   pub answered : request.answered ≡ length results
   pub spelled : request.results ≡ flat_map outcome_text results
 
--- A request begins without results, and goes on behind one more; at its end they are spelled as one result.
+-- A request begins without results, and goes on after one more; at its end they are spelled as one result.
 pub record SpellsResults : Type 0 where
   pub begins : (world : World) (xid : ℕ) (cred : Cred) (compound : Compound) → AreResults (in_progress world xid cred compound) []
   pub goes_on : (request : InProgress) (results : List Outcome) (next : Outcome) → AreResults request results

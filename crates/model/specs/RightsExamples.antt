@@ -129,7 +129,7 @@ remove_file = Argument.Remove (102 ∷ [])
 abbrev pub rename : (old new : ℕ) → Argument
 rename old new = Argument.Rename (record { old_name = old ∷ []; new_name = new ∷ [] })
 
--- behind a cookie, and from the first name on
+-- after a cookie, and from the first name on
 abbrev pub listing_behind : (cookie : ℕ) → (bitmap : List ℕ) → Argument
 listing_behind cookie bitmap =
     Argument.ReadDir (record { cookie = cookie; verifier = replicate 8 0; dir_count = 0; max_count = 8192; bitmap = bitmap })
@@ -213,7 +213,7 @@ pub record RightsExamples : Type 0 where
   pub list_wants : in_root (all_but read_data) all all all (listing []) ≡ status.Access
   pub entry_wants : in_root all (all_but read_acl) all all (listing (0x1000 ∷ [])) ≡ status.Access
   pub entry_tells : in_root all (all_but read_acl) all all (listing (0x1800 ∷ [])) ≡ status.Ok
-  -- which is asked of the entries behind the cookie: "f" has the cookie 2, and "d" the cookie 3
+  -- which is asked of the entries after the cookie: "f" has the cookie 2, and "d" the cookie 3
   pub entry_behind_wants : in_root all all (all_but read_acl) all (listing_behind 2 (0x1000 ∷ [])) ≡ status.Access
   pub entry_before_is_passed : in_root all (all_but read_acl) all all (listing_behind 2 (0x1000 ∷ [])) ≡ status.Ok
   -- GETATTR of the list reads it; of the mode it does not

@@ -17,7 +17,7 @@ use Rattle.model.specs.WireTypes.{system_credential}
 abbrev pub opaque_auth : Grammar (ℕ × List ℕ)
 opaque_auth = unsigned_int & opaque 400
 
--- what stands behind the RPC version of a call, the verifier's body left out
+-- what follows the RPC version of a call, the verifier's body left out
 pub record Call : Type 0 where
   pub xid : ℕ
   pub program : ℕ

@@ -46,7 +46,7 @@ call_with head body = record {
   body = body;
 }
 
--- the record is the spelling of a call's header, and its arguments behind it
+-- the record is the spelling of a call's header, and its arguments after it
 pub record IsCall (bytes : List ℕ) (call : Call) : Type 0 where
   pub head : CallHead
   pub fits : call_head.Fits head
@@ -145,7 +145,7 @@ result_of _ = []
 abbrev pub head_of : (xid : ℕ) → Reply → ReplyHead
 head_of xid reply = record { xid = xid; verdict = verdict_of reply }
 
--- what a record is read as: nothing may stand behind a reply without a result
+-- what a record is read as: nothing may follow a reply without a result
 
 abbrev pub alone : Reply → (rest : List ℕ) → Option Reply
 alone reply rest = if is_empty rest then Some reply else None

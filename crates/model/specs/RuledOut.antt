@@ -12,12 +12,12 @@ use Rattle.model.specs.Tree.{Tree}
 use Rattle.model.specs.World.{World, ServerLimits, Entry, InProgress, in_progress, Connection, Waiting, Busy, Replied, Next, Refuses, Reads, next_operation, state_of, outcome_text, Turned, one, reply_with, hangs_up, hung_up, is_busy}
 use Rattle.model.specs.Runs.{Event, Turns, HangsUp, effect_of, before, IsDurable, is_durable, is_done, History, Serving, mounted, executed, MayLeave, Happens, IsRun, IsGoodPrefix, done_with, tree_after}
 
--- One that keeps a later change and skips an unstable write before it: the tree left is the one behind both.
+-- One that keeps a later change and skips an unstable write before it: the tree left is the one after both.
 abbrev pub NoSkip : Type 0
 NoSkip = (start : Tree) (write change : Entry) (tree : Tree) → IsDurable change
     → IsGoodPrefix start (write ∷ change ∷ []) (1 ∷ []) tree → tree ≡ change.after
 
--- One that gives a reply before its change is kept: behind the turn the tree before it is none that a stop may leave.
+-- One that gives a reply before its change is kept: after the turn the tree before it is none that a stop may leave.
 abbrev pub NoEarlyReply : Type 0
 NoEarlyReply = (old new : Serving) (event : Event) (entry : Entry) → Happens old event new → executed old event ≡ Some entry
     → is_durable entry ≡ true → before entry ≢ entry.after → IsAmong new.recent (before entry) → ⊥
@@ -43,7 +43,7 @@ NoForgetting = (uid count : ℕ) (arguments : SequenceArguments) (table : Table)
     → arguments.sequence ≡ (slot_at session arguments.slot).last → uid ≡ (slot_at session arguments.slot).uid
     → begin uid count arguments (finish arguments.session arguments.slot reply table) ≡ Replays reply
 
--- One whose slots take a number other than the next: what runs has the number behind the slot's last.
+-- One whose slots take a number other than the next: what runs has the number after the slot's last.
 abbrev pub NoGap : Type 0
 NoGap = (uid count : ℕ) (arguments : SequenceArguments) (table : Table) (session : Session)
     → find (is_session arguments.session) table.sessions ≡ Some session → begin uid count arguments table ≡ Runs
@@ -59,12 +59,12 @@ IsOutcome world request (Refuses operation reason) outcome executed tree = (outc
 IsOutcome world request (Reads operation rest) outcome executed tree =
     executed ≡ Some (record { state = state_of world request; operation = operation; outcome = outcome; after = tree })
 
--- the bytes behind that operation
+-- the bytes after that operation
 abbrev pub IsBehind : Next → List ℕ → Type 0
 IsBehind (Refuses operation reason) bytes = ⊥
 IsBehind (Reads operation rest) bytes = bytes ≡ rest
 
--- the request with its OK result behind the others, and with operations left
+-- the request with its OK result after the others, and with operations left
 pub record HasOneMore (world : World) (request : InProgress) (next : Next) (turned : Turned) (after : InProgress) : Type 0 where
   pub answer : Answer
   pub executes : IsOutcome world request next (Outcome.Done answer) turned.executed turned.world.tree
@@ -76,7 +76,7 @@ pub record HasOneMore (world : World) (request : InProgress) (next : Next) (turn
   pub count : after.count ≡ request.count
   pub others : request.answered + 1 ≢ request.count
 
--- the reply with its result behind the others
+-- the reply with its result after the others
 pub record IsAnswered (world : World) (request : InProgress) (next : Next) (turned : Turned) (reply : List ℕ) : Type 0 where
   pub outcome : Outcome
   pub executes : IsOutcome world request next outcome turned.executed turned.world.tree

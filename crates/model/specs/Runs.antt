@@ -138,7 +138,7 @@ done_with history executed = history.done ++ option_to_list executed
 
 -- The machine
 
--- `recent` are the trees that a stop may leave now, as the volume keeps them: the one flushed last, and the one behind each later change
+-- `recent` are the trees that a stop may leave now, as the volume keeps them: the one flushed last, and the one after each later change
 pub record Serving : Type 0 where
   pub world : World
   pub recent : List Tree
@@ -163,7 +163,7 @@ IsAfter (Some entry) tree = tree ≡ entry.after
 abbrev pub MayLeave : Serving → Event → Tree → Type 0
 MayLeave serving event tree = IsAmong serving.recent tree ⊎ IsAfter (executed serving event) tree
 
--- an event happens; after it, of a durable operation only the tree behind it may be left
+-- an event happens; then, of a durable operation only the tree after it may be left
 pub record Happens (old : Serving) (event : Event) (new : Serving) : Type 0 where
   pub up : old.is_down ≡ false
   pub world : new.world ≡ effect_of old.world event

@@ -12,7 +12,7 @@ served =
 abbrev pub is_served : (operation : ℕ) → Bool
 is_served operation = list_any (λ known. known == operation) served
 
--- What stands behind the arguments is not looked at: a CREATE of another type, an OPEN that is exclusive or has another claim
+-- What follows the arguments is not looked at: a CREATE of another type, an OPEN that is exclusive or has another claim
 abbrev pub opens_no_further : Opening → Bool
 opens_no_further (Opens kind (OtherClaim claim)) = true
 opens_no_further (Opens kind claim) = false

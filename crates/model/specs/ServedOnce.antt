@@ -21,7 +21,7 @@ abbrev pub numbers_in : List ℕ → ℕ → List Entry → List ℕ
 numbers_in id slot [] = []
 numbers_in id slot (entry ∷ done) = option_to_list (number_by id slot entry.operation entry.outcome) ++ numbers_in id slot done
 
--- They run from 1 on, each behind the one before it, and so one of them runs again only after the 2^32 - 1 others.
+-- They run from 1 on, each after the one before it, and so one of them runs again only after the 2^32 - 1 others.
 abbrev pub EveryServedSlot : Type 0
 EveryServedSlot = (limits : ServerLimits) (run : ℕ) (start : Tree) (serving : Serving) (history : History)
     → IsRun (mounted limits run start) serving history → (id : List ℕ) (slot : ℕ)

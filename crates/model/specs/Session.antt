@@ -76,7 +76,7 @@ changed_where test change = map (λ x. if test x then change x else x)
 abbrev pub has_only : ℕ → ℕ → Bool
 has_only allowed flags = bit_or flags allowed == allowed
 
--- the number behind this one (section 2.10.6.1: it wraps)
+-- the number after this one (section 2.10.6.1: it wraps)
 abbrev pub next_number : ℕ → ℕ
 next_number number = (number + 1) % 2 ^ 32
 
@@ -279,7 +279,7 @@ with_new_session limits arguments client table = record table {
   sessions = staying client table ++ new_session limits arguments client table ∷ [];
 }
 
--- what CREATE_SESSION answers, whose opens end, and the table behind it
+-- what CREATE_SESSION answers, whose opens end, and the table after it
 pub record CreateSessionOutcome : Type 0 where
   pub answer : Result CreateSessionAnswer Status
   pub ended_clients : List ℕ
@@ -297,7 +297,7 @@ create_unless limits arguments client table None = record {
   table = with_new_session limits arguments client table;
 }
 
--- the number behind the one asked is the record's next, and that one's result is kept: it is answered again
+-- the number after the one asked is the record's next, and that one's result is kept: it is answered again
 abbrev pub create_again : SessionLimits → CreateSessionArguments → Client → Table → Option CreateSessionAnswer → CreateSessionOutcome
 create_again limits arguments client table None =
     create_unless limits arguments client table (first_refusal (create_refusals limits arguments client table))

@@ -51,7 +51,7 @@ numbers_on limits id slot [] table = []
 numbers_on limits id slot (call ∷ calls) table =
     option_to_list (runs_on id slot call table) ++ numbers_on limits id slot calls (after limits call table)
 
--- each number is the one behind the one before it
+-- each number is the one that follows the one before it
 abbrev pub CountsFrom : ℕ → List ℕ → Type 0
 CountsFrom last [] = Unit {0}
 CountsFrom last (number ∷ numbers) = (number ≡ next_number last) × CountsFrom number numbers

@@ -1,6 +1,6 @@
 -- One operation of a COMPOUND on the tree: RFC 8881, sections 16.2 and 18. It is refused by the first of its tests that holds,
 -- and then changes nothing. The order of the tests is this server's profile: what an operation looks at before the caller's
--- rights, the rights, what it looks at behind them, room on the volume, and whether a stamp is left.
+-- rights, the rights, what it looks at after them, room on the volume, and whether a stamp is left.
 use Rattle.std.specs.Prelude.{ℕ, Bool, true, false, List, [], ◌∷◌, ◌++◌, Option, Some, None, ◌&&◌, ◌||◌, ◌==◌, not, is_none, if◌then◌else◌}
 use Rattle.model.specs.declared.node.NodeKind.TheVariants as kind
 use Rattle.model.specs.declared.status.Status.{Status}
@@ -68,7 +68,7 @@ early limits state (Argument.Sequence arguments) = []
 early limits state (Argument.DestroyClientId client) = []
 early limits state (Argument.ReclaimComplete one_fs) = []
 
--- Tests behind the caller's rights
+-- Tests after the caller's rights
 
 abbrev pub late_at_create : State → CreateArguments → Refusals
 late_at_create state (NewDirectory name given) = (is_name_there state name, status.Exist) ∷ []
@@ -227,7 +227,7 @@ abbrev pub unless_refused : State → Argument → Option Status → Stepped →
 unless_refused state operation None stepped = stepped
 unless_refused state operation (Some reason) stepped = refused state operation reason
 
--- One operation. That the reply has room for its result is tested behind it, for every operation alike.
+-- One operation. That the reply has room for its result is tested after it, for every operation alike.
 unfoldable pub does : Limits → State → (now : ℕ) → Argument → Stepped
 does limits state now operation =
     let stepped = effect limits state now operation in

@@ -87,7 +87,7 @@ sequence_answer = of
     (λ a. (a.session, (a.sequence, (a.slot, (a.highest_slot, (a.target_highest_slot, a.flags))))))
     (session_id & unsigned_int & unsigned_int & unsigned_int & unsigned_int & unsigned_int)
 
--- what stands behind the status OK, by the operation's number
+-- what follows the status OK, by the operation's number
 abbrev pub answer_told : Answer → Told
 answer_told (Answer.Access a) = tells OP_ACCESS access_answer a
 answer_told (Answer.Close state) = tells OP_CLOSE state_id state
@@ -143,7 +143,7 @@ answer_choice =
     (on OP_DESTROY_CLIENTID void (λ _. Answer.DestroyClientId)
     (on OP_RECLAIM_COMPLETE void (λ _. Answer.ReclaimComplete) no_other))))))))))))))))))))))))
 
--- Results: the operation's number, a status (section 15.1), and what stands behind it
+-- Results: the operation's number, a status (section 15.1), and what follows it
 
 -- every status but OK
 abbrev pub refusals : List Status
@@ -160,7 +160,7 @@ refusals =
 abbrev pub refusal_of : ℕ → Option Status
 refusal_of n = find (λ reason. code_of reason == n) refusals
 
--- behind a refused SETATTR an empty bitmap stands (section 18.30)
+-- after a refused SETATTR an empty bitmap stands (section 18.30)
 abbrev pub behind_refusal : (operation : ℕ) → List ℕ
 behind_refusal operation = if operation == OP_SETATTR then number w32 0 else []
 
@@ -183,7 +183,7 @@ behind_status operation code_at =
 abbrev pub outcome_choice : Choice Outcome
 outcome_choice operation bytes = number_at w32 bytes >>= behind_status operation
 
--- what stands behind a result's number
+-- what follows a result's number
 unfoldable pub outcome_at : (operation : ℕ) → List ℕ → Result (Outcome × List ℕ) Refusal
 outcome_at operation bytes = outcome_choice operation bytes
 

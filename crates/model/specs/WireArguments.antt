@@ -14,7 +14,7 @@ close_arguments = of (λ (p : ℕ × StateId). record { seqid = p.0; state = p.1
 abbrev pub commit_arguments : Grammar CommitArguments
 commit_arguments = of (λ (p : ℕ × ℕ). record { offset = p.0; count = p.1 }) (λ a. (a.offset, a.count)) (unsigned_hyper & unsigned_int)
 
--- NF4DIR is 2; behind another type nothing is looked at
+-- NF4DIR is 2; after another type nothing is looked at
 abbrev pub create_told : CreateArguments → Told
 create_told (NewDirectory name given) = tells 2 (any_opaque & attributes) (name, given)
 create_told (OtherType n) = record { number = n; Fits = n ≢ 2; text = [] }
@@ -25,7 +25,7 @@ create_choice = on 2 (any_opaque & attributes) (λ (p : List ℕ × Attributes).
 abbrev pub create_arguments : Grammar CreateArguments
 create_arguments = union create_told create_choice
 
--- CLAIM_NULL is 0 and CLAIM_FH 4; behind another claim nothing is looked at
+-- CLAIM_NULL is 0 and CLAIM_FH 4; after another claim nothing is looked at
 abbrev pub claim_told : Claim → Told
 claim_told (ByName name) = tells 0 any_opaque name
 claim_told ByHandle = tells 4 void tt
@@ -53,7 +53,7 @@ create_how_choice =
 abbrev pub create_how : Grammar Opening
 create_how = union create_how_told create_how_choice
 
--- openflag4 and the claim behind it: OPEN4_NOCREATE is 0 and OPEN4_CREATE 1
+-- openflag4 and the claim after it: OPEN4_NOCREATE is 0 and OPEN4_CREATE 1
 abbrev pub opening_told : Opening → Told
 opening_told (Opens NoCreate by) = tells 0 claim by
 opening_told (Opens (Unchecked given) by) = tells 1 create_how (Opens (Unchecked given) by)
@@ -179,7 +179,7 @@ argument_choice =
     (on OP_DESTROY_CLIENTID unsigned_hyper Argument.DestroyClientId
     (on OP_RECLAIM_COMPLETE boolean Argument.ReclaimComplete no_other))))))))))))))))))))))))
 
--- what stands behind an operation's number
+-- what follows an operation's number
 unfoldable pub arguments_at : (operation : ℕ) → List ℕ → Result (Argument × List ℕ) Refusal
 arguments_at operation bytes = argument_choice operation bytes
 

@@ -85,7 +85,7 @@ with_table world table = record world { table = table }
 
 -- The next operation of a COMPOUND (RFC 8881, section 16.2.3)
 
--- it is refused before it is run, under this number; or read, with the bytes behind it
+-- it is refused before it is run, under this number; or read, with the bytes after it
 pub data Next : Type 0 where
   Refuses : (operation : ℕ) → Status → Next
   Reads : Argument → (rest : List ℕ) → Next
@@ -126,7 +126,7 @@ abbrev pub first_or : List (Bool × Next) → Next → Next
 first_or [] next = next
 first_or (test ∷ tests) next = if test.0 then test.1 else first_or tests next
 
--- arguments that are not read, or bytes behind those of the last operation: BADXDR
+-- arguments that are not read, or bytes after those of the last operation: BADXDR
 abbrev pub by_arguments : InProgress → (operation : ℕ) → Result (Argument × List ℕ) Refusal → Next
 by_arguments request operation (Err fault) = Refuses operation status.BadXdr
 by_arguments request operation (Ok read) =
@@ -174,7 +174,7 @@ created_by world request outcome (Ok answer) =
 abbrev pub created : World → InProgress → sessions.CreateSessionOutcome → HasRun
 created world request outcome = created_by world request outcome outcome.answer
 
--- an operation that answers nothing: its refusal, if there is one, and the table behind it
+-- an operation that answers nothing: its refusal, if there is one, and the table after it
 abbrev pub tabled : World → InProgress → (operation : ℕ) → Answer → Option Status × Table → HasRun
 tabled world request operation answer (Some reason, table) = refuses (with_table world table) request operation reason
 tabled world request operation answer (None, table) = gives (with_table world table) request answer
@@ -257,7 +257,7 @@ pub data Turn : Type 0 where
   Ran : Turn
   Answered : Turn
 
--- What was executed: an operation, the state before it, its outcome and the tree behind it
+-- What was executed: an operation, the state before it, its outcome and the tree after it
 pub record Entry : Type 0 where
   pub state : State
   pub operation : Argument
@@ -285,7 +285,7 @@ replies world number xid reply = record {
   replays = None;
 }
 
--- the request goes on behind a result
+-- the request goes on after a result
 abbrev pub with_result : InProgress → Outcome → InProgress
 with_result request outcome = record request {
   answered = request.answered + 1;
@@ -389,7 +389,7 @@ one world number now = turned world number now (at number world.connections)
 
 -- What comes, goes and is taken
 
--- behind the bytes so far a piece comes, up to the end of the first whole record; a record that is no call closes
+-- after the bytes so far a piece comes, up to the end of the first whole record; a record that is no call closes
 abbrev pub arrived : (bytes : List ℕ) → Front → Connection
 arrived bytes Partial = Quiet bytes
 arrived bytes (Refused fault) = Closed

@@ -17,7 +17,7 @@ bitflag_items! {
         const READ_DATA = 0x1;
         /// To write a file's bytes, or to add a file to a directory (`ADD_FILE`).
         const WRITE_DATA = 0x2;
-        /// To write behind a file's end, or to add a directory to a directory (`ADD_SUBDIRECTORY`).
+        /// To write beyond a file's end, or to add a directory to a directory (`ADD_SUBDIRECTORY`).
         const APPEND_DATA = 0x4;
         const EXECUTE = 0x20;
         const DELETE_CHILD = 0x40;

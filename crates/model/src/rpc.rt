@@ -26,7 +26,7 @@ pub fn only_sent()
     ensures { OnlySent }
 {}
 
-/// A record is read as a call exactly where it is the spelling of a call's header and the call's arguments behind it; no
+/// A record is read as a call exactly where it is the spelling of a call's header and the call's arguments after it; no
 /// header begins another (RFC 5531, section 9).
 pub fn calls_are_exact()
     ensures exact { Exact call_head }

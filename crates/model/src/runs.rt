@@ -46,7 +46,7 @@ pub fn every_stamp()
 
 /// From the moment on at which an OPEN is answered with a stateid, at each later moment of the run:
 /// its open stands as the OPENs that joined it since have made it, or it has ended and never comes
-/// back. The stateid names the open until one joins it, is OLD_STATEID behind that until seqids
+/// back. The stateid names the open until one joins it, is OLD_STATEID after that until seqids
 /// begin again at 1, and BAD_STATEID for another client, on another file and once the open has
 /// ended; in every other run it is BAD_STATEID.
 pub fn every_stateid_goes_on()

@@ -33,7 +33,7 @@ pub fn every_step_keeps_opens()
     ensures { EveryStepKeepsOpens }
 {}
 
-/// A page of READDIR has the first entries behind the cookie, as many as its spelling has room for.
+/// A page of READDIR has the first entries after the cookie, as many as its spelling has room for.
 pub fn every_page()
     ensures { EveryPage }
 {}

@@ -22,7 +22,7 @@ behind : (holds : Bool) (reason : Status) (others : Option Status) {A : Type 0} 
 behind true reason others next none = cc
 behind false reason others next none = next none
 
--- tests of which none holds have no other one behind them
+-- tests of which none holds have no other one after them
 pub none_behind : (front rest : Refusals) → first_refusal (front ++ rest) ≡ None → first_refusal rest ≡ None
 none_behind [] rest none = none
 none_behind (test ∷ front) rest none = behind test.0 test.1 (first_refusal (front ++ rest)) (none_behind front rest) none

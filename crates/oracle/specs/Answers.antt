@@ -62,11 +62,11 @@ effect_of old is_change effect = record {
   };
 }
 
--- the state behind a change that leaves this tree
+-- the state after a change that leaves this tree
 abbrev pub changed_to : states.State → Tree → states.State
 changed_to state tree = record state { tree = tree; changes = state.changes + 1 }
 
--- what RENAME answers, where the directories have these change values behind it
+-- what RENAME answers, where the directories have these change values after it
 abbrev pub renamed_by : states.State → (source target : ℕ) → model.Answer
 renamed_by state source target = model.Answer.Rename (record {
   source = states.change_to state (states.saved state) source;

@@ -1,4 +1,4 @@
--- What an answer of the oracle and the state behind it stand for.
+-- What an answer of the oracle and the state after it stand for.
 use Rattle.model.specs.State as states
 use Rattle.oracle.specs.declared.step.Stepped.{Stepped}
 use Rattle.oracle.specs.Answers.{outcome_of}

@@ -100,7 +100,7 @@ pub fn remove<'a>(
     Ok(effect)
 }
 
-// The answer of RENAME, where the directories have these change values behind it.
+// The answer of RENAME, where the directories have these change values after it.
 fn renamed_answer(state: &State<'_>, source: u128, target: u128) -> Answer
     ensures { answer_of result ≡ renamed_by (state_of state.now) source target }
 {

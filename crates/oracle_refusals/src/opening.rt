@@ -240,7 +240,7 @@ pub fn asked_open(
     })
 }
 
-/// Behind the rights: a full table.
+/// After the rights: a full table.
 pub fn table_tests(
     alloc: Global,
     limits: &Limits,

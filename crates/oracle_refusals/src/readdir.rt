@@ -17,7 +17,7 @@ use oracle_values::shown::Entry;
 use std::alloc::{AllocError, Global};
 use wire::ReadDirArguments;
 
-// The entries of the names behind a cookie.
+// The entries of the names after a cookie.
 fn entries_of(
     alloc: Global,
     limits: &Limits,

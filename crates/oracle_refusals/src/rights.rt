@@ -245,7 +245,7 @@ fn setting_rights(alloc: Global, state: &State<'_>, attributes: &[u32]) -> Resul
     both(size, both(list, owner)?)
 }
 
-// To read the list of each entry behind a cookie.
+// To read the list of each entry after a cookie.
 fn reading_rights(
     alloc: Global,
     cookie: u64,

@@ -1,4 +1,4 @@
-//! The tests of an operation apart from the caller's rights: before them, between their two places, and behind them.
+//! The tests of an operation apart from the caller's rights: before them, between their two places, and after them.
 
 ghost use Rattle.std.specs.Prelude.{◌≡◌, [], ◌∷◌, ◌++◌, not, IfOk, IsTrue};
 ghost use Rattle.model.specs.Keyed.{is_key};
@@ -339,7 +339,7 @@ pub fn tests_between(
     }
 }
 
-/// The tests behind the caller's rights.
+/// The tests after the caller's rights.
 pub fn late_tests(
     alloc: Global,
     limits: &Limits,

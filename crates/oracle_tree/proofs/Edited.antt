@@ -10,7 +10,7 @@ use Rattle.model.specs.Edit.{Edit, done, edited}
 use Rattle.model.specs.Mode.{moded, owner_bits, group_bits, other_bits, entry, rights_of, rights_lacking, limited_kind, has_rights, is_handed_down, not_counting}
 use Rattle.model.specs.Tree.{Tree}
 
--- edits behind other ones are done to what these leave
+-- edits after other ones are done to what these leave
 pub edited_append : (front rest : List Edit) (tree : Tree) → edited (front ++ rest) tree ≡ edited rest (edited front tree)
 edited_append [] rest tree = refl
 edited_append (edit ∷ front) rest tree = edited_append front rest (done edit tree)

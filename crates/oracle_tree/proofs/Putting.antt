@@ -71,7 +71,7 @@ without_is key (entry ∷ rest) = here (key == entry.0) (without_is key rest)
 pub length-resized : (bytes : List ℕ) (size : ℕ) → length (resized bytes size) ≡ size
 length-resized bytes size = simp (length-append, length-take, length-replicate) (omega arith)
 
--- what stands behind a part that is written over bytes
+-- what follows a part that is written over bytes
 pub overwritten_is : (bytes : List ℕ) (offset : ℕ) (part : List ℕ) (end : ℕ) → end ≡ length (resized bytes offset ++ part)
     → (resized bytes offset ++ part) ++ drop end bytes ≡ overwritten bytes offset part
 overwritten_is bytes offset part end is =

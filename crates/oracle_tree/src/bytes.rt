@@ -1,4 +1,4 @@
-//! Bytes: the numbers that eight of them spell, zeros, and what stands behind an offset.
+//! Bytes: the numbers that eight of them spell, zeros, and what stands after an offset.
 
 ghost use Rattle.std.specs.Prelude.{◌≡◌, IfOk, drop, replicate, slice_index};
 ghost use Rattle.std.specs.Int.{w64, to_be_bytes};
@@ -6,7 +6,7 @@ ghost use Rattle.model.specs.Stamp.{number_of};
 
 use std::alloc::{AllocError, Global};
 
-// A byte, 0 behind the last one.
+// A byte, 0 past the last one.
 fn byte_at(bytes: &[u8], i: usize) -> u8
     ensures { result ≡ slice_index bytes.now i }
 {

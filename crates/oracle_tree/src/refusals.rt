@@ -9,7 +9,7 @@ use std::alloc::AllocError;
 /// Tests in their order.
 pub type Tests = Vec<(bool, Status)>;
 
-/// The tests of one list and of another one behind it.
+/// The tests of one list and of another one after it.
 pub fn concat(front: Tests, back: Tests) -> Result<Tests, AllocError>
     ensures { IfOk result (λ all. all.items ≡ front.items ++ back.items) }
 {

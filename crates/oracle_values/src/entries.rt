@@ -117,7 +117,7 @@ fn listed_spelling(alloc: Global, listed: &Entry) -> Result<Vec<u8>, AllocError>
     joined(alloc, &hyper(listed.cookie), &rest)
 }
 
-// An entry stands behind a bool.
+// An entry follows a bool.
 fn entry_size(alloc: Global, listed: &Entry) -> Result<usize, AllocError>
     ensures { IfOk result (λ size. size ≡ entry_size listed.now) }
 {

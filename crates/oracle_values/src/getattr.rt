@@ -172,7 +172,7 @@ fn asked_bytes(alloc: Global, asked: &[u32], texts: &[Text]) -> Result<Vec<u8>, 
     Ok(bytes)
 }
 
-// The bits that two bitmaps have in common, behind other words.
+// The bits that two bitmaps have in common, after other words.
 fn push_common(words: &mut Vec<u32>, bitmap: &[u32], others: &[u32]) -> Result<(), AllocError>
     ensures { OnOk result (words.new.items ≡ words.old.items ++ common bitmap.now others.now) }
 {

@@ -36,7 +36,7 @@ pub fn hyper(n: u128) -> [u8; 8]
     eight_bytes(n)
 }
 
-/// Bytes behind their number, filled up with zeros.
+/// Bytes after their number, filled up with zeros.
 #[tactic(auto, unfolding(xdr::specs::Forms::counted, xdr::specs::Forms::padded))]
 pub fn counted(alloc: Global, bytes: &[u8]) -> Result<Vec<u8>, AllocError>
     ensures { IfOk result (λ text. text.items ≡ counted bytes.now) }
@@ -89,7 +89,7 @@ fn entry_spelling(alloc: Global, ace: &Ace) -> Result<Vec<u8>, AllocError>
     joined(alloc, &word(u128::from(kind_number(ace.kind))), &rest)
 }
 
-/// Bytes behind other ones.
+/// Bytes after other ones.
 pub fn joined(alloc: Global, front: &[u8], back: &[u8]) -> Result<Vec<u8>, AllocError>
     ensures { IfOk result (λ all. all.items ≡ front.now ++ back.now) }
 {

@@ -130,7 +130,7 @@ fn first_answer<'a, 'b>(results: &'b Results<'a>) -> Result<&'b Answer<'a>, Refu
     }
 }
 
-/// Sends operations behind a SEQUENCE on slot 0.
+/// Sends operations after a SEQUENCE on slot 0.
 pub fn call<S, D>(
     alloc: Global,
     server: &mut Server<D>,
@@ -149,7 +149,7 @@ where
     user.ask(server, &arguments, words_of(alloc, operations)?)
 }
 
-/// The words for a SEQUENCE, and for the operations behind it.
+/// The words for a SEQUENCE, and for the operations after it.
 fn words_of(alloc: Global, operations: &[Operation<'_>]) -> Result<Vec<&'static str>, Refused> {
     let mut words = words(alloc, "sequence")?;
     for operation in operations {

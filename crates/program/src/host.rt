@@ -12,7 +12,7 @@ use std::{io, thread};
 
 /// The most bytes of a piece. The longest record of a request fits, with the headers of all its fragments.
 const PIECE_BYTES: usize = 32_768;
-/// How often a call of the server is made for which there is no memory, and the pause behind each.
+/// How often a call of the server is made for which there is no memory, and the pause after each.
 const TRIES: u32 = 8;
 
 const PAUSE_MILLIS: u64 = 10;
@@ -85,7 +85,7 @@ impl<D: Device> Host<D> {
     }
 
     /// Takes what the peer sends, and answers it, until the peer's bytes end. What the server does not take of a piece is offered
-    /// again behind the reply.
+    /// again after the reply.
     fn converse<C, S>(
         &mut self,
         clock: &C,

@@ -21,7 +21,7 @@ pub enum Action<'a> {
     Hello { uid: u32, gid: u32 },
     /// It asks for a session.
     Session,
-    /// It sends these operations behind a SEQUENCE.
+    /// It sends these operations after a SEQUENCE.
     Call(Vec<Operation<'a>>),
     /// Its connection is given a turn.
     Turn,

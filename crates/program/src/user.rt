@@ -36,7 +36,7 @@ pub struct User<S> {
     client: Client,
     /// The words for what its last record asks.
     pub words: Vec<&'static str>,
-    /// None behind a restart of the server.
+    /// None after a restart of the server.
     connection: Option<Connection<S>>,
 }
 

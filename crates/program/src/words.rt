@@ -36,7 +36,7 @@ pub enum Request<'a> {
     Usage,
 }
 
-/// The commands, and the words that each has behind it.
+/// The commands, and the words that each has after it.
 const COMMANDS: [(&str, &[&str]); 4] = [
     ("format", &["FILE", "SECTORS", "NODES"]),
     ("run", &["FILE", "SCRIPT"]),
@@ -44,7 +44,7 @@ const COMMANDS: [(&str, &[&str]); 4] = [
     ("serve", &["FILE", "PORT", "COUNT"]),
 ];
 
-/// Reads the words behind the program's name.
+/// Reads the words after the program's name.
 pub fn read_words<'a, S: AsStr>(alloc: Global, words: &'a [S]) -> Result<Request<'a>, AllocError> {
     match matches_of(whole_command(alloc)?, words)? {
         Some(matches) => Ok(request_of(&matches)),
@@ -78,7 +78,7 @@ fn with_command<'a>(command: Command<'a>, other: Command<'a>) -> Result<Command<
     command.subcommand(other)
 }
 
-/// The command of this name, behind which all of these words have to stand.
+/// The command of this name, after which all of these words have to stand.
 fn command_of<'a>(
     alloc: Global,
     name: &'a str,
@@ -115,7 +115,7 @@ fn request_of<'a>(matches: &ArgMatches<'a>) -> Request<'a> {
     Request::Script
 }
 
-/// What stands behind the command of this name, where that is the one that is given.
+/// What follows the command of this name, where that is the one that is given.
 fn command_in<'a, 'b>(matches: &'b ArgMatches<'a>, name: &str) -> Option<&'b ArgMatches<'a>> {
     matches.subcommand_matches(name)
 }

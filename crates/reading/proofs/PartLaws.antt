@@ -45,7 +45,7 @@ filled old new n len count len_is n_is is =
     let more : n - len ≡ count = omega arith in
     is ∙ ap (λ (s : List ℕ). s ++ replicate {A = ℕ} (n - len) 0) (take_all n old (omega arith)) ∙ ap (λ (m : ℕ). old ++ replicate {A = ℕ} m 0) more
 
--- no part, and a part behind a part
+-- no part, and a part after a part
 
 pub no_part : (word : Type 0) (image : Image) (blocks : List (Option ℕ)) (offset : ℕ) (old : List ℕ) → Appends word image blocks offset 0 old old
 no_part word image blocks offset old = record { part = []; is = sym (append-nil old); many = refl; bytes = λ w k less. absurd (omega arith) }
@@ -64,7 +64,7 @@ part_on word image blocks offset done at more old mid new at_is first second = r
   ];
 }
 
--- what stands in front, and how many bytes come behind it
+-- what stands in front, and how many bytes come after it
 
 pub front_is : (old part new : List ℕ) → new ≡ old ++ part → IsFront old new
 front_is old part new is = ap (take (length old)) is ∙ take-append-le (length old) old part (omega arith) ∙ take_all (length old) old (omega arith)
@@ -90,7 +90,7 @@ whole_part word image blocks size offset len old new appends w =
     ∙ sym (get_or-take len (drop offset all) k 0 (omega arith) ∙ get_or-drop offset all k 0 ∙ get_or-map-range_with_len (byte_at image blocks) 0 size (offset + k) (offset + k) 0 (omega arith) (omega arith))) in
     appends.is ∙ ap (λ (s : List ℕ). old ++ s) same
 
--- of a card as it is seen, behind room that was made
+-- of a card as it is seen, after room was made
 
 pub read_whole : (word : Type 0) (image : Image) (inside card : Card) (offset len count : ℕ) (old mid new : List ℕ) → inside ≡ card → mid ≡ old → count ≡ min len (inside.fields.size - offset)
     → Appends word image inside.blocks offset count mid new → word → new ≡ old ++ take len (drop offset (bytes_in image card.blocks card.fields.size))

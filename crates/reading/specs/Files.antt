@@ -7,7 +7,7 @@ abbrev pub AreWithin : (size : ℕ) → List (Option ℕ) → Type 0
 AreWithin size blocks = (block sector : ℕ)
     → slice_index_or blocks block None ≡ Some sector → sector < size
 
--- behind the old bytes stand so many more
+-- after the old bytes stand so many more
 pub record GetsMore (old new : List ℕ) (count : ℕ) : Type 0 where
   pub front : take (length old) new ≡ old
   pub count_is : length new ≡ length old + count

@@ -7,7 +7,7 @@ use Rattle.layout.specs.Cards.{byte_at}
 abbrev pub IsFront : (old new : List ℕ) → Type 0
 IsFront old new = take (length old) new ≡ old
 
--- Behind the old bytes stand so many more. Where the device keeps its word, which is `word` here,
+-- After the old bytes stand so many more. Where the device keeps its word, which is `word` here,
 -- they are the bytes of these blocks from a place on.
 pub record Appends (word : Type 0) (image : Image) (blocks : List (Option ℕ)) (offset count : ℕ)
     (old new : List ℕ) : Type 0 where

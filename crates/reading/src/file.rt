@@ -21,7 +21,7 @@ fn count_from(size: u64, offset: u64, len: usize) -> usize
     size.saturating_sub(offset).min(len as u64) as usize
 }
 
-/// The sector of a block; none where it is a hole, or behind the last block.
+/// The sector of a block; none where it is a hole, or past the last block.
 fn sector_of(blocks: &BlockList, block: u64) -> Option<u32>
     ensures { result ≡ slice_index_or blocks.now block None }
 {

@@ -86,7 +86,7 @@ unfolding moved
 moved_length bytes place size behind whole =
     length-paste bytes place.size (drop (place.at + 4) bytes) (place.at + 4 + size - (place.at + 4)) (omega arith) (omega (arith, length-drop (place.at + 4) bytes))
 
--- what the fragment at the place is, read from the bytes with nothing behind them
+-- what the fragment at the place is, read from the bytes with nothing after them
 abbrev pub Found : (bytes : List ℕ) → Place → Fragment → Type 0
 Found bytes place found =
     (gathered : Gathered) → length gathered.bytes ≡ place.size → gathered.fragments ≡ place.fragments → Finds gathered (drop place.at (bytes ++ [])) found

@@ -42,7 +42,7 @@ reply_parts xid (replies.Compound compound) =
     ∙ success_parts xid (compound_front compound.status compound.tag.bytes.now compound.count ++ compound.results.now)
     ∙ sym (append_assoc (success_head xid) (compound_front compound.status compound.tag.bytes.now compound.count) compound.results.now)
 
--- the record of a reply, behind other bytes
+-- the record of a reply, after other bytes
 pub record_parts : (before after tail : List ℕ) (size xid : ℕ) (reply : Reply) → after ≡ before ++ (frame_header size ++ front_of xid reply) → tail ≡ tail_of reply
     → size ≡ length (reply_text xid (reply_view reply)) → after ++ tail ≡ before ++ framed (reply_text xid (reply_view reply))
 record_parts before after tail size xid reply after_is tail_is size_is =

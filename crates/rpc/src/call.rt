@@ -16,7 +16,7 @@ const RPC_VERSION: u32 = 2;
 /// The most bytes of a credential or a verifier.
 const MAX_AUTH_BYTES: u32 = 400;
 
-/// What stands behind the RPC version of a call. The verifier is read, and not looked at.
+/// What follows the RPC version of a call. The verifier is read, and not looked at.
 #[derive(Clone, Copy, Debug)]
 pub struct Call<'a> {
     /// The call's number, which the reply repeats.

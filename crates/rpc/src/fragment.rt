@@ -59,13 +59,13 @@ pub enum Fragment {
     Waits,
     /// A header that brings the record above its limit.
     TooBig,
-    /// A header behind as many fragments as a record may have.
+    /// A header after as many fragments as a record may have.
     TooMany,
     /// A whole fragment.
     Brings { size: usize, is_last: bool },
 }
 
-/// What stands at a place in the bytes of `old` and `piece`, one behind the other. A header is refused as soon as it is
+/// What stands at a place in the bytes of `old` and `piece`, one after the other. A header is refused as soon as it is
 /// there.
 pub fn fragment_at(old: &[u8], piece: &[u8], place: Place) -> Fragment
     requires within { place.at ≤ length old.now + length piece.now }

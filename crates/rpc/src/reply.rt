@@ -79,7 +79,7 @@ impl CompoundResult<'_> {
         8 + opaque_size(self.tag.bytes) + self.results.len()
     }
 
-    /// Its bytes, behind those of `out`: refused only where `out` has no memory for them.
+    /// Its bytes, after those of `out`: refused only where `out` has no memory for them.
     pub fn write(&self, out: Writer) -> Result<Vec<u8>, Refusal>
         ensures ok { IfOk result (λ bytes. bytes.items ≡ out.bytes ++ result_text self.now) }
         ensures full { OnErr result
@@ -122,7 +122,7 @@ impl<'a> Reply<'a> {
     }
 }
 
-/// The record of a reply, as it is sent, behind the bytes of `out`: one fragment (RFC 5531, section 11). It is refused
+/// The record of a reply, as it is sent, after the bytes of `out`: one fragment (RFC 5531, section 11). It is refused
 /// only where `out` has no memory for it.
 pub fn write_reply(out: Writer, xid: u32, reply: &Reply<'_>) -> Result<Vec<u8>, Refusal>
     requires { length (tail_of reply.now) < 2 ^ 30 }
@@ -137,7 +137,7 @@ pub fn write_reply(out: Writer, xid: u32, reply: &Reply<'_>) -> Result<Vec<u8>, 
     append_to(out, reply.tail())
 }
 
-/// The bytes of `out`, and others behind them.
+/// The bytes of `out`, and others after them.
 fn append_to(out: Writer, tail: &[u8]) -> Result<Vec<u8>, Refusal>
     ensures ok { IfOk result (λ bytes. bytes.items ≡ out.bytes ++ tail.now) }
     ensures full { OnErr result (out.capacity < length out.bytes + length tail.now) }

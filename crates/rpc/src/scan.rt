@@ -19,7 +19,7 @@ pub enum Scan {
     Whole(usize),
 }
 
-/// Looks for the end of the record in the bytes of `old` and `piece`, one behind the other. It goes from header to
+/// Looks for the end of the record in the bytes of `old` and `piece`, one after the other. It goes from header to
 /// header, of which there are at most 65.
 pub fn scan_record(old: &[u8], piece: &[u8]) -> Scan
     ensures end { result ≡ scan_of (old.now ++ piece.now)

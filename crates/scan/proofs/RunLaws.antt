@@ -12,7 +12,7 @@ use Rattle.extents.proofs.SectorLemmas.{run_there, no_run_there, each_at}
 use Rattle.layout.specs.Laid.{runs_of_sector}
 use Rattle.scan.specs.Runs.{FindsPart, FindsRuns}
 
--- behind the runs of one the other has none
+-- after the runs of one the other has none
 no_more : (a b : List Run) → FillSector a → FillSector b → run_sector a ≡ run_sector b → length a < length b → ⊥
 no_more a b fill other same less =
     let k = length a in

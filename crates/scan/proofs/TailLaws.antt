@@ -7,7 +7,7 @@ use Rattle.layout.specs.Cards.{content_at, byte_at}
 use Rattle.scan.specs.Names.{HasTail}
 use Rattle.scan.specs.Sectors.{AreZeroFrom}
 
--- a byte behind the last block is zero, and so is one of a hole
+-- a byte past the last block is zero, and so is one of a hole
 past : (image : Image) (blocks : List (Option ℕ)) (k : ℕ) → get_or blocks (k / 4096) None ≡ None → byte_at image blocks k ≡ 0
 unfolding byte_at
 past image blocks k none = ap (λ (block : Option ℕ). get_or (content_at image block) (k % 4096) 0) none

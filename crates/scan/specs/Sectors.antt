@@ -7,7 +7,7 @@ use Rattle.disk.specs.Calls.{zero_sector}
 abbrev pub AreZeroFrom : List ℕ → (from : ℕ) → Type 0
 AreZeroFrom content from = (at : ℕ) → from ≤ at → slice_index content at ≡ 0
 
--- the sectors behind the bitmap are zero
+-- the sectors after the bitmap are zero
 abbrev pub AreSpare : Image → Type 0
 AreSpare image = (n : ℕ) → 100 ≤ n → n < 148 → image n ≡ zero_sector
 

@@ -1,4 +1,4 @@
-//! What the blocks of a node hold: a directory's names, and the zeros behind a file's last byte.
+//! What the blocks of a node hold: a directory's names, and the zeros after a file's last byte.
 
 ghost use Rattle.std.specs.Prelude.{◌≡◌, ◌↔◌, ◌<◌, ◌≤◌, ◌+◌, ◌/◌, ℕ, List, length, map, IfOk, OnOk};
 ghost use Rattle.std.specs.Prelude.{IsErrOf, IsTrue};

@@ -29,7 +29,7 @@ pub struct Contents {
 /// The first sector of the bitmap.
 const BITMAP: u32 = 98;
 
-/// The sectors behind the bitmap that hold nothing.
+/// The sectors after the bitmap that hold nothing.
 const SPARE: u32 = 100;
 
 /// The first sector of the node table.

@@ -28,14 +28,14 @@ module _ {A : Type 0} (spelling : A → List ℕ) (width : ℕ) (wide : AreWide 
       ap (drop width) (append_assoc (spelling x) (flat_map spelling xs) rest) ∙ drop_at (spelling x) (flat_map spelling xs ++ rest) width (wide x) in
       rw moved (sym (drop-drop (width * k) width ((spelling x ++ flat_map spelling xs) ++ rest)) ∙ ap (drop (width * k)) behind ∙ drop-records k xs rest (omega arith))
 
-  -- the k-th record, and what stands behind it
+  -- the k-th record, and what follows it
   pub drop-record : (k : ℕ) (xs : List A) (rest : List ℕ) (d : A) → k < length xs → drop (width * k) (flat_map spelling xs ++ rest) ≡ spelling (get_or xs k d) ++ (flat_map spelling (drop (k + 1) xs) ++ rest)
   drop-record k xs rest d h =
       drop-records k xs rest (omega arith)
       ∙ ap (λ (ys : List A). flat_map spelling ys ++ rest) (drop_more xs k d h)
       ∙ append_assoc (spelling (get_or xs k d)) (flat_map spelling (drop (k + 1) xs)) rest
 
-  -- behind the last one
+  -- after the last one
   pub drop-records_all : (xs : List A) (rest : List ℕ) → drop (width * length xs) (flat_map spelling xs ++ rest) ≡ rest
   drop-records_all xs rest = drop_at (flat_map spelling xs) rest (width * length xs) (length-records xs)
 

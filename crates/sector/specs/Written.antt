@@ -1,4 +1,4 @@
--- Records of one width that are written one behind the other from a place on, and read there.
+-- Records of one width that are written one after the other from a place on, and read there.
 use Rattle.std.specs.Prelude.{◌≡◌, ◌≤◌, ◌<◌, ◌+◌, ◌*◌, ℕ, zero, suc, List, [], ◌∷◌, ◌++◌, length, take, drop, replicate}
 use Rattle.std.specs.List.{flat_map, AllByRecursion}
 use Rattle.std.proofs.Common.{refl, sym, ap, ◌∙◌, arith, append_assoc, get_or}
@@ -6,7 +6,7 @@ use Rattle.std.proofs.lemmas.List.{append-nil, length-replicate, length_push, dr
 use Rattle.std.proofs.lemmas.List.Concat.{flat_map-append}
 use Rattle.sector.specs.Records.{AreWide, drop-record}
 
--- `new` has the first n records from `base` on, behind what `old` has there
+-- `new` has the first n records from `base` on, after what `old` has there
 pub record AreWritten {A : Type 0} (spelling : A → List ℕ) (width base : ℕ) (old new : List ℕ) (xs : List A) (n : ℕ) : Type 0 where
   pub front : take (base + width * n) new ≡ take base old ++ flat_map spelling (take n xs)
   pub len : length new ≡ 4096
@@ -41,7 +41,7 @@ module _ {A : Type 0} (spelling : A → List ℕ) (width base : ℕ) where
         len = len;
       }
 
-  -- all records, and zeros behind them
+  -- all records, and zeros after them
   pub AreWritten-zeros : (old mid new : List ℕ) (xs : List A) (end count : ℕ) → AreWritten spelling width base old mid xs (length xs) → end ≡ base + width * length xs
       → take (end + length (replicate {A = ℕ} count 0)) new ≡ take end mid ++ replicate count 0 → take (end + count) new ≡ take base old ++ (flat_map spelling xs ++ replicate count 0)
   AreWritten-zeros old mid new xs end count far place front =

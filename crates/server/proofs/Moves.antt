@@ -51,7 +51,7 @@ stands_on old new tree image same stands =
     (subst (λ (n : ℕ). StandsFor old.sectors n new.run tree image) (sym (ap (λ l. l.nodes) same.limits))
     (subst (λ (r : ℕ). StandsFor old.sectors old.limits.nodes r tree image) (sym same.run) stands))
 
--- after a failure a stop leaves one of the trees before the call, or the one behind it
+-- after a failure a stop leaves one of the trees before the call, or the one after it
 pub broken_leaves : (held after_held : Held) (after : Tree) (recent : List Tree) → IsRecent held recent → AddsTrees held after after_held.history → IsSameVolume held after_held
     → LeavesOne after_held (after ∷ recent)
 broken_leaves held after_held after recent is adds same image left = ⊎_elim

@@ -47,7 +47,7 @@ no_more (Some asked) progress request can is =
     let more : progress.answered ≤ asked.compound.count = omega (arith, fits_more asked progress can) in
     subst (λ (r : InProgress). r.answered ≤ r.count) same more
 
--- behind a step of it
+-- after a step of it
 stepped_on : (running : Running) (done : Stepped) → GoesFurther (in_progress_of running) done → HasGoneOn (Some (Busy (in_progress_of running))) (Some (left_by (Some (asked_of running)) done))
 unfolding in_progress_of
 stepped_on running (stepped.Ran progress) further = (further, refl)

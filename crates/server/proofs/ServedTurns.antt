@@ -34,7 +34,7 @@ has_state state connections = record {
 
 module _ (state left : SharedState) (old new : Keyed world.Connection) (number now : ℕ) (before after : world.Connection)
     (written : new ≡ with old number after) where
-  -- the turn, and the world behind it
+  -- the turn, and the world after it
   pub turned : (done : Turn) → Turns now state left before after done → IsRising old → at number old ≡ Some before
       → IsSameVolume state.files.volume left.files.volume
       → (turn_view done ≡ (one (world_by state old) number now).turn) × (world_by left new ≡ (one (world_by state old) number now).world)

@@ -105,7 +105,7 @@ module _ {A : Type 0} where
 abbrev Others : ℕ → List (Option Connection) → List (Option Connection) → Type 0
 Others k old new = (other : ℕ) → other ≢ k → get_or new other None ≡ get_or old other None
 
--- behind the first slot
+-- after the first slot
 later : (k : ℕ) (slot new_slot : Option Connection) (old new : List (Option Connection)) → Others (suc k) (slot ∷ old) (new_slot ∷ new) → Others k old new
 later k slot new_slot old new others other apart = others (suc other) (λ e. apart (omega (arith, e)))
 

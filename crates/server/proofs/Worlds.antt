@@ -49,7 +49,7 @@ happened old new event is =
       durable = λ entry e lasts tree left. made.1.durable entry e lasts tree (subst (IsAmong made.0.recent) (same ∙ sym (among_one new.tree tree left)) made.2);
     }
 
--- what a stop within the event may leave: the tree behind it
+-- what a stop within the event may leave: the tree after it
 may_leave_after : (old : World) (event : Event) → MayLeave (served old) event (effect_of old event).tree
 may_leave_after old event =
     let made = each_event_happens (served old) event refl (0, (omega arith, refl)) in
@@ -75,7 +75,7 @@ may_leave_from old recent down event newest up =
     let made = each_event_happens (record { world = old; recent = recent; is_down = false }) event refl newest in
     subst (MayLeave (record { world = old; recent = recent; is_down = false }) event) (ap (λ (w : World). w.tree) made.1.world) (made.1.no_others made.0.world.tree made.2))
 
--- an event that leaves a stop some of the trees before and the one behind it, and behind what has to last that one alone
+-- an event that leaves a stop some of the trees before and the one after it, and after what has to last that one alone
 pub happened_leaving : (held : Held) (old new : World) (recent left : List Tree) (old_down new_down : Bool) (event : Event) → IsAmong recent old.tree → old_down ≡ false → new_down ≡ false
     → new ≡ effect_of old event → Leaves held (effect_of old event).tree (lasts (executed_of old event)) recent left
     → Happens (record { world = old; recent = recent; is_down = old_down }) event (record { world = new; recent = left; is_down = new_down })
@@ -240,7 +240,7 @@ arrived_of_run run limits piece (world.Busy request) here = here
 arrived_of_run run limits piece (world.Replied reply) here = here
 arrived_of_run run limits piece world.Closed here = here
 
--- The world behind each call
+-- The world after each call
 
 module _ (state : SharedState) (old new : Keyed world.Connection) (number : ℕ) where
   pub took : (before after : world.Connection) → at number old ≡ Some before → new ≡ with old number after → after ≡ without_reply before
@@ -269,7 +269,7 @@ pub feeds_of_run : {E : Type 0} (run : ℕ) (piece : List ℕ) (before after : w
 feeds_of_run run piece before after (Ok n) arrived closed here = subst (IsOfRun run) (sym arrived.0) (arrived_of_run run record_limits piece before here)
 feeds_of_run run piece before after (Err fault) arrived closed here = subst (IsOfRun run) (sym closed.0) (not_busy_of_run run Closed refl)
 
--- A slab behind an insert that may have failed
+-- A slab after an insert that may have failed
 
 pub inserted_of_run : {E : Type 0} (run : ℕ) (old new : Slab Connection) (value : Connection) (result : Result ℕ E)
     → IfOk result (λ key. Updates old new key (Some value)) → OnErr result (new ≡ record old { capacity = new.capacity })

@@ -53,7 +53,7 @@ Turns now old new before after done =
 abbrev pub IsOfRun : (run : ℕ) → world.Connection → Type 0
 IsOfRun run connection = (request : InProgress) → connection ≡ Busy request → request.context.run ≡ run
 
--- behind a turn a request that had begun has one result more, or its reply is there
+-- after a turn a request that had begun has one result more, or its reply is there
 abbrev pub HasGoneOn : (before after : Option world.Connection) → Type 0
 HasGoneOn (Some (Busy request)) (Some (Busy left)) =
     (left.answered ≡ request.answered + 1) × (left.count ≡ request.count)

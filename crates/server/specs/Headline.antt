@@ -71,7 +71,7 @@ abbrev pub EveryRun : Type 0
 EveryRun = (stopped : Stopped) (device : History) (again : Held) → Remounts stopped.first.volume.sectors stopped.image device
     → IsFound stopped.first.volume.sectors device again → HasGoodTree stopped again
 
--- The runs of a volume: one follows behind the stop of another, and however many mounts that did not serve.
+-- The runs of a volume: one follows after the stop of another, and however many mounts that did not serve.
 pub record Follows (old new : Stopped) : Type 0 where
   pub device : History
   pub remounts : Remounts old.first.volume.sectors old.image device

@@ -12,7 +12,7 @@ use Rattle.server.specs.Seen.{Seen, Call, IsServed, IsTurned}
 abbrev pub IsReady : Seen → Type 0
 IsReady seen = IsRecent seen.volume seen.serving.recent
 
--- The turns of a hang-up are calls, as those of a run, and further calls can be made behind them, also where it was refused for memory
+-- The turns of a hang-up are calls, as those of a run, and further calls can be made after them, also where it was refused for memory
 abbrev pub HangUpIsCalls : Type 0
 HangUpIsCalls = (connection now : ℕ) (first old new : Seen) (calls : List Call) → IsServed first calls old → IsTurned connection now old new
     → ((more : List Call) × IsServed first more new) × (IsReady old → IsReady new)

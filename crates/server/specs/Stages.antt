@@ -39,7 +39,7 @@ stage_view assembly stage.Receiving = connection_of assembly
 stage_view assembly (stage.Running progress) = begun (asked_held assembly) progress
 stage_view assembly (stage.Replied reply) = Replied reply.items
 
--- behind a step of the COMPOUND that was asked for
+-- after a step of the COMPOUND that was asked for
 abbrev pub left_by : Option Asked → Stepped → Connection
 left_by asked (stepped.Ran progress) = begun asked progress
 left_by asked (stepped.Answered reply) = Replied reply.items

@@ -16,7 +16,7 @@ pub fn every_run()
     ensures stop { EveryStop }
     // over every list of calls the world and each answer are the definition's
     ensures trace { EveryTrace }
-    // runs behind one another: each begins with a good tree of the one before, and counts rise
+    // runs one after another: each begins with a good tree of the one before, and counts rise
     ensures life { EveryLife }
     // the stamps of a run's changes rise, lost ones too, and from run to run
     ensures stamps { EveryStamping }

@@ -106,7 +106,7 @@ impl Connection {
         }
     }
 
-    /// Goes on behind a step, and says what the turn was. With the reply the record goes.
+    /// Goes on after a step, and says what the turn was. With the reply the record goes.
     fn settle(&mut self, done: Stepped) -> Turn
         requires holds { (request : List ℕ) × (self.old.assembler ≡ Holds request) }
         requires follows { can_follow (asked_held self.old.assembler) done ≡ true }

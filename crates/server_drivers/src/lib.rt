@@ -80,7 +80,7 @@ pub fn change_and_size(
     Ok((told.node.change, told.node.size))
 }
 
-/// Puts what one READ gives from an offset on behind other bytes; whether it reached the file's end.
+/// Puts after other bytes what one READ from an offset on gives; whether it reached the file's end.
 pub fn read(
     fs: &mut Fs<MemDevice>,
     cred: &Cred,

@@ -39,7 +39,7 @@ record_of uid arguments number = record {
   kept = None;
 }
 
--- a new record: its number, or why there is none, and the records behind it
+-- a new record: its number, or why there is none, and the records after it
 abbrev pub Adds : ℕ → ExchangeIdArguments → Option ℕ → Clients → Clients → Result ℕ Refusal → Type 0
 Adds uid arguments dropped old new (Ok number) =
     (is_full_beside (records_staying arguments.owner dropped (clients_of old)) old.serial ≡ false)

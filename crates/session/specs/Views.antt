@@ -42,7 +42,7 @@ sessions_of sessions = map session_of sessions.list.items
 abbrev pub roll_of : Clients → ℕ × ℕ × List model.Client
 roll_of clients = (clients.run, clients.serial, clients_of clients)
 
--- in the same run, behind the same serial, these records
+-- in the same run, with the same serial, these records
 abbrev pub roll_with : Clients → List model.Client → ℕ × ℕ × List model.Client
 roll_with clients records = (clients.run, clients.serial, records)
 
@@ -50,7 +50,7 @@ roll_with clients records = (clients.run, clients.serial, records)
 abbrev pub book_of : Sessions → ℕ × List model.Session
 book_of sessions = (sessions.serial, sessions_of sessions)
 
--- behind the same serial, these sessions
+-- with the same serial, these sessions
 abbrev pub book_with : Sessions → List model.Session → ℕ × List model.Session
 book_with sessions list = (sessions.serial, list)
 

@@ -34,7 +34,7 @@ impl Walk {
         })
     }
 
-    /// Marks a place, and puts it behind the others.
+    /// Marks a place, and puts it after the others.
     fn meet(&mut self, place: u32) -> Result<(), AllocError>
         requires { place < length self.old.seen.items }
         ensures seen { IfOk result (λ _. self.new.seen.items ≡ set self.old.seen.items place true) }

@@ -81,11 +81,11 @@ module _ (limits : Limits) (run : ℕ) (cards : List (Option Card)) (old new : L
     newest = subst (IsAmong recent) (sym moved_tree) is.newest;
   }
 
--- with one transaction more behind the list
+-- with one transaction more after the list
 abbrev pub listed_with : Log → List Update → Log
 listed_with log updates = record log { list = list_with log updates }
 
--- what stands behind a transaction in the journal: these cards, and a tree
+-- what stands after a transaction in the journal: these cards, and a tree
 pub record StandsWith (nodes run : ℕ) (old : Log) (updates : List Update) (is : List (Option Card)) (after : Tree) : Type 0 where
   pub read : is ≡ cards_in nodes (applied updates (contents old))
   pub tree : tree_of (applied updates (contents old)) is ≡ after
@@ -125,7 +125,7 @@ module _ (keeps_word : Type 0) (limits : Limits) (run : ℕ) (cards is : List (O
   abbrev now : Held
   now = held_by limits run is new
 
-  -- the tree behind it, which may be lost
+  -- the tree after it, which may be lost
   abbrev given : Given
   given tree lasts = (tree ≡ after) × (lasts ≡ false)
 

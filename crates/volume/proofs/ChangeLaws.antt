@@ -79,7 +79,7 @@ journal_targets size updates are =
 not_first : (size : ℕ) (updates : List Update) → AreTargets size updates → HasNot 0 updates
 not_first size updates are = λ i within same. (let above = (are.between i within).0 in omega (arith, above, same))
 
--- The tree behind the edits stands
+-- The tree after the edits stands
 
 StandsWith-prop : (nodes run : ℕ) (old : Log) (updates : List Update) (is : List (Option Card)) (after : Tree) → IsProp (StandsWith nodes run old updates is after)
 StandsWith-prop nodes run old updates is after = Prim.hlevel (props, ∥∥₁_prop)
@@ -127,7 +127,7 @@ module _ (word : Type 0) (k : word) (nodes run : ℕ) (log : Log) (cards : List 
   behind_serving serving = ∥∥₁_elim serving (StandsWith-prop nodes run log outcome.updates.items is after) (λ served.
       ∥∥₁_elim served.stands (StandsWith-prop nodes run log outcome.updates.items is after) (behind_stands served.read))
 
--- What memory keeps behind it
+-- What memory keeps after it
 
 own_places : (cards : List (Option Card)) → AreNumbered cards → HaveOwnPlaces cards
 own_places cards apart place other number here there = elim (cases_eq place other) [
@@ -157,7 +157,7 @@ module _ (word : Type 0) (limits : Limits) (run : ℕ) (log : Log) (cards : List
   abbrev new : List (Option Card)
   new = cards_after cards outcome
 
-  -- all of the tree behind the edits but the bytes of files
+  -- all of the tree after the edits but the bytes of files
   pub outline_after : (image : Image) → blanked (tree_of image new) ≡ blanked (edited_by held edits)
   outline_after image = each_outline image new ∙ comes.outline
       ∙ edited_alike (edits_of edits) held.tree (outline_of cards) (outline_alike (contents log) cards)
@@ -176,7 +176,7 @@ module _ (word : Type 0) (limits : Limits) (run : ℕ) (log : Log) (cards : List
   may_settle = can_settle held edits change (contents log) cards new refl comes.made limits.nodes (mark_by (148 + limits.nodes) places)
       (mark_by (148 + limits.nodes) outcome.places) known.are_cards known_after.are_cards (own_places new comes.cards.apart)
 
-  -- the parents in memory are those of the cards behind it
+  -- the parents in memory are those of the cards after it
   pub parents_behind : limits ≡ limits_of log.size limits.nodes → IsTrue (fits limits (edited_by held edits)) → (parents behind : List ℕ)
       → AreParents cards parents → PutsParent new parents behind (put_by edits) → AreParents new behind
   parents_behind limited fit parents behind are puts =

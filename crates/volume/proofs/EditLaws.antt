@@ -44,7 +44,7 @@ fits_alike limits tree other alike = sym (fits_blanked limits other) ∙ ap (fit
 pub outline_alike : (image : Image) (cards : List (Option Card)) → blanked (outline_of cards) ≡ blanked (tree_of image cards)
 outline_alike image cards = outline_fixed cards ∙ sym (each_outline image cards)
 
--- whether the tree behind edits fits is told by the cards
+-- whether the tree after edits fits is told by the cards
 pub fits_outline : (limits : Limits) (edits : List model.Edit) (image : Image) (cards : List (Option Card))
     → fits limits (edited edits (outline_of cards)) ≡ fits limits (edited edits (tree_of image cards))
 fits_outline limits edits image cards = fits_alike limits (edited edits (tree_of image cards)) (edited edits (outline_of cards))
@@ -96,7 +96,7 @@ module _ (held : Held) (edits : List Edit) (change : IsChange held edits) (image
     outline_few = few_alike held.tree (outline_of cards) edits outline_held
         (few_fronts held.limits (ap (λ (limits : Limits). limits.names) limits_are) edits held.tree (λ count. change.fronts count fit))
 
-    -- and there is room behind each of them
+    -- and there is room after each of them
     front_fits : (count : ℕ) → DoesFit (limits_of sectors nodes) (edited (take count (edits_of edits)) (outline_of cards))
     front_fits count = fit_parts (limits_of sectors nodes) (edited (take count (edits_of edits)) (outline_of cards))
         (subst (λ (limits : Limits). IsTrue (fits limits (edited (take count (edits_of edits)) (outline_of cards)))) limits_are

@@ -201,7 +201,7 @@ others_none (first ∷ []) number other few among off =
 module _ (held : Held) (edits : List Edit) (change : IsChange held edits) (image : Image) (nodes : ℕ) (mark marked : ℕ → ℕ) (old new : List (Option Card)) (tree_is : held.tree ≡ tree_of image old)
     (known : AreCards nodes mark old) (new_known : AreCards nodes marked new) (made : AreMade old new (made_by edits))
     (outline : outline_of new ≡ blanked (edited (edits_of edits) (outline_of old))) where
-  -- the names of the outline are those of the tree behind the edits
+  -- the names of the outline are those of the tree after the edits
   links_new : (of number : ℕ) → links_at (outline_of new) of number ≡ links_at (edited (edits_of edits) (outline_of old)) of number
   links_new of number = ap (λ (tree : Tree). links_at tree of number) outline ∙ ap (links_in number) (names-blanked (edited (edits_of edits) (outline_of old)) of)
 
@@ -267,7 +267,7 @@ module _ (held : Held) (edits : List Edit) (change : IsChange held edits) (image
     }
 
   module _ (limits : Limits) (most : 1024 ≤ limits.names) (stamp : ℕ) (formed : IsFormed limits stamp (outline_of new)) (parents : List ℕ) (are : AreParents old parents) where
-    -- the cards behind it are one tree
+    -- the cards after it are one tree
     one_tree : ∥ IsOneTree new ∥₁
     one_tree = formed_tree limits most stamp nodes marked new new_known formed
 

@@ -99,7 +99,7 @@ fresh_bytes : (of : NodeKind) (shown : model.Shown) → HasBytes (fresh_node of 
 fresh_bytes kind.File shown = no_bytes
 fresh_bytes kind.Directory shown = no_bytes
 
--- behind edits of the code that put bytes, as all of them do
+-- after edits of the code that put bytes, as all of them do
 pub edited_bytes : (edits : List Edit) → PartsAreBytes edits → (tree : Tree) → AreBytes tree → AreBytes (edited (edits_of edits) tree)
 edited_bytes [] parts tree are = are
 edited_bytes (declared.PutNode number of shown ∷ edits) parts tree are =

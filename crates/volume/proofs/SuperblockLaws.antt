@@ -2,7 +2,7 @@
 use Rattle.std.proofs.Common.{◌≡◌, ◌≤◌, ◌+◌, ◌++◌, ◌∙◌, ℕ, List, take, replicate, length, ap, sym, arith}
 use Rattle.std.proofs.lemmas.List.{take_all, length-replicate}
 
--- a sector that has these bytes in front and zeros behind them is both end to end
+-- a sector that has these bytes in front and zeros after them is both end to end
 pub behind_fields : (old new front : List ℕ) → length new ≡ 4096 → take 24 old ≡ front
     → take (24 + length (replicate {A = ℕ} 4072 0)) new ≡ take 24 old ++ replicate 4072 0 → new ≡ front ++ replicate 4072 0
 behind_fields old new front long fields zeros =

@@ -21,7 +21,7 @@ ending_of (Err fault.Memory) = Nothing
 ending_of (Err fault.Device) = Broken
 ending_of (Err fault.Down) = Nothing
 
--- What the definition says of a call: that the tree behind it is this one, and whether what it did
+-- What the definition says of a call: that the tree after it is this one, and whether what it did
 -- has to last. A change that may be lost until a later one, as an unstable write, is one that does
 -- not.
 abbrev pub Given : Type 1
@@ -31,7 +31,7 @@ Given = (after : Tree) → (lasts : Bool) → Type 0
 abbrev pub IsTree : Tree → Given
 IsTree tree after lasts = after ≡ tree
 
--- a stop behind the call leaves these trees: of those before and the one behind it, and of what has
+-- a stop after the call leaves these trees: of those before and the one after it, and of what has
 -- to last that one alone
 pub record Leaves (new : Held) (after : Tree) (lasts : Bool) (recent left : List Tree)
     : Type 0 where
@@ -65,7 +65,7 @@ pub record Changes (keeps_word : Type 0) (given : Given) (old new : Held)
     (failed_before failed_after : ℕ) (ending : Ending) : Type 0 where
   pub same : IsSameVolume old new
   pub later : failed_before ≤ failed_after
-  -- at each moment of it a stop leaves a tree from before, or the one behind it
+  -- at each moment of it a stop leaves a tree from before, or the one after it
   pub moments : keeps_word → (after : Tree) (lasts : Bool) → given after lasts
       → AddsTrees old after new.history
   pub ends : EndsAs keeps_word given old new failed_before failed_after ending

@@ -32,8 +32,8 @@ pub record HasChecked (sectors : ℕ) (old : History) (checked : Checked) : Type
   pub tree : Tree
   pub stands : StandsFor sectors checked.nodes checked.count tree (seen old.now)
 
--- A check that is refused: no count is too full for it. Damaged comes behind NotVolume, by the first
--- sector or by what is behind it.
+-- A check that is refused: no count is too full for it. Damaged comes after NotVolume, by the first
+-- sector or by what follows it.
 abbrev pub FailsCheck : (sectors : ℕ) → (old : History) → MountFault → Type 0
 FailsCheck sectors old mounts.NotVolume =
     (first_verdict sectors old ≡ verdicts.NotVolume) × NoTree sectors old

@@ -15,11 +15,11 @@ use Rattle.volume.specs.Changes.{Given}
 use Rattle.volume.specs.Formed.{IsFormed}
 use Rattle.volume.specs.Held.{Held}
 
--- the tree behind edits
+-- the tree after edits
 abbrev pub edited_by : Held → List Edit → Tree
 edited_by held edits = edited (edits_of edits) held.tree
 
--- the tree behind so many of them
+-- the tree after so many of them
 abbrev pub front_of : Held → List Edit → (count : ℕ) → Tree
 front_of held edits count = edited (take count (edits_of edits)) held.tree
 
@@ -71,7 +71,7 @@ abbrev pub IsAboveAll : Held → (number : ℕ) → Type 0
 IsAboveAll held number = (other : ℕ) → IsTrue (is_key other held.tree) → other < number
 
 -- What a change asks of its edits: there are few, each can be done in the tree that those before it
--- give, and the tree behind all of them is well formed where it fits
+-- give, and the tree after all of them is well formed where it fits
 pub record IsChange (held : Held) (edits : List Edit) : Type 0 where
   pub few : updates_of_all edits ≤ 46
   pub doable : AreDoable held.tree edits
@@ -79,14 +79,14 @@ pub record IsChange (held : Held) (edits : List Edit) : Type 0 where
   pub named : length (named_by edits) ≤ 1
   pub made : (made_by edits ≡ []) ⊎ (made_by edits ≡ named_by edits)
   pub fresh : (number : ℕ) → IsAmong (made_by edits) number → IsAboveAll held number
-  -- a name that is put is there behind all of them: none drops it again
+  -- a name that is put is there after all of them: none drops it again
   pub put : HasPut (edited_by held edits) edits
-  -- what fits behind the last of them fits behind each
+  -- what fits after the last of them fits after each
   pub fronts : (count : ℕ) → IsTrue (fits held.limits (edited_by held edits))
       → IsTrue (fits held.limits (front_of held edits count))
   pub formed : IsTrue (fits held.limits (edited_by held edits))
       → IsFormed held.limits (stamp (held.run + 1) 0) (edited_by held edits)
 
--- the tree behind the edits; a stop may lose it until the next flush
+-- the tree after the edits; a stop may lose it until the next flush
 abbrev pub IsEdited : Held → List Edit → Given
 IsEdited held edits after lasts = (after ≡ edited_by held edits) × (lasts ≡ false)

@@ -11,7 +11,7 @@ pub record IsOver (held : Held) (log : Log) : Type 0 where
   pub history : held.history ≡ log.history
   pub fronts : held.fronts ≡ fronts_from log.base log.list
 
--- with these updates behind its list the journal gives sectors that stand for the tree
+-- with these updates after its list the journal gives sectors that stand for the tree
 abbrev pub StandsBehind : Held → Log → List Update → (after : Tree) → Type 0
 StandsBehind held log updates after = ∥ Stands held.sectors held.limits.nodes
     (applied updates (applied_all log.list log.base)) held.run after ∥₁

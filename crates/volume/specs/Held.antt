@@ -10,7 +10,7 @@ use Rattle.model.specs.Tree.{Tree}
 use Rattle.volume.specs.Formed.{IsFormed}
 use Rattle.volume.specs.Stands.{Stands, StandsFor}
 
--- an image, and what it is behind each transaction
+-- an image, and what it is after each transaction
 abbrev pub fronts_from : Image → List (List Update) → List Image
 fronts_from base [] = base ∷ []
 fronts_from base (updates ∷ list) = base ∷ fronts_from (applied updates base) list
@@ -22,7 +22,7 @@ pub record Held : Type 0 where
   pub is_down : Bool
   pub sectors : ℕ
   pub history : History
-  -- what the sectors give with the flushed changes, and behind each change that is not flushed yet
+  -- what the sectors give with the flushed changes, and after each change that is not flushed yet
   pub fronts : List Image
 
 -- a volume that was just mounted
@@ -65,7 +65,7 @@ abbrev pub MayAdd : List Tree → (after : Tree) → Tree → Type 0
 MayAdd recent after tree = IsAmong recent tree ⊎ (tree ≡ after)
 
 -- at every moment since, a map left is one left before, or stands for one of the trees before or
--- the one behind the change
+-- the one after the change
 abbrev pub AddsTrees : Held → (after : Tree) → History → Type 0
 AddsTrees held after new = (recent : List Tree) → IsRecent held recent
     → AddsOnly (StandsForOne held (MayAdd recent after)) held.history new

@@ -1,4 +1,4 @@
--- The parents of a volume's nodes, by place, behind a change.
+-- The parents of a volume's nodes, by place, after a change.
 use Rattle.std.specs.Prelude.{◌≡◌, ℕ, List, Option, Some, None, set}
 use Rattle.cards.specs.Tables.{number_at}
 use Rattle.layout.specs.Cards.{Card}

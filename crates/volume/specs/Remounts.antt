@@ -19,7 +19,7 @@ pub record IsFound (sectors : ℕ) (old : History) (held : Held) : Type 0 where
   pub raised : held.run ≡ run + 1
   pub stood : StandsFor sectors held.limits.nodes run held.tree (seen old.now)
 
--- What may have become of a device behind a stop that left this map: power came back to it, mounts
+-- What may have become of a device after a stop that left this map: power came back to it, mounts
 -- were begun, of which each served, was refused, or was stopped at any moment, and power came back
 -- to what that stop left.
 pub data Remounts (sectors : ℕ) (left : Image) : History → Type 0 where

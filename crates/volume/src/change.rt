@@ -32,7 +32,7 @@ impl<D: Device> Volume<D> {
     ghost use Rattle.volume.specs.Formed.{Shows};
     ghost use Rattle.volume.specs.Volumes.{held_of, Alters};
 
-    /// Whether the tree behind edits has room: what [`Volume::change`] asks first. Each must be one
+    /// Whether the tree after edits has room: what [`Volume::change`] asks first. Each must be one
     /// that can be done in the tree that those before it give.
     pub fn fits(&self, edits: &[Edit<'_>]) -> bool
         requires { AreDoable (held_of self.now).tree edits.now }
@@ -47,7 +47,7 @@ impl<D: Device> Volume<D> {
     ///
     /// # Errors
     ///
-    /// [`VolumeFault::Down`], then [`VolumeFault::NoSpace`] exactly where the tree behind all of
+    /// [`VolumeFault::Down`], then [`VolumeFault::NoSpace`] exactly where the tree after all of
     /// the edits would not fit; [`VolumeFault::Memory`]; [`VolumeFault::Device`] where the device
     /// failed.
     pub fn change(&mut self, edits: Vec<Edit<'_>>) -> Result<(), VolumeFault>

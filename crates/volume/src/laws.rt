@@ -22,7 +22,7 @@ pub fn one_tree_stands()
     ensures { OneTreeStands }
 {}
 
-/// However often a volume is mounted behind a stop, and wherever those mounts are stopped: the next
+/// However often a volume is mounted after a stop, and wherever those mounts are stopped: the next
 /// one that serves has the tree that stood, under a greater restart count.
 pub fn every_remount()
     ensures next { EveryRemount }

@@ -21,7 +21,7 @@ pub enum Verdict {
     NotVolume,
     /// The restart count is full.
     Worn,
-    /// Behind the fields stands another byte than zero.
+    /// After the fields stands another byte than zero.
     Damaged,
     /// A volume that can be mounted.
     Sound,

@@ -60,7 +60,7 @@ pub create_session_length : (a : CreateSessionAnswer) (m n : ℕ) → length a.s
 create_session_length a m n len is_m is_n =
     rw (is_m, is_n) (sym (with_session a.session (channel.spelling (channel_view a.fore)) (channel.spelling (channel_view a.back)) a.sequence a.flags len))
 
--- what stands behind a refusal
+-- what follows a refusal
 behind_short : (b : Bool) → length (cond b (number w32 0) []) ≤ 4
 behind_short true = omega (arith, int_length 0)
 behind_short false = omega arith

@@ -29,7 +29,7 @@ create_view a = record { change = change_view a.change; was_set = a.was_set }
 abbrev pub open_view : OpenAnswer → spec.OpenAnswer
 open_view a = record { state = state_view a.state; change = change_view a.change; flags = a.flags; was_set = a.was_set }
 
--- what is spelled behind the change
+-- what is spelled after the change
 abbrev pub open_rest : OpenAnswer → List ℕ
 open_rest a = (unsigned_int & trimmed_bitmap & always 0 unsigned_int).spelling (a.flags, (a.was_set, tt))
 
@@ -65,7 +65,7 @@ write_view a = record { count = a.count; committed = a.committed; verifier = a.v
 abbrev pub exchange_id_view : ExchangeIdAnswer → spec.ExchangeIdAnswer
 exchange_id_view a = record { client = a.client; sequence = a.sequence; flags = a.flags; major_id = a.major_id.now; scope = a.scope.now }
 
--- what is spelled behind the flags, and behind the minor id
+-- what is spelled after the flags, and after the minor id
 abbrev pub exchange_id_names : ExchangeIdAnswer → List ℕ
 exchange_id_names a = (any_opaque & any_opaque & always 0 unsigned_int).spelling (a.major_id.now, (a.scope.now, tt))
 

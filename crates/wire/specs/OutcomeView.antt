@@ -48,6 +48,6 @@ outcome_view (outcomes.Refused operation status) = spec.Refused operation status
 abbrev pub done_text : spec.Answer → List ℕ
 done_text a = number w32 (answer_told a).number ++ (number w32 0 ++ (answer_told a).text)
 
--- number, status, and what stands behind it
+-- number, status, and what follows it
 abbrev pub refused_text : ℕ → Status → List ℕ
 refused_text operation status = number w32 operation ++ (number w32 (code_of status) ++ behind_refusal operation)

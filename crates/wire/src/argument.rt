@@ -174,7 +174,7 @@ impl<'a> Argument<'a> {
         }
     }
 
-    /// Reads the arguments behind an operation's number.
+    /// Reads the arguments after an operation's number.
     #[tactic(auto, unfolding(model::specs::WireArguments::arguments_at))]
     pub fn read(
         alloc: Global,

@@ -50,7 +50,7 @@ pub enum Opening<'a> {
 }
 
 impl<'a> Opening<'a> {
-    /// Reads the open type, and the claim behind it.
+    /// Reads the open type, and the claim after it.
     pub fn read(r: &mut Reader<'a>) -> Result<Opening<'a>, Refusal>
         ensures { Scans opening_view (opening.read) r.old r.new result }
     {

@@ -79,7 +79,7 @@ impl Answer<'_> {
         }
     }
 
-    /// Writes the values behind the status. A refusal may leave a front of them.
+    /// Writes the values after the status. A refusal may leave a front of them.
     #[tactic(auto, using(xdr::proofs::Writing::wrote_nothing))]
     fn write(&self, w: &mut Writer) -> Result<(), Refusal>
         requires { (answer_told (answer_view self.now)).Fits }
@@ -124,7 +124,7 @@ pub enum Outcome<'a> {
 }
 
 impl Outcome<'_> {
-    /// Writes the number, the status and what stands behind it.
+    /// Writes the number, the status and what follows it.
     #[tactic(auto, using(xdr::proofs::Writing::wrote_undone, xdr::proofs::Writing::unchanged))]
     pub fn write(&self, w: &mut Writer) -> Result<(), Refusal>
         requires { outcome.Fits (outcome_view self.now) }
@@ -166,7 +166,7 @@ fn write_refused(operation: u32, status: Status, w: &mut Writer) -> Result<(), R
     write_behind_refusal(operation, w)
 }
 
-/// Behind a refused SETATTR an empty bitmap stands (RFC 8881, section 18.30).
+/// After a refused SETATTR an empty bitmap stands (RFC 8881, section 18.30).
 #[tactic(auto, using(xdr::proofs::Writing::wrote_nothing))]
 fn write_behind_refusal(operation: u32, w: &mut Writer) -> Result<(), Refusal>
     ensures { Wrote w.old w.new result (behind_refusal operation) }

@@ -66,7 +66,7 @@ fn entries_size(entries: &[Entry<'_>]) -> usize
 }
 
 impl Answer<'_> {
-    /// How many bytes the values behind the status take.
+    /// How many bytes the values after the status take.
     pub fn size(&self) -> usize
         requires fits { (answer_told (answer_view self.now)).Fits }
         requires small { length ((answer_told (answer_view self.now)).text) < 2 ^ 63 }

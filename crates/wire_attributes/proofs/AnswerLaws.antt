@@ -47,7 +47,7 @@ same_number node attribute.OwnerGroup = refl
 same_number node attribute.TimeModify = refl
 same_number node attribute.SuppattrExclcreat = refl
 
--- bytes that need none behind them are spelled behind their length as they are
+-- bytes that need none after them are spelled after their length as they are
 pub counted_whole : (bytes : List ℕ) → length bytes % 4 ≡ 0 → counted bytes ≡ number w32 (length bytes) ++ bytes
 unfolding counted padded
 counted_whole bytes whole =
@@ -85,7 +85,7 @@ module _ (node : NodeAttributes) (bitmap : List ℕ) where
   abbrev pub words : List ℕ
   words = trimmed (common bitmap supported_bitmap)
 
-  -- it is spelled as its bitmap, and the values behind their length
+  -- it is spelled as its bitmap, and the values after their length
   pub spelled : answered_attributes.spelling (attributes_answered node bitmap) ≡ elements (λ n. number w32 n) words ++ counted values_text
   unfolding attributes_answered
   spelled = ap (λ (text : List ℕ). elements (λ n. number w32 n) words ++ counted text) (sym (texts_are every_attribute))

@@ -33,7 +33,7 @@ bits-more first word bit is_set same =
     last true same = simp (zero-add, same)
     last false same = simp (zero-add, same)
 
--- a bit that is set is put behind the others, another one is not
+-- a bit that is set is put after the others, another one is not
 pub bit-put : (first word bit : ℕ) (before old new : List ℕ)
     → old ≡ before ++ map (λ bit. first + bit) (filter (λ bit. bit_at word bit == 1) (range_with_len 0 bit))
     → bit_at word bit ≡ 1 → new ≡ old ++ (first + bit) ∷ []

@@ -23,7 +23,7 @@ pub struct AttributesAnswer<'a> {
     pub asked: &'a [u32],
 }
 
-/// Puts the bits that two bitmaps have in common behind other words.
+/// Puts the bits that two bitmaps have in common after other words.
 fn push_common(words: &mut Bitmap, asked: &[u32], supported: &[u32])
     requires { length words.old + length supported.now ≤ 8 }
     ensures { words.new ≡ words.old ++ common asked.now supported.now }

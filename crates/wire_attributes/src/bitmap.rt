@@ -29,7 +29,7 @@ pub fn numbers_of(alloc: Global, bitmap: &[u32]) -> Result<Vec<u32>, AllocError>
     Ok(numbers)
 }
 
-// Puts the numbers of a word behind others; the word's first bit stands for this one.
+// Puts the numbers of a word after others; the word's first bit stands for this one.
 fn push_numbers(numbers: &mut Vec<u32>, first: u32, word: u32) -> Result<(), AllocError>
     requires { first < 256 }
     ensures { OnOk result (numbers.new.items ≡ numbers.old.items ++ attributes_of_word first word) }

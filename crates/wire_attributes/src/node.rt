@@ -146,7 +146,7 @@ fn write_owner(w: &mut Writer, number: u32) -> Result<(), Refusal>
     w.write_opaque(who_bytes(&mut digits, Who::User(number)))
 }
 
-/// Writes words behind their number. A refusal may leave a front of them.
+/// Writes words after their number. A refusal may leave a front of them.
 #[tactic(auto, unfolding(xdr::specs::Forms::elements), using(xdr::proofs::Writing::wrote_on, xdr::proofs::Writing::wrote_exit, xdr::proofs::Writing::wrote_end))]
 pub(crate) fn write_words(w: &mut Writer, words: &[u32]) -> Result<(), Refusal>
     requires { length words.now ≤ 8 }

@@ -34,7 +34,7 @@ pub fn read_values<'a>(
     Ok(values)
 }
 
-/// The values of attributes as they were read, where the bytes behind the bitmap are exactly they.
+/// The values of attributes as they were read, where the bytes after the bitmap are exactly these.
 pub fn values_of<'a>(alloc: Global, given: &Attributes<'a>) -> Result<Vec<Value<'a>>, Refusal>
     ensures values { AreValues (attributes_of given.now.bitmap) given.now.values.now result }
     ensures read { AreRead (attributes_of given.now.bitmap) given.now.values.now result }

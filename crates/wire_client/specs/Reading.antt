@@ -1,4 +1,4 @@
--- What is read behind a result's status, and what loops have read.
+-- What is read after a result's status, and what loops have read.
 use Rattle.std.specs.Prelude.{◌≡◌, ◌⊎◌, ℕ, List, length, Result, Ok, Err, map}
 use Rattle.std.specs.Global.{Vec}
 use Rattle.xdr.specs.declared.refusal.Refusal.{Refusal}
@@ -12,7 +12,7 @@ use Rattle.wire.specs.declared.answers.Entry.{Entry}
 use Rattle.wire.specs.SmallViews.{security_view}
 use Rattle.wire.specs.AnswerViews.{entry_view}
 
--- what stands behind the status OK of a result
+-- what follows the status OK of a result
 unfoldable pub answers_at : (operation : ℕ) → List ℕ → Result (Answer × List ℕ) Refusal
 answers_at operation bytes = answer_choice operation bytes
 

@@ -1,4 +1,4 @@
--- What is spelled behind the first fields of longer arguments.
+-- What is spelled after the first fields of longer arguments.
 use Rattle.std.specs.Prelude.{ℕ, List, ◌++◌, map}
 use Rattle.std.specs.Option.{option_map}
 use Rattle.std.specs.Int.{w32}
@@ -19,30 +19,30 @@ use Rattle.wire.specs.declared.session.SequenceArguments.{SequenceArguments}
 use Rattle.wire.specs.SmallViews.{attributes_view, channel_view, implementation_view, security_view}
 use Rattle.wire.specs.ArgumentViews.{claim_view, opening_view}
 
--- behind the machine's name
+-- after the machine's name
 abbrev pub credential_rest : SystemCredential → List ℕ
 credential_rest c = (unsigned_int & unsigned_int & array 16 unsigned_int).spelling (c.uid, (c.gid, c.gids))
 
--- behind the flags
+-- after the flags
 abbrev pub exchange_id_rest : ExchangeIdArguments → List ℕ
 exchange_id_rest a = (always 0 unsigned_int & optional implementation).spelling (tt, option_map implementation_view a.implementation)
 
--- behind the flags, and behind the channels
+-- after the flags, and after the channels
 abbrev pub create_session_end : CreateSessionArguments → List ℕ
 create_session_end a = (unsigned_int & array 4 callback_security).spelling (a.callback_program, map security_view a.security.items)
 
 abbrev pub create_session_rest : CreateSessionArguments → List ℕ
 create_session_rest a = channel.spelling (channel_view a.fore) ++ (channel.spelling (channel_view a.back) ++ create_session_end a)
 
--- behind the slot
+-- after the slot
 abbrev pub sequence_rest : SequenceArguments → List ℕ
 sequence_rest a = (unsigned_int & boolean).spelling (a.highest_slot, a.cache_this)
 
--- behind the cookie verifier
+-- after the cookie verifier
 abbrev pub read_dir_rest : ReadDirArguments → List ℕ
 read_dir_rest a = (unsigned_int & unsigned_int & bitmap).spelling (a.dir_count, (a.max_count, a.bitmap))
 
--- behind the share that is denied
+-- after the share that is denied
 abbrev pub open_rest : OpenArguments → List ℕ
 open_rest a = (unsigned_hyper & owner_id & opening).spelling (a.client, (a.owner.now, opening_view a.opening))
 

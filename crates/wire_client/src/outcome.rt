@@ -20,7 +20,7 @@ use xdr::{Reader, Refusal};
 /// NFS4_FHSIZE: the most bytes of a filehandle.
 const MAX_HANDLE: u32 = 128;
 
-/// Reads a result: an operation's number, its status, and the values behind it (`nfs_resop4`).
+/// Reads a result: an operation's number, its status, and the values after it (`nfs_resop4`).
 ///
 /// What is read is exactly its spelling; a refusal other than `Memory` comes only where no front of the bytes is one.
 #[tactic(auto, using(crate::proofs::Accepted::outcome_accepted))]
@@ -48,7 +48,7 @@ fn read_numbered<'a>(alloc: Global, r: &mut Reader<'a>) -> Result<Outcome<'a>, R
     Ok(result)
 }
 
-/// Behind a refused SETATTR an empty bitmap stands (RFC 8881, section 18.30).
+/// After a refused SETATTR an empty bitmap stands (RFC 8881, section 18.30).
 fn read_refused<'a>(operation: u32, code: u32, r: &mut Reader<'a>) -> Result<Outcome<'a>, Refusal>
     ensures { Scans outcome_view (λ bytes. refused_by operation
         (refusal_of code) bytes) r.old r.new result }
@@ -72,7 +72,7 @@ fn read_answer<'a>(alloc: Global, number: u32, r: &mut Reader<'a>) -> Result<Ans
     read_values(alloc, operation, r)
 }
 
-/// Reads what stands behind the status OK of an operation.
+/// Reads what follows the status OK of an operation.
 #[tactic(auto, unfolding(crate::specs::Reading::answers_at))]
 fn read_values<'a>(
     alloc: Global,

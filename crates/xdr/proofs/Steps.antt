@@ -42,7 +42,7 @@ IsBytes-take n bytes h i =
       | inr le ↦ rw (get_or_past (take n bytes) i 0 (omega (arith, length-take n bytes))) (omega arith)
     ]
 
--- what stands behind a text
+-- what follows a text
 pub IsBytes-behind : (bytes text rest : List ℕ) → IsBytes bytes → bytes ≡ text ++ rest → IsBytes rest
 IsBytes-behind bytes text rest h e i =
     let at : get_or bytes (length text + i) 0 ≡ get_or rest i 0 = ap (λ (x : List ℕ). get_or x (length text + i) 0) e ∙ get_or-append-add text rest i 0 in

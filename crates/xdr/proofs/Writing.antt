@@ -1,4 +1,4 @@
--- What stands behind what: one write after the other.
+-- What follows what: one write after the other.
 use Rattle.std.proofs.Common.{◌≡◌, ℕ, ◌+◌, ◌<◌, ◌≤◌, List, [], ◌++◌, length, get_or, drop, ◌∷◌, Result, Ok, Err, refl, sym, ap, subst, ◌∙◌, take, replicate, append_assoc, arith}
 use Rattle.std.specs.Prelude.{OnOk, OnErr, IfErr}
 use Rattle.std.specs.Result.{IsErrAnd}
@@ -71,7 +71,7 @@ pub unchanged : {a b : Written} (c : Written) {r : Result (Unit {0}) Refusal} (s
 unchanged c (Ok y) mark w is_mark err = tt
 unchanged {a = a} c (Err e) mark w is_mark err = err ∙ ap (take mark) w.stands.parts ∙ ap (λ (k : ℕ). take k (a.bytes ++ w.stands.more)) is_mark ∙ take_front a.bytes w.stands.more
 
--- bytes, and then the zeros behind them
+-- bytes, and then the zeros after them
 pub wrote_padded : {a b c : Written} {r : Result (Unit {0}) Refusal} {s z : List ℕ} (pad : ℕ) → Wrote a b (Ok tt) s → Wrote b c r z → z ≡ take pad (replicate 3 0) → pad ≡ padding (length s) → pad < 4
     → Wrote a c r (padded s)
 unfolding padded

@@ -33,7 +33,7 @@ pub record Written : Type 0 where
   pub bytes : List ℕ
   pub capacity : ℕ
 
--- The text stands behind what was written before, unless there was no memory for it; then what was written before stands,
+-- The text stands after what was written before, unless there was no memory for it; then what was written before stands,
 -- and perhaps a front of the text.
 pub record Wrote (old new : Written) (result : Result (Unit {0}) Refusal) (text : List ℕ) : Type 0 where
   pub ok : OnOk result (new.bytes ≡ old.bytes ++ text)

@@ -119,7 +119,7 @@ optional g = record {
   read = λ bytes. number_at w32 bytes >>= one_at_most g.read;
 }
 
--- A chain (section 4.19): before each element true, and behind the last one false
+-- A chain (section 4.19): before each element true, and after the last one false
 
 unfoldable pub links : {V : Type 0} → (V → List ℕ) → List V → List ℕ
 links spelling [] = number w32 0

@@ -9,7 +9,7 @@ pub record Grammar (V : Type 0) : Type 1 where
   -- what has a spelling
   pub Fits : V → Type 0
   pub spelling : V → List ℕ
-  -- the value at the front, and the bytes behind it
+  -- the value at the front, and the bytes after it
   pub read : List ℕ → Result (V × List ℕ) Refusal
 
 infixl 10 ◌>>=◌

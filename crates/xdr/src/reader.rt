@@ -148,7 +148,7 @@ impl<'a> Reader<'a> {
         Ok(truth)
     }
 
-    /// `n` bytes, behind which the pad bytes are zero (RFC 4506, section 4.9).
+    /// `n` bytes, after which the pad bytes are zero (RFC 4506, section 4.9).
     #[tactic(auto, using(crate::proofs::Reading::short_bytes, crate::proofs::Reading::short_pad, crate::proofs::Reading::other_pad, crate::proofs::Reading::found_padded))]
     pub fn read_fixed(&mut self, n: usize) -> Result<&'a [u8], Refusal>
         ensures { Scans (λ bytes. bytes.now) ((fixed_opaque n).read) self.old self.new result }

@@ -115,7 +115,7 @@ fn write_each(w: &mut Writer, words: &[u32]) -> Result<(), Refusal>
     Ok(())
 }
 
-/// A number for each place of `words`, and the reader behind them.
+/// A number for each place of `words`, and the reader after them.
 fn fill_words<'a>(at: Reader<'a>, words: &mut [u32]) -> Result<Reader<'a>, Refusal>
     ensures { Fills at.entry (length words.old) words.new result }
 {

@@ -51,7 +51,7 @@ impl Writer {
         })
     }
 
-    /// Behind the bytes of a vector.
+    /// After the bytes of a vector.
     pub fn from_vec(bytes: Vec<u8>) -> Writer
         ensures bytes { result.bytes ≡ bytes.items }
         ensures capacity { result.capacity ≡ vec_capacity bytes }

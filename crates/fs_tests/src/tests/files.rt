@@ -1,4 +1,4 @@
-//! Files: OPEN by a name, and what is written and read behind it.
+//! Files: OPEN by a name, and what is written and read after it.
 
 use super::rows::{
     EXISTS, FIRST, INVALID, IS_DIRECTORY, MAKES_A, MODE_755, NO_ACCESS, NO_ENTRY, NO_SPACE, OTHER,

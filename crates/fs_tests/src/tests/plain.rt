@@ -268,7 +268,7 @@ fn bytes_of(alloc: Global, told: &Told) -> Result<Vec<u8>, Fail> {
 /// What an operation does beside what it answers.
 #[derive(Clone, Copy)]
 struct Done {
-    /// The current node behind it.
+    /// The current node after it.
     current: u64,
     /// The node under the name that it takes away, 0 where there is none.
     gone: u64,

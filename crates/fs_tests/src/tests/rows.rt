@@ -57,7 +57,7 @@ pub(super) const MAKES_A: Row = (
     b"",
 );
 
-/// The directory `b` behind it.
+/// The directory `b` after it.
 pub(super) const MAKES_B: Row = (
     OWNER,
     Call::MakeDir(ROOT, b"b", MODE_755),
@@ -115,7 +115,7 @@ pub(super) fn try_rows(rt: &impl Abort, alloc: Global, rows: &[Row]) -> Result<(
     Ok(())
 }
 
-/// Calls on a new volume of so many sectors, and others behind a mount.
+/// Calls on a new volume of so many sectors, and others after a mount.
 pub(super) fn try_sized(
     rt: &impl Abort,
     alloc: Global,

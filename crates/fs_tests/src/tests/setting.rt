@@ -11,7 +11,7 @@ use std::test::Fail;
 
 const CHANGE: [u32; 2] = [8, 0];
 
-/// How the change is spelled that FIRST is, and the one behind it.
+/// How the change is spelled that FIRST is, and the one after it.
 const IS_FIRST: &[u8] = b"\0\0\0\x01\0\0\0\x08\0\0\0\x08\0\0\0\x01\0\0\0\x01";
 
 const IS_SECOND: &[u8] = b"\0\0\0\x01\0\0\0\x08\0\0\0\x08\0\0\0\x01\0\0\0\x02";

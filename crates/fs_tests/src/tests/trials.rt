@@ -19,7 +19,7 @@ const SECTORS: u32 = 256;
 
 const NODES: u32 = 24;
 
-/// How many lists there are, of so many parts of so many calls each. Behind each part the whole tree is looked at, also as the
+/// How many lists there are, of so many parts of so many calls each. After each part the whole tree is looked at, also as the
 /// next mount finds it.
 const LISTS: u64 = 8;
 

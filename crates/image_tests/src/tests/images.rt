@@ -208,7 +208,7 @@ type Put = (usize, usize, &'static [u8]);
 
 /// Volumes on which no tree stands, each of one fault.
 const FAULTS: [&[Put]; 22] = [
-    // gates: of no targets, of 97, of the target 97, of the sector behind the last, of a target twice
+    // gates: of no targets, of 97, of the target 97, of the sector after the last, of a target twice
     &[(1, 0, &[0, 0, 0, 1, 0, 0, 0, 0])],
     &[(1, 0, &[0, 0, 0, 1, 0, 0, 0, 97])],
     &[(1, 0, &[0, 0, 0, 1, 0, 0, 0, 1, 0, 0, 0, 97])],

@@ -199,7 +199,7 @@ impl Tree {
         }
     }
 
-    /// The runs of one run sector, behind the blocks that are known.
+    /// The runs of one run sector, after the blocks that are known.
     fn take_runs(
         &mut self,
         shape: &Shape,
@@ -340,7 +340,7 @@ fn links_of(
     Ok(())
 }
 
-/// The bytes of the last block behind the end of a file.
+/// The bytes of the last block past the end of a file.
 fn check_tail(image: &[[u8; SECTOR]], node: &Node) -> Result<(), Unfit> {
     let used = node.size % SECTOR;
     match node.blocks.last() {

@@ -14,7 +14,7 @@ const NULL: &str = "80000028 1 0 2 186a3 4 0 0 0 0 0";
 
 const NULL_REPLY: &str = "80000018 1 1 0 0 0 0";
 
-/// EXCHANGE_ID, CREATE_SESSION, and, behind SEQUENCE, PUTROOTFH, CREATE of the directory `a` and GETFH.
+/// EXCHANGE_ID, CREATE_SESSION, and, after SEQUENCE, PUTROOTFH, CREATE of the directory `a` and GETFH.
 const MAKES: &str = "80000068 2 0 2 186a3 4 1 1 14 0 0 7 7 0 0 0 0 1 1
     2a 01020304 05060708 2 636c0000 0 0 0
     800000a0 3 0 2 186a3 4 1 1 14 0 0 7 7 0 0 0 0 1 1
@@ -29,7 +29,7 @@ const MADE: &str = "80000064 2 1 0 0 0 0 0 0 1
     80000094 9 1 0 0 0 0 0 0 4
     35 0 1 1 0 1 1 0 7 7 0 18 0 6 0 1 0 1 1 1 2 0 2 a 0 8 1 1";
 
-/// PUTROOTFH and LOOKUP of `a` behind the next SEQUENCE.
+/// PUTROOTFH and LOOKUP of `a` after the next SEQUENCE.
 const LOOKS_UP: &str = "8000007c a 0 2 186a3 4 1 1 14 0 0 7 7 0 0 0 0 1 3
     35 1 1 0 1 2 0 0 1 18 f 1 61000000";
 
@@ -37,7 +37,7 @@ const LOOKED_UP: &str = "80000060 a 1 0 0 0 0 0 0 3
     35 0 1 1 0 1 2 0 7 7 0 18 0 f 0";
 
 /// What each peer sends and what it is answered, both in parts: no record at all; nothing; half a record; a whole session; a
-/// record and half a record; a record and a header of no record, with more behind it; the same session over another connection.
+/// record and half a record; a record and a header of no record, with more after it; the same session over another connection.
 const PEERS: [[&str; 4]; 7] = [
     ["47455420 2f204854 54502f31 2e310d0a", "", "", ""],
     ["", "", "", ""],

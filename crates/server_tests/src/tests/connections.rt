@@ -1,4 +1,4 @@
-//! Whole connections that are no rows of steps: a record is cut behind each byte, a table is filled, a volume is changed.
+//! Whole connections that are no rows of steps: a record is cut after each byte, a table is filled, a volume is changed.
 //!
 //! A record is written as words of four bytes in hex, its header first; leading zeros may be left out.
 

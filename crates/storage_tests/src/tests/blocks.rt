@@ -148,7 +148,7 @@ fn largest_files(rt: HostRuntime) -> Result<(), Fail> {
     Ok(())
 }
 
-/// Blocks that were set one by one, in any order, are one run where they stand one behind the other.
+/// Blocks that were set one by one, in any order, are one run where they stand one after the other.
 #[test]
 fn neighbours_are_one_run(rt: HostRuntime) -> Result<(), Fail> {
     let mut list = BlockList::new(rt.alloc());

@@ -234,7 +234,7 @@ fn bytes_of<D: Device>(device: &mut D) -> Result<[u8; 4], DiskFault> {
     ])
 }
 
-// writes sectors of a new file, and reads them before a sync, behind it, and from the file opened anew
+// writes sectors of a new file, and reads them before a sync, after it, and from the file opened anew
 fn write_and_read(rt: &HostRuntime, writes: &[(u32, u8)]) -> Result<[[u8; 4]; 3], DiskFault> {
     let path = "disk-file-gathered.img";
     let mut device = FileDevice::create(rt, rt.alloc(), path, 4)?;
@@ -263,7 +263,7 @@ fn a_file_gives_what_was_written_last(rt: HostRuntime) -> Result<(), Fail> {
             &[(1, 1), (2, 2), (3, 3), (1, 4), (3, 5), (2, 6)],
             [0, 4, 6, 5],
         ),
-        // some again, behind others that are no neighbours
+        // some again, after others that are no neighbours
         (
             &[(1, 1), (2, 2), (0, 3), (1, 4), (3, 5), (2, 6)],
             [3, 4, 6, 5],

@@ -58,7 +58,7 @@ fn reads_the_layout(rt: HostRuntime) -> Result<(), Fail> {
     Ok(())
 }
 
-/// A byte behind a name, a name without bytes, a third record, a byte at the end; and other counts.
+/// A byte after a name, a name without bytes, a third record, a byte at the end; and other counts.
 #[test]
 fn refuses_other_bytes(rt: HostRuntime) -> Result<(), Fail> {
     for (place, byte) in [(18, 1), (16, 0), (544, 1), (4095, 1)] {

@@ -1,4 +1,4 @@
-//! What no contract says: that calls succeed, what a gate's bytes are, and what a mount finds behind
+//! What no contract says: that calls succeed, what a gate's bytes are, and what a mount finds after
 //! every stop, tried one by one.
 
 mod calls;

@@ -10,7 +10,7 @@ const SECTORS: u32 = 256;
 
 const NODES: u32 = 16;
 
-/// The sectors of the gate, of the first content behind it, and of the root's node.
+/// The sectors of the gate, of the first content after it, and of the root's node.
 const GATE: u32 = 1;
 
 const PAYLOAD: u32 = 2;
@@ -99,7 +99,7 @@ const CHANGES: [(u32, &[(usize, u8)], MountFault); 17] = [
     (0, &[(11, 0)], MountFault::NotVolume),
     (0, &[(14, 2)], MountFault::NotVolume),
     (0, &[(19, 1)], MountFault::NotVolume),
-    // a full count, and a byte behind the fields
+    // a full count, and a byte after the fields
     (
         0,
         &[(20, 255), (21, 255), (22, 255), (23, 255)],

@@ -88,7 +88,7 @@ const READS: Row = (Call::Read(ANONYMOUS, 0, 9), Told::Read(true), b"");
 
 const READS_NOT: Row = (Call::Read(ANONYMOUS, 0, 9), NO_ACCESS, b"");
 
-/// The kind of a node of user 9, its list, who calls, what ACCESS asks and grants, and the rows behind it.
+/// The kind of a node of user 9, its list, who calls, what ACCESS asks and grants, and the rows after it.
 type Case = (NodeKind, &'static [Entry], u32, (u32, u32), &'static [Row]);
 
 const CASES: [Case; 7] = [

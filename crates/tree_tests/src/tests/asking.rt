@@ -173,7 +173,7 @@ fn put_shown(shown: &ShownAttributes, out: &mut Vec<u8>) -> Result<(), Fail> {
     Ok(())
 }
 
-/// The bytes of an answer, put behind those in `out`: of attributes their bitmap, then their values; of a page's entries each
+/// The bytes of an answer, put after those in `out`: of attributes their bitmap, then their values; of a page's entries each
 /// cookie and name.
 fn put_bytes(answer: &Answer, out: &mut Vec<u8>) -> Result<(), Fail> {
     match answer {
@@ -202,7 +202,7 @@ fn told_of(answer: &Answer) -> Told {
     }
 }
 
-/// Who works, and on what, behind a call that says it.
+/// Who works, and on what, after a call that says it.
 fn set_up<'a>(world: &World<'a>, call: Call<'_>) -> Option<Context<'a>> {
     let context = world.state.context;
     match call {
@@ -248,7 +248,7 @@ fn tell(world: &mut World<'_>, call: Call<'_>, out: &mut Vec<u8>) -> Result<Told
     }
 }
 
-/// What a call is answered; its bytes are put behind those in `out`.
+/// What a call is answered; its bytes are put after those in `out`.
 pub(super) fn ask(world: &mut World<'_>, call: Call<'_>, out: &mut Vec<u8>) -> Result<Told, Fail> {
     if let Some(context) = set_up(world, call) {
         world.state.context = context;

@@ -34,7 +34,7 @@ pub(super) enum Call<'a> {
     Open(&'a [u8], Claim<'a>, Make<'a>),
     Remove(&'a [u8]),
     Rename(&'a [u8], &'a [u8]),
-    /// READDIR behind a cookie, of so many bytes, without attributes.
+    /// READDIR after a cookie, of so many bytes, without attributes.
     Page(u64, u32),
     Access(u32),
     /// GETATTR by this bitmap.
@@ -56,7 +56,7 @@ pub(super) enum Call<'a> {
     Back,
     /// The node of this number is the current one, whether it is there or not.
     MoveTo(u128),
-    /// Node 2 of this owner and list is put behind the root.
+    /// Node 2 of this owner and list is put after the root.
     PutNode(u32, NodeKind, &'a [Entry]),
     /// How many changes the run had.
     Changes,

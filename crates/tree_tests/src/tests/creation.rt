@@ -43,7 +43,7 @@ const TO_ROOT: Row = (Call::MoveTo(ROOT), Told::Done, b"");
 const NOTHING: Given<'static> = (&[], b"");
 
 // Where, the name, the bitmap's two words, the values, and what is answered. What a row is refused for stands in front of what
-// the rows behind it are.
+// the rows after it are.
 const REFUSED: [(u128, &[u8], &[u32], &[u8], Status); 10] = [
     (9, b"", &[0x4000, 2], b"", Status::Stale),
     (2, b"", &[0x4000, 2], b"", Status::NotDir),

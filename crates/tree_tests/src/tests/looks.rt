@@ -8,7 +8,7 @@ use oracle_tree::keyed::at;
 use oracle_tree::places::{bytes_at, names_at, number_named};
 use std::test::Fail;
 
-/// What is seen where a call looks at the tree; bytes are put behind those in `out`.
+/// What is seen where a call looks at the tree; bytes are put after those in `out`.
 pub(super) fn look(
     world: &World<'_>,
     call: Call<'_>,

@@ -117,7 +117,7 @@ const PAGES: [Row; 14] = [
     AT_ROOT,
     (Call::MakeDir(b"d", MODE_755), Told::Done, b""),
     AT_ROOT,
-    // Behind `a`: stamp 4 is the removal's.
+    // After `a`: stamp 4 is the removal's.
     (
         Call::Page(0x1_0000_0001, 72),
         Told::Page(2, true),

@@ -41,7 +41,7 @@ pub(super) const RUN_2: [u8; 8] = [0, 0, 0, 0, 0, 0, 0, 2];
 
 pub(super) const AT_ROOT: Row = (Call::PutRoot, Told::Done, b"");
 
-/// The root is the saved node, behind AT_ROOT.
+/// The root is the saved node, after AT_ROOT.
 pub(super) const SAVES: Row = (Call::Save, Told::Done, b"");
 
 /// The directory `a` in the current one.

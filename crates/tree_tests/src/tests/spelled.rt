@@ -79,7 +79,7 @@ const OUTCOMES: [(Call<'static>, &[u8]); 7] = [
         Call::Access(0x3F),
         &[0, 0, 0, 3, 0, 0, 0, 0, 0, 0, 0, 0x1F, 0, 0, 0, 0x1F],
     ),
-    // A mode has nine bits: an empty bitmap stands behind the refusal.
+    // A mode has nine bits: an empty bitmap follows the refusal.
     (
         Call::Set(HIGH_MODE),
         &[0, 0, 0, 34, 0, 0, 0, 22, 0, 0, 0, 0],

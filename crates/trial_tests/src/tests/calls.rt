@@ -62,7 +62,7 @@ pub(super) fn session(alloc: Global, caller: Caller, client: u64) -> Result<Vec<
     record_of(alloc, call)
 }
 
-/// A record with these operations behind a SEQUENCE.
+/// A record with these operations after a SEQUENCE.
 pub(super) fn compound(
     alloc: Global,
     caller: Caller,

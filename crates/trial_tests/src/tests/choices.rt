@@ -244,7 +244,7 @@ impl Seed {
         None
     }
 
-    /// A stateid, or one of the same open from before or behind.
+    /// A stateid, or one of the same open from before or after.
     fn near(&mut self, state: OpenState) -> OpenState {
         let seqid = match self.below(16) {
             0 => 0,

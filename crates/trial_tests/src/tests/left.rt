@@ -81,7 +81,7 @@ impl Left {
         Ok(places)
     }
 
-    /// The device behind one of these landings.
+    /// The device after one of these landings.
     pub(super) fn device(&self, stopped: &CrashDevice, landing: usize) -> Result<MemDevice, Fail> {
         let tried = landings(self.alloc, &stopped.unsynced(self.alloc)?)?;
         let chosen = tried.get(landing).ok_or("no landing")?;
@@ -152,7 +152,7 @@ struct Mounted {
 }
 
 impl Mounted {
-    /// Whether it is the run behind that of the tree.
+    /// Whether it is the run after that of the tree.
     fn is_of_run_behind(&self, tree: &Tree) -> bool {
         self.fs.restart_count() == tree.run.saturating_add(1)
     }

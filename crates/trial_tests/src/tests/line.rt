@@ -23,7 +23,7 @@ pub(super) enum Stage {
 #[derive(Drop)]
 pub(super) struct Line {
     pub(super) conn: usize,
-    /// A record, and bytes behind it that are none of it.
+    /// A record, and bytes after it that are none of it.
     bytes: Vec<u8>,
     /// How many of them the record has, and how many were taken.
     len: usize,
@@ -62,7 +62,7 @@ impl Line {
         self.bytes.get(self.taken..end).unwrap_or(&[])
     }
 
-    /// How many bytes of a piece of this length are taken: none behind the record's end.
+    /// How many bytes of a piece of this length are taken: none past the record's end.
     pub(super) fn take_piece(&mut self, count: usize) -> usize {
         let Stage::Sending(request) = &self.stage else {
             return 0;

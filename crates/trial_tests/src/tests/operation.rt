@@ -1,4 +1,4 @@
-//! The operations that the trials send behind a SEQUENCE (RFC 8881, section 18), as what they ask. A name is one letter.
+//! The operations that the trials send after a SEQUENCE (RFC 8881, section 18), as what they ask. A name is one letter.
 
 ghost use Rattle.std.specs.Prelude.{◌<◌, ◌≤◌, length};
 ghost use Rattle.wire_client.specs.ArgumentFits.{AttributesFit, CreateFits, OpenTypeFits};
@@ -182,7 +182,7 @@ pub(super) struct Reading {
     pub(super) count: u32,
 }
 
-/// An operation behind SEQUENCE.
+/// An operation after SEQUENCE.
 #[derive(Clone, Copy, Debug, PartialEq, Eq)]
 pub(super) enum Operation {
     /// PUTROOTFH.

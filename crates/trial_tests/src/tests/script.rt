@@ -269,7 +269,7 @@ fn state_in<'a>(
     Ok(Ok(state))
 }
 
-/// The tree behind a change, which comes behind so many others, or why it is refused.
+/// The tree after a change, which comes after so many others, or why it is refused.
 fn tree_behind(
     alloc: Global,
     tree: &Tree,
@@ -432,7 +432,7 @@ impl Told {
     }
 }
 
-/// The script, and what was found behind its stops.
+/// The script, and what was found after its stops.
 #[derive(Drop)]
 struct Trial {
     volume: CrashDevice,
@@ -510,7 +510,7 @@ fn expect_statuses(rt: &impl Abort, script: &[Change], replies: &[Vec<u8>]) {
     }
 }
 
-/// Plays the script with a stop before and within each step behind the mount. Each front is found behind some stop.
+/// Plays the script with a stop before and within each step after the mount. Each front is found after some stop.
 fn try_stops(rt: &impl Abort, alloc: Global, script: &[Change]) -> Result<(), Fail> {
     let volume = volume(alloc)?;
     let records = records(alloc, script)?;

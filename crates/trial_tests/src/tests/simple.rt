@@ -16,7 +16,7 @@ use stateids::{Opens, Place};
 use std::alloc::{AllocError, Global};
 use tree::Tree;
 
-/// The most operations behind a SEQUENCE.
+/// The most operations after a SEQUENCE.
 pub(super) const MAX_OPERATIONS: usize = 6;
 
 /// A COMPOUND that a client sends.

@@ -381,14 +381,14 @@ fn serve(
     Ok((twin.into_world(), has_stopped))
 }
 
-/// A script, and what was found behind its stops.
+/// A script, and what was found after its stops.
 #[derive(Drop)]
 struct Trial<'a> {
     alloc: Global,
     volume: CrashDevice,
     rounds: &'a [Round],
     tally: Tally,
-    /// How often the tree behind so many changes was found.
+    /// How often the tree after so many changes was found.
     found: Vec<usize>,
 }
 
@@ -435,7 +435,7 @@ impl<'a> Trial<'a> {
         }
     }
 
-    /// Stops before and within each step behind the mount and the first so many rounds. How many trees were found.
+    /// Stops before and within each step after the mount and the first so many rounds. How many trees were found.
     fn run(&mut self, rt: &impl Abort, behind: usize) -> Result<usize, Fail> {
         let front = self.rounds.get(..behind).ok_or("too few rounds")?;
         let (first, _) = self.measure(rt, front)?;
@@ -449,7 +449,7 @@ impl<'a> Trial<'a> {
     }
 }
 
-/// The first half of twenty operations. The trees behind three unstable writes are never alone on the device.
+/// The first half of twenty operations. The trees after three unstable writes are never alone on the device.
 #[test]
 fn stops_of_unstable_writes(rt: HostRuntime) -> Result<(), Fail> {
     let rounds = unstable_rounds();

@@ -38,7 +38,7 @@ pub(super) struct Twin<D: Device> {
     pub(super) lines: Vec<Line>,
 }
 
-/// The status of a reply: its eighth word, behind the record's header and six of RPC.
+/// The status of a reply: its eighth word, after the record's header and six of RPC.
 pub(super) fn status_of(reply: &[u8]) -> Option<u32> {
     let bytes = reply.get(28..32)?;
     let (word, _rest) = bytes.split_first_chunk::<4>()?;

@@ -55,7 +55,7 @@ pub(super) enum Told {
     Results(usize),
     Io,
     Rpc,
-    /// The operation at this place was refused by this status, behind so many results.
+    /// The operation at this place was refused by this status, after so many results.
     Status(usize, u32, usize),
     Garbled,
     Memory,

@@ -21,8 +21,8 @@ const GARBLED: [&str; 4] = [
     "4 2 80003ffd",
 ];
 
-/// A stream that gives a byte at each other call, takes one at each other call, and is interrupted between. It fails behind the
-/// bytes that it gives, and behind those that it has room for.
+/// A stream that gives a byte at each other call, takes one at each other call, and is interrupted between. It fails after the
+/// bytes that it gives, and after those that it has room for.
 #[derive(Drop)]
 struct Slow {
     gives: Vec<u8>,
@@ -92,7 +92,7 @@ fn a_request_is_exchanged(rt: HostRuntime) -> Result<(), Fail> {
     for words in [EXCHANGED, IN_FRAGMENTS] {
         let mut client = new_client(alloc)?;
         let mut answer = bytes_of(alloc, words)?;
-        // what stands behind the reply is not read
+        // what follows the reply is not read
         answer.extend_from_slice(b"next")?;
         let mut reader = answer.as_slice();
         let mut writer = Vec::new(alloc);

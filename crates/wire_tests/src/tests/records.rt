@@ -37,7 +37,7 @@ const ANSWERED: [(&[u32], &[u32]); 8] = [
         ],
         &[0x8000_0014, 8, 1, 1, 1, 1],
     ),
-    // NULL with bytes behind the verifier
+    // NULL with bytes after the verifier
     (
         &[9, 0, 2, 100003, 4, 0, 0, 0, 0, 0, 0],
         &[0x8000_0018, 9, 1, 0, 0, 0, 4],
@@ -199,7 +199,7 @@ fn a_record_has_sixteen_kibibytes(rt: HostRuntime) -> Result<(), Fail> {
     let rest = bytes.get(4..).ok_or("short")?;
     let front = rest.get(..10000).ok_or("short")?;
     assert_eq!(rt; feed(&mut assembler, front)?, 10000);
-    // a second record stands behind the first
+    // a second record follows the first
     assert_eq!(rt; feed(&mut assembler, rest)?, 6384);
     assert_eq!(rt; assembler.record().ok_or("no record")?.len(), 16384);
     Ok(())

@@ -75,7 +75,7 @@ const OTHERS: [(&str, Told); 14] = [
         "80000060 4 1 0 0 0 0 0 0 3 35 0 1 1 0 1 1 0 7 7 0 18 0 6 11",
         Told::Garbled,
     ),
-    // a number behind the results
+    // a number after the results
     ("80000030 4 1 0 0 0 0 2724 0 1 35 2724 0", Told::Garbled),
     // cut short, and in two fragments
     ("80000014 4 1 0 0 0", Told::Garbled),

@@ -16,7 +16,7 @@ const MAKE_A: &str = "80000098 9 0 2 186a3 4 1 1 14 0 0 7 7 0 0 0 0 1 4
 /// The bytes of a record's header.
 const HEADER: usize = 4;
 
-/// The places of the number of SEQUENCE in its record, and behind SEQUENCE.
+/// The places of the number of SEQUENCE in its record, and after SEQUENCE.
 const NUMBER: usize = 96;
 
 const SEQUENCE_END: usize = 112;
@@ -42,7 +42,7 @@ fn is_answered(server: &mut Server<MemDevice>) -> Result<bool, Fail> {
     Ok(false)
 }
 
-/// The bytes as a record on connection 0 are answered, or close it; then there is a new one. Connection 1 is served behind it.
+/// The bytes as a record on connection 0 are answered, or close it; then there is a new one. Connection 1 is served after it.
 fn serve(
     rt: &impl Abort,
     alloc: Global,
@@ -59,7 +59,7 @@ fn serve(
     expect(rt, alloc, &end(server, 1, 1)?, NULL_REPLY)
 }
 
-/// Serves the record behind its header, cut behind each byte.
+/// Serves the record after its header, cut after each byte.
 fn serve_cuts(
     rt: &impl Abort,
     alloc: Global,
@@ -83,7 +83,7 @@ fn records_are_cut_behind_each_byte(rt: HostRuntime) -> Result<(), Fail> {
     Ok(())
 }
 
-/// Each cut behind SEQUENCE runs the slot, with the next number.
+/// Each cut after SEQUENCE runs the slot, with the next number.
 #[test]
 fn a_session_is_cut_behind_each_byte(rt: HostRuntime) -> Result<(), Fail> {
     let mut server = new_server(rt.alloc())?;

@@ -60,7 +60,7 @@ fn ask(server: &mut Server<MemDevice>, call: Call) -> Result<usize, ServerFault>
     }
 }
 
-/// Behind the 16th connection.
+/// After the 16th connection.
 const CONNECTIONS: [(Call, Result<usize, ServerFault>); 5] = [
     (Call::Connect, Err(ServerFault::Full)),
     (Call::HangUp(5), Ok(5)),

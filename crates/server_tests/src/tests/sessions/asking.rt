@@ -191,7 +191,7 @@ fn reclaim(table: &mut Table, client: u64) -> Told {
     done(table.reclaim_complete(client))
 }
 
-/// What a call of this user is answered; its bytes are put behind those in `out`.
+/// What a call of this user is answered; its bytes are put after those in `out`.
 pub(super) fn ask(
     alloc: Global,
     table: &mut Table,

@@ -12,7 +12,7 @@ pub(super) type Row = (u32, Call<'static>, Told, &'static [u8]);
 
 pub(super) const VERIFIER: [u8; 8] = [1, 2, 3, 4, 5, 6, 7, 8];
 
-/// The first client of run 1, and those behind it.
+/// The first client of run 1, and those after it.
 pub(super) const FIRST: u64 = 0x1_0000_0001;
 
 pub(super) const SECOND: u64 = 0x1_0000_0002;

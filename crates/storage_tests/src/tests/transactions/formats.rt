@@ -66,7 +66,7 @@ fn tried(alloc: Global, unsynced: &[Unsynced]) -> Result<Vec<Vec<Landed>>, Alloc
     Ok(tried)
 }
 
-// Behind how many stops the old contents were found, a sector 0 of zeros, and the new contents.
+// After how many stops the old contents were found, a sector 0 of zeros, and the new contents.
 #[derive(Drop)]
 struct Trial {
     device: CrashDevice,

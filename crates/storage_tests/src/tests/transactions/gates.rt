@@ -63,7 +63,7 @@ fn gates_that_are_replayed(rt: HostRuntime) -> Result<(), Fail> {
     Ok(())
 }
 
-// no target; 97; one of 97, of 256 and of 2^24 + 99; two the same; a byte behind the targets; another
+// no target; 97; one of 97, of 256 and of 2^24 + 99; two the same; a byte after the targets; another
 // first word; targets behind a closed gate; fewer targets than there are words
 const BAD: [(u8, &[(usize, u8)]); 14] = [
     (0, &[]),

@@ -46,14 +46,14 @@ fn stop_mount(
     Ok(())
 }
 
-// Calls, and what was found behind their stops.
+// Calls, and what was found after their stops.
 #[derive(Drop)]
 struct Trial {
     steps: &'static [Step],
     fronts: Vec<Contents>,
     // how often each front was found
     found: Vec<u64>,
-    // whether the mounts behind a stop within a step are stopped too
+    // whether the mounts after a stop within a step are stopped too
     is_nested: bool,
 }
 
@@ -142,7 +142,7 @@ fn is_flushed(steps: &[Step], count: usize) -> bool {
     is_flushed
 }
 
-// stops these calls everywhere; each front that a flush ends with is found behind some stop
+// stops these calls everywhere; each front that a flush ends with is found after some stop
 fn try_stops(
     rt: &impl Abort,
     alloc: Global,

@@ -65,7 +65,7 @@ pub(crate) struct Changed {
     pub(crate) after: u64,
 }
 
-/// Results, one behind the other.
+/// Results, one after the other.
 #[derive(Drop, Debug)]
 pub(crate) struct Results {
     bytes: Vec<u8>,
@@ -99,7 +99,7 @@ impl Results {
         self.words(words)
     }
 
-    /// Bytes behind their count, and zeros up to a whole word.
+    /// Bytes after their count, and zeros up to a whole word.
     pub(crate) fn opaque(&mut self, bytes: &[u8]) -> Result<(), AllocError> {
         self.word(u32::try_from(bytes.len()).unwrap_or(0))?;
         self.bytes.extend_from_slice(bytes)?;
@@ -123,7 +123,7 @@ impl Results {
         self.number(state.serial)
     }
 
-    /// An operation that is done: what it gives comes behind this.
+    /// An operation that is done: what it gives comes after this.
     pub(crate) fn done(&mut self, operation: Operation) -> Result<(), AllocError> {
         self.words(&[number_of(operation), OK])
     }

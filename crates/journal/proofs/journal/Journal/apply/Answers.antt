@@ -16,7 +16,7 @@ use Rattle.journal.proofs.journal.Journal.apply.Goals as goal
 use Rattle.journal.proofs.journal.Journal.apply.Given.{Over}
 use Rattle.journal.proofs.journal.Journal.apply.Goals.{After-put_all}
 
--- the log behind the call
+-- the log after the call
 after : (g : Over) (c : After-put_all g) → Log
 after g c = record {
   base = seen (g.D.Device.history c.make_room.new.self.device).now;
