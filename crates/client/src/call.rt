@@ -15,8 +15,8 @@ ghost use Rattle.wire_client.specs.ArgumentFits.{ArgumentFits};
 ghost use Rattle.client.specs.Requests.{credential_text, compound_call, head_text, operations_text};
 ghost use Rattle.client.specs.Rests.{ids_text, procedure_text, auths_text};
 
-use model::acl::Cred;
-use rpc::write_frame_header;
+use model::acl::{Cred, Gids};
+use rpc::{MAX_AUTH_BYTES, MAX_TAG_BYTES, write_frame_header};
 use std::alloc::Global;
 use wire::Argument;
 use wire_client::write_argument;
@@ -44,7 +44,7 @@ const MINOR_VERSION: u32 = 1;
 /// The body of the credential of this caller: AUTH_SYS, with the stamp 0 and no machine name.
 pub(crate) fn credential_body(alloc: Global, cred: &Cred) -> Result<Vec<u8>, Refusal>
     ensures body { IfOk result (λ body. body.items ≡ credential_text cred.now) }
-    ensures short { IfOk result (λ body. length body.items ≤ 400) }
+    ensures short { IfOk result (λ body. length body.items ≤ MAX_AUTH_BYTES) }
     ensures err { IfErr result (λ e. e ≡ Memory) }
 {
     let Ok(mut body) = Writer::with_capacity(alloc, 20 + 4 * cred.gids.as_slice().len()) else {
@@ -74,7 +74,7 @@ fn write_ids(w: &mut Writer, cred: &Cred) -> Result<(), Refusal>
 
 #[tactic(auto, unfolding(xdr::specs::Forms::elements), using(xdr::proofs::Writing::wrote_on, xdr::proofs::Writing::wrote_exit, xdr::proofs::Writing::wrote_end))]
 fn write_gids(w: &mut Writer, gids: &[u32]) -> Result<(), Refusal>
-    requires { length gids.now ≤ 16 }
+    requires { length gids.now ≤ Gids.MAX_GIDS }
     ensures { Wrote w.old w.new result (elements (λ n. number w32 n) gids.now) }
 {
     w.write_u32(gids.len() as u32)?;
@@ -99,8 +99,8 @@ pub(crate) fn write_head(
     tag: &[u8],
     count: u32,
 ) -> Result<(), Refusal>
-    requires credential { length credential.now ≤ 400 }
-    requires tag { length tag.now ≤ 255 }
+    requires credential { length credential.now ≤ MAX_AUTH_BYTES }
+    requires tag { length tag.now ≤ MAX_TAG_BYTES }
     ensures { Wrote w.old w.new result (head_text xid credential.now tag.now count) }
 {
     write_call(w, xid, credential)?;
@@ -109,7 +109,7 @@ pub(crate) fn write_head(
 
 #[tactic(auto, using(xdr::proofs::Writing::wrote_on, xdr::proofs::Writing::wrote_exit, xdr::proofs::Writing::wrote_end))]
 fn write_call(w: &mut Writer, xid: u32, credential: &[u8]) -> Result<(), Refusal>
-    requires { length credential.now ≤ 400 }
+    requires { length credential.now ≤ MAX_AUTH_BYTES }
     ensures { Wrote w.old w.new result (call_head.spelling (compound_call xid credential.now)) }
 {
     w.write_u32(xid)?;
@@ -120,7 +120,7 @@ fn write_call(w: &mut Writer, xid: u32, credential: &[u8]) -> Result<(), Refusal
 
 #[tactic(auto, using(xdr::proofs::Writing::wrote_on, xdr::proofs::Writing::wrote_exit, xdr::proofs::Writing::wrote_end))]
 fn write_procedure(w: &mut Writer, credential: &[u8]) -> Result<(), Refusal>
-    requires { length credential.now ≤ 400 }
+    requires { length credential.now ≤ MAX_AUTH_BYTES }
     ensures { Wrote w.old w.new result (procedure_text credential.now) }
 {
     w.write_u32(PROGRAM)?;
@@ -131,7 +131,7 @@ fn write_procedure(w: &mut Writer, credential: &[u8]) -> Result<(), Refusal>
 
 #[tactic(auto, using(xdr::proofs::Writing::wrote_on, xdr::proofs::Writing::wrote_exit, xdr::proofs::Writing::wrote_end))]
 fn write_auths(w: &mut Writer, credential: &[u8]) -> Result<(), Refusal>
-    requires { length credential.now ≤ 400 }
+    requires { length credential.now ≤ MAX_AUTH_BYTES }
     ensures { Wrote w.old w.new result (auths_text credential.now) }
 {
     write_auth(w, AUTH_SYS, credential)?;
@@ -140,7 +140,7 @@ fn write_auths(w: &mut Writer, credential: &[u8]) -> Result<(), Refusal>
 
 #[tactic(auto, using(xdr::proofs::Writing::wrote_on, xdr::proofs::Writing::wrote_exit, xdr::proofs::Writing::wrote_end))]
 fn write_auth(w: &mut Writer, flavour: u32, body: &[u8]) -> Result<(), Refusal>
-    requires { length body.now ≤ 400 }
+    requires { length body.now ≤ MAX_AUTH_BYTES }
     ensures { Wrote w.old w.new result (opaque_auth.spelling (flavour, body.now)) }
 {
     w.write_u32(flavour)?;
@@ -150,7 +150,7 @@ fn write_auth(w: &mut Writer, flavour: u32, body: &[u8]) -> Result<(), Refusal>
 
 #[tactic(auto, using(xdr::proofs::Writing::wrote_on, xdr::proofs::Writing::wrote_exit, xdr::proofs::Writing::wrote_end))]
 fn write_compound(w: &mut Writer, tag: &[u8], count: u32) -> Result<(), Refusal>
-    requires { length tag.now ≤ 255 }
+    requires { length tag.now ≤ MAX_TAG_BYTES }
     ensures { Wrote w.old w.new result (compound_head.spelling (tag.now, (1, count))) }
 {
     w.write_opaque(tag)?;

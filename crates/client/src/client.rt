@@ -19,6 +19,7 @@ use crate::receive::converse;
 use crate::reply::{ReplyRead, read_reply, results_or_status};
 use crate::sent::{Sent, Session, is_alone, make_record};
 use model::acl::Cred;
+use rpc::MAX_TAG_BYTES;
 use std::alloc::Global;
 use std::io::{Read, Write};
 use std::marker::Model;
@@ -62,7 +63,7 @@ impl Client {
         tag: &[u8],
         xid: u32,
     ) -> Result<Client, ClientFault<'static>>
-        requires { length tag.now ≤ 255 }
+        requires { length tag.now ≤ MAX_TAG_BYTES }
         ensures ok { IfOk result (λ client. client ≡ new_client cred.now tag.now xid) }
         ensures err { IfErr result (λ e. e ≡ Memory) }
     {

@@ -6,18 +6,13 @@ ghost use Rattle.client.specs.Streams.{ReadsHeader, Fetches, Receives, Converses
 
 use crate::fault::ClientFault;
 use crate::stream::{fill, send};
+use rpc::{HEADER_BYTES, MAX_FRAGMENTS, MAX_RECORD_BYTES};
 use std::io::{Read, Write};
 
-/// Bytes of a fragment's header.
-const HEADER_BYTES: usize = 4;
 /// The mark of a record's last fragment.
 const LAST_FRAGMENT: u32 = 1 << 31;
-/// The most bytes and fragments of a record.
-const MAX_BYTES: usize = 16384;
-
-const MAX_FRAGMENTS: usize = 64;
 /// Room for a record with the header of one fragment.
-const ROOM: usize = HEADER_BYTES + MAX_BYTES;
+const ROOM: usize = HEADER_BYTES + MAX_RECORD_BYTES;
 
 /// What came of a fragment.
 #[derive(Clone, Copy)]
@@ -75,8 +70,8 @@ pub(crate) fn converse<R: Read, W: Write>(
 
 /// Puts the header of a record of one fragment before so many bytes.
 fn put_header(room: &mut [u8], size: usize)
-    requires small { size ≤ 16384 }
-    requires long { length room.old ≡ 16388 }
+    requires small { size ≤ MAX_RECORD_BYTES }
+    requires long { length room.old ≡ ROOM }
     ensures { room.new ≡ to_be_bytes w32 (2 ^ 31 + size) ++ drop 4 room.old }
 {
     let header = LAST_FRAGMENT + size as u32;
@@ -85,7 +80,7 @@ fn put_header(room: &mut [u8], size: usize)
 
 /// Reads a record into the room, after the place of its header.
 fn receive<R: Read>(reader: &mut R, room: &mut [u8]) -> Received
-    requires { length room.old ≡ 16388 }
+    requires { length room.old ≡ ROOM }
     ensures { Receives (R.remaining reader.old) (R.remaining reader.new) room.new result }
 {
     let mut size = 0;
@@ -107,8 +102,8 @@ fn receive<R: Read>(reader: &mut R, room: &mut [u8]) -> Received
 
 /// Reads a fragment into the room, after so many bytes of the fragments before.
 fn fetch<R: Read>(reader: &mut R, room: &mut [u8], size: usize, fragments: usize) -> Fetched
-    requires room { length room.old ≡ 16388 }
-    requires small { size ≤ 16384 }
+    requires room { length room.old ≡ ROOM }
+    requires small { size ≤ MAX_RECORD_BYTES }
     ensures { Fetches (R.remaining reader.old) (R.remaining reader.new) size fragments
         room.old room.new result }
 {
@@ -116,7 +111,7 @@ fn fetch<R: Read>(reader: &mut R, room: &mut [u8], size: usize, fragments: usize
         return Fetched::Ended;
     };
     let more = (header % LAST_FRAGMENT) as usize;
-    if size + more > MAX_BYTES {
+    if size + more > MAX_RECORD_BYTES {
         return Fetched::Refused;
     }
     if fragments >= MAX_FRAGMENTS {

@@ -10,13 +10,11 @@ ghost use Rattle.client.specs.Replies.{ending, number_of, status_of, is_ok};
 ghost use Rattle.client.specs.Views.{result_view, ReadsOutcomes};
 
 use model::status::Status;
+use rpc::MAX_TAG_BYTES;
 use std::alloc::Global;
 use wire::Outcome;
 use wire_client::read_outcome;
 use xdr::{Reader, Refusal};
-
-/// The most bytes of a tag.
-const MAX_TAG: u32 = 255;
 
 /// The result of a COMPOUND.
 #[derive(Drop)]
@@ -36,7 +34,7 @@ pub(crate) fn read_result<'a>(
 {
     let mut at = r.fork();
     let code = at.read_u32()?;
-    let tag = at.read_opaque(MAX_TAG)?;
+    let tag = at.read_opaque(MAX_TAG_BYTES)?;
     let results = read_outcomes(alloc, &mut at)?;
     *r = at;
     Ok(CompoundResult { code, tag, results })

@@ -13,6 +13,7 @@ ghost use Rattle.client.specs.Rests.{sequence_number, number_asked};
 ghost use Rattle.client.specs.Views.{session_of, sent_of};
 
 use crate::call::{RECORD_LIMIT, frame, write_head, write_operations};
+use rpc::{MAX_AUTH_BYTES, MAX_TAG_BYTES};
 use std::alloc::{AllocError, Global};
 use wire::{Argument, Operation, SequenceArguments};
 use wire_client::write_argument;
@@ -70,8 +71,8 @@ pub(crate) fn make_record(
     session: Option<Session>,
     operations: &[Argument<'_>],
 ) -> Result<Sent, Refusal>
-    requires credential { length credential.now ≤ 400 }
-    requires tag { length tag.now ≤ 255 }
+    requires credential { length credential.now ≤ MAX_AUTH_BYTES }
+    requires tag { length tag.now ≤ MAX_TAG_BYTES }
     requires fits { All ArgumentFits operations.now }
     ensures { IfOk result (λ sent. sent_of sent ≡ new_record xid credential.now tag.now
         (behind (option_map session_of session) (map argument_view operations.now))) }
@@ -98,8 +99,8 @@ fn write_call(
     session: Option<Session>,
     operations: &[Argument<'_>],
 ) -> Result<(), Refusal>
-    requires credential { length credential.now ≤ 400 }
-    requires tag { length tag.now ≤ 255 }
+    requires credential { length credential.now ≤ MAX_AUTH_BYTES }
+    requires tag { length tag.now ≤ MAX_TAG_BYTES }
     requires fits { All ArgumentFits operations.now }
     ensures { IfOk result (λ _. w.new.bytes ≡ w.old.bytes ++ call_text xid credential.now tag.now
         (behind (option_map session_of session) (map argument_view operations.now))) }

@@ -236,6 +236,7 @@ impl Model for Gids {
 }
 
 impl Gids {
+    /// The most groups.
     pub const MAX_GIDS: usize = 16;
 
     /// No groups.
@@ -249,7 +250,7 @@ impl Gids {
 
     /// Puts a group at the end.
     pub fn push(&mut self, gid: u32)
-        requires { length self.old < 16 }
+        requires { length self.old < Gids.MAX_GIDS }
         ensures { self.new ≡ self.old ++ gid ∷ [] }
     {
         self.numbers.push(gid);
@@ -258,7 +259,7 @@ impl Gids {
     /// The groups' numbers.
     pub fn as_slice(&self) -> &[u32]
         ensures numbers { result.now ≡ self.now }
-        ensures few { length result.now ≤ 16 }
+        ensures few { length result.now ≤ Gids.MAX_GIDS }
     {
         self.numbers.as_slice()
     }

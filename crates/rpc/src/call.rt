@@ -14,7 +14,7 @@ const CALL: u32 = 0;
 /// The version of RPC that is spoken.
 const RPC_VERSION: u32 = 2;
 /// The most bytes of a credential or a verifier.
-const MAX_AUTH_BYTES: u32 = 400;
+pub const MAX_AUTH_BYTES: u32 = 400;
 
 /// What follows the RPC version of a call. The verifier is read, and not looked at.
 #[derive(Clone, Copy, Debug)]

@@ -10,12 +10,12 @@ ghost use Rattle.rpc.specs.Assembly.{Finds};
 pub const HEADER_BYTES: usize = 4;
 /// The mark of a record's last fragment.
 const LAST_FRAGMENT: u32 = 1 << 31;
-/// The most bytes and fragments of a record.
-const MAX_BYTES: usize = 16384;
-
-const MAX_FRAGMENTS: usize = 64;
+/// The most bytes of a record.
+pub const MAX_RECORD_BYTES: usize = 16384;
+/// The most fragments of a record.
+pub const MAX_FRAGMENTS: usize = 64;
 /// The most bytes of a stream that are kept of one record: the record's, a header for each fragment, and one that is not whole.
-pub const MAX_RECEIVED: usize = MAX_BYTES + (MAX_FRAGMENTS + 1) * HEADER_BYTES;
+pub const MAX_RECEIVED: usize = MAX_RECORD_BYTES + (MAX_FRAGMENTS + 1) * HEADER_BYTES;
 
 /// A place in a record, between two fragments.
 #[derive(Clone, Copy)]
@@ -37,10 +37,10 @@ impl Place {
 
     /// Behind a fragment of so many bytes.
     pub fn behind(self, size: usize) -> Place
-        requires end { self.at + 4 + size < 2 ^ 64 }
-        requires bytes { self.size + size ≤ 16384 }
-        requires fragments { self.fragments < 64 }
-        ensures at { result.at ≡ self.at + 4 + size }
+        requires end { self.at + HEADER_BYTES + size < 2 ^ 64 }
+        requires bytes { self.size + size ≤ MAX_RECORD_BYTES }
+        requires fragments { self.fragments < MAX_FRAGMENTS }
+        ensures at { result.at ≡ self.at + HEADER_BYTES + size }
         ensures size { result.size ≡ self.size + size }
         ensures fragments { result.fragments ≡ self.fragments + 1 }
     {
@@ -69,7 +69,7 @@ pub enum Fragment {
 /// there.
 pub fn fragment_at(old: &[u8], piece: &[u8], place: Place) -> Fragment
     requires within { place.at ≤ length old.now + length piece.now }
-    requires small { place.size ≤ 16384 }
+    requires small { place.size ≤ MAX_RECORD_BYTES }
     ensures { (gathered : Gathered) → length gathered.bytes ≡ place.size
         → gathered.fragments ≡ place.fragments
         → Finds gathered (drop place.at (old.now ++ piece.now)) result }
@@ -80,7 +80,7 @@ pub fn fragment_at(old: &[u8], piece: &[u8], place: Place) -> Fragment
     }
     let header = header_at(old, piece, place.at);
     let size = (header % LAST_FRAGMENT) as usize;
-    if place.size + size > MAX_BYTES {
+    if place.size + size > MAX_RECORD_BYTES {
         return Fragment::TooBig;
     }
     if place.fragments >= MAX_FRAGMENTS {

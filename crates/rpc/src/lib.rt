@@ -17,13 +17,14 @@ mod tag;
 
 pub use assembler::Assembler;
 pub use auth::read_auth_sys;
-pub use call::{Call, CallRead, read_call};
+pub use call::{Call, CallRead, MAX_AUTH_BYTES, read_call};
 pub use compound::Compound;
 pub use fault::RecordFault;
+pub use fragment::{HEADER_BYTES, MAX_FRAGMENTS, MAX_RECORD_BYTES};
 pub use reply::{
     AuthStat, CompoundResult, Reply, write_compound_head, write_frame_header, write_reply,
     write_success,
 };
 pub use request::Request;
-pub use tag::Tag;
+pub use tag::{MAX_TAG_BYTES, Tag};
 pub use wire::SystemCredential as AuthSys;

@@ -26,8 +26,6 @@ const COMPOUND: u32 = 1;
 const AUTH_NONE: u32 = 0;
 
 const AUTH_SYS: u32 = 1;
-/// The most bytes of a tag.
-const MAX_TAG_BYTES: u32 = 255;
 /// The minor version that is served.
 const MINOR_VERSION: u32 = 1;
 

@@ -2,6 +2,9 @@
 
 ghost use Rattle.std.specs.Prelude.{◌≤◌, length};
 
+/// The most bytes of a tag.
+pub const MAX_TAG_BYTES: u32 = 255;
+
 /// A text of at most 255 bytes, which the reply repeats. Any bytes are taken.
 #[derive(Clone, Copy, Debug)]
 pub struct Tag<'a> {

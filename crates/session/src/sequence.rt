@@ -8,6 +8,7 @@ ghost use Rattle.wire.specs.Short.{IsRefusal};
 ghost use Rattle.session.specs.Calls.{Begins};
 ghost use Rattle.session.specs.Views.{table_of, reply_kept};
 
+use crate::limits::RECORD_BYTES;
 use crate::slot::Next;
 use crate::table::Table;
 use model::status::Status;
@@ -63,7 +64,7 @@ impl Table {
     /// The reply, a whole COMPOUND result, that the slot keeps.
     #[tactic(auto, unfolding(crate::specs::Views::table_of, crate::specs::Views::reply_kept))]
     pub fn kept(&self, id: &[u8; 16], slot: u32) -> Option<&[u8]>
-        ensures short { IfSome result (λ bytes. length bytes.now ≤ 16384) }
+        ensures short { IfSome result (λ bytes. length bytes.now ≤ RECORD_BYTES) }
         ensures kept { option_map (λ bytes. bytes.now) result
             ≡ reply_kept id.now slot (table_of self.now) }
     {
@@ -73,7 +74,7 @@ impl Table {
     /// The slot keeps the reply, whatever it held. Where no session has this id, or the session no such slot, nothing changes.
     #[tactic(auto, unfolding(crate::specs::Views::table_of, model::specs::Session::finish))]
     pub fn finish(&mut self, id: &[u8; 16], slot: u32, reply: Vec<u8>)
-        requires small { length reply.items ≤ 16384 }
+        requires small { length reply.items ≤ RECORD_BYTES }
         ensures { table_of self.new ≡ finish id.now slot reply.items (table_of self.old) }
     {
         self.sessions.keep(id, slot, reply);

@@ -4,6 +4,7 @@ ghost use Rattle.std.specs.Prelude.{◌≡◌, ◌≤◌};
 ghost use Rattle.std.specs.Vec.{vec_len};
 ghost use Rattle.model.specs.Session.{session_id};
 
+use crate::limits::RECORD_BYTES;
 use crate::slot::{Next, Slot, SlotState, free_slots};
 use model::status::Status;
 use std::alloc::{AllocError, Global};
@@ -143,7 +144,7 @@ impl Session {
 
     /// The slot keeps the reply to what it ran. Where there is no such slot the session stays.
     pub fn keep(&mut self, slot: u32, reply: Vec<u8>)
-        requires small { length reply.items ≤ 16384 }
+        requires small { length reply.items ≤ RECORD_BYTES }
         ensures { session_of self.new ≡ finished_slot slot reply.items (session_of self.old) }
     {
         let place = slot as usize;
@@ -154,7 +155,7 @@ impl Session {
 
     /// The reply that the slot keeps.
     pub fn kept(&self, slot: u32) -> Option<&[u8]>
-        ensures short { IfSome result (λ bytes. length bytes.now ≤ 16384) }
+        ensures short { IfSome result (λ bytes. length bytes.now ≤ RECORD_BYTES) }
         ensures kept { option_map (λ bytes. bytes.now) result
             ≡ reply_at slot (session_of self.now) }
     {

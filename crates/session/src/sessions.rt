@@ -3,6 +3,7 @@
 ghost use Rattle.std.specs.Prelude.{◌<◌, ◌≤◌, ◌^◌, All};
 ghost use Rattle.std.specs.List.{AllPairs};
 
+use crate::limits::RECORD_BYTES;
 use crate::session::Session;
 use std::alloc::{AllocError, Global};
 use wire::SequenceArguments;
@@ -76,7 +77,7 @@ impl Sessions {
 
     /// The slot of the session keeps the reply to what it ran.
     pub fn keep(&mut self, id: &[u8; 16], slot: u32, reply: Vec<u8>)
-        requires small { length reply.items ≤ 16384 }
+        requires small { length reply.items ≤ RECORD_BYTES }
         ensures { book_of self.new ≡ book_with self.old
             (changed_where (is_session id.now) (finished_slot slot reply.items)
             (sessions_of self.old)) }

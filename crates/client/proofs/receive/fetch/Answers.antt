@@ -8,8 +8,8 @@ use Rattle.client.proofs.receive.fetch.Goals as goal
 pub returns-in_default : goal.returns-in_default
 returns-in_default g c = no_header _ _ _ _ _ c.in_default.ensures
 
-pub returns-then-size-more-gt-MAX_BYTES : goal.returns-then-size-more-gt-MAX_BYTES
-returns-then-size-more-gt-MAX_BYTES g c = too_big _ _ _ _ c.in-Some.header _ c.in-Some.ensures c.if-size-more-gt-MAX_BYTES.true
+pub returns-then-size-more-gt-MAX_RECORD_BYTES : goal.returns-then-size-more-gt-MAX_RECORD_BYTES
+returns-then-size-more-gt-MAX_RECORD_BYTES g c = too_big _ _ _ _ c.in-Some.header _ c.in-Some.ensures c.if-size-more-gt-MAX_RECORD_BYTES.true
 
 pub returns-then-fragments-ge-MAX_FRAGMENTS : goal.returns-then-fragments-ge-MAX_FRAGMENTS
 returns-then-fragments-ge-MAX_FRAGMENTS g c =

@@ -10,8 +10,8 @@ returns-then-left-lt-HEADER_BYTES c = λ gathered size number.
     let both = length-append c.args.old.now c.args.piece.now in
     waits gathered (drop c.args.place.at all) (omega arith)
 
-pub returns-then-place-size-gt-MAX_BYTES : goal.returns-then-place-size-gt-MAX_BYTES
-returns-then-place-size-gt-MAX_BYTES c = λ gathered size number.
+pub returns-then-place-size-gt-MAX_RECORD_BYTES : goal.returns-then-place-size-gt-MAX_RECORD_BYTES
+returns-then-place-size-gt-MAX_RECORD_BYTES c = λ gathered size number.
     let all = c.args.old.now ++ c.args.piece.now in
     let left = length-drop c.args.place.at all in
     let both = length-append c.args.old.now c.args.piece.now in
