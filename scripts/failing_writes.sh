@@ -1,6 +1,6 @@
 #!/usr/bin/env bash
 # Runs the program on a volume in a real file whose writes fail, by a limit on the size of files and,
-# where root runs it, by a file system that is full, and prints what it answers, and what a run behind
+# where root runs it, by a file system that is full, and prints what it answers, and what a run after
 # it finds, whose writes do not fail.
 #
 # scripts/failing_writes.sh [PROGRAM]: by default what 'rt run' in crates/nfs41 has built.
@@ -37,7 +37,7 @@ for limit in 0 8 392; do
     run unlimited 'mkdir a 755' > made.txt
     echo "no write beyond $limit KiB"
     run "$limit" 'mkdir b 755'
-    echo 'behind it'
+    echo 'after it'
     run unlimited 'lookup a' 'lookup b' 'mkdir c 755'
 done
 
@@ -53,5 +53,5 @@ head -c 4m /dev/zero > full/rest.bin 2> /dev/null
 echo 'a full file system'
 run unlimited 'mkdir b 755'
 rm full/rest.bin
-echo 'behind it'
+echo 'after it'
 run unlimited 'lookup b' 'mkdir c 755'

@@ -1,7 +1,7 @@
 #!/usr/bin/env python3
 """Drives `nfs41 serve` and nfs-ganesha in turns, and prints the median latency of each operation and their ratio.
 
-    scripts/side_by_side.py [ROUNDS] [SECONDS]      behind `rt run` in crates/nfs41, as root
+    scripts/side_by_side.py [ROUNDS] [SECONDS]      after `rt run` in crates/nfs41, as root
 
 Needs rustc, and nfs-ganesha with its VFS module. Both servers keep their files in memory (/dev/shm), are asked over one
 connection, one request at a time (scripts/nfsload.rs), and take turns, so that what else runs on the machine takes from both.
