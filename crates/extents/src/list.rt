@@ -21,12 +21,13 @@ pub struct BlockList {
 
 impl Model for BlockList {
     ghost use Rattle.std.specs.Prelude.{ℕ, List, Option, length, ◌≤◌};
+    ghost use Rattle.extents.specs.declared.list.TheConstants.BlockList.{MAX_BLOCKS};
 
     ghost Value = { List (Option ℕ) };
 
     ghost view = { λ list. list.sectors.items };
 
-    ghost invariant = { λ list. length list.sectors.items ≤ BlockList.MAX_BLOCKS };
+    ghost invariant = { λ list. length list.sectors.items ≤ MAX_BLOCKS };
 }
 
 impl BlockList {

@@ -2,6 +2,7 @@
 
 ghost use Rattle.std.specs.Prelude.{◌≡◌, ◌≤◌, ◌<◌, ◌⊎◌, ◌+◌, ◌↔◌, [], length, false, vec_capacity, OnOk, IfOk, IfErr, IsErrOf};
 ghost use Rattle.disk.specs.Moments.{seen, moment};
+ghost use Rattle.journal.specs.declared.layout.TheConstants.{MIN_SECTORS, PAYLOAD_SECTORS};
 ghost use Rattle.journal.specs.Calls.{AddsFirst, HasApplied, HasFlushed, HasWritten, IsPart, IsSafe, list_with};
 ghost use Rattle.journal.specs.Format.{AddsFormats, IsFormatted};
 ghost use Rattle.journal.specs.Layout.{AreTargets, gate, targets};
@@ -25,10 +26,10 @@ pub struct Journal<D: Device> {
     list: Vec<Update>,
     named: Vec<u32>,
     is_down: bool,
-    ghost large: { 256 ≤ D.size device },
-    ghost few: { length list.items ≤ 96 },
-    ghost room: { 96 ≤ vec_capacity list },
-    ghost named_room: { 96 ≤ vec_capacity named },
+    ghost large: { MIN_SECTORS ≤ D.size device },
+    ghost few: { length list.items ≤ PAYLOAD_SECTORS },
+    ghost room: { PAYLOAD_SECTORS ≤ vec_capacity list },
+    ghost named_room: { PAYLOAD_SECTORS ≤ vec_capacity named },
     ghost named_are: { named.items ≡ targets list.items },
     ghost fit: { AreTargets (D.size device) (targets list.items) },
     ghost rests: { D.keeps_word → is_down ≡ false → length (D.history device).now.unsynced ≡ 0 },

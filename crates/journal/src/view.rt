@@ -1,6 +1,7 @@
 //! A volume that is read as a mount would find it. Nothing is written.
 
 ghost use Rattle.std.specs.Prelude.{◌≡◌, ◌≤◌, ◌<◌, ◌⊎◌, take, length};
+ghost use Rattle.journal.specs.declared.layout.TheConstants.{MIN_SECTORS, PAYLOAD_SECTORS};
 ghost use Rattle.journal.specs.Layout.{home};
 
 use crate::JournalFault;
@@ -18,8 +19,8 @@ pub struct View<'a, D: Device> {
     /// How many of these the gate names.
     count: usize,
     is_down: bool,
-    ghost large: { 256 ≤ D.size device.now },
-    ghost few: { count ≤ 96 },
+    ghost large: { MIN_SECTORS ≤ D.size device.now },
+    ghost few: { count ≤ PAYLOAD_SECTORS },
 }
 
 /// The targets of a gate, and zeros after them.
