@@ -39,6 +39,8 @@ pub struct Client {
 impl Model for Client {
     ghost use Rattle.std.specs.Prelude.{◌≤◌, length};
     ghost use Rattle.std.specs.Option.{option_map};
+    ghost use Rattle.rpc.specs.declared.call.TheConstants.{MAX_AUTH_BYTES};
+    ghost use Rattle.rpc.specs.declared.tag.TheConstants.{MAX_TAG_BYTES};
     ghost use Rattle.client.specs.Client.{Client as Known};
     ghost use Rattle.client.specs.Views.{session_of, sent_of};
 
@@ -52,7 +54,8 @@ impl Model for Client {
       sent = option_map sent_of c.sent;
     } };
 
-    ghost invariant = { λ c. (length c.credential.items ≤ 400) × (length c.tag.items ≤ 255) };
+    ghost invariant = { λ c. (length c.credential.items ≤ MAX_AUTH_BYTES)
+        × (length c.tag.items ≤ MAX_TAG_BYTES) };
 }
 
 impl Client {

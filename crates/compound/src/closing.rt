@@ -8,6 +8,7 @@ ghost use Rattle.wire.specs.OutcomeView.{outcome_view};
 ghost use Rattle.compound.specs.Beside.{closed_answer};
 
 use crate::operated::{Effect, Operated};
+use crate::results::MAX_REPLY_BYTES;
 use crate::running::Running;
 use disk::Device;
 use fs::Fs;
@@ -100,7 +101,7 @@ impl Running<'_> {
     /// Whether the reply has room for the result of a CLOSE.
     fn has_closed_room(&self) -> bool
         ensures { result ≡ nat_le
-            (length (reply_with (in_progress_of self.now) (Done closed_answer))) 16368 }
+            (length (reply_with (in_progress_of self.now) (Done closed_answer))) MAX_REPLY_BYTES }
     {
         self.has_room(&closed())
     }

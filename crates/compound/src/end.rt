@@ -6,7 +6,7 @@ ghost use Rattle.model.specs.Session.{finish};
 ghost use Rattle.rpc.specs.Views.{result_text};
 ghost use Rattle.session.specs.Views.{table_of};
 
-use crate::progress::{Progress, SlotId};
+use crate::progress::{Progress, RESULT_BUFFER, SlotId};
 use crate::running::Running;
 use crate::told::Told;
 use model::status::Status;
@@ -27,7 +27,7 @@ impl Running<'_> {
     #[tactic(auto, unfolding(crate::specs::Views::in_progress_of, model::specs::World::outcome_text), using(crate::proofs::Replies::room_length, crate::proofs::Replies::success_length, crate::proofs::Replies::framed_length))]
     pub(crate) fn end(self, table: &mut Table, told: Told<'_>) -> Vec<u8>
         requires spelled { CanBeSpelled told }
-        requires room { length (reply_told (in_progress_of self) told) ≤ 16384 }
+        requires room { length (reply_told (in_progress_of self) told) ≤ RESULT_BUFFER }
         ensures reply { result.items ≡ framed (reply_told (in_progress_of self.entry) told.entry) }
         ensures kept { table_of table.new ≡ kept_by (in_progress_of self.entry).slot
             (last_told (in_progress_of self.entry) told.entry) (table_of table.old) }
@@ -94,8 +94,8 @@ fn result_of<'a>(status: Status, tag: Tag<'a>, count: u32, results: &'a [u8]) ->
 /// The slot keeps the result, spelled into this memory.
 fn keep(table: &mut Table, id: &SlotId, compound: &CompoundResult<'_>, memory: Writer)
     requires fresh { memory.bytes ≡ [] }
-    requires room { 16384 ≤ memory.capacity }
-    requires short { length (result_text compound.now) ≤ 16384 }
+    requires room { RESULT_BUFFER ≤ memory.capacity }
+    requires short { length (result_text compound.now) ≤ RESULT_BUFFER }
     ensures { table_of table.new ≡ finish id.now.session id.now.slot (result_text compound.now)
         (table_of table.old) }
 {

@@ -34,5 +34,6 @@ mod writing;
 pub use fault::Fault;
 pub use next::Next;
 pub use progress::{Progress, RECORD_BUFFER, RESULT_BUFFER, SlotId};
+pub use results::MAX_REPLY_BYTES;
 pub use running::Running;
 pub use step::{Stepped, Undone};

@@ -1,6 +1,7 @@
 //! How far a COMPOUND has come.
 
 ghost use Rattle.std.specs.Prelude.{◌≡◌, ◌≤◌, []};
+ghost use Rattle.compound.specs.declared.progress.TheConstants.{RESULT_BUFFER, RECORD_BUFFER};
 
 use wire::StateId;
 use xdr::Writer;
@@ -48,9 +49,9 @@ pub struct Progress {
     /// The slot that runs it.
     pub(crate) slot: Option<SlotId>,
     ghost first: { answered ≡ 0 → results.bytes ≡ [] },
-    ghost room: { 16384 ≤ results.capacity },
+    ghost room: { RESULT_BUFFER ≤ results.capacity },
     ghost kept_fresh: { kept.bytes ≡ [] },
-    ghost kept_room: { 16384 ≤ kept.capacity },
+    ghost kept_room: { RESULT_BUFFER ≤ kept.capacity },
     ghost reply_fresh: { reply.bytes ≡ [] },
-    ghost reply_room: { 16412 ≤ reply.capacity },
+    ghost reply_room: { RECORD_BUFFER ≤ reply.capacity },
 }

@@ -10,6 +10,7 @@ ghost use Rattle.compound.specs.Trees.{change_answer, removed_answer};
 
 use crate::fault::Fault;
 use crate::operated::{Effect, Operated};
+use crate::results::MAX_REPLY_BYTES;
 use crate::running::Running;
 use disk::Device;
 use fs::Fs;
@@ -70,7 +71,7 @@ impl Running<'_> {
     /// Whether the reply has room for the result of a REMOVE. The change values do not matter.
     fn has_removed_room(&self) -> bool
         ensures { result ≡ nat_le (length
-            (reply_with (in_progress_of self.now) (Done (removed_answer 0 0)))) 16368 }
+            (reply_with (in_progress_of self.now) (Done (removed_answer 0 0)))) MAX_REPLY_BYTES }
     {
         self.has_room(&removed(0, 0))
     }

@@ -12,6 +12,7 @@ ghost use Rattle.compound.specs.Trees.{renamed_answer};
 use crate::fault::Fault;
 use crate::operated::{Effect, Operated};
 use crate::removing::change_info;
+use crate::results::MAX_REPLY_BYTES;
 use crate::running::Running;
 use disk::Device;
 use fs::{Change, Fs, Renaming};
@@ -104,7 +105,7 @@ impl Running<'_> {
     /// Whether the reply has room for the result of a RENAME. The change values do not matter.
     fn has_renamed_room(&self) -> bool
         ensures { result ≡ nat_le (length (reply_with (in_progress_of self.now)
-            (Done (renamed_answer no_change no_change)))) 16368 }
+            (Done (renamed_answer no_change no_change)))) MAX_REPLY_BYTES }
     {
         self.has_room(&renamed(NO_CHANGE, NO_CHANGE))
     }

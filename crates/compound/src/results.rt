@@ -4,7 +4,7 @@ ghost use Rattle.std.specs.Prelude.{◌≡◌};
 
 use crate::fault::Fault;
 use crate::operated::{Effect, Operated};
-use crate::progress::Progress;
+use crate::progress::{Progress, RESULT_BUFFER};
 use crate::running::Running;
 use crate::told::Told;
 use fs::FsFault;
@@ -13,7 +13,7 @@ use wire::{Answer, Operation, Outcome};
 use xdr::opaque_size;
 
 /// The most bytes of a reply up to the end of an OK result, the record's header not counted.
-const MAX_REPLY_BYTES: usize = 16_368;
+pub const MAX_REPLY_BYTES: usize = 16_368;
 
 /// The bytes of a reply round the tag and the results: the xid, the message type and four words up to the accept status;
 /// the status and the number of results.
@@ -45,7 +45,8 @@ impl Running<'_> {
         requires fits { answers.outcome.Fits (outcome_view outcome.now) }
         requires small { length (outcome_text (outcome_view outcome.now)) < 2 ^ 63 }
         ensures { result ≡ nat_le
-            (length (reply_with (in_progress_of self.now) (outcome_view outcome.now))) 16368 }
+            (length (reply_with (in_progress_of self.now) (outcome_view outcome.now)))
+            MAX_REPLY_BYTES }
     {
         self.has_room_for(outcome.size())
     }
@@ -54,8 +55,8 @@ impl Running<'_> {
     #[tactic(auto, unfolding(crate::specs::Views::in_progress_of))]
     fn has_room_for(&self, result_size: usize) -> bool
         requires { result_size < 2 ^ 63 + 8 }
-        ensures { result ≡ nat_le (32 + length (counted (in_progress_of self.now).tag)
-            + length (in_progress_of self.now).results + result_size) 16368 }
+        ensures { result ≡ nat_le (AROUND_RESULTS + length (counted (in_progress_of self.now).tag)
+            + length (in_progress_of self.now).results + result_size) MAX_REPLY_BYTES }
     {
         let size = AROUND_RESULTS
             + opaque_size(self.compound.tag.bytes)
@@ -164,7 +165,7 @@ impl Progress {
     pub(crate) fn with_result(self, told: Told<'_>) -> Progress
         requires spelled { CanBeSpelled told }
         requires more { self.answered + 1 < 2 ^ 32 }
-        requires room { length self.results.bytes + length (told_text told) ≤ 16384 }
+        requires room { length self.results.bytes + length (told_text told) ≤ RESULT_BUFFER }
         ensures request { (asked : Asked) → resumed asked result
             ≡ with_told (resumed asked self) told.entry }
         ensures position { result.position ≡ self.position }

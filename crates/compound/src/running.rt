@@ -2,6 +2,7 @@
 
 ghost use Rattle.std.specs.Prelude.{◌≤◌, ◌<◌, ◌+◌, length};
 ghost use Rattle.xdr.specs.Forms.{counted};
+ghost use Rattle.compound.specs.declared.results.TheConstants.{MAX_REPLY_BYTES, AROUND_RESULTS};
 
 use crate::progress::Progress;
 use model::acl::Cred;
@@ -18,6 +19,6 @@ pub struct Running<'a> {
     pub(crate) progress: Progress,
     ghost more: { progress.answered < compound.count },
     ghost within: { progress.position ≤ length compound.operations.now },
-    ghost brief: { 32 + length (counted compound.tag.bytes.now) + length progress.results.bytes
-        ≤ 16368 },
+    ghost brief: { AROUND_RESULTS + length (counted compound.tag.bytes.now)
+        + length progress.results.bytes ≤ MAX_REPLY_BYTES },
 }

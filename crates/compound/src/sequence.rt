@@ -4,6 +4,7 @@ ghost use Rattle.std.specs.Prelude.{◌≡◌};
 
 use crate::operated::{Effect, Operated};
 use crate::progress::SlotId;
+use crate::results::MAX_REPLY_BYTES;
 use crate::running::Running;
 use disk::Device;
 use fs::Fs;
@@ -100,7 +101,8 @@ impl Running<'_> {
     /// Whether the reply has room for the answer of RECLAIM_COMPLETE.
     fn has_reclaim_room(&self) -> bool
         ensures room { result
-            ≡ nat_le (length (reply_with (in_progress_of self.now) (Done Reclaimed))) 16368 }
+            ≡ nat_le (length (reply_with (in_progress_of self.now) (Done Reclaimed)))
+            MAX_REPLY_BYTES }
         ensures fits { answers.outcome.Fits (Done Reclaimed) }
         ensures small { length (outcome_text (Done Reclaimed)) < 2 ^ 63 }
     {

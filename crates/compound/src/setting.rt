@@ -11,6 +11,7 @@ ghost use Rattle.wire.specs.OutcomeView.{outcome_view};
 use crate::fault::Fault;
 use crate::operated::{Effect, Operated};
 use crate::removing::change_info;
+use crate::results::MAX_REPLY_BYTES;
 use crate::running::Running;
 use disk::Device;
 use fs::{Fs, Setting};
@@ -78,7 +79,7 @@ impl Running<'_> {
     /// Whether the reply has room for the result of a SETATTR.
     fn has_set_room(&self, bitmap: &Bitmap) -> bool
         ensures { result ≡ nat_le (length (reply_with (in_progress_of self.now)
-            (Done (Answered.SetAttr (trimmed bitmap.now))))) 16368 }
+            (Done (Answered.SetAttr (trimmed bitmap.now))))) MAX_REPLY_BYTES }
     {
         self.has_room(&attributes_set(bitmap))
     }

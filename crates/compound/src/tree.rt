@@ -4,6 +4,7 @@ ghost use Rattle.std.specs.Prelude.{◌≡◌};
 
 use crate::fault::Fault;
 use crate::operated::{Effect, Operated};
+use crate::results::MAX_REPLY_BYTES;
 use crate::running::Running;
 use disk::Device;
 use fs::{Fs, FsFault, NewDirectory};
@@ -174,7 +175,7 @@ impl Running<'_> {
     /// Whether the reply has room for the result of a CREATE of a directory. The change values do not matter.
     fn has_created_room(&self, bitmap: &Bitmap) -> bool
         ensures { result ≡ nat_le (length (reply_with (in_progress_of self.now)
-            (Done (made_answer 0 0 (trimmed bitmap.now))))) 16368 }
+            (Done (made_answer 0 0 (trimmed bitmap.now))))) MAX_REPLY_BYTES }
     {
         let outcome = created(bitmap, 0, 0);
         self.has_room(&outcome)

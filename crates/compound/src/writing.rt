@@ -10,6 +10,7 @@ ghost use Rattle.compound.specs.Files.{committed_answer, written_answer};
 
 use crate::fault::Fault;
 use crate::operated::{Effect, Operated};
+use crate::results::MAX_REPLY_BYTES;
 use crate::running::Running;
 use disk::Device;
 use fs::{Fs, Writing};
@@ -80,7 +81,7 @@ impl Running<'_> {
     /// Whether the reply has room for the result of a WRITE. What it tells does not matter.
     fn has_written_room(&self) -> bool
         ensures { result ≡ nat_le (length (reply_with (in_progress_of self.now)
-            (Done (written_answer 0 0 0)))) 16368 }
+            (Done (written_answer 0 0 0)))) MAX_REPLY_BYTES }
     {
         self.has_room(&written(0, 0, 0))
     }
@@ -116,7 +117,7 @@ impl Running<'_> {
     /// Whether the reply has room for the result of a COMMIT. The run does not matter.
     fn has_committed_room(&self) -> bool
         ensures { result ≡ nat_le (length (reply_with (in_progress_of self.now)
-            (Done (committed_answer 0)))) 16368 }
+            (Done (committed_answer 0)))) MAX_REPLY_BYTES }
     {
         self.has_room(&committed(0))
     }

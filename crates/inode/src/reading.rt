@@ -52,7 +52,8 @@ fn run_sectors_in(alloc: Global, sector: &[u8; SIZE], count: usize) -> Result<Ve
         → IfOk result (λ found. found.items ≡ numbers) }
     ensures err { IsErrOf result InodeFault.NotInode → (numbers : List ℕ) (rest : List ℕ)
         → AllByRecursion IsRunSector numbers
-        → length numbers ≡ count → drop RUN_SECTORS sector.now ≡ flat_map number_bytes numbers ++ rest → ⊥ }
+        → length numbers ≡ count
+        → drop RUN_SECTORS sector.now ≡ flat_map number_bytes numbers ++ rest → ⊥ }
 {
     let mut numbers = Vec::new(alloc);
     for i in 0..count {
@@ -70,7 +71,8 @@ fn acl_in(alloc: Global, sector: &[u8; SIZE], count: usize) -> Result<Acl, Inode
     ensures fits { IfOk result (λ acl. (length acl ≡ count) × AllByRecursion IsAce acl) }
     ensures only { (aces : List Ace) (rest : List ℕ) → AllByRecursion IsAce aces
         → length aces ≡ count
-        → drop ENTRIES sector.now ≡ flat_map ace_bytes aces ++ rest → IfOk result (λ acl. acl ≡ aces) }
+        → drop ENTRIES sector.now ≡ flat_map ace_bytes aces ++ rest
+        → IfOk result (λ acl. acl ≡ aces) }
     ensures err { IsErrOf result InodeFault.NotInode → (aces : List Ace) (rest : List ℕ)
         → AllByRecursion IsAce aces
         → length aces ≡ count → drop ENTRIES sector.now ≡ flat_map ace_bytes aces ++ rest → ⊥ }

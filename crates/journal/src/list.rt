@@ -46,7 +46,8 @@ pub(crate) fn fits(named: &[u32], updates: &[Update]) -> bool
     requires few { length named.now ≤ PAYLOAD_SECTORS }
     requires short { length updates.now ≤ MAX_UPDATES }
     requires apart { AllPairs (λ a b. a ≢ b) (targets updates.now) }
-    ensures { IsTrue result ↔ (length (gathered named.now (targets updates.now)) ≤ PAYLOAD_SECTORS) }
+    ensures { IsTrue result
+        ↔ (length (gathered named.now (targets updates.now)) ≤ PAYLOAD_SECTORS) }
 {
     let mut fresh = 0;
     for update in updates {

@@ -1,6 +1,7 @@
 //! The tag of a COMPOUND (RFC 8881, section 16.2).
 
 ghost use Rattle.std.specs.Prelude.{◌≤◌, length};
+ghost use Rattle.rpc.specs.declared.tag.TheConstants.{MAX_TAG_BYTES};
 
 /// The most bytes of a tag.
 pub const MAX_TAG_BYTES: u32 = 255;
@@ -9,5 +10,5 @@ pub const MAX_TAG_BYTES: u32 = 255;
 #[derive(Clone, Copy, Debug)]
 pub struct Tag<'a> {
     pub bytes: &'a [u8],
-    ghost short: { length bytes.now ≤ 255 },
+    ghost short: { length bytes.now ≤ MAX_TAG_BYTES },
 }

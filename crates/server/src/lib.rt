@@ -15,5 +15,5 @@ mod turns;
 pub use fault::ServerFault;
 pub use fs::{FormatFault, MountFault, Unmounted, is_volume_size};
 pub use laws::every_run;
-pub use server::Server;
+pub use server::{MAX_CONNECTIONS, Server};
 pub use turn::Turn;

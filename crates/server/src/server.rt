@@ -6,6 +6,7 @@ ghost use Rattle.fs.specs.FileSystems.{fs_of};
 ghost use Rattle.model.specs.Keyed.{at};
 ghost use Rattle.model.specs.World as world;
 ghost use Rattle.server.specs.Connections.{connections_of, IsOfRun};
+ghost use Rattle.server.specs.declared.server.TheConstants.{MAX_CONNECTIONS};
 
 use crate::connection::Connection;
 use crate::fault::ServerFault;
@@ -18,7 +19,7 @@ use slab::Slab;
 use std::alloc::Global;
 
 /// The most connections at a time.
-pub(crate) const MAX_CONNECTIONS: usize = 16;
+pub const MAX_CONNECTIONS: usize = 16;
 
 /// A mounted volume, the clients and sessions of this run, and connections.
 #[derive(Drop)]
@@ -28,7 +29,7 @@ pub struct Server<D: Device> {
     pub(crate) table: Table,
     pub(crate) opens: Opens,
     pub(crate) connections: Slab<Connection>,
-    ghost few: { slab_len connections ≤ 16 },
+    ghost few: { slab_len connections ≤ MAX_CONNECTIONS },
     ghost of_run: { (n : ℕ) (connection : world.Connection)
         → at n (connections_of connections) ≡ Some connection
         → IsOfRun (fs_of fs).volume.run connection },
@@ -72,9 +73,10 @@ impl<D: Device> Server<D> {
         // Refused
         ensures device { IsErrOf result ServerFault.Device ↔ ((volume_of self.old).is_down ≡ true) }
         ensures full { IsErrOf result ServerFault.Full
-            → length (world_of self.old).connections ≡ 16 }
+            → length (world_of self.old).connections ≡ MAX_CONNECTIONS }
         ensures is_full { (volume_of self.old).is_down ≡ false
-            → length (world_of self.old).connections ≡ 16 → IsErrOf result ServerFault.Full }
+            → length (world_of self.old).connections ≡ MAX_CONNECTIONS
+            → IsErrOf result ServerFault.Full }
         ensures only { IfErr result (λ fault.
             (fault ≡ ServerFault.NoConnection → ⊥) × (fault ≡ ServerFault.Closed → ⊥)) }
         ensures err { OnErr result (world_of self.new ≡ world_of self.old) }
