@@ -7,9 +7,10 @@ ghost use Rattle.model.specs.Inherit.{is_inherited_by, inherited_flags, inherite
 ghost use Rattle.acl_set.specs.Refused.{refused_of};
 
 use crate::fault::AclFault;
-use crate::modes::with_mode;
+use crate::modes::{MAX_MODE, with_mode};
 use acl_eval::{Ace, AceFlags, Acl, Mask, NodeKind, Who};
 use bitflags::Flags;
+use model::acl::EVERY_RIGHT;
 use std::alloc::Global;
 
 /// What a creation gave of the new node's attributes.
@@ -92,8 +93,6 @@ pub fn are_flags_for(kind: NodeKind, flags: AceFlags) -> bool
     }
 }
 
-const EVERY_RIGHT: u32 = 0x1F01E7;
-
 // A number has 32 bits by its type: this does nothing but say so.
 fn tell_width(who: Who)
     ensures { has_width who ≡ true }
@@ -143,7 +142,7 @@ pub fn at_creation(
     kind: NodeKind,
     given: &Given,
 ) -> Result<Acl, AclFault>
-    requires { ForSome given.now.mode (λ mode. mode ≤ 511) }
+    requires { ForSome given.now.mode (λ mode. mode ≤ MAX_MODE) }
     ensures list { IfOk result (λ list. list
         ≡ created parent.now kind given.now.empty given.now.mode (option_copied given.now.acl)) }
     ensures refused { MatchOption (refused_of Acl.MAX_SET kind (option_copied given.now.acl))

@@ -7,7 +7,7 @@ pub use acl_eval::{Ace, AceFlags, AceKind, Acl, Cred, Gids, Mask, NodeKind, Who,
 pub use fault::AclFault;
 pub use inheritance::{Given, are_flags_for, at_creation, first_refused, inherit};
 pub use lists::is_list_for;
-pub use modes::{mode_of, with_mode};
+pub use modes::{MAX_MODE, mode_of, with_mode};
 
 mod fault;
 mod inheritance;

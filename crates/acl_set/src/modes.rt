@@ -10,6 +10,9 @@ use acl_eval::{Ace, AceFlags, AceKind, Acl, Mask, NodeKind, Who};
 use bitflags::Flags;
 use std::alloc::{AllocError, Global};
 
+/// The most that the nine bits of a mode are.
+pub const MAX_MODE: u32 = 0o777;
+
 // Whose three bits of a mode.
 #[derive(Clone, Copy)]
 pub(crate) enum Class {
@@ -82,7 +85,7 @@ fn permissions_of(acl: &[Ace], class: Class) -> u32
 /// The mode of a list: nine bits, at most 0o777 (RFC 8881, section 6.3.2). Takes no memory.
 pub fn mode_of(acl: &[Ace]) -> u32
     ensures value { result ≡ mode_of acl.now }
-    ensures nine_bits { result ≤ 511 }
+    ensures nine_bits { result ≤ MAX_MODE }
 {
     64 * permissions_of(acl, Class::Owner)
         + 8 * permissions_of(acl, Class::Group)
@@ -219,7 +222,7 @@ fn push_handed_down(list: &mut Acl, acl: &[Ace]) -> Result<(), AllocError>
 ///
 /// Refused for want of memory alone.
 pub fn with_mode(alloc: Global, kind: NodeKind, acl: &[Ace], mode: u32) -> Result<Acl, AclFault>
-    requires { mode ≤ 511 }
+    requires { mode ≤ MAX_MODE }
     ensures list { IfOk result (λ list. list ≡ moded kind acl.now mode) }
     ensures memory { IsOkUnless result AclFault.Memory }
 {

@@ -47,7 +47,7 @@ impl Table {
 
     /// A table of so many places, all free.
     pub fn new(alloc: Global, places: u32) -> Result<Table, AllocError>
-        requires { places ≤ 16384 }
+        requires { places ≤ Table.MAX_PLACES }
         ensures { IfOk result (λ table. table ≡ replicate places None) }
     {
         let index = Vec::with_capacity(alloc, places as usize)?;
@@ -72,7 +72,7 @@ impl Table {
     ///
     /// [`TableFault::SameNumber`] exactly where two cards have one number; [`TableFault::Memory`].
     pub fn from_cards(alloc: Global, cards: Vec<Option<Card>>) -> Result<Table, TableFault>
-        requires few { length cards.items ≤ 16384 }
+        requires few { length cards.items ≤ Table.MAX_PLACES }
         requires numbered { AreNumbered cards.items }
         ensures table { IfOk result (λ table. table ≡ cards.items) }
         ensures apart { OnOk result (HaveOwnPlaces cards.items) }
@@ -96,7 +96,7 @@ impl Table {
     /// How many places there are.
     pub fn places(&self) -> u32
         ensures places { result ≡ length self.now }
-        ensures few { result ≤ 16384 }
+        ensures few { result ≤ Table.MAX_PLACES }
     {
         self.cards.len() as u32
     }
@@ -185,7 +185,7 @@ impl Table {
 
 /// The places without a card, with room for all places.
 fn free_places(alloc: Global, cards: &[Option<Card>]) -> Result<Vec<u32>, AllocError>
-    requires { length cards.now ≤ 16384 }
+    requires { length cards.now ≤ Table.MAX_PLACES }
     ensures times { IfOk result (λ free. (n : ℕ) → times n free.items ≡ vacant n cards.now) }
     ensures count { IfOk result (λ free.
         length free.items + count_of_all cards.now ≡ length cards.now) }
@@ -202,7 +202,7 @@ fn free_places(alloc: Global, cards: &[Option<Card>]) -> Result<Vec<u32>, AllocE
 
 /// What cards take of the data region.
 fn charge_of_cards(cards: &[Option<Card>]) -> u64
-    requires { length cards.now ≤ 16384 }
+    requires { length cards.now ≤ Table.MAX_PLACES }
     ensures charge { result ≡ charge_of_all cards.now }
     ensures few { AreFew cards.now }
 {
@@ -247,7 +247,7 @@ fn take_free(free: &mut Vec<u32>, place: u32)
 /// What blocks take of the data region.
 fn blocks_charge(blocks: &BlockList) -> u64
     ensures charge { result ≡ charge_of_blocks (length blocks.now) }
-    ensures few { length blocks.now ≤ 4096 }
+    ensures few { length blocks.now ≤ BlockList.MAX_BLOCKS }
 {
     let count = u64::from(blocks.count());
     count + (count + 499) / 500

@@ -227,7 +227,7 @@ impl Device for FileDevice {
 
 // where sector n begins
 fn offset_of(n: u32) -> u64
-    ensures { result ≡ n * 4096 }
+    ensures { result ≡ n * SECTOR }
 {
     u64::from(n) * SECTOR as u64
 }

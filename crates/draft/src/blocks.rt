@@ -40,13 +40,13 @@ fn write_over<S: Sectors>(
     bytes: &[u8],
 ) -> Result<(), DraftFault>
     requires within { sector < S.size (S.kept base.old) }
-    requires room { from + length bytes.now ≤ 4096 }
+    requires room { from + length bytes.now ≤ SECTOR }
     ensures image { S.keeps_word → OnOk result (IsPut
         (applied updates.old (S.image (S.kept base.old)))
         (applied updates.new (S.image (S.kept base.old))) sector
         (placed (applied updates.old (S.image (S.kept base.old)) sector) from bytes.now)) }
     ensures whole { S.keeps_word
-        → OnOk result (length (applied updates.old (S.image (S.kept base.old)) sector) ≡ 4096) }
+        → OnOk result (length (applied updates.old (S.image (S.kept base.old)) sector) ≡ SECTOR) }
     ensures others { OnOk result (ChangeOne updates.old updates.new sector) }
     ensures count { length updates.new ≤ length updates.old + 1 }
     ensures full { IsErrOf result DraftFault.Full → ⊥ }
@@ -67,7 +67,7 @@ fn write_new(
     from: usize,
     bytes: &[u8],
 ) -> Result<(), AllocError>
-    requires room { from + length bytes.now ≤ 4096 }
+    requires room { from + length bytes.now ≤ SECTOR }
     ensures image { OnOk result ((image : Image)
         → IsPut (applied updates.old image) (applied updates.new image) sector
         (placed zero_sector from bytes.now)) }
@@ -88,7 +88,7 @@ fn take_sector(
 ) -> Result<u32, SpaceFault>
     requires room { first + length places.old < 2 ^ 32 }
     requires within { block < length blocks.old }
-    requires few { length blocks.old ≤ 4096 }
+    requires few { length blocks.old ≤ BlockList.MAX_BLOCKS }
     ensures taken { IfOk result (λ sector. Takes first places.old places.new sector) }
     ensures blocks { IfOk result (λ sector. blocks.new ≡ set blocks.old block (Some sector)) }
     ensures full { IsErrOf result SpaceFault.Full → free_places places.old ≡ 0 }
@@ -109,11 +109,12 @@ fn write_block<S: Sectors>(
 ) -> Result<(), DraftFault>
     requires region { HaveRegion first places.old blocks.old
         × (first + length places.old ≤ S.size (S.kept base.old)) }
-    requires part { (part.block < length blocks.old) × (part.from + length part.bytes.now ≤ 4096) }
+    requires part { (part.block < length blocks.old)
+        × (part.from + length part.bytes.now ≤ SECTOR) }
     ensures bytes { S.keeps_word → OnOk result (WritesBytes
         (applied updates.old (S.image (S.kept base.old)))
         (applied updates.new (S.image (S.kept base.old)))
-        blocks.old blocks.new (4096 * part.entry.block + part.entry.from) part.entry.bytes.now) }
+        blocks.old blocks.new (SECTOR * part.entry.block + part.entry.from) part.entry.bytes.now) }
     ensures gets { OnOk result (GetSectors first places.old places.new blocks.old blocks.new
         × (length blocks.new ≡ length blocks.old)) }
     ensures others { OnOk result (ChangeBlocks updates.old updates.new blocks.new) }
@@ -146,7 +147,7 @@ pub(crate) fn write_blocks<S: Sectors>(
 ) -> Result<(), DraftFault>
     requires region { HaveRegion first places.old blocks.old
         × (first + length places.old ≤ S.size (S.kept base.old)) }
-    requires within { offset + length bytes.now ≤ 4096 * length blocks.old }
+    requires within { offset + length bytes.now ≤ SECTOR * length blocks.old }
     ensures bytes { S.keeps_word → OnOk result (WritesBytes
         (applied updates.old (S.image (S.kept base.old)))
         (applied updates.new (S.image (S.kept base.old)))
@@ -155,7 +156,7 @@ pub(crate) fn write_blocks<S: Sectors>(
         × (length blocks.new ≡ length blocks.old)) }
     ensures others { OnOk result (ChangeBlocks updates.old updates.new blocks.new) }
     ensures count { OnOk result (length updates.new
-        ≤ length updates.old + (offset % 4096 + length bytes.now + 4095) / 4096) }
+        ≤ length updates.old + (offset % SECTOR + length bytes.now + 4095) / SECTOR) }
     ensures full { IsErrOf result DraftFault.Full
         → free_places places.old + set_blocks blocks.old < length blocks.old }
     ensures kept { S.kept base.new ≡ S.kept base.old }
@@ -207,7 +208,7 @@ pub(crate) fn write_names(
     block: u32,
 ) -> Result<(), SpaceFault>
     requires region { HaveRegion first places.old blocks.old }
-    requires within { (block ≤ length blocks.old) × (block < 4096) }
+    requires within { (block ≤ length blocks.old) × (block < BlockList.MAX_BLOCKS) }
     ensures names { OnOk result ((image : Image)
         → WritesOne (applied updates.old image) (applied updates.new image) blocks.old blocks.new
         block (directory_sector (names_of_block block names.now))) }
@@ -231,7 +232,7 @@ pub(crate) fn rewrite_names(
     names: &Names,
     block: u32,
 ) -> Result<(), AllocError>
-    requires { block < 4096 }
+    requires { block < BlockList.MAX_BLOCKS }
     ensures names { OnOk result ((image : Image) → Rewrites (applied updates.old image)
         (applied updates.new image) (slice_index_or blocks.now block None)
         (directory_sector (names_of_block block names.now))) }
@@ -255,7 +256,7 @@ pub(crate) fn clear_tail<S: Sectors>(
 ) -> Result<(), DraftFault>
     requires sectors { AreWithin (S.size (S.kept base.old)) blocks.now
         × ((n : ℕ) → times_set n blocks.now ≤ 1) }
-    requires small { size ≤ 16777216 }
+    requires small { size ≤ SECTOR * BlockList.MAX_BLOCKS }
     ensures tail { S.keeps_word → OnOk result (ClearsTail
         (applied updates.old (S.image (S.kept base.old)))
         (applied updates.new (S.image (S.kept base.old))) blocks.now size) }
@@ -284,14 +285,14 @@ fn clear_from<S: Sectors>(
     from: usize,
 ) -> Result<(), DraftFault>
     requires within { sector < S.size (S.kept base.old) }
-    requires room { from ≤ 4096 }
+    requires room { from ≤ SECTOR }
     ensures image { S.keeps_word → OnOk result (IsPut
         (applied updates.old (S.image (S.kept base.old)))
         (applied updates.new (S.image (S.kept base.old))) sector
         (placed (applied updates.old (S.image (S.kept base.old)) sector) from
-        (replicate (4096 - from) 0))) }
+        (replicate (SECTOR - from) 0))) }
     ensures whole { S.keeps_word
-        → OnOk result (length (applied updates.old (S.image (S.kept base.old)) sector) ≡ 4096) }
+        → OnOk result (length (applied updates.old (S.image (S.kept base.old)) sector) ≡ SECTOR) }
     ensures others { OnOk result (ChangeOne updates.old updates.new sector) }
     ensures count { length updates.new ≤ length updates.old + 1 }
     ensures full { IsErrOf result DraftFault.Full → ⊥ }

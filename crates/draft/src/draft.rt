@@ -27,7 +27,9 @@ use crate::updates::Updates;
 use cards::{Card, Changes, Overlay, Table};
 use directory::RECORDS;
 use disk::{SECTOR, Update};
+use extents::BlockList;
 use freemap::Bitmap;
+use layout::places::NODES;
 use layout::sectors::Sectors;
 use std::alloc::{AllocError, Global};
 
@@ -71,8 +73,8 @@ fn put_card(cards: &mut Overlay<'_>, place: u32, card: Card) -> Result<(), Alloc
 
 /// Lets a file reach to an end at least, by holes.
 fn grow_to(card: &mut Card, end: u64) -> Result<(), AllocError>
-    requires end { end ≤ 16777216 }
-    requires few { card.old.fields.size ≤ 16777216 }
+    requires end { end ≤ SECTOR * BlockList.MAX_BLOCKS }
+    requires few { card.old.fields.size ≤ SECTOR * BlockList.MAX_BLOCKS }
     ensures { OnOk result (card.new ≡ grown card.old end) }
 {
     let size = card.inode.size.max(end);
@@ -177,10 +179,10 @@ impl<'a> Draft<'a> {
         ensures table { self.new.cards.table ≡ self.old.cards.table }
     {
         let mut card = take_card(&mut self.cards, place)?;
-        let first = 148 + self.nodes;
+        let first = NODES + self.nodes;
         give_blocks(&mut self.places, first, &card.blocks, 0);
         give_numbers(&mut self.places, first, &mut card.inode.run_sectors, 0);
-        self.updates.put(148 + place, &[0; SECTOR])?;
+        self.updates.put(NODES + place, &[0; SECTOR])?;
         Ok(())
     }
 
@@ -216,7 +218,7 @@ impl<'a> Draft<'a> {
         write_names(
             &mut self.updates,
             &mut self.places,
-            148 + self.nodes,
+            NODES + self.nodes,
             &mut card.blocks,
             &card.names,
             (at / RECORDS) as u32,
@@ -244,7 +246,7 @@ impl<'a> Draft<'a> {
         let left = card.names.count();
         card.inode.size = left as u64;
         let count = ((left + RECORDS - 1) / RECORDS) as u32;
-        give_blocks(&mut self.places, 148 + self.nodes, &card.blocks, count);
+        give_blocks(&mut self.places, NODES + self.nodes, &card.blocks, count);
         card.blocks.cut(count);
         let block = (at / RECORDS) as u32;
         let last = (left / RECORDS) as u32;
@@ -298,7 +300,7 @@ impl<'a> Draft<'a> {
         let mut card = take_card(&mut self.cards, place)?;
         clear_tail(&mut self.updates, base, &card.blocks, size)?;
         let count = ((size + 4095) / 4096) as u32;
-        give_blocks(&mut self.places, 148 + self.nodes, &card.blocks, count);
+        give_blocks(&mut self.places, NODES + self.nodes, &card.blocks, count);
         card.blocks.cut(count);
         card.inode.size = size;
         self.lay_back_fewer(place, card)?;
@@ -328,7 +330,7 @@ impl<'a> Draft<'a> {
             (S.size (S.kept base.old)) self.old self.new place
             (λ number. PutBytes number offset bytes.now)) }
         ensures count { OnOk result (length self.new.updates
-            ≤ length self.old.updates + (offset % 4096 + length bytes.now + 4095) / 4096 + 10) }
+            ≤ length self.old.updates + (offset % SECTOR + length bytes.now + 4095) / SECTOR + 10) }
         ensures full { IsErrOf result DraftFault.Full
             → IsOvercharged self.old place (blocks_to (offset + length bytes.now)) }
         ensures kept { (S.kept base.new ≡ S.kept base.old)
@@ -342,7 +344,7 @@ impl<'a> Draft<'a> {
             &mut self.updates,
             &mut self.places,
             base,
-            148 + self.nodes,
+            NODES + self.nodes,
             &mut card.blocks,
             offset,
             bytes,

@@ -16,14 +16,15 @@ use disk::SECTOR;
 use extents::{MAX_RUNS, Run, write_run_sector};
 use freemap::Bitmap;
 use inode::to_sector;
+use layout::places::NODES;
 use std::alloc::{AllocError, Global};
 
 /// Writes runs, 500 a sector.
 fn lay_runs(updates: &mut Updates, numbers: &[u32], runs: &[Run]) -> Result<(), AllocError>
     requires once { AreOnce numbers.now }
     requires few { length numbers.now ≤ 9 }
-    requires room { length runs.now ≤ 500 * length numbers.now }
-    requires last { 500 * length numbers.now < length runs.now + 500 }
+    requires room { length runs.now ≤ MAX_RUNS * length numbers.now }
+    requires last { MAX_RUNS * length numbers.now < length runs.now + MAX_RUNS }
     ensures lays { OnOk result ((image : Image) → LaysFront (applied updates.old image)
         (applied updates.new image) numbers.now runs.now (length numbers.now)) }
     ensures count { length updates.new ≤ length updates.old + length numbers.now }
@@ -75,10 +76,10 @@ fn lay_card(
         ≤ length updates.old + 1 + sectors_for (length runs.items) }
 {
     let wanted = (runs.len() + 499) / MAX_RUNS;
-    give_numbers(places, 148 + nodes, &mut card.inode.run_sectors, wanted);
+    give_numbers(places, NODES + nodes, &mut card.inode.run_sectors, wanted);
     card.inode.runs = runs.len() as u16;
     card.runs = runs;
-    lay_node(updates, 148 + place, card)?;
+    lay_node(updates, NODES + place, card)?;
     Ok(())
 }
 
@@ -102,7 +103,7 @@ pub(crate) fn rerun(
 {
     let runs = card.blocks.to_runs(alloc)?;
     let wanted = (runs.len() + 499) / MAX_RUNS;
-    take_numbers(places, 148 + nodes, &mut card.inode.run_sectors, wanted)?;
+    take_numbers(places, NODES + nodes, &mut card.inode.run_sectors, wanted)?;
     lay_card(updates, places, nodes, place, card, runs)?;
     Ok(())
 }

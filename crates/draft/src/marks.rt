@@ -8,10 +8,8 @@ ghost use Rattle.draft.specs.Whole.{ShowsPart};
 use crate::updates::Updates;
 use disk::SECTOR;
 use freemap::Bitmap;
+use layout::places::BITMAP;
 use std::alloc::AllocError;
-
-/// The first sector of the bitmap.
-const BITMAP: u32 = 98;
 
 /// Writes bitmap sector 0 or 1.
 pub(crate) fn put_marks(updates: &mut Updates, places: &Bitmap, part: u32) -> Result<(), AllocError>

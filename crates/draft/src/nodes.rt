@@ -11,6 +11,7 @@ use crate::updates::Updates;
 use cards::Card;
 use disk::SECTOR;
 use inode::to_sector;
+use layout::places::NODES;
 use model::acl::Acl;
 use std::alloc::AllocError;
 
@@ -31,13 +32,13 @@ pub struct Shown {
 /// Writes a node's sector.
 pub(crate) fn put_node(updates: &mut Updates, place: u32, card: &Card) -> Result<(), AllocError>
     requires fits { IsInode card.now.fields }
-    requires small { 148 + place < 2 ^ 32 }
+    requires small { NODES + place < 2 ^ 32 }
     ensures image { OnOk result ((image : Image) → IsPut (applied updates.old image)
-        (applied updates.new image) (148 + place) (inode_sector card.now.form card.now.fields)) }
+        (applied updates.new image) (NODES + place) (inode_sector card.now.form card.now.fields)) }
     ensures count { length updates.new ≤ length updates.old + 1 }
 {
     let mut content = [0; SECTOR];
     to_sector(&card.inode, card.form, &mut content);
-    updates.put(148 + place, &content)?;
+    updates.put(NODES + place, &content)?;
     Ok(())
 }

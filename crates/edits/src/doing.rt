@@ -66,7 +66,7 @@ fn put_name(
     requires known { IsKnown draft.old }
     requires can { IsNewName (outline_of (cards_of draft.old)) directory stamp
         (record { name = name.now; number = number }) }
-    requires few { IsTrue (few_names 1024 (done (PutName directory stamp
+    requires few { IsTrue (few_names Names.MAX_NAMES (done (PutName directory stamp
         (record { name = name.now; number = number })) (outline_of (cards_of draft.old)))) }
     ensures done { OnOk result (DoesAnywhere draft.old draft.new
         (edit.PutName directory stamp name.entry number)) }
@@ -206,7 +206,7 @@ fn edit_one<S: Sectors>(
 ) -> Result<(), DraftFault>
     requires known { IsKnown draft.old × (end_of draft.old ≤ S.size (S.kept base.old)) }
     requires can { CanDo (outline_of (cards_of draft.old)) edit }
-    requires few { IsTrue (few_names 1024
+    requires few { IsTrue (few_names Names.MAX_NAMES
         (done (edit_of edit) (outline_of (cards_of draft.old)))) }
     ensures done { OnOk result (Does S.keeps_word (S.image (S.kept base.old))
         (S.size (S.kept base.old)) draft.old draft.new (edit.entry ∷ [])) }

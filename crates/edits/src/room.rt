@@ -12,6 +12,7 @@ ghost use Rattle.model.specs.Keyed.{total};
 
 use crate::edit::Edit;
 use cards::Table;
+use directory::Names;
 use model::limits::Limits;
 use model::node::NodeKind;
 
@@ -187,7 +188,7 @@ fn taken_behind(table: &Table, edits: &[Edit<'_>]) -> Taken
 fn have_few_names(table: &Table, edits: &[Edit<'_>], most: usize) -> bool
     requires cards { (nodes : ℕ) × (mark : ℕ → ℕ) × AreCards nodes mark table.now }
     requires can { AreDoable (outline_of table.now) edits.now }
-    requires most { 1024 ≤ most }
+    requires most { Names.MAX_NAMES ≤ most }
     ensures { result
         ≡ few_names most (edited (edits_of edits.now) (outline_of table.now)) }
 {
@@ -206,7 +207,7 @@ fn have_few_names(table: &Table, edits: &[Edit<'_>], most: usize) -> bool
 pub fn fits(table: &Table, limits: &Limits, edits: &[Edit<'_>]) -> bool
     requires cards { (nodes : ℕ) × (mark : ℕ → ℕ) × AreCards nodes mark table.now }
     requires can { AreDoable (outline_of table.now) edits.now }
-    requires names { 1024 ≤ limits.now.names }
+    requires names { Names.MAX_NAMES ≤ limits.now.names }
     ensures { result ≡ fits limits.now (edited (edits_of edits.now) (outline_of table.now)) }
 {
     let taken = taken_behind(table, edits);

@@ -7,3 +7,4 @@ mod sectors;
 
 pub use bitmap::{Bitmap, one_spelling};
 pub use fault::{BitmapFault, Full};
+pub use sectors::SECTOR_PLACES;

@@ -10,7 +10,7 @@ use std::alloc::{AllocError, Global};
 /// The bytes of a sector, and the places that it shows.
 pub(crate) const SECTOR_BYTES: usize = 4096;
 
-pub(crate) const SECTOR_PLACES: u32 = 32768;
+pub const SECTOR_PLACES: u32 = 32768;
 
 /// The bytes of the two sectors, and the places that they show.
 pub(crate) const BYTES: usize = 8192;

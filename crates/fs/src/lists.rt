@@ -6,7 +6,7 @@ ghost use Rattle.model.specs.Inherit.{created};
 ghost use Rattle.model.specs.SetAttr.{list_set};
 
 use acl_eval::{Ace, Acl, NodeKind};
-use acl_set::{Given, at_creation, with_mode};
+use acl_set::{Given, MAX_MODE, at_creation, with_mode};
 use settings::Settings;
 use std::alloc::{AllocError, Global};
 
@@ -18,7 +18,7 @@ pub(crate) fn list_created(
     kind: NodeKind,
     settings: Settings,
 ) -> Result<Acl, AllocError>
-    requires { ForSome settings.mode (λ mode. mode ≤ 511) }
+    requires { ForSome settings.mode (λ mode. mode ≤ MAX_MODE) }
     ensures { IfOk result (λ acl. acl
         ≡ created parent.now kind settings.is_empty settings.mode settings.acl) }
 {
@@ -42,7 +42,7 @@ pub(crate) fn list_set(
     mode: Option<u32>,
     set: Option<Acl>,
 ) -> Result<Acl, AllocError>
-    requires { ForSome mode (λ mode. mode ≤ 511) }
+    requires { ForSome mode (λ mode. mode ≤ MAX_MODE) }
     ensures { IfOk result (λ list. list ≡ list_set kind acl.now mode set) }
 {
     if let Some(set) = set {

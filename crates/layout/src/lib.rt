@@ -8,6 +8,7 @@ pub mod examples;
 pub mod files;
 pub mod marks;
 pub mod node_edits;
+pub mod places;
 pub mod sectors;
 pub mod sums;
 pub mod volumes;

@@ -11,6 +11,7 @@ ghost use Rattle.oracle_values.specs.Given.{values_seen};
 use acl_eval::{AceFlags, Mask, NodeKind};
 use acl_set::are_flags_for;
 use bitflags::Flags;
+use model::acl::EVERY_RIGHT;
 use model::limits::Limits;
 use model::status::Status;
 use oracle_tree::refusals::{Tests, concat};
@@ -19,10 +20,8 @@ use std::alloc::{AllocError, Global};
 use wire::Attributes;
 use wire_attributes::{AclEntry, Value, number_of, numbers_of, who_of};
 
-// All flags that an entry on the wire may have, and all rights.
+// All flags that an entry on the wire may have.
 const KNOWN_FLAGS: u32 = 0x4F;
-
-const EVERY_RIGHT: u32 = 0x1F_01E7;
 
 /// The attributes of a bitmap, by rising number.
 pub fn attributes_in(alloc: Global, given: &Attributes<'_>) -> Result<Vec<u32>, AllocError>

@@ -38,11 +38,11 @@ fn append_part(
     count: usize,
     out: &mut Vec<u8>,
 ) -> Result<(), AllocError>
-    requires room { from + count ≤ 4096 }
+    requires room { from + count ≤ SECTOR }
     ensures part { OnOk result (out.new.items
         ≡ out.old.items ++ take count (drop from content.now)) }
     ensures err { OnErr result (out.new.items ≡ out.old.items) }
-    ensures whole { length content.now ≡ 4096 }
+    ensures whole { length content.now ≡ SECTOR }
 {
     out.extend_from_slice(&content[from..from + count])
 }
@@ -57,9 +57,9 @@ fn read_block<S: Sectors>(
     out: &mut Vec<u8>,
 ) -> Result<(), ReadingFault>
     requires within { AreWithin (S.size (S.kept base.old)) blocks.now }
-    requires room { from + count ≤ 4096 }
+    requires room { from + count ≤ SECTOR }
     ensures bytes { OnOk result (Appends S.keeps_word (S.image (S.kept base.old)) blocks.now
-        (4096 * block + from) count out.old.items out.new.items) }
+        (SECTOR * block + from) count out.old.items out.new.items) }
     ensures err { OnErr result (out.new.items ≡ out.old.items) }
     ensures kept { S.kept base.new ≡ S.kept base.old }
     ensures health { Reads (S.health base.old) (S.health base.new)

@@ -26,7 +26,7 @@ fn read_part<S: Sectors>(
     count: usize,
 ) -> Result<Vec<Entry>, ScanFault>
     requires within { sector < S.size (S.kept sectors.old) }
-    requires few { count ≤ 15 }
+    requires few { count ≤ RECORDS }
     ensures found { IfOk result (λ entries. FindsPart S.keeps_word
         (S.image (S.kept sectors.old) sector) count (map record_of entries.items)) }
     ensures damaged { S.keeps_word → IsErrOf result ScanFault.Damaged → (names : List Record)
@@ -150,7 +150,7 @@ fn read_names<S: Sectors>(
 fn check_tail<S: Sectors>(sectors: &mut S, size: u64, blocks: &BlockList) -> Result<(), ScanFault>
     requires within { AreSetWithin (S.size (S.kept sectors.old)) blocks.now }
     requires enough { length blocks.now ≡ blocks_of kind.File size }
-    requires few { length blocks.now ≤ 4096 }
+    requires few { length blocks.now ≤ BlockList.MAX_BLOCKS }
     ensures found { OnOk result (S.keeps_word
         → HasTail (S.image (S.kept sectors.old)) blocks.now size) }
     ensures damaged { S.keeps_word → IsErrOf result ScanFault.Damaged
@@ -180,7 +180,7 @@ pub(crate) fn read_content<S: Sectors>(
 ) -> Result<Names, ScanFault>
     requires within { AreSetWithin (S.size (S.kept sectors.old)) blocks.now }
     requires enough { length blocks.now ≡ blocks_of kind size }
-    requires few { length blocks.now ≤ 4096 }
+    requires few { length blocks.now ≤ BlockList.MAX_BLOCKS }
     ensures found { IfOk result (λ names. FindsContent S.keeps_word
         (S.image (S.kept sectors.old)) kind size blocks.now names) }
     ensures damaged { S.keeps_word → IsErrOf result ScanFault.Damaged → (names : List Record)

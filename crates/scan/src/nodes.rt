@@ -10,11 +10,9 @@ use crate::fault::ScanFault;
 use crate::sectors::{fetch, is_zero_from};
 use disk::SECTOR;
 use inode::{Form, Inode};
+use layout::places::NODES;
 use layout::sectors::Sectors;
 use std::alloc::Global;
-
-/// The first sector of the node table.
-const NODES: u32 = 148;
 
 /// The node whose sector this is; none where it is a free place's.
 fn node_in(alloc: Global, content: &[u8; SECTOR]) -> Result<Option<Inode>, ScanFault>
@@ -40,8 +38,8 @@ pub(crate) fn read_node<S: Sectors>(
     sectors: &mut S,
     place: u32,
 ) -> Result<Option<Inode>, ScanFault>
-    requires within { 148 + place < S.size (S.kept sectors.old) }
-    requires small { 148 + place < 2 ^ 32 }
+    requires within { NODES + place < S.size (S.kept sectors.old) }
+    requires small { NODES + place < 2 ^ 32 }
     ensures found { IfOk result (λ node. FindsFields S.keeps_word
         (S.image (S.kept sectors.old) (node_sector place)) (option_map fields_of node)) }
     ensures damaged { S.keeps_word → IsErrOf result ScanFault.Damaged → (fields : Option Fields)

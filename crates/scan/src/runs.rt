@@ -19,7 +19,7 @@ use std::alloc::Global;
 /// The runs of a run sector that is to have so many.
 fn runs_in(alloc: Global, content: &[u8; SECTOR], count: usize) -> Result<Vec<Run>, ScanFault>
     requires some { 0 < count }
-    requires few { count ≤ 500 }
+    requires few { count ≤ MAX_RUNS }
     ensures found { IfOk result (λ runs. FindsPart (Unit {0}) content.now count runs.items) }
     ensures damaged { IsErrOf result ScanFault.Damaged
         → (runs : List Run) → ¬ FindsPart (Unit {0}) content.now count runs }
@@ -41,7 +41,7 @@ fn read_part<S: Sectors>(
 ) -> Result<Vec<Run>, ScanFault>
     requires within { sector < S.size (S.kept sectors.old) }
     requires some { 0 < count }
-    requires few { count ≤ 500 }
+    requires few { count ≤ MAX_RUNS }
     ensures found { IfOk result (λ runs. FindsPart S.keeps_word
         (S.image (S.kept sectors.old) sector) count runs.items) }
     ensures damaged { S.keeps_word → IsErrOf result ScanFault.Damaged → (runs : List Run)
@@ -82,8 +82,9 @@ pub(crate) fn read_runs<S: Sectors>(
 
 /// How many blocks a node of this size has: none where they are more than 4,096.
 fn count_of(kind: NodeKind, size: u64) -> Option<u32>
-    ensures some { IfSome result (λ count. (count ≡ blocks_of kind size) × (count ≤ 4096)) }
-    ensures none { IfNone result (4096 < blocks_of kind size) }
+    ensures some { IfSome result (λ count.
+        (count ≡ blocks_of kind size) × (count ≤ BlockList.MAX_BLOCKS)) }
+    ensures none { IfNone result (BlockList.MAX_BLOCKS < blocks_of kind size) }
 {
     let count = match kind {
         NodeKind::File => size.div_ceil(4096),
@@ -104,10 +105,10 @@ pub(crate) fn blocks_from(
 ) -> Result<BlockList, ScanFault>
     ensures runs { IfOk result (λ blocks. AreRunsOf runs.now blocks) }
     ensures count { IfOk result (λ blocks. length blocks ≡ blocks_of kind size) }
-    ensures few { IfOk result (λ blocks. length blocks ≤ 4096) }
+    ensures few { IfOk result (λ blocks. length blocks ≤ BlockList.MAX_BLOCKS) }
     ensures damaged { IsErrOf result ScanFault.Damaged → (blocks : List (Option ℕ))
         → AreRunsOf runs.now blocks → length blocks ≡ blocks_of kind size
-        → ¬ (length blocks ≤ 4096) }
+        → ¬ (length blocks ≤ BlockList.MAX_BLOCKS) }
     ensures device { ¬ IsErrOf result ScanFault.Device }
 {
     let Some(count) = count_of(kind, size) else {

@@ -27,7 +27,7 @@ pub(crate) fn fetch<S: Sectors>(sectors: &mut S, n: u32) -> Result<[u8; SECTOR],
 /// Whether all bytes from a place on are zero.
 pub(crate) fn is_zero_from(content: &[u8; SECTOR], from: usize) -> bool
     ensures zero { IsTrue result ↔ AreZeroFrom content.now from }
-    ensures whole { length content.now ≡ 4096 }
+    ensures whole { length content.now ≡ SECTOR }
 {
     for at in from..SECTOR {
         if content[at] != 0 {
@@ -41,7 +41,7 @@ pub(crate) fn is_zero_from(content: &[u8; SECTOR], from: usize) -> bool
 pub(crate) fn are_same(one: &[u8; SECTOR], other: &[u8; SECTOR]) -> bool
     ensures same { IsTrue result ↔ (one.now ≡ other.now) }
     ensures bytes { IsBytes one.now × IsBytes other.now }
-    ensures whole { length one.now ≡ 4096 }
+    ensures whole { length one.now ≡ SECTOR }
 {
     one == other
 }

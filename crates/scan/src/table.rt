@@ -23,6 +23,7 @@ use cards::Card;
 use extents::{BlockList, Run};
 use freemap::Bitmap;
 use inode::{Form, Inode};
+use layout::places::NODES;
 use layout::sectors::Sectors;
 use std::alloc::{AllocError, Global};
 
@@ -109,7 +110,7 @@ fn read_place<S: Sectors>(
     first: u32,
     place: u32,
 ) -> Result<Option<Card>, ScanFault>
-    requires place { 148 + place < first }
+    requires place { NODES + place < first }
     requires size { first + length places.old ≡ S.size (S.kept sectors.old) }
     ensures found { IfOk result (FindsPlace S.keeps_word (S.image (S.kept sectors.old)) place) }
     ensures marked { IfOk result (λ card. AreMarked first places.old places.new
@@ -136,8 +137,8 @@ pub(crate) fn read_table<S: Sectors>(
     places: &mut Bitmap,
     nodes: u32,
 ) -> Result<Vec<Option<Card>>, ScanFault>
-    requires few { 148 + nodes < 2 ^ 32 }
-    requires size { 148 + nodes + length places.old ≡ S.size (S.kept sectors.old) }
+    requires few { NODES + nodes < 2 ^ 32 }
+    requires size { NODES + nodes + length places.old ≡ S.size (S.kept sectors.old) }
     requires free { places.old ≡ replicate (length places.old) false }
     ensures found { IfOk result (λ cards. IsFound S.keeps_word (S.image (S.kept sectors.old)) nodes
         (length places.old) cards.items places.new) }
@@ -150,7 +151,7 @@ pub(crate) fn read_table<S: Sectors>(
 {
     let mut cards = Vec::with_capacity(alloc, nodes as usize)?;
     for place in 0..nodes {
-        let card = read_place(alloc, sectors, places, 148 + nodes, place)?;
+        let card = read_place(alloc, sectors, places, NODES + nodes, place)?;
         cards.push(card)?;
     }
     Ok(cards)

@@ -15,7 +15,8 @@ use crate::sectors::{are_same, fetch, is_zero_from};
 use crate::table::{are_numbered, read_table};
 use cards::Card;
 use disk::SECTOR;
-use freemap::Bitmap;
+use freemap::{Bitmap, SECTOR_PLACES};
+use layout::places::{BITMAP, NODES, SPARE};
 use layout::sectors::Sectors;
 use std::alloc::Global;
 
@@ -26,23 +27,15 @@ pub struct Contents {
     pub places: Bitmap,
 }
 
-/// The first sector of the bitmap.
-const BITMAP: u32 = 98;
-
-/// The sectors after the bitmap that hold nothing.
-const SPARE: u32 = 100;
-
-/// The first sector of the node table.
-const NODES: u32 = 148;
-
 /// Sees that sector `part` of the bitmap shows these places and nothing else.
 fn check_marks<S: Sectors>(sectors: &mut S, places: &Bitmap, part: u32) -> Result<(), ScanFault>
     requires part { part < 2 }
-    requires within { 98 + part < S.size (S.kept sectors.old) }
+    requires within { BITMAP + part < S.size (S.kept sectors.old) }
     ensures found { OnOk result (S.keeps_word
-        → Shows (S.image (S.kept sectors.old) (98 + part)) places.now (32768 * part)) }
+        → Shows (S.image (S.kept sectors.old) (BITMAP + part)) places.now (SECTOR_PLACES * part)) }
     ensures damaged { S.keeps_word → IsErrOf result ScanFault.Damaged
-        → ¬ AreBits (S.image (S.kept sectors.old) (98 + part)) places.now (32768 * part) }
+        → ¬ AreBits (S.image (S.kept sectors.old) (BITMAP + part)) places.now
+        (SECTOR_PLACES * part) }
     ensures kept { S.kept sectors.new ≡ S.kept sectors.old }
     ensures health { Reads (S.health sectors.old) (S.health sectors.new)
         (IsErrOf result ScanFault.Device) }
@@ -58,7 +51,7 @@ fn check_marks<S: Sectors>(sectors: &mut S, places: &Bitmap, part: u32) -> Resul
 
 /// Sees that the spare sectors are zero.
 fn check_spare<S: Sectors>(sectors: &mut S) -> Result<(), ScanFault>
-    requires within { 148 ≤ S.size (S.kept sectors.old) }
+    requires within { NODES ≤ S.size (S.kept sectors.old) }
     ensures found { OnOk result (S.keeps_word → AreSpare (S.image (S.kept sectors.old))) }
     ensures damaged { S.keeps_word → IsErrOf result ScanFault.Damaged
         → ¬ AreSpare (S.image (S.kept sectors.old)) }

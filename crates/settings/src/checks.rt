@@ -15,17 +15,15 @@ use crate::refusal::Refusal;
 use crate::said::{Settings, settings_in};
 use acl_set::are_flags_for;
 use bitflags::Flags;
-use model::acl::{AceFlags, Mask};
+use model::acl::{AceFlags, EVERY_RIGHT, Mask};
 use model::limits::Limits;
 use model::node::NodeKind;
 use model::status::Status;
 use std::alloc::Global;
 use wire_attributes::{AclEntry, Value, number_of, numbers_of, read_values, who_of};
 
-// All flags that an entry on the wire may have, and all rights.
+// All flags that an entry on the wire may have.
 const KNOWN_FLAGS: u32 = 0x4F;
-
-const EVERY_RIGHT: u32 = 0x1F01E7;
 
 // An entry's type, flags, rights and name, and whether a node of this kind may have such flags.
 fn check_entry(kind: NodeKind, entry: &AclEntry<'_>) -> Result<(), Status>

@@ -13,16 +13,11 @@ use bitflags::Flags;
 use disk::{Device, SECTOR, Update};
 use inode::{Form, Inode, to_sector};
 use journal::Journal;
-use model::acl::{Ace, AceFlags, AceKind, Acl, Mask, Who};
+use layout::places::NODES;
+use model::acl::{Ace, AceFlags, AceKind, Acl, EVERY_RIGHT, Mask, Who};
 use model::node::NodeKind;
 use std::alloc::{AllocError, Global};
 use std::slice;
-
-/// The first sector of the node table.
-const NODES: u32 = 148;
-
-/// Every right that this server knows.
-const EVERY_RIGHT: u32 = 0x1F_01E7;
 
 /// The root of a new volume: an empty directory, on which everyone may do everything.
 fn fresh_root(alloc: Global) -> Result<Inode, AllocError>

@@ -11,10 +11,7 @@ ghost use Rattle.volume.specs.Superblock.{superblock};
 use crate::fault::MountFault;
 use crate::superblock::{Verdict, judge, nodes_of, run_of, superblock_of};
 use disk::{Device, SECTOR};
-use journal::{Journal, JournalFault};
-
-/// Fewer sectors than any volume has.
-const FEWEST_SECTORS: u32 = 256;
+use journal::{Journal, JournalFault, MIN_SECTORS};
 
 /// A volume, by its first sector.
 #[derive(Clone, Copy, Debug)]
@@ -29,7 +26,7 @@ pub(crate) struct Superblock {
 fn read_first<D: Device>(device: &mut D) -> Result<[u8; SECTOR], MountFault>
     ensures first { D.keeps_word
         → IfOk result (λ first. first ≡ seen (D.history device.old).now 0) }
-    ensures few { IsErrOf result MountFault.NotVolume → D.size device.old < 256 }
+    ensures few { IsErrOf result MountFault.NotVolume → D.size device.old < MIN_SECTORS }
     ensures only { IfErr result (λ fault.
         (fault ≡ MountFault.NotVolume) ⊎ (fault ≡ MountFault.Device)) }
     // It only reads
@@ -40,7 +37,7 @@ fn read_first<D: Device>(device: &mut D) -> Result<[u8; SECTOR], MountFault>
     ensures cause { IsErrOf result MountFault.Device
         → IsCounted (D.failed device.old) (D.failed device.new) }
 {
-    if device.sectors() < FEWEST_SECTORS {
+    if device.sectors() < MIN_SECTORS {
         return Err(MountFault::NotVolume);
     }
     let mut first = [0; SECTOR];
