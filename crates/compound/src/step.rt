@@ -72,8 +72,8 @@ impl Running<'_> {
         ensures fits { IfOk result (λ done. still_fits (asked_of self.entry) done ≡ true) }
         // Not done
         ensures back { IfErr result (λ undone. undone.progress ≡ self.entry.progress) }
-        ensures table { OnErr result (table_of table.new ≡ table_of table.old) }
-        ensures opens { OnErr result (opens_of opens.new ≡ opens_of opens.old) }
+        ensures others { OnErr result ((table_of table.new ≡ table_of table.old)
+            × (opens_of opens.new ≡ opens_of opens.old)) }
         // In any case
         ensures volume { Alters fs.old fs.new (TurnGives (shared_of fs.old table.old opens.old)
             (λ world number. stepped_on world number now (in_progress_of self.entry)))

@@ -53,9 +53,8 @@ pub(crate) fn read_gate<D: Device>(device: &mut D, named: &mut Vec<u32>) -> Resu
     ensures gate_is { D.keeps_word
         → OnOk result (seen (D.history device.old).now 1 ≡ gate named.new.items) }
     ensures capacity { vec_capacity named.new ≡ vec_capacity named.old }
-    // It only reads
-    ensures history { D.history device.new ≡ D.history device.old }
-    ensures size { D.size device.new ≡ D.size device.old }
+    ensures reads { (D.history device.new ≡ D.history device.old)
+        × (D.size device.new ≡ D.size device.old) }
     // Refused
     ensures damaged { D.keeps_word → IsErrOf result JournalFault.Damaged → (to : List ℕ)
         → NamesTargets (D.size device.old) (seen (D.history device.old).now 1) to → ⊥ }

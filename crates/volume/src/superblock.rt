@@ -37,7 +37,7 @@ pub fn is_volume_size(sectors: u32, nodes: u32) -> bool
 /// Writes the fields of the first sector.
 fn put_fields(sector: &mut [u8; SECTOR], sectors: u32, nodes: u32, run: u32)
     ensures front { take 24 sector.new ≡ fields version_1.number sectors nodes run }
-    ensures len { length sector.new ≡ 4096 }
+    ensures len { length sector.new ≡ SECTOR }
 {
     put_bytes(sector, 0, &MAGIC);
     put_u32(sector, 8, VERSION);

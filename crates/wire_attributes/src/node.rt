@@ -18,7 +18,7 @@ use crate::attribute::Attribute;
 use crate::entry::AclEntry;
 use bitflags::Flags;
 use itoa::Buffer;
-use model::acl::{Ace, Who};
+use model::acl::{Ace, Acl, Who};
 use model::node::NodeKind;
 use xdr::{Refusal, Writer, opaque_size};
 
@@ -57,7 +57,7 @@ pub struct NodeAttributes<'a> {
 /// The text that names this one. The buffer holds the digits of a number.
 fn who_bytes(digits: &mut Buffer, who: Who) -> &[u8]
     ensures text { result.now ≡ who_text who }
-    ensures short { length result.now ≤ 40 }
+    ensures short { length result.now ≤ Acl.MAX_STORED }
 {
     match who {
         Who::Owner => b"OWNER@",
@@ -79,7 +79,7 @@ fn ace_size(ace: &Ace) -> usize
 
 /// How many bytes the entries take.
 fn aces_size(acl: &[Ace]) -> usize
-    requires { length acl.now ≤ 40 }
+    requires { length acl.now ≤ Acl.MAX_STORED }
     ensures value { result
         ≡ length (flat_map (λ ace. acl_entry.spelling (entry_text ace)) acl.now) }
     ensures bound { result ≤ 2400 }
@@ -130,7 +130,7 @@ fn write_aces(w: &mut Writer, acl: &[Ace]) -> Result<(), Refusal>
 /// Writes a list. A refusal may leave a front of it.
 #[tactic(auto, using(xdr::proofs::Writing::wrote_on, xdr::proofs::Writing::wrote_exit, xdr::proofs::Writing::wrote_end))]
 fn write_acl(w: &mut Writer, acl: &[Ace]) -> Result<(), Refusal>
-    requires { length acl.now ≤ 40 }
+    requires { length acl.now ≤ Acl.MAX_STORED }
     ensures { Wrote w.old w.new result
         (elements acl_entry.spelling (map entry_text acl.now)) }
 {
