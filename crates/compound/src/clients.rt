@@ -5,8 +5,9 @@ ghost use Rattle.std.specs.Prelude.{◌≡◌};
 use crate::fault::Fault;
 use crate::operated::{Effect, Operated};
 use crate::running::Running;
+use model::not_done::NotDone;
 use opens::Opens;
-use session::{Refusal, Table};
+use session::Table;
 use wire::{Answer, CreateSessionArguments, ExchangeIdArguments, Operation};
 
 #[tactic(auto, unfolding(crate::specs::Views::in_progress_of))]
@@ -38,8 +39,8 @@ impl Running<'_> {
         let with_opens = opens.clients(self.alloc)?;
         match table.exchange_id(self.cred.uid, arguments, &with_opens) {
             Ok(answer) => Ok(self.answer_first(Answer::ExchangeId(answer), Effect::Stays)),
-            Err(Refusal::Status(status)) => Ok(self.refuse(Operation::ExchangeId, status)),
-            Err(Refusal::Memory) => Err(Fault::Memory),
+            Err(NotDone::Status(status)) => Ok(self.refuse(Operation::ExchangeId, status)),
+            Err(NotDone::Memory) => Err(Fault::Memory),
         }
     }
 
@@ -64,8 +65,8 @@ impl Running<'_> {
                 opens.remove_clients(&created.ended);
                 Ok(self.answer_first(Answer::CreateSession(created.answer), Effect::Stays))
             }
-            Err(Refusal::Status(status)) => Ok(self.refuse(Operation::CreateSession, status)),
-            Err(Refusal::Memory) => Err(Fault::Memory),
+            Err(NotDone::Status(status)) => Ok(self.refuse(Operation::CreateSession, status)),
+            Err(NotDone::Memory) => Err(Fault::Memory),
         }
     }
 

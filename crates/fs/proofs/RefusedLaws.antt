@@ -2,12 +2,12 @@
 use Rattle.std.specs.Prelude.{◌≡◌, Some}
 use Rattle.model.specs.declared.status.Status.{Status}
 use Rattle.model.specs.Refusal.{Refusals, first_refusal}
-use Rattle.settings.specs.declared.refusal.Refusal.{Refusal}
-use Rattle.settings.specs.declared.refusal.Refusal.TheVariants as refusal
+use Rattle.model.specs.declared.not_done.NotDone.{NotDone}
+use Rattle.model.specs.declared.not_done.NotDone.TheVariants as refusal
 use Rattle.settings.specs.Given.{IsRefusedBy}
 
 -- what refuses by some tests refuses by others
 pub carried : (some others : Refusals) → ((reason : Status) → first_refusal some ≡ Some reason → first_refusal others ≡ Some reason)
-    → (refused : Refusal) → IsRefusedBy some refused → IsRefusedBy others refused
+    → (refused : NotDone) → IsRefusedBy some refused → IsRefusedBy others refused
 carried some others by (refusal.Status reason) refused = by reason refused
 carried some others by refusal.Memory refused = tt

@@ -15,8 +15,8 @@ use Rattle.model.specs.SetAttr.{set_attributes, sets, shown_set, size_edits}
 use Rattle.model.specs.Stamp.{next_stamp, is_stamp_left}
 use Rattle.model.specs.Step.{State, Stepped, current, refused}
 use Rattle.model.specs.Tree.{Tree, Node}
-use Rattle.settings.specs.declared.refusal.Refusal.{Refusal}
-use Rattle.settings.specs.declared.refusal.Refusal.TheVariants as refusal
+use Rattle.model.specs.declared.not_done.NotDone.{NotDone}
+use Rattle.model.specs.declared.not_done.NotDone.TheVariants as refusal
 use Rattle.settings.specs.Given.{IsRefusedBy, given_of}
 use Rattle.fs.specs.declared.setting.Setting.{Setting}
 use Rattle.fs.specs.FileSystem.{FileSystem}
@@ -45,7 +45,7 @@ module _ (fs : FileSystem) (cred : Cred) (now : ℕ) (asked : Setting) (state : 
       → does_on fs state now (Argument.SetAttr arguments) ≡ refused state (Argument.SetAttr arguments) reason
   early reason first = steps.set_refused limits state now on.is_state.has_current arguments asked.verdict is.verdict_is reason (first_same ∙ first)
 
-  pub refused_by : (reason : Refusal) → IsRefusedBy (setting_tests limits fs.volume.tree cred asked.number asked.verdict given) reason
+  pub refused_by : (reason : NotDone) → IsRefusedBy (setting_tests limits fs.volume.tree cred asked.number asked.verdict given) reason
       → IsNotDone fs state now (Argument.SetAttr arguments) (fault_of reason)
   refused_by (refusal.Status reason) first = early reason first
   refused_by refusal.Memory first = tt

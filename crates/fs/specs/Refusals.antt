@@ -2,12 +2,12 @@
 use Rattle.fs.specs.declared.fault.FsFault.{FsFault}
 use Rattle.fs.specs.declared.fault.FsFault.TheVariants as fault
 use Rattle.model.specs.declared.status.Status.TheVariants as status
-use Rattle.settings.specs.declared.refusal.Refusal.{Refusal}
-use Rattle.settings.specs.declared.refusal.Refusal.TheVariants as refusal
+use Rattle.model.specs.declared.not_done.NotDone.{NotDone}
+use Rattle.model.specs.declared.not_done.NotDone.TheVariants as refusal
 use Rattle.volume.specs.declared.fault.VolumeFault.{VolumeFault}
 use Rattle.volume.specs.declared.fault.VolumeFault.TheVariants as volumes
 
-abbrev pub fault_of : Refusal → FsFault
+abbrev pub fault_of : NotDone → FsFault
 fault_of (refusal.Status reason) = fault.Status reason
 fault_of refusal.Memory = fault.Memory
 

@@ -2,8 +2,8 @@
 
 ghost use Rattle.std.specs.Prelude.{◌≡◌};
 
+use model::not_done::NotDone;
 use model::status::Status;
-use settings::Refusal;
 use std::alloc::AllocError;
 use thiserror::Error;
 use volume::VolumeFault;
@@ -39,15 +39,15 @@ impl From<AllocError> for FsFault {
     }
 }
 
-impl From<Refusal> for FsFault {
+impl From<NotDone> for FsFault {
     ghost use Rattle.fs.specs.Refusals.{fault_of};
 
     ghost from_gives = { λ refusal fault. fault ≡ fault_of refusal };
 
-    fn from(refusal: Refusal) -> Self {
+    fn from(refusal: NotDone) -> Self {
         match refusal {
-            Refusal::Status(status) => FsFault::Status(status),
-            Refusal::Memory => FsFault::Memory,
+            NotDone::Status(status) => FsFault::Status(status),
+            NotDone::Memory => FsFault::Memory,
         }
     }
 }

@@ -12,9 +12,10 @@ use cards::Card;
 use disk::Device;
 use draft::Shown;
 use edits::Edit;
+use model::not_done::NotDone;
 use model::status::Status;
 use names::check_name;
-use settings::{Attributes, Refusal, SETTABLE_AT_CREATION, Settings, check_attributes};
+use settings::{Attributes, SETTABLE_AT_CREATION, Settings, check_attributes};
 use std::alloc::AllocError;
 
 /// The directory that a caller asks for.
@@ -103,7 +104,7 @@ impl<D: Device> Fs<D> {
         cred: &Cred,
         now: u64,
         asked: NewDirectory<'a>,
-    ) -> Result<Planned<'a>, Refusal>
+    ) -> Result<Planned<'a>, NotDone>
         requires up { (fs_of self.now).volume.is_down ≡ false }
         requires few { length asked.attributes.bitmap.now ≤ 8 }
         ensures planned { IfOk result (λ planned.
@@ -122,7 +123,7 @@ impl<D: Device> Fs<D> {
     {
         let (parent, settings) = self.permit_dir(cred, asked)?;
         let Some(stamp) = self.next_stamp() else {
-            return Err(Refusal::Memory);
+            return Err(NotDone::Memory);
         };
         let shown = self.new_node(cred, parent, NodeKind::Directory, settings, stamp, now)?;
         let new = NewNode {
@@ -143,7 +144,7 @@ impl<D: Device> Fs<D> {
 
     /// The tests before those of room and stamps: the directory that is to hold the new one, and what
     /// is set.
-    fn permit_dir(&self, cred: &Cred, asked: NewDirectory) -> Result<(&Card, Settings), Refusal>
+    fn permit_dir(&self, cred: &Cred, asked: NewDirectory) -> Result<(&Card, Settings), NotDone>
         requires { length asked.attributes.bitmap.now ≤ 8 }
         ensures tests { IsCheckedInMemory
             (new_directory_refusals (fs_of self.entry.now).volume.limits
@@ -158,10 +159,10 @@ impl<D: Device> Fs<D> {
             AreWithin (fs_of self.entry.now).volume.limits NodeKind.Directory permitted.1) }
     {
         let Some(parent) = self.volume.node(asked.parent) else {
-            return Err(Refusal::Status(Status::Stale));
+            return Err(NotDone::Status(Status::Stale));
         };
         if !is_directory(parent) {
-            return Err(Refusal::Status(Status::NotDir));
+            return Err(NotDone::Status(Status::NotDir));
         }
         let limits = self.volume.limits();
         check_name(asked.name, limits)?;
@@ -173,10 +174,10 @@ impl<D: Device> Fs<D> {
             asked.attributes,
         )?;
         if !grants(parent, cred, Mask::APPEND_DATA) {
-            return Err(Refusal::Status(Status::Access));
+            return Err(NotDone::Status(Status::Access));
         }
         if parent.names.get(asked.name).is_some() {
-            return Err(Refusal::Status(Status::Exist));
+            return Err(NotDone::Status(Status::Exist));
         }
         Ok((parent, settings))
     }
@@ -190,7 +191,7 @@ impl<D: Device> Fs<D> {
         shown: Shown,
         stamp: u64,
         now: u64,
-    ) -> Result<Vec<Edit<'a>>, Refusal>
+    ) -> Result<Vec<Edit<'a>>, NotDone>
         requires up { (fs_of self.now).volume.is_down ≡ false }
         requires parent { IsDirectoryOf (fs_of self.now).volume.tree new.directory parent.now }
         requires size { IsSizeOf new.kind new.size }
@@ -209,10 +210,10 @@ impl<D: Device> Fs<D> {
         let directory_shown = touched(self.alloc, parent, stamp, now)?;
         let edits = made_edits(self.alloc, new, stamp, shown, directory_shown)?;
         if !self.volume.fits(&edits) {
-            return Err(Refusal::Status(Status::NoSpc));
+            return Err(NotDone::Status(Status::NoSpc));
         }
         if self.changes == u32::MAX {
-            return Err(Refusal::Status(Status::ServerFault));
+            return Err(NotDone::Status(Status::ServerFault));
         }
         Ok(edits)
     }

@@ -11,9 +11,10 @@ use acl_eval::{Cred, Mask, NodeKind};
 use cards::Card;
 use disk::Device;
 use edits::Edit;
+use model::not_done::NotDone;
 use model::status::Status;
 use names::check_name;
-use settings::{Attributes, Refusal, SETTABLE_AT_OPEN, Settings, check_attributes};
+use settings::{Attributes, SETTABLE_AT_OPEN, Settings, check_attributes};
 
 /// An open that passed its tests.
 #[derive(Drop)]
@@ -113,7 +114,7 @@ impl<D: Device> Fs<D> {
         now: u64,
         asked: Opening<'a>,
         is_full: bool,
-    ) -> Result<Planned<'a>, Refusal>
+    ) -> Result<Planned<'a>, NotDone>
         requires up { (fs_of self.now).volume.is_down ≡ false }
         requires few { length (given_by (type_of asked.how)).bitmap ≤ 8 }
         ensures planned { IfOk result (λ planned. MatchOption planned.edits ⊤ (λ edits.
@@ -179,7 +180,7 @@ impl<D: Device> Fs<D> {
         is_full: bool,
         directory: &Card,
         number: u64,
-    ) -> Result<Planned<'a>, Refusal>
+    ) -> Result<Planned<'a>, NotDone>
         requires up { (fs_of self.now).volume.is_down ≡ false }
         requires few { length (given_by (type_of asked.how)).bitmap ≤ 8 }
         requires directory { IsDirectoryOf (fs_of self.now).volume.tree asked.directory
@@ -206,7 +207,7 @@ impl<D: Device> Fs<D> {
     {
         let (card, is_cut) = self.permit_known(cred, asked, number)?;
         if is_full {
-            return Err(Refusal::Status(Status::Delay));
+            return Err(NotDone::Status(Status::Delay));
         }
         let before = directory.inode.change;
         let same = Change {
@@ -240,7 +241,7 @@ impl<D: Device> Fs<D> {
         cred: &Cred,
         asked: Opening<'_>,
         number: u64,
-    ) -> Result<(&Card, bool), Refusal>
+    ) -> Result<(&Card, bool), NotDone>
         requires few { length (given_by (type_of asked.how)).bitmap ≤ 8 }
         requires leads { LeadsTo (fs_of self.now).volume.tree asked.directory asked.name.now
             number }
@@ -256,18 +257,18 @@ impl<D: Device> Fs<D> {
     {
         // a name leads to a node always
         let Some(card) = self.volume.node(number) else {
-            return Err(Refusal::Memory);
+            return Err(NotDone::Memory);
         };
         let is_cut = self.check_known(card, asked.how)?;
         if !may_open(card, cred, asked.share.access, is_cut) {
-            return Err(Refusal::Status(Status::Access));
+            return Err(NotDone::Status(Status::Access));
         }
         Ok((card, is_cut))
     }
 
     /// The tests of a node that is there, before those of rights, and whether it is to be cut: it
     /// is a file, and may be there.
-    fn check_known(&self, card: &Card, how: How<'_>) -> Result<bool, Refusal>
+    fn check_known(&self, card: &Card, how: How<'_>) -> Result<bool, NotDone>
         requires few { length (given_by (type_of how)).bitmap ≤ 8 }
         ensures tests { (state : State) (number : _) → state.tree ≡ (fs_of self.now).volume.tree
             → IsNodeOf state.tree number card.now → IsCheckedInMemory (known_refusals
@@ -276,10 +277,10 @@ impl<D: Device> Fs<D> {
         ensures cut { IfOk result (λ is_cut. is_cut ≡ cuts (type_of how.entry)) }
     {
         if matches!(how, How::Guarded(_)) {
-            return Err(Refusal::Status(Status::Exist));
+            return Err(NotDone::Status(Status::Exist));
         }
         if is_directory(card) {
-            return Err(Refusal::Status(Status::IsDir));
+            return Err(NotDone::Status(Status::IsDir));
         }
         let How::Unchecked(given) = how else {
             return Ok(false);
@@ -289,7 +290,7 @@ impl<D: Device> Fs<D> {
     }
 
     /// The tests of attributes that an open gives, and what they set.
-    fn check_given(&self, given: Attributes<'_>) -> Result<Settings, Refusal>
+    fn check_given(&self, given: Attributes<'_>) -> Result<Settings, NotDone>
         requires { length given.bitmap.now ≤ 8 }
         ensures tests { IsCheckedInMemory (attribute_refusals (fs_of self.now).volume.limits
             kind.File settable_at_open (given_of given.entry)) result }
@@ -309,7 +310,7 @@ impl<D: Device> Fs<D> {
 
     /// The change that cuts a file, where the tree has room for it and a stamp is left. NOSPC,
     /// SERVERFAULT.
-    fn plan_cut<'a>(&self, card: &Card, number: u64, now: u64) -> Result<Vec<Edit<'a>>, Refusal>
+    fn plan_cut<'a>(&self, card: &Card, number: u64, now: u64) -> Result<Vec<Edit<'a>>, NotDone>
         requires up { (fs_of self.now).volume.is_down ≡ false }
         requires node { IsNodeOf (fs_of self.now).volume.tree number card.now }
         requires file { card.now.fields.kind ≡ kind.File }
@@ -321,15 +322,15 @@ impl<D: Device> Fs<D> {
             ≡ tree_cut (fs_of self.now) number now) }
     {
         let Some(stamp) = self.next_stamp() else {
-            return Err(Refusal::Memory);
+            return Err(NotDone::Memory);
         };
         let shown = touched(self.alloc, card, stamp, now)?;
         let edits = set_edits(self.alloc, number, Some(0), shown)?;
         if !self.volume.fits(&edits) {
-            return Err(Refusal::Status(Status::NoSpc));
+            return Err(NotDone::Status(Status::NoSpc));
         }
         if self.changes == u32::MAX {
-            return Err(Refusal::Status(Status::ServerFault));
+            return Err(NotDone::Status(Status::ServerFault));
         }
         Ok(edits)
     }
@@ -342,7 +343,7 @@ impl<D: Device> Fs<D> {
         asked: Opening<'a>,
         is_full: bool,
         directory: &Card,
-    ) -> Result<Planned<'a>, Refusal>
+    ) -> Result<Planned<'a>, NotDone>
         requires up { (fs_of self.now).volume.is_down ≡ false }
         requires few { length (given_by (type_of asked.how)).bitmap ≤ 8 }
         requires directory { IsDirectoryOf (fs_of self.now).volume.tree asked.directory
@@ -371,10 +372,10 @@ impl<D: Device> Fs<D> {
     {
         let settings = self.permit_new(cred, asked, directory)?;
         if is_full {
-            return Err(Refusal::Status(Status::Delay));
+            return Err(NotDone::Status(Status::Delay));
         }
         let Some(stamp) = self.next_stamp() else {
-            return Err(Refusal::Memory);
+            return Err(NotDone::Memory);
         };
         let new = NewNode {
             directory: asked.directory,
@@ -403,7 +404,7 @@ impl<D: Device> Fs<D> {
         cred: &Cred,
         asked: Opening<'_>,
         directory: &Card,
-    ) -> Result<Settings, Refusal>
+    ) -> Result<Settings, NotDone>
         requires few { length (given_by (type_of asked.how)).bitmap ≤ 8 }
         requires directory { IsDirectoryOf (fs_of self.now).volume.tree asked.directory
             directory.now }
@@ -420,13 +421,13 @@ impl<D: Device> Fs<D> {
     {
         let settings = self.check_new(asked.how)?;
         if !grants(directory, cred, Mask::WRITE_DATA) {
-            return Err(Refusal::Status(Status::Access));
+            return Err(NotDone::Status(Status::Access));
         }
         Ok(settings)
     }
 
     /// The tests of a file that is to be made, before that of rights, and what is set of it.
-    fn check_new(&self, how: How<'_>) -> Result<Settings, Refusal>
+    fn check_new(&self, how: How<'_>) -> Result<Settings, NotDone>
         requires few { length (given_by (type_of how)).bitmap ≤ 8 }
         ensures tests { IsCheckedInMemory (new_refusals (fs_of self.now).volume.limits
             (type_of how.entry)) result }
@@ -436,7 +437,7 @@ impl<D: Device> Fs<D> {
             AreWithin (fs_of self.now).volume.limits kind.File settings) }
     {
         match how {
-            How::NoCreate => Err(Refusal::Status(Status::NoEnt)),
+            How::NoCreate => Err(NotDone::Status(Status::NoEnt)),
             How::Unchecked(given) | How::Guarded(given) => self.check_given(given),
         }
     }

@@ -8,9 +8,9 @@ use acl_eval::Cred;
 use cards::Card;
 use disk::Device;
 use edits::Edit;
+use model::not_done::NotDone;
 use model::status::Status;
 use names::check_name;
-use settings::Refusal;
 
 /// A name that was removed.
 #[derive(Clone, Copy, Debug, PartialEq, Eq)]
@@ -108,7 +108,7 @@ impl<D: Device> Fs<D> {
         now: u64,
         directory: u64,
         name: &'a [u8],
-    ) -> Result<Planned<'a>, Refusal>
+    ) -> Result<Planned<'a>, NotDone>
         requires up { (fs_of self.now).volume.is_down ≡ false }
         ensures planned { IfOk result (λ planned.
             IsPlanned (fs_of self.now) planned.edits.items) }
@@ -127,10 +127,10 @@ impl<D: Device> Fs<D> {
         let removal = self.permit_removal(cred, directory, name)?;
         let holder = removal.directory;
         let Some(stamp) = self.next_stamp() else {
-            return Err(Refusal::Memory);
+            return Err(NotDone::Memory);
         };
         if self.changes == u32::MAX {
-            return Err(Refusal::Status(Status::ServerFault));
+            return Err(NotDone::Status(Status::ServerFault));
         }
         let shown = touched(self.alloc, holder, stamp, now)?;
         let edits = removed_edits(

@@ -14,9 +14,9 @@ use cards::Card;
 use disk::Device;
 use draft::Shown;
 use edits::Edit;
+use model::not_done::NotDone;
 use model::status::Status;
 use names::check_name;
-use settings::Refusal;
 use std::alloc::{AllocError, Global};
 
 /// The rename that a caller asks for.
@@ -207,7 +207,7 @@ impl<D: Device> Fs<D> {
         cred: &Cred,
         now: u64,
         asked: Renaming<'a>,
-    ) -> Result<Planned<'a>, Refusal>
+    ) -> Result<Planned<'a>, NotDone>
         requires up { (fs_of self.now).volume.is_down ≡ false }
         ensures planned { IfOk result (λ planned. MatchOption planned.edits
             (is_itself asked.entry.from asked.entry.to (arguments_of asked.entry) ≡ true)
@@ -289,7 +289,7 @@ impl<D: Device> Fs<D> {
         now: u64,
         asked: Renaming<'a>,
         moving: Moving<'_>,
-    ) -> Result<Planned<'a>, Refusal>
+    ) -> Result<Planned<'a>, NotDone>
         requires up { (fs_of self.now).volume.is_down ≡ false }
         requires moved { HasMoved (fs_of self.now).volume.tree asked moving }
         requires passed { first_refusal (moving_refusals (fs_of self.now).volume.limits
@@ -312,7 +312,7 @@ impl<D: Device> Fs<D> {
         let target = to.names.get(asked.new_name);
         self.permit_rename(cred, asked, moving, target)?;
         let Some(stamp) = self.next_stamp() else {
-            return Err(Refusal::Memory);
+            return Err(NotDone::Memory);
         };
         let from_shown = touched(self.alloc, from, stamp, now)?;
         let to_shown = touched(self.alloc, to, stamp, now)?;
@@ -320,10 +320,10 @@ impl<D: Device> Fs<D> {
             self.alloc, asked, moving, target, stamp, from_shown, to_shown,
         )?;
         if !self.volume.fits(&edits) {
-            return Err(Refusal::Status(Status::NoSpc));
+            return Err(NotDone::Status(Status::NoSpc));
         }
         if self.changes == u32::MAX {
-            return Err(Refusal::Status(Status::ServerFault));
+            return Err(NotDone::Status(Status::ServerFault));
         }
         Ok(Planned {
             edits: Some(edits),

@@ -18,7 +18,7 @@ use draft::Shown;
 use edits::Edit;
 use model::status::Status;
 use settings::{
-    ACL, Attributes, MODE, OWNER, OWNER_GROUP, Refusal, SETTABLE_AT_SETATTR, SIZE, Settings,
+    ACL, Attributes, MODE, NotDone, OWNER, OWNER_GROUP, SETTABLE_AT_SETATTR, SIZE, Settings,
     check_attributes, is_among,
 };
 use std::alloc::AllocError;
@@ -138,7 +138,7 @@ impl<D: Device> Fs<D> {
         cred: &Cred,
         now: u64,
         asked: Setting<'a>,
-    ) -> Result<Option<Vec<Edit<'a>>>, Refusal>
+    ) -> Result<Option<Vec<Edit<'a>>>, NotDone>
         requires up { (fs_of self.now).volume.is_down ≡ false }
         requires few { length asked.attributes.bitmap.now ≤ 8 }
         ensures planned { IfOk result (λ planned. MatchOption planned
@@ -162,22 +162,22 @@ impl<D: Device> Fs<D> {
             return Ok(None);
         }
         let Some(stamp) = self.next_stamp() else {
-            return Err(Refusal::Memory);
+            return Err(NotDone::Memory);
         };
         let size = settings.size;
         let shown = self.shown_set(card, settings, stamp, now)?;
         let edits = set_edits(self.alloc, asked.number, size, shown)?;
         if !self.volume.fits(&edits) {
-            return Err(Refusal::Status(Status::NoSpc));
+            return Err(NotDone::Status(Status::NoSpc));
         }
         if self.changes == u32::MAX {
-            return Err(Refusal::Status(Status::ServerFault));
+            return Err(NotDone::Status(Status::ServerFault));
         }
         Ok(Some(edits))
     }
 
     /// The tests before those of room and stamps: the node, and what is set.
-    fn permit_setting(&self, cred: &Cred, asked: Setting<'_>) -> Result<(&Card, Settings), Refusal>
+    fn permit_setting(&self, cred: &Cred, asked: Setting<'_>) -> Result<(&Card, Settings), NotDone>
         requires { length asked.attributes.bitmap.now ≤ 8 }
         ensures tests { IsCheckedInMemory (setting_tests (fs_of self.entry.now).volume.limits
             (fs_of self.entry.now).volume.tree cred.now asked.entry.number asked.entry.verdict
@@ -191,7 +191,7 @@ impl<D: Device> Fs<D> {
             (fs_of self.entry.now).volume.limits permitted.0.now.fields.kind permitted.1) }
     {
         let Some(card) = self.volume.node(asked.number) else {
-            return Err(Refusal::Status(Status::Stale));
+            return Err(NotDone::Status(Status::Stale));
         };
         let settings = check_attributes(
             self.alloc,
@@ -203,7 +203,7 @@ impl<D: Device> Fs<D> {
         check_sized(settings.size.is_some(), is_directory(card), asked.verdict)?;
         let attributes = numbers_of(self.alloc, asked.attributes.bitmap)?;
         if !may_set(card, cred, &attributes) {
-            return Err(Refusal::Status(Status::Access));
+            return Err(NotDone::Status(Status::Access));
         }
         Ok((card, settings))
     }

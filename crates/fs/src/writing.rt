@@ -6,8 +6,8 @@ use crate::fs::Fs;
 use acl_eval::{Cred, Mask};
 use disk::Device;
 use edits::Edit;
+use model::not_done::NotDone;
 use model::status::Status;
-use settings::Refusal;
 
 /// The bytes that a caller writes to a file.
 #[derive(Clone, Copy, Debug)]
@@ -97,7 +97,7 @@ impl<D: Device> Fs<D> {
         number: u64,
         verdict: Result<(), Status>,
         asked: Writing<'a>,
-    ) -> Result<Vec<Edit<'a>>, Refusal>
+    ) -> Result<Vec<Edit<'a>>, NotDone>
         requires up { (fs_of self.now).volume.is_down ≡ false }
         requires some { 0 < length asked.bytes.now }
         ensures planned { IfOk result (λ edits. IsPlanned (fs_of self.now) edits.items) }
@@ -118,18 +118,18 @@ impl<D: Device> Fs<D> {
         let part = self.taken(asked.bytes);
         let card = self.permit_file(cred, number, verdict, Mask::WRITE_DATA)?;
         let Some(offset) = self.place_in_file(asked.offset, part.len()) else {
-            return Err(Refusal::Status(Status::FBig));
+            return Err(NotDone::Status(Status::FBig));
         };
         let Some(stamp) = self.next_stamp() else {
-            return Err(Refusal::Memory);
+            return Err(NotDone::Memory);
         };
         let shown = touched(self.alloc, card, stamp, now)?;
         let edits = written_edits(self.alloc, number, offset, part, shown)?;
         if !self.volume.fits(&edits) {
-            return Err(Refusal::Status(Status::NoSpc));
+            return Err(NotDone::Status(Status::NoSpc));
         }
         if self.changes == u32::MAX {
-            return Err(Refusal::Status(Status::ServerFault));
+            return Err(NotDone::Status(Status::ServerFault));
         }
         Ok(edits)
     }

@@ -4,7 +4,7 @@ use Rattle.disk.specs.Cause.{IsCounted}
 use Rattle.disk.specs.Moments.{History, IsSector, AddsOnly, moment, seen, synced}
 use Rattle.journal.specs.declared.fault.JournalFault.{JournalFault}
 use Rattle.journal.specs.declared.fault.JournalFault.TheVariants as faults
-use Rattle.journal.specs.declared.fault.MountFault.{MountFault}
+use Rattle.journal.specs.declared.fault.Unmounted.{Unmounted}
 use Rattle.journal.specs.Log.{Log, IsSettled}
 use Rattle.journal.specs.Recover.{IsClosed, LeavesOnlySynced}
 use Rattle.journal.specs.Settled.{Settles, SettlesAs}
@@ -35,7 +35,7 @@ pub record IsRefused (size : ℕ) (old new : History) (fault : JournalFault) : T
   pub damaged : fault ≡ faults.Damaged → LeavesOnlySynced size old new
 
 -- The device that comes back, with the reason: Fault is answered exactly where it counted a failure
-pub record ComesBack {D : Type 0} (size failed : D → ℕ) (device : D) (refused : MountFault D)
+pub record ComesBack {D : Type 0} (size failed : D → ℕ) (device : D) (refused : Unmounted D)
     : Type 0 where
   pub refused_size : size refused.device ≡ size device
   pub memory : refused.fault ≡ faults.Memory → refused.device ≡ device

@@ -46,7 +46,7 @@ impl From<AllocError> for JournalFault {
 
 /// A mount or a view that was refused, with the device as it is now.
 #[derive(Drop)]
-pub struct MountFault<D> {
+pub struct Unmounted<D> {
     /// The device.
     pub device: D,
     /// Why it was refused: `Fault`, `Damaged` or `Memory`.

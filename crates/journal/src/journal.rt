@@ -12,7 +12,7 @@ ghost use Rattle.journal.specs.Phase.{FailsCounted};
 ghost use Rattle.journal.specs.Transactions.{FitTogether, gathered, sectors_of};
 
 use crate::layout::{self, MAX_UPDATES, MIN_SECTORS, PAYLOAD_SECTORS, SUPERBLOCK};
-use crate::{JournalFault, MountFault, View, commit, list, phase, recover};
+use crate::{JournalFault, Unmounted, View, commit, list, phase, recover};
 use disk::{Device, DiskFault, SECTOR, Update};
 use std::alloc::Global;
 
@@ -78,7 +78,7 @@ impl<D: Device> Journal<D> {
     ///
     /// The device comes back with the reason: `Damaged` where the gate has no form, and then
     /// nothing was written; `Fault` where the device failed; `Memory`, and then it was not touched.
-    pub fn mount(alloc: Global, device: D) -> Result<Journal<D>, MountFault<D>>
+    pub fn mount(alloc: Global, device: D) -> Result<Journal<D>, Unmounted<D>>
         requires { MIN_SECTORS ≤ D.size device }
         ensures new { IfOk result (λ journal.
             IsNew (D.size device) (D.failed device) (log_of journal) (failures_of journal)) }
@@ -93,7 +93,7 @@ impl<D: Device> Journal<D> {
         let mut named = match Vec::with_capacity(alloc, PAYLOAD_SECTORS) {
             Ok(named) => named,
             Err(_) => {
-                return Err(MountFault {
+                return Err(Unmounted {
                     device,
                     fault: JournalFault::Memory,
                 });
@@ -102,7 +102,7 @@ impl<D: Device> Journal<D> {
         let list = match Vec::with_capacity(alloc, PAYLOAD_SECTORS) {
             Ok(list) => list,
             Err(_) => {
-                return Err(MountFault {
+                return Err(Unmounted {
                     device,
                     fault: JournalFault::Memory,
                 });
@@ -115,7 +115,7 @@ impl<D: Device> Journal<D> {
                 named,
                 is_down: false,
             }),
-            Err(fault) => Err(MountFault { device, fault }),
+            Err(fault) => Err(Unmounted { device, fault }),
         }
     }
 
@@ -126,7 +126,7 @@ impl<D: Device> Journal<D> {
     ///
     /// As [`Journal::mount`], with the device: `Damaged` where the gate has no form, `Fault` where
     /// the device failed, and `Memory`.
-    pub fn view(alloc: Global, device: &mut D) -> Result<View<'_, D>, MountFault<&mut D>>
+    pub fn view(alloc: Global, device: &mut D) -> Result<View<'_, D>, Unmounted<&mut D>>
         requires { MIN_SECTORS ≤ D.size device.old }
         ensures new { IfOk result (λ view. IsNew (D.size device.old) (D.failed device.old)
             (view_of view) (view_failures view)) }
@@ -147,14 +147,14 @@ impl<D: Device> Journal<D> {
         let mut named = match Vec::with_capacity(alloc, PAYLOAD_SECTORS) {
             Ok(named) => named,
             Err(_) => {
-                return Err(MountFault {
+                return Err(Unmounted {
                     device,
                     fault: JournalFault::Memory,
                 });
             }
         };
         if let Err(fault) = recover::read_gate(device, &mut named) {
-            return Err(MountFault { device, fault });
+            return Err(Unmounted { device, fault });
         }
         Ok(View::new(device, &named))
     }

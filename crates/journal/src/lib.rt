@@ -11,7 +11,7 @@ mod phase;
 mod recover;
 mod view;
 
-pub use fault::{JournalFault, MountFault};
+pub use fault::{JournalFault, Unmounted};
 pub use journal::Journal;
 pub use layout::{FIRST_TARGET, MAX_UPDATES, MIN_SECTORS, PAYLOAD_SECTORS};
 pub use view::View;

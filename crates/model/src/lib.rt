@@ -9,6 +9,7 @@ pub mod attributes;
 pub mod limits;
 pub mod maps;
 pub mod node;
+pub mod not_done;
 pub mod rpc;
 pub mod runs;
 pub mod session;

@@ -9,11 +9,11 @@ use Rattle.session.specs.Limits.{served}
 use Rattle.session.specs.Rooms.{Adds, records_staying, record_of}
 use Rattle.session.specs.Views.{table_by, roll_of, clients_of, cleared_of}
 use Rattle.session.specs.declared.clients.Clients.{Clients}
-use Rattle.session.specs.declared.fault.Refusal.{Refusal}
-use Rattle.session.specs.declared.fault.Refusal.TheVariants as refusal
+use Rattle.model.specs.declared.not_done.NotDone.{NotDone}
+use Rattle.model.specs.declared.not_done.NotDone.TheVariants as refusal
 use Rattle.session.proofs.Exchanging.{new_full, new_made}
 
-pub added_err : (uid : ℕ) (arguments : ExchangeIdArguments) (dropped : Option ℕ) (old new : Clients) (book : ℕ × List Session) (e : Refusal) → Adds uid arguments dropped old new (Err e)
+pub added_err : (uid : ℕ) (arguments : ExchangeIdArguments) (dropped : Option ℕ) (old new : Clients) (book : ℕ × List Session) (e : NotDone) → Adds uid arguments dropped old new (Err e)
     → Exchanged (new_record served uid arguments (table_by (roll_of old) book) (cleared_of dropped (table_by (roll_of old) book))) (table_by (roll_of old) book) (table_by (roll_of new) book) (Err e)
 added_err uid arguments dropped old new book (refusal.Status reason) h =
     new_full uid arguments dropped (table_by (roll_of old) book) h.0

@@ -10,25 +10,25 @@ use Rattle.wire.specs.Short.{IsRefusal}
 use Rattle.wire.specs.AnswerViews.{exchange_id_view, create_session_view, sequence_view}
 use Rattle.wire.specs.declared.answers.ExchangeIdAnswer.{ExchangeIdAnswer}
 use Rattle.session.specs.Views.{reply_kept}
-use Rattle.session.specs.declared.fault.Refusal.{Refusal}
-use Rattle.session.specs.declared.fault.Refusal.TheVariants as refusal
+use Rattle.model.specs.declared.not_done.NotDone.{NotDone}
+use Rattle.model.specs.declared.not_done.NotDone.TheVariants as refusal
 use Rattle.session.specs.declared.create.CreatedSession.{CreatedSession}
 use Rattle.session.specs.declared.sequence.Begun.{Begun}
 use Rattle.session.specs.declared.sequence.Begun.TheVariants as begun
 
 -- a status that refuses, or no memory
-abbrev pub Refuses : Refusal → Type 0
+abbrev pub Refuses : NotDone → Type 0
 Refuses (refusal.Status reason) = IsRefusal reason
 Refuses refusal.Memory = Unit {0}
 
 -- EXCHANGE_ID answers what is wanted, and leaves that table. For want of memory, which only a new record has, the table stays.
-abbrev pub Exchanged : Result answer.ExchangeIdAnswer Status × model.Table → model.Table → model.Table → Result ExchangeIdAnswer Refusal → Type 0
+abbrev pub Exchanged : Result answer.ExchangeIdAnswer Status × model.Table → model.Table → model.Table → Result ExchangeIdAnswer NotDone → Type 0
 Exchanged wanted old new (Ok known) = wanted ≡ (Ok (exchange_id_view known), new)
 Exchanged wanted old new (Err (refusal.Status reason)) = wanted ≡ (Err reason, new)
 Exchanged wanted old new (Err refusal.Memory) = (wanted.1.client_serial ≡ old.client_serial + 1) × (new ≡ old)
 
 -- So does CREATE_SESSION, which tells whose opens end. For want of memory, which only a new session has, the table stays.
-abbrev pub Created : model.CreateSessionOutcome → model.Table → model.Table → Result CreatedSession Refusal → Type 0
+abbrev pub Created : model.CreateSessionOutcome → model.Table → model.Table → Result CreatedSession NotDone → Type 0
 Created wanted old new (Ok created) =
     (wanted.answer ≡ Ok (create_session_view created.answer)) × (wanted.ended_clients ≡ created.ended.items) × (wanted.table ≡ new)
 Created wanted old new (Err (refusal.Status reason)) = (wanted.answer ≡ Err reason) × (wanted.table ≡ new)

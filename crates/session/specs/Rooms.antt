@@ -9,8 +9,8 @@ use Rattle.model.specs.Session.{is_client, is_unconfirmed_of, is_replaced_by, is
 use Rattle.session.specs.Limits.{served}
 use Rattle.session.specs.Views.{clients_of, roll_of}
 use Rattle.session.specs.declared.clients.Clients.{Clients}
-use Rattle.session.specs.declared.fault.Refusal.{Refusal}
-use Rattle.session.specs.declared.fault.Refusal.TheVariants as refusal
+use Rattle.model.specs.declared.not_done.NotDone.{NotDone}
+use Rattle.model.specs.declared.not_done.NotDone.TheVariants as refusal
 
 abbrev pub is_dropped : Option ℕ → model.Client → Bool
 is_dropped None client = false
@@ -40,7 +40,7 @@ record_of uid arguments number = record {
 }
 
 -- a new record: its number, or why there is none, and the records after it
-abbrev pub Adds : ℕ → ExchangeIdArguments → Option ℕ → Clients → Clients → Result ℕ Refusal → Type 0
+abbrev pub Adds : ℕ → ExchangeIdArguments → Option ℕ → Clients → Clients → Result ℕ NotDone → Type 0
 Adds uid arguments dropped old new (Ok number) =
     (is_full_beside (records_staying arguments.owner dropped (clients_of old)) old.serial ≡ false)
     × (number ≡ client_number old.run (old.serial + 1))

@@ -4,8 +4,8 @@ ghost use Rattle.std.specs.Prelude.{◌<◌, ◌≤◌, ◌+◌, ◌*◌, ◌^�
 ghost use Rattle.std.specs.List.{AllPairs};
 
 use crate::client::Client;
-use crate::fault::Refusal;
 use crate::limits::CLIENTS;
+use model::not_done::NotDone;
 use model::status::Status;
 use std::alloc::{AllocError, Global};
 use wire::{CreateSessionAnswer, ExchangeIdArguments};
@@ -100,12 +100,12 @@ impl Clients {
         uid: u32,
         arguments: &ExchangeIdArguments<'_>,
         dropped: Option<u64>,
-    ) -> Result<u64, Refusal>
+    ) -> Result<u64, NotDone>
         ensures { Adds uid (exchange_id_view arguments.now) dropped self.old self.new result }
     {
         let owner = arguments.owner;
         if CLIENTS <= self.count_staying(owner, dropped) || self.serial == u32::MAX {
-            return Err(Refusal::Status(Status::Delay));
+            return Err(NotDone::Status(Status::Delay));
         }
         let number = u64::from(self.run) * 0x1_0000_0000 + u64::from(self.serial) + 1;
         let client = Client {

@@ -13,10 +13,10 @@ ghost use Rattle.session.specs.Rooms.{argument_refusals, room_refusals, ends_run
 ghost use Rattle.session.specs.Views.{table_of, client_of};
 
 use crate::client::Client;
-use crate::fault::Refusal;
 use crate::limits::{OPERATIONS, RECORD_BYTES, SESSIONS, SLOTS};
 use crate::session::{Session, session_id};
 use crate::table::Table;
+use model::not_done::NotDone;
 use model::status::Status;
 use wire::{Channel, CreateSessionAnswer, CreateSessionArguments};
 
@@ -42,17 +42,17 @@ impl Table {
         &mut self,
         uid: u32,
         arguments: &CreateSessionArguments<'_>,
-    ) -> Result<CreatedSession, Refusal>
+    ) -> Result<CreatedSession, NotDone>
         ensures answered { Created
             (create_session served uid (create_session_view arguments.now) (table_of self.old))
             (table_of self.old) (table_of self.new) result }
         ensures refused { IfErr result Refuses }
     {
         let Some(client) = self.clients.find(arguments.client) else {
-            return Err(Refusal::Status(Status::StaleClientId));
+            return Err(NotDone::Status(Status::StaleClientId));
         };
         if client.principal != uid {
-            return Err(Refusal::Status(Status::ClidInUse));
+            return Err(NotDone::Status(Status::ClidInUse));
         }
         if let Some(answer) = client.repeated(arguments.sequence) {
             let ended = Vec::new(self.alloc);
@@ -102,7 +102,7 @@ impl Table {
         &mut self,
         arguments: &CreateSessionArguments<'_>,
         ended: Vec<u64>,
-    ) -> Result<CreatedSession, Refusal>
+    ) -> Result<CreatedSession, NotDone>
         requires { self.old.sessions.serial + 1 < 2 ^ 64 }
         ensures answered { (client : Known) → client.number ≡ arguments.now.client
             → ended.items ≡ ended_by client (table_of self.old).clients

@@ -10,8 +10,8 @@ ghost use Rattle.session.specs.Calls.{Exchanged, Refuses};
 ghost use Rattle.session.specs.Limits.{served};
 ghost use Rattle.session.specs.Views.{table_of, among, cleared_of};
 
-use crate::fault::Refusal;
 use crate::table::Table;
+use model::not_done::NotDone;
 use model::status::Status;
 use wire::{ExchangeIdAnswer, ExchangeIdArguments};
 
@@ -36,7 +36,7 @@ impl Table {
         uid: u32,
         arguments: &ExchangeIdArguments<'_>,
         with_opens: &[u64],
-    ) -> Result<ExchangeIdAnswer<'static>, Refusal>
+    ) -> Result<ExchangeIdAnswer<'static>, NotDone>
         ensures answered { Exchanged
             (exchange_id served (among with_opens.now) uid (exchange_id_view arguments.now)
             (table_of self.old)) (table_of self.old) (table_of self.new) result }
@@ -45,7 +45,7 @@ impl Table {
         ensures refused { IfErr result Refuses }
     {
         if arguments.flags | EXCHANGE_FLAGS != EXCHANGE_FLAGS {
-            return Err(Refusal::Status(Status::Inval));
+            return Err(NotDone::Status(Status::Inval));
         }
         let Some(client) = self.clients.confirmed(arguments.owner) else {
             return self.add_client(uid, arguments, None);
@@ -53,7 +53,7 @@ impl Table {
         let number = client.number;
         if client.principal != uid {
             if self.has_state(with_opens, number) {
-                return Err(Refusal::Status(Status::ClidInUse));
+                return Err(NotDone::Status(Status::ClidInUse));
             }
             return self.add_client(uid, arguments, Some(number));
         }
@@ -70,7 +70,7 @@ impl Table {
         uid: u32,
         arguments: &ExchangeIdArguments<'_>,
         dropped: Option<u64>,
-    ) -> Result<ExchangeIdAnswer<'static>, Refusal>
+    ) -> Result<ExchangeIdAnswer<'static>, NotDone>
         ensures answered { Exchanged
             (new_record served uid (exchange_id_view arguments.now) (table_of self.old)
             (cleared_of dropped (table_of self.old))) (table_of self.old)

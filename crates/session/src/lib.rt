@@ -9,7 +9,6 @@ mod clients;
 mod create;
 mod destroy;
 mod exchange;
-mod fault;
 mod held;
 mod laws;
 mod limits;
@@ -20,7 +19,6 @@ mod slot;
 mod table;
 
 pub use create::CreatedSession;
-pub use fault::Refusal;
 pub use laws::every_slot;
 pub use limits::{CLIENTS, OPERATIONS, RECORD_BYTES, SESSIONS, SLOTS};
 pub use sequence::Begun;

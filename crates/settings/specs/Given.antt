@@ -10,8 +10,8 @@ use Rattle.model.specs.AttributeValue as value
 use Rattle.model.specs.Operation as operation
 use Rattle.model.specs.Refusal.{Refusals, first_refusal}
 use Rattle.settings.specs.declared.attributes.Attributes.{Attributes}
-use Rattle.settings.specs.declared.refusal.Refusal.{Refusal}
-use Rattle.settings.specs.declared.refusal.Refusal.TheVariants as refusal
+use Rattle.model.specs.declared.not_done.NotDone.{NotDone}
+use Rattle.model.specs.declared.not_done.NotDone.TheVariants as refusal
 use Rattle.settings.specs.declared.said.Settings.{Settings}
 
 abbrev pub given_of : Attributes → operation.Attributes
@@ -47,9 +47,9 @@ IsChecked refusals result =
     MatchResult result (λ _. first_refusal refusals ≡ None) (λ reason. first_refusal refusals ≡ Some reason)
 
 -- the same, but that memory may run out
-abbrev pub IsRefusedBy : Refusals → Refusal → Type 0
+abbrev pub IsRefusedBy : Refusals → NotDone → Type 0
 IsRefusedBy refusals (refusal.Status reason) = first_refusal refusals ≡ Some reason
 IsRefusedBy refusals refusal.Memory = Unit {0}
 
-abbrev pub IsCheckedInMemory : {T : Type 0} → Refusals → Result T Refusal → Type 0
+abbrev pub IsCheckedInMemory : {T : Type 0} → Refusals → Result T NotDone → Type 0
 IsCheckedInMemory refusals result = MatchResult result (λ _. first_refusal refusals ≡ None) (IsRefusedBy refusals)

@@ -11,13 +11,13 @@ ghost use Rattle.settings.specs.Given.{given_of, AreSettings, AreWithin, IsCheck
 
 use crate::attributes::Attributes;
 use crate::numbers::{SUPPORTED, has_one_outside};
-use crate::refusal::Refusal;
 use crate::said::{Settings, settings_in};
 use acl_set::are_flags_for;
 use bitflags::Flags;
 use model::acl::{AceFlags, EVERY_RIGHT, Mask};
 use model::limits::Limits;
 use model::node::NodeKind;
+use model::not_done::NotDone;
 use model::status::Status;
 use std::alloc::Global;
 use wire_attributes::{AclEntry, Value, number_of, numbers_of, read_values, who_of};
@@ -111,7 +111,7 @@ pub fn check_attributes(
     kind: NodeKind,
     settable: &[u32],
     given: Attributes,
-) -> Result<Settings, Refusal>
+) -> Result<Settings, NotDone>
     requires { length given.bitmap.now ≤ 8 }
     ensures tests { IsCheckedInMemory
         (attribute_refusals limits.now kind settable.now (given_of given.entry)) result }
@@ -120,15 +120,15 @@ pub fn check_attributes(
 {
     let attributes = numbers_of(alloc, given.bitmap)?;
     if has_one_outside(&SUPPORTED, &attributes) {
-        return Err(Refusal::Status(Status::AttrNotSupp));
+        return Err(NotDone::Status(Status::AttrNotSupp));
     }
     if has_one_outside(settable, &attributes) {
-        return Err(Refusal::Status(Status::Inval));
+        return Err(NotDone::Status(Status::Inval));
     }
     let values = match read_values(alloc, &attributes, given.values) {
         Ok(values) => values,
-        Err(xdr::Refusal::Memory) => return Err(Refusal::Memory),
-        Err(_) => return Err(Refusal::Status(Status::BadXdr)),
+        Err(xdr::Refusal::Memory) => return Err(NotDone::Memory),
+        Err(_) => return Err(NotDone::Status(Status::BadXdr)),
     };
     check_values(limits, kind, &values)?;
     Ok(settings_in(alloc, &attributes, &values)?)

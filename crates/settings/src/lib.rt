@@ -4,7 +4,6 @@
 mod attributes;
 mod checks;
 mod numbers;
-mod refusal;
 mod said;
 
 pub use attributes::Attributes;
@@ -13,5 +12,4 @@ pub use numbers::{
     ACL, MODE, OWNER, OWNER_GROUP, SETTABLE_AT_CREATION, SETTABLE_AT_OPEN, SETTABLE_AT_SETATTR,
     SIZE, SUPPORTED, has_one_outside, is_among,
 };
-pub use refusal::Refusal;
 pub use said::{Settings, settings_in};

@@ -2,10 +2,11 @@
 
 use acl_eval::NodeKind;
 use model::limits::Limits;
+use model::not_done::NotDone;
 use model::status::Status;
 use names::check_name;
 use settings::{
-    Attributes, Refusal, SETTABLE_AT_CREATION, SETTABLE_AT_SETATTR, SUPPORTED, check_attributes,
+    Attributes, SETTABLE_AT_CREATION, SETTABLE_AT_SETATTR, SUPPORTED, check_attributes,
     has_one_outside,
 };
 use std::alloc::Global;
@@ -63,18 +64,18 @@ fn attributes_are_checked(rt: HostRuntime) -> Result<(), Fail> {
     Ok(())
 }
 
-const UNSUPPORTED: Option<Refusal> = Some(Refusal::Status(Status::AttrNotSupp));
+const UNSUPPORTED: Option<NotDone> = Some(NotDone::Status(Status::AttrNotSupp));
 
-const INVALID: Option<Refusal> = Some(Refusal::Status(Status::Inval));
+const INVALID: Option<NotDone> = Some(NotDone::Status(Status::Inval));
 
-const BAD_XDR: Option<Refusal> = Some(Refusal::Status(Status::BadXdr));
+const BAD_XDR: Option<NotDone> = Some(NotDone::Status(Status::BadXdr));
 
-const TOO_BIG: Option<Refusal> = Some(Refusal::Status(Status::FBig));
+const TOO_BIG: Option<NotDone> = Some(NotDone::Status(Status::FBig));
 
-const BAD_OWNER: Option<Refusal> = Some(Refusal::Status(Status::BadOwner));
+const BAD_OWNER: Option<NotDone> = Some(NotDone::Status(Status::BadOwner));
 
 /// A bitmap, and the values.
-type Row = (&'static [u32], &'static [u8], Option<Refusal>);
+type Row = (&'static [u32], &'static [u8], Option<NotDone>);
 
 /// What SETATTR may set, and the statuses in their order. The lists have one entry.
 const VALUES: [Row; 12] = [
@@ -113,7 +114,7 @@ const VALUES: [Row; 12] = [
 ];
 
 // The call stands here once, since it brings all that it promises to its caller.
-fn refusal_of(alloc: Global, bitmap: &[u32], values: &[u8]) -> Result<Option<Refusal>, Fail> {
+fn refusal_of(alloc: Global, bitmap: &[u32], values: &[u8]) -> Result<Option<NotDone>, Fail> {
     if bitmap.len() > 8 {
         return Err("a long bitmap".into());
     }

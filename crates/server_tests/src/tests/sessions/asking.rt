@@ -1,7 +1,8 @@
 //! The calls of the table of sessions. Each stands here once: a call brings all that it promises into the proof of its caller.
 
+use model::not_done::NotDone;
 use model::status::Status;
-use session::{Begun, Refusal, Table};
+use session::{Begun, Table};
 use std::alloc::Global;
 use std::test::Fail;
 use wire::{Channel, CreateSessionArguments, ExchangeIdArguments, SequenceArguments};
@@ -94,10 +95,10 @@ fn at(session: Id, slot: u32, sequence: u32) -> SequenceArguments {
 }
 
 /// A refusal, where there is memory.
-fn refused(refusal: Refusal) -> Result<Told, Fail> {
+fn refused(refusal: NotDone) -> Result<Told, Fail> {
     match refusal {
-        Refusal::Status(status) => Ok(Told::Refused(status)),
-        Refusal::Memory => Err("no memory".into()),
+        NotDone::Status(status) => Ok(Told::Refused(status)),
+        NotDone::Memory => Err("no memory".into()),
     }
 }
 

@@ -1,8 +1,8 @@
 use Rattle.std.proofs.Common.{◌≡◌, ◌+◌, ◌^◌, ◌∙◌, ap, sym, subst, arith}
 use Rattle.std.proofs.lemmas.Result.{err_from_is_err_and}
 use Rattle.layout.specs.Cards.{Card}
-use Rattle.settings.specs.declared.refusal.Refusal.{Refusal}
-use Rattle.settings.specs.declared.refusal.Refusal.TheVariants as refusal
+use Rattle.model.specs.declared.not_done.NotDone.{NotDone}
+use Rattle.model.specs.declared.not_done.NotDone.TheVariants as refusal
 use Rattle.settings.specs.Given.{given_of, IsRefusedBy}
 use Rattle.fs.specs.OnTree.{new_directory_refusals}
 use Rattle.fs.proofs.Creating.{early_refusal}
@@ -24,7 +24,7 @@ returns-in_err-parent-clause-refused g c state on =
     let p = err_from_is_err_and c.from_residual.result c.from_residual.ensures.1 in
     rw (p.1, p.2) (by_reason c.in_err-parent.field-0.0 c.in_err-parent.ensures.tests)
   where
-    by_reason : (reason : Refusal) → IsRefusedBy (new_directory_refusals (fs_of c.args.self.now).volume.limits (fs_of c.args.self.now).volume.tree c.args.cred.now c.args.asked.parent c.args.asked.name.now (given_of c.args.asked.attributes)) reason
+    by_reason : (reason : NotDone) → IsRefusedBy (new_directory_refusals (fs_of c.args.self.now).volume.limits (fs_of c.args.self.now).volume.tree c.args.cred.now c.args.asked.parent c.args.asked.name.now (given_of c.args.asked.attributes)) reason
         → IsNotDone (fs_of c.args.self.now) state c.args.now (new_directory c.args.asked.name.now (given_of c.args.asked.attributes)) (fault_of reason)
     by_reason (refusal.Status reason) early =
         let fs = fs_of c.args.self.now in
@@ -54,7 +54,7 @@ returns-in_err-edits-clause-refused g c state on =
     let p = err_from_is_err_and c.from_residual-in_err-edits.result c.from_residual-in_err-edits.ensures.1 in
     rw (p.1, p.2) (by_reason c.in_err-edits.field-0.0 c.in_err-edits.ensures.tests)
   where
-    by_reason : (reason : Refusal) → IsRefusedBy (room_tests (fs_of c.args.self.now) (tree_with (fs_of c.args.self.now) c.args.asked.parent c.args.asked.name.now (first_node kind.Directory 0 (shown_of c.in_ok-shown.shown)) c.args.now)) reason
+    by_reason : (reason : NotDone) → IsRefusedBy (room_tests (fs_of c.args.self.now) (tree_with (fs_of c.args.self.now) c.args.asked.parent c.args.asked.name.now (first_node kind.Directory 0 (shown_of c.in_ok-shown.shown)) c.args.now)) reason
         → IsNotDone (fs_of c.args.self.now) state c.args.now (new_directory c.args.asked.name.now (given_of c.args.asked.attributes)) (fault_of reason)
     by_reason (refusal.Status reason) late =
         let fs = fs_of c.args.self.now in

@@ -7,8 +7,8 @@ use Rattle.model.specs.declared.node.NodeKind.TheVariants as kind
 use Rattle.model.specs.Open.{given_by}
 use Rattle.model.specs.Operation.{Argument}
 use Rattle.model.specs.Tree.{Tree}
-use Rattle.settings.specs.declared.refusal.Refusal.{Refusal}
-use Rattle.settings.specs.declared.refusal.Refusal.TheVariants as refusal
+use Rattle.model.specs.declared.not_done.NotDone.{NotDone}
+use Rattle.model.specs.declared.not_done.NotDone.TheVariants as refusal
 use Rattle.settings.specs.Given.{IsRefusedBy}
 use Rattle.fs.specs.declared.opening.OpenEffect.TheVariants as effect
 use Rattle.fs.specs.FileSystems.{fs_of}
@@ -28,7 +28,7 @@ returns-in_err-settings-clause-refused g c state arguments placed =
     let p = err_from_is_err_and c.from_residual.result c.from_residual.ensures.1 in
     rw (p.1, p.2) (by_reason c.in_err-settings.field-0.0 (c.in_err-settings.ensures.tests state placed.on.is_state))
   where
-    by_reason : (reason : Refusal) → IsRefusedBy (file_tests (fs_of c.args.self.now).volume.limits state c.args.asked.share.access (type_of c.args.asked.how) c.args.asked.name.now) reason
+    by_reason : (reason : NotDone) → IsRefusedBy (file_tests (fs_of c.args.self.now).volume.limits state c.args.asked.share.access (type_of c.args.asked.how) c.args.asked.name.now) reason
         → IsNotDone (fs_of c.args.self.now) state c.args.now (Argument.Open arguments) (fault_of reason)
     by_reason (refusal.Status reason) bad =
         laws.refused_file (fs_of c.args.self.now) c.args.cred.now c.args.now c.args.asked c.args.is_full state arguments placed.on placed.opening placed.passed reason bad
@@ -67,7 +67,7 @@ returns-in_err-edits-clause-refused g c state arguments placed =
     let p = err_from_is_err_and c.from_residual-in_err-edits.result c.from_residual-in_err-edits.ensures.1 in
     rw (p.1, p.2) (by_reason c.in_err-edits.field-0.0 c.in_err-edits.ensures.tests)
   where
-    by_reason : (reason : Refusal)
+    by_reason : (reason : NotDone)
         → IsRefusedBy (room_tests (fs_of c.args.self.now) (tree_with (fs_of c.args.self.now) c.args.asked.directory c.args.asked.name.now (first_node kind.File c.unwrap_or.result (shown_of c.in_ok-shown.shown)) c.args.now)) reason
         → IsNotDone (fs_of c.args.self.now) state c.args.now (Argument.Open arguments) (fault_of reason)
     by_reason (refusal.Status reason) bad =
