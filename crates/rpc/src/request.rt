@@ -9,7 +9,7 @@ use crate::auth::{cred_from, read_auth_sys};
 use crate::call::Call;
 use crate::compound::Compound;
 use crate::reply::{AuthStat, CompoundResult, Reply};
-use crate::tag::Tag;
+use crate::tag::{MAX_TAG_BYTES, Tag};
 use model::acl::Cred;
 use model::status::Status;
 use xdr::{Reader, Refusal};
