@@ -361,9 +361,8 @@ impl<D: Device> Fs<D> {
             (type_of asked.entry.how) planned.opened)
             (λ edits. OpensBy (fs_of self.now) state now arguments (type_of asked.entry.how)
             edits.items planned.opened)) }
-        ensures opened { IfOk result (λ planned.
-            IsOpened (fs_of self.now) asked.entry planned.opened) }
-        ensures full { OnOk result (is_full ≡ false) }
+        ensures opened { IfOk result (λ planned. (is_full ≡ false)
+            × IsOpened (fs_of self.now) asked.entry planned.opened) }
         // Refused
         ensures refused { (state : State) (arguments : OpenArguments)
             → IsPlaced (fs_of self.now) cred.now asked.entry is_full state arguments

@@ -16,9 +16,10 @@ use cards::Card;
 use disk::Device;
 use draft::Shown;
 use edits::Edit;
+use model::not_done::NotDone;
 use model::status::Status;
 use settings::{
-    ACL, Attributes, MODE, NotDone, OWNER, OWNER_GROUP, SETTABLE_AT_SETATTR, SIZE, Settings,
+    ACL, Attributes, MODE, OWNER, OWNER_GROUP, SETTABLE_AT_SETATTR, SIZE, Settings,
     check_attributes, is_among,
 };
 use std::alloc::AllocError;
