@@ -1,26 +1,99 @@
 -- A draft whose marks are written.
-use Rattle.std.proofs.Common.{◌≡◌, ◌≤◌, ◌<◌, ◌+◌, ◌*◌, ℕ, Bool, List, Option, length, refl, sym, ◌∙◌, arith, subst}
+use Rattle.std.proofs.Common.{◌≡◌, ◌≤◌, ◌<◌, ◌+◌, ◌-◌, ◌*◌, ◌/◌, ◌%◌, ℕ, Bool, false, List, Option, Some, None, length, get_or, refl, sym, ap, ap₂, ◌∙◌, arith, subst, inl, inr, zero-add, ltb, le-ltb, if◌then◌else◌}
+use Rattle.std.proofs.lemmas.Bool.{cases_lt}
+use Rattle.std.proofs.lemmas.List.{get_or_past}
+use Rattle.std.proofs.lemmas.Nat.Bits.{bit_at-zero}
 use Rattle.disk.specs.Moments.{Image, applied}
 use Rattle.disk.specs.declared.update.Update.{Update}
-use Rattle.freemap.specs.Places.{Shows}
+use Rattle.freemap.specs.Places.{bit_from, bit_of, bit_in, mark_of, Shows}
+use Rattle.freemap.proofs.Bits.{low_bit, high_bit}
+use Rattle.freemap.proofs.PartLaws.{also_marked}
 use Rattle.layout.specs.Cards.{Card, node_sector, tree_of}
-use Rattle.layout.specs.Laid.{AreLaid}
-use Rattle.layout.specs.Marks.{mark_by}
+use Rattle.layout.specs.Laid.{AreLaid, HoldsPlace}
+use Rattle.layout.specs.Marks.{mark_in, mark_by, named_by}
 use Rattle.layout.specs.Stands.{Version, HaveForms, IsLaid}
-use Rattle.layout.proofs.MarkProofs.{lays_marks, tree_still}
+use Rattle.layout.proofs.Changing.{named-at}
+use Rattle.layout.proofs.Frame.{held-still}
+use Rattle.layout.proofs.MarkProofs.{each_mark, tree_still}
 use Rattle.draft.specs.Blocks.{IsPut}
-use Rattle.draft.specs.Whole.{ShowsPart}
+use Rattle.draft.specs.Whole.{IsMarked, ShowsPart}
 use Rattle.draft.specs.Updates.{AreBetween}
 use Rattle.draft.proofs.BlockLaws.{here, elsewhere}
 use Rattle.draft.proofs.UpdateLaws.{applied-other, between-one}
 
-pub shows_part : (old new : Image) (places : List Bool) (part : ℕ) (content : List ℕ) → Shows content places (32768 * part) → IsPut old new (98 + part) content → ShowsPart old new places part
-shows_part old new places part content shows is = record {
-  shows = subst (λ (s : List ℕ). Shows s places (32768 * part)) (sym (here old new (98 + part) content is)) shows;
+-- ---- one bitmap sector
+
+pub written_part : (old new : Image) (before places : List Bool) (part : ℕ) (content : List ℕ) → Shows content places (32768 * part) → IsPut old new (98 + part) content → ShowsPart old new before places part
+written_part old new before places part content shows is = record {
+  shows = inl (subst (λ (s : List ℕ). Shows s places (32768 * part)) (sym (here old new (98 + part) content is)) shows);
   others = elsewhere old new (98 + part) content is;
 }
 
-module _ (nodes size : ℕ) (version : Version) (old mid new : Image) (places : List Bool) (cards : List (Option Card)) (laid : AreLaid nodes old (mark_by (148 + nodes) places) cards) (low : ShowsPart old mid places 0) (high : ShowsPart mid new places 1) where
+sector_end : (bytes : List ℕ) (i : ℕ) → length bytes ≡ 4096 → 32768 ≤ i → bit_of bytes i ≡ 0
+sector_end bytes i len h = let none : get_or bytes (i / 8) 0 ≡ 0 = get_or_past bytes (i / 8) 0 (omega arith) in rw none (bit_at-zero (7 - i % 8))
+
+module _ (old new : Image) (before places : List Bool) (part : ℕ) (is : ShowsPart old new before places part) where
+  part_marked : ((i : ℕ) → i < 32768 → bit_of (old (98 + part)) i ≡ mark_of before (32768 * part + i)) → (i : ℕ) → i < 32768 → bit_of (new (98 + part)) i ≡ mark_of places (32768 * part + i)
+  part_marked was i h = elim is.shows [
+    | inl shows ↦ shows.bits i h
+    | inr kept ↦ also_marked (new (98 + part)) places before (32768 * part) kept.1 (λ k l. ap (λ (s : List ℕ). bit_of s k) kept.0 ∙ was k l) i h
+  ]
+
+  past_marked : ((i : ℕ) → 32768 ≤ i → bit_of (old (98 + part)) i ≡ 0) → (i : ℕ) → 32768 ≤ i → bit_of (new (98 + part)) i ≡ 0
+  past_marked was i h = elim is.shows [
+    | inl shows ↦ sector_end (new (98 + part)) i shows.len h
+    | inr kept ↦ ap (λ (s : List ℕ). bit_of s i) kept.0 ∙ was i h
+  ]
+
+-- ---- both of them
+
+-- past the places no bit is set
+mark_past : (places : List Bool) (i : ℕ) → length places ≤ 65536 → 65536 ≤ i → mark_of places i ≡ 0
+mark_past places i few h = ap bit_from (get_or_past places i false (omega arith))
+
+module _ (old mid new : Image) (before places : List Bool) (marked : IsMarked old before) (few : length places ≤ 65536) (low : ShowsPart old mid before places 0) (high : ShowsPart mid new before places 1) where
+  low_marked : (i : ℕ) → i < 32768 → bit_of (new 98) i ≡ mark_of places i
+  low_marked i h =
+      ap (λ (s : List ℕ). bit_of s i) (high.others 98 (omega arith))
+      ∙ part_marked old mid before places 0 low (λ k l. low_bit (old 98) (old 99) k l ∙ marked.bits k ∙ ap (mark_of before) (sym (zero-add k))) i h ∙ ap (mark_of places) (zero-add i)
+
+  second : (i : ℕ) → bit_of (mid 99) i ≡ mark_of before (32768 + i)
+  second i = ap (λ (s : List ℕ). bit_of s i) (low.others 99 (omega arith)) ∙ high_bit (old 98) (old 99) i ∙ marked.bits (32768 + i)
+
+  high_marked : (i : ℕ) → bit_of (new 99) i ≡ mark_of places (32768 + i)
+  high_marked i = elim (cases_lt i 32768) [
+    | inl lt ↦ part_marked mid new before places 1 high (λ k l. second k) i lt
+    | inr le ↦
+        past_marked mid new before places 1 high (λ k l. second k ∙ mark_past before (32768 + k) marked.few (omega arith)) i le
+        ∙ sym (mark_past places (32768 + i) few (omega arith))
+  ]
+
+  both_marked : (i : ℕ) → bit_in (new 98) (new 99) i ≡ mark_of places i
+  both_marked i = elim (cases_lt i 32768) [
+    | inl lt ↦ sym (low_bit (new 98) (new 99) i lt) ∙ low_marked i lt
+    | inr le ↦
+        let place : i ≡ 32768 + (i - 32768) = omega arith in
+        rw place (sym (high_bit (new 98) (new 99) (i - 32768)) ∙ high_marked (i - 32768))
+  ]
+
+-- the marks of all sectors are those of the places
+
+pub marked_by : (nodes : ℕ) (image : Image) (places : List Bool) → length places ≤ 65536 → ((n : ℕ) → mark_in nodes image n ≡ mark_by (148 + nodes) places n) → IsMarked image places
+unfolding mark_in mark_by
+marked_by nodes image places few marks = record {
+  few = few;
+  bits = λ i.
+      let there : ltb (148 + nodes + i) (148 + nodes) ≡ false = le-ltb (148 + nodes + i) (148 + nodes) (omega arith) in
+      let place : 148 + nodes + i - (148 + nodes) ≡ i = omega arith in
+      rw (there, place) at (marks (148 + nodes + i));
+}
+
+marks_of : (nodes : ℕ) (image : Image) (places : List Bool) → ((i : ℕ) → bit_in (image 98) (image 99) i ≡ mark_of places i) → (n : ℕ) → mark_in nodes image n ≡ mark_by (148 + nodes) places n
+unfolding mark_in mark_by
+marks_of nodes image places marked n = ap (λ (m : ℕ). if ltb n (148 + nodes) then 0 else m) (marked (n - (148 + nodes)))
+
+module _ (nodes size : ℕ) (version : Version) (old mid new : Image) (before places : List Bool) (cards : List (Option Card)) (laid : AreLaid nodes old (mark_by (148 + nodes) places) cards)
+    (low : ShowsPart old mid before places 0) (high : ShowsPart mid new before places 1) where
   same : (n : ℕ) → 100 ≤ n → new n ≡ old n
   same n h = high.others n (omega arith) ∙ low.others n (omega arith)
 
@@ -28,25 +101,42 @@ module _ (nodes size : ℕ) (version : Version) (old mid new : Image) (places : 
   tree_same = tree_still nodes old new (mark_by (148 + nodes) places) (mark_by (148 + nodes) places) cards laid (λ n. refl)
       (λ place h. same (node_sector place) (omega arith)) (λ n some. same n (let far = laid.behind n some in omega arith))
 
-  pub marks_written : size ≡ 148 + nodes + length places → size ≤ 65536 → HaveForms version cards → ((n : ℕ) → 100 ≤ n → n < 148 → old n ≡ version.spare n) → IsLaid version size nodes new cards
-  marks_written size_is few forms spare = lays_marks version size nodes (length places) old new places cards (record {
-    few = omega arith;
-    size_is = size_is;
-    laid = laid;
-    forms = forms;
-    spare = spare;
-    same = same;
-    shown = record {
-      count_is = refl;
-      low_shows = subst (λ (s : List ℕ). Shows s places 0) (sym (high.others 98 (omega arith))) low.shows;
-      high_shows = high.shows;
-    };
-  })
+  held : (place : ℕ) (card : Option Card) → get_or cards place None ≡ card → HoldsPlace old place card → HoldsPlace new place card
+  held place None there holds = same (node_sector place) (omega arith) ∙ holds
+  held place (Some card) there holds =
+      held-still old new card (λ n some.
+      let named : 0 < named_by n (get_or cards place None) = rw there some in
+      let far = laid.behind n (omega (arith, named-at n cards place, laid.marks n)) in same n (omega arith))
+      place (same (node_sector place) (omega arith)) holds
+
+  pub marks_written : size ≡ 148 + nodes + length places → size ≤ 65536 → HaveForms version cards → ((n : ℕ) → 100 ≤ n → n < 148 → old n ≡ version.spare n) → IsMarked old before → IsLaid version size nodes new cards
+  marks_written size_is few forms spare marked =
+      let marks = marks_of nodes new places (both_marked old mid new before places marked (omega arith) low high) in
+      record {
+        laid = record {
+          count = laid.count;
+          held = λ place h. held place (get_or cards place None) refl (laid.held place h);
+          apart = laid.apart;
+          marks = λ n. laid.marks n ∙ sym (marks n);
+          behind = λ n some. laid.behind n (omega (arith, marks n));
+          once = λ n. omega (arith, marks n, laid.once n);
+        };
+        forms = forms;
+        within = λ n h. marks n ∙ (let each = each_mark (148 + nodes) places 0 in each.within n (omega arith));
+        spare = λ n front back. same n front ∙ spare n front back;
+      }
 
 -- ---- which sectors are updated
 
 pub spare_still : (updates : List Update) (end : ℕ) (base : Image) (n : ℕ) → AreBetween 148 end updates → n < 148 → applied updates base n ≡ base n
 spare_still updates end base n between low = applied-other updates base n (λ i h at. let b = between i h in omega (arith, b.0))
 
-pub marks_between : (end part : ℕ) (old new : List Update) (places : List Bool) → part < 2 → 148 ≤ end → ((image : Image) → ShowsPart (applied old image) (applied new image) places part) → AreBetween 98 end old → AreBetween 98 end new
-marks_between end part old new places few long shows between = between-one 98 end old new (98 + part) (omega arith) (omega arith) (λ image n off. let one = shows image in one.others n off) between
+-- the bitmap sectors are not among them before their turn
+pub marked_below : (updates : List Update) (end : ℕ) (base : Image) (places : List Bool) → AreBetween 148 end updates → IsMarked base places → IsMarked (applied updates base) places
+marked_below updates end base places between marked = record {
+  few = marked.few;
+  bits = λ i. ap₂ (λ (low high : List ℕ). bit_in low high i) (spare_still updates end base 98 between (omega arith)) (spare_still updates end base 99 between (omega arith)) ∙ marked.bits i;
+}
+
+pub marks_between : (end part : ℕ) (old new : List Update) (before places : List Bool) → part < 2 → 148 ≤ end → ((image : Image) → ShowsPart (applied old image) (applied new image) before places part) → AreBetween 98 end old → AreBetween 98 end new
+marks_between end part old new before places few long shows between = between-one 98 end old new (98 + part) (omega arith) (omega arith) (λ image n off. let one = shows image in one.others n off) between

@@ -353,21 +353,22 @@ impl<'a> Draft<'a> {
         Ok(())
     }
 
-    /// Writes the marks of the places: the last step. What is to be written is whole then.
+    /// Writes the marks of the places where they are not as before: the last step. What is to be
+    /// written is whole then.
     ///
     /// # Errors
     ///
     /// Memory alone.
-    pub fn finish(&mut self) -> Result<(), AllocError>
+    pub fn finish(&mut self, before: &Bitmap) -> Result<(), AllocError>
         requires { IsKnown self.old }
-        ensures laid { OnOk result (Finishes self.old self.new) }
+        ensures laid { OnOk result (Finishes before.now self.old self.new) }
         ensures targets { OnOk result (AreTargets (end_of self.old) self.new.updates) }
         ensures cards { self.new.cards ≡ self.old.cards }
         ensures places { self.new.places ≡ self.old.places }
         ensures count { OnOk result (length self.new.updates ≤ length self.old.updates + 2) }
     {
-        put_marks(&mut self.updates, &self.places, 0)?;
-        put_marks(&mut self.updates, &self.places, 1)?;
+        put_marks(&mut self.updates, &self.places, before, 0)?;
+        put_marks(&mut self.updates, &self.places, before, 1)?;
         Ok(())
     }
 

@@ -1,4 +1,4 @@
-//! The marks of used sectors, written.
+//! The marks of used sectors, written where they change.
 
 ghost use Rattle.std.specs.Prelude.{◌≡◌, ◌≤◌, ◌<◌, ◌+◌, ℕ, length, OnOk};
 ghost use Rattle.disk.specs.Moments.{Image, applied};
@@ -11,14 +11,23 @@ use freemap::Bitmap;
 use layout::places::BITMAP;
 use std::alloc::AllocError;
 
-/// Writes bitmap sector 0 or 1.
-pub(crate) fn put_marks(updates: &mut Updates, places: &Bitmap, part: u32) -> Result<(), AllocError>
+/// Writes bitmap sector 0 or 1 where its places are not as before.
+pub(crate) fn put_marks(
+    updates: &mut Updates,
+    places: &Bitmap,
+    before: &Bitmap,
+    part: u32,
+) -> Result<(), AllocError>
     requires { part < 2 }
-    ensures image { OnOk result ((image : Image)
-        → ShowsPart (applied updates.old image) (applied updates.new image) places.now part) }
+    ensures image { OnOk result ((image : Image) → ShowsPart (applied updates.old image)
+        (applied updates.new image) before.now places.now part) }
     ensures count { length updates.new ≤ length updates.old + 1 }
     ensures apart { AreApart updates.new }
 {
+    if places.has_same_part(before, part) {
+        updates.are_apart();
+        return Ok(());
+    }
     let mut content = [0; SECTOR];
     places.to_sector(part, &mut content);
     updates.put(BITMAP + part, &content)?;

@@ -39,6 +39,13 @@ impl Updates {
         }
     }
 
+    /// Tells that no two of them are of one sector.
+    pub(crate) fn are_apart(&self)
+        ensures { AreApart self.now }
+    {
+        let _ = &self.list;
+    }
+
     /// Sector `n` after the updates.
     pub fn read<S: Sectors>(&self, base: &mut S, n: u32) -> Result<[u8; SECTOR], ReadFault>
         requires { n < S.size (S.kept base.old) }

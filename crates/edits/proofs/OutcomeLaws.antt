@@ -6,7 +6,8 @@ use Rattle.draft.specs.declared.draft.Draft.{Draft}
 use Rattle.draft.specs.declared.draft.Outcome.{Outcome}
 use Rattle.draft.specs.Drafts.{cards_of, end_of, image_of, IsDraft}
 use Rattle.draft.specs.Updates.{AreTargets}
-use Rattle.draft.specs.Whole.{IsWhole, Finishes}
+use Rattle.draft.specs.Whole.{IsMarked, IsWhole, Finishes}
+use Rattle.draft.proofs.WholeLaws.{marked_by}
 use Rattle.edits.specs.declared.edit.Edit.{Edit}
 use Rattle.edits.specs.Doing.{AreMade, Does, made_by}
 use Rattle.edits.specs.Edits.{edits_of}
@@ -51,7 +52,7 @@ module _ (size : ℕ) (table : List (Option Card)) (places : List Bool) (whole :
       (subst (λ (l : List (Option Card)). P (length table) places l) (sym begun.cards_are) holds))
 
   module _ (word : Type 0) (base : Image) (edits : List Edit) (mid last : Draft) (outcome : Outcome)
-      (does : Does word base size draft mid edits) (finishes : Finishes mid last) (same : cards_of last ≡ cards_of mid)
+      (does : Does word base size draft mid edits) (finishes : Finishes places mid last) (same : cards_of last ≡ cards_of mid)
       (cards_are : cards_after table outcome ≡ cards_of last) (updates_are : outcome.updates.items ≡ last.updates) (places_are : outcome.places ≡ mid.places) where
     after : cards_after table outcome ≡ cards_of mid
     after = cards_are ∙ same
@@ -93,13 +94,20 @@ module _ (size : ℕ) (table : List (Option Card)) (places : List Bool) (whole :
       spare = laid.spare;
     }
 
+    -- the sectors mark what the table's cards name, and so do the places
+    is_marked : IsLaid version_1 size (length table) base table → IsMarked base places
+    is_marked laid =
+        let read = laid.laid in
+        let known = whole.cards in
+        marked_by (length table) base places (omega (arith, whole.size_is, whole.few)) (λ n. sym (read.marks n) ∙ known.marks n)
+
     image_is : applied outcome.updates.items base ≡ image_of base last
     image_is = ap (λ (l : List Update). applied l base) updates_are
 
     lays : word → IsLaid version_1 size (length table) base table → LaysEdited base size table edits outcome
     lays keeps laid =
         let edited_tree = does.tree keeps (begun_draft laid) in
-        let left = finishes version_1 base size edited_tree.0 (is_whole laid) in
+        let left = finishes version_1 base size edited_tree.0 (is_whole laid) (is_marked laid) in
         record {
           laid =
               subst (λ (image : Image). IsLaid version_1 size (length table) image (cards_after table outcome)) (sym image_is)

@@ -45,6 +45,6 @@ pub fn outcome_of<S: Sectors>(
 {
     let mut draft = Draft::new(alloc, table, places)?;
     edit_all(&mut draft, base, edits)?;
-    draft.finish()?;
+    draft.finish(places)?;
     Ok(draft.into_outcome())
 }

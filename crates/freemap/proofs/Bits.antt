@@ -44,10 +44,12 @@ bit_of-part bytes part first i same h =
     let column : (8 * first + i) % 8 ≡ i % 8 = omega arith in
     rw (row, column) (ap (λ (byte : ℕ). byte / 2 ^ (7 - i % 8) % 2) (same (i / 8) (omega arith)))
 
-low_bit : (low high : List ℕ) (i : ℕ) → i < 32768 → bit_of low i ≡ bit_in low high i
+-- bits of the two sectors
+
+pub low_bit : (low high : List ℕ) (i : ℕ) → i < 32768 → bit_of low i ≡ bit_in low high i
 low_bit low high i h = let test : ltb i 32768 ≡ true = lt-ltb i 32768 h in rw test refl
 
-high_bit : (low high : List ℕ) (i : ℕ) → bit_of high i ≡ bit_in low high (32768 + i)
+pub high_bit : (low high : List ℕ) (i : ℕ) → bit_of high i ≡ bit_in low high (32768 + i)
 high_bit low high i =
     let test : ltb (32768 + i) 32768 ≡ false = le-ltb (32768 + i) 32768 (omega arith) in
     let place : 32768 + i - 32768 ≡ i = omega arith in

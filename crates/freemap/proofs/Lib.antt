@@ -1,4 +1,5 @@
 pub mod Bits
 pub mod Setting
 pub mod Laws
+pub mod PartLaws
 pub mod KeptLemmas

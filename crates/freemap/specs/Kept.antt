@@ -14,6 +14,10 @@ IsClearFrom bytes first = (i : ℕ) → first ≤ i → i < 65536 → bit_of byt
 abbrev pub IsSetBelow : List ℕ → ℕ → Type 0
 IsSetBelow bytes end = (i : ℕ) → i < end → bit_of bytes i ≡ 1
 
+-- two sectors have the same bits
+abbrev pub HaveSameBits : List ℕ → List ℕ → Type 0
+HaveSameBits a b = (i : ℕ) → i < 32768 → bit_of a i ≡ bit_of b i
+
 -- the bit at a place becomes this one, and no other one changes
 pub record BitBecomes (old new : List ℕ) (place bit : ℕ) : Type 0 where
   pub here : bit_of new place ≡ bit

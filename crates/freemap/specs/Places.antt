@@ -1,6 +1,6 @@
 -- A set of places as the two bitmap sectors of a volume show it: bit i of the two is byte i / 8, the most significant
 -- bit first, and is 1 where place i is used.
-use Rattle.std.specs.Prelude.{◌≡◌, ◌<◌, ◌≤◌, ◌+◌, ◌-◌, ◌/◌, ◌%◌, ◌^◌, ℕ, zero, suc, Bool, true, false, List, length, map, slice_index, slice_index_or, nat_lt, if◌then◌else◌}
+use Rattle.std.specs.Prelude.{◌≡◌, ◌<◌, ◌≤◌, ◌+◌, ◌-◌, ◌/◌, ◌%◌, ◌^◌, ◌↔◌, ℕ, zero, suc, Bool, true, false, List, length, map, slice_index, slice_index_or, nat_lt, if◌then◌else◌}
 use Rattle.std.specs.List.{range_with_len}
 
 -- bit i of a list of bytes
@@ -33,6 +33,10 @@ bit_in low high i = if nat_lt i 32768 then bit_of low i else bit_of high (i - 32
 pub record Shows (sector : List ℕ) (places : List Bool) (first : ℕ) : Type 0 where
   pub len : length sector ≡ 4096
   pub bits : (i : ℕ) → i < 32768 → bit_of sector i ≡ mark_of places (first + i)
+
+-- the same sectors show the places of both from `first` on
+abbrev pub HaveSamePart : (a b : List Bool) → (first : ℕ) → Type 0
+HaveSamePart a b first = (sector : List ℕ) → Shows sector a first ↔ Shows sector b first
 
 -- two sectors show a set of so many places, and nothing past them
 pub record Show (low high : List ℕ) (count : ℕ) (places : List Bool) : Type 0 where

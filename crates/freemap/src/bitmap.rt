@@ -1,7 +1,7 @@
 //! The set of used places.
 
-ghost use Rattle.std.specs.Prelude.{◌≡◌, ◌<◌, ◌≤◌, ◌*◌, Bool, true, false, List, length, replicate, slice_index_or, slice_get, slice_set, All, IsErrOf, IfOk, OnErr};
-ghost use Rattle.freemap.specs.Places.{Shows, Show, OneSet, OneSpelling};
+ghost use Rattle.std.specs.Prelude.{◌≡◌, ◌<◌, ◌≤◌, ◌*◌, ◌↔◌, Bool, true, false, List, length, replicate, slice_index_or, slice_get, slice_set, All, IsErrOf, IfOk, OnErr, IsTrue};
+ghost use Rattle.freemap.specs.Places.{Shows, Show, HaveSamePart, OneSet, OneSpelling};
 ghost use Rattle.freemap.specs.Kept.{free_places};
 
 use crate::fault::{BitmapFault, Full};
@@ -108,6 +108,16 @@ impl Bitmap {
     {
         let first = SECTOR_BYTES * part as usize;
         sector.copy_from_slice(&self.bits[first..first + SECTOR_BYTES]);
+    }
+
+    /// Whether bitmap sector `part`, 0 or 1, is the same of both sets.
+    pub fn has_same_part(&self, other: &Bitmap, part: u32) -> bool
+        requires { part < 2 }
+        ensures { IsTrue result ↔ HaveSamePart self.now other.now (SECTOR_PLACES * part) }
+    {
+        let start = part as usize * SECTOR_BYTES;
+        let end = start + SECTOR_BYTES;
+        sectors::have_same_bits(&self.bits[start..end], &other.bits[start..end])
     }
 
     /// How many places there are, used or free.

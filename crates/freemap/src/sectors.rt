@@ -2,7 +2,7 @@
 
 ghost use Rattle.std.specs.Prelude.{◌≡◌, ◌<◌, ◌≤◌, ◌↔◌, ◌++◌, IsTrue, IfOk, IfSome, IfNone, length};
 ghost use Rattle.freemap.specs.Places.{bit_from, bit_of, places_in};
-ghost use Rattle.freemap.specs.Kept.{free_places, IsClearFrom, IsSetBelow, BitBecomes};
+ghost use Rattle.freemap.specs.Kept.{free_places, IsClearFrom, IsSetBelow, HaveSameBits, BitBecomes};
 
 use byteorder::{BigEndian, ByteOrder};
 use std::alloc::{AllocError, Global};
@@ -75,6 +75,15 @@ pub(crate) fn is_clear_from(bits: &[u8], first: usize) -> bool
         }
     }
     true
+}
+
+/// Whether two sectors have the same bits.
+pub(crate) fn have_same_bits(a: &[u8], b: &[u8]) -> bool
+    requires a_len { length a.now ≡ SECTOR_BYTES }
+    requires b_len { length b.now ≡ SECTOR_BYTES }
+    ensures { IsTrue result ↔ HaveSameBits a.now b.now }
+{
+    *a == *b
 }
 
 /// How many of the first places are free.
