@@ -64,7 +64,7 @@ impl Inode {
     /// Takes memory for as many run sectors as a node may have, in advance.
     pub fn reserve(&mut self) -> Result<(), AllocError>
         ensures same { fields_of self.new ≡ fields_of self.old }
-        ensures room { OnOk result (9 ≤ vec_capacity self.new.run_sectors) }
+        ensures room { OnOk result (Inode.MAX_RUN_SECTORS ≤ vec_capacity self.new.run_sectors) }
     {
         let additional = Inode::MAX_RUN_SECTORS.saturating_sub(self.run_sectors.len());
         self.run_sectors.reserve(additional)
