@@ -14,7 +14,7 @@ use Rattle.layout.specs.Marks.{mark_in, mark_by, named_by}
 use Rattle.layout.specs.Stands.{Version, HaveForms, IsLaid}
 use Rattle.layout.proofs.Changing.{named-at}
 use Rattle.layout.proofs.Frame.{held-still}
-use Rattle.layout.proofs.MarkProofs.{each_mark, tree_still}
+use Rattle.layout.proofs.MarkProofs.{lays_marks, tree_still}
 use Rattle.draft.specs.Blocks.{IsPut}
 use Rattle.draft.specs.Whole.{IsMarked, ShowsPart}
 use Rattle.draft.specs.Updates.{AreBetween}
@@ -88,10 +88,6 @@ marked_by nodes image places few marks = record {
       rw (there, place) at (marks (148 + nodes + i));
 }
 
-marks_of : (nodes : ℕ) (image : Image) (places : List Bool) → ((i : ℕ) → bit_in (image 98) (image 99) i ≡ mark_of places i) → (n : ℕ) → mark_in nodes image n ≡ mark_by (148 + nodes) places n
-unfolding mark_in mark_by
-marks_of nodes image places marked n = ap (λ (m : ℕ). if ltb n (148 + nodes) then 0 else m) (marked (n - (148 + nodes)))
-
 module _ (nodes size : ℕ) (version : Version) (old mid new : Image) (before places : List Bool) (cards : List (Option Card)) (laid : AreLaid nodes old (mark_by (148 + nodes) places) cards)
     (low : ShowsPart old mid before places 0) (high : ShowsPart mid new before places 1) where
   same : (n : ℕ) → 100 ≤ n → new n ≡ old n
@@ -101,30 +97,15 @@ module _ (nodes size : ℕ) (version : Version) (old mid new : Image) (before pl
   tree_same = tree_still nodes old new (mark_by (148 + nodes) places) (mark_by (148 + nodes) places) cards laid (λ n. refl)
       (λ place h. same (node_sector place) (omega arith)) (λ n some. same n (let far = laid.behind n some in omega arith))
 
-  held : (place : ℕ) (card : Option Card) → get_or cards place None ≡ card → HoldsPlace old place card → HoldsPlace new place card
-  held place None there holds = same (node_sector place) (omega arith) ∙ holds
-  held place (Some card) there holds =
-      held-still old new card (λ n some.
-      let named : 0 < named_by n (get_or cards place None) = rw there some in
-      let far = laid.behind n (omega (arith, named-at n cards place, laid.marks n)) in same n (omega arith))
-      place (same (node_sector place) (omega arith)) holds
-
   pub marks_written : size ≡ 148 + nodes + length places → size ≤ 65536 → HaveForms version cards → ((n : ℕ) → 100 ≤ n → n < 148 → old n ≡ version.spare n) → IsMarked old before → IsLaid version size nodes new cards
-  marks_written size_is few forms spare marked =
-      let marks = marks_of nodes new places (both_marked old mid new before places marked (omega arith) low high) in
-      record {
-        laid = record {
-          count = laid.count;
-          held = λ place h. held place (get_or cards place None) refl (laid.held place h);
-          apart = laid.apart;
-          marks = λ n. laid.marks n ∙ sym (marks n);
-          behind = λ n some. laid.behind n (omega (arith, marks n));
-          once = λ n. omega (arith, marks n, laid.once n);
-        };
-        forms = forms;
-        within = λ n h. marks n ∙ (let each = each_mark (148 + nodes) places 0 in each.within n (omega arith));
-        spare = λ n front back. same n front ∙ spare n front back;
-      }
+  marks_written size_is few forms spare marked = lays_marks version size nodes old new places cards (record {
+    size_is = size_is;
+    laid = laid;
+    forms = forms;
+    spare = spare;
+    same = same;
+    marked = both_marked old mid new before places marked (omega arith) low high;
+  })
 
 -- ---- which sectors are updated
 

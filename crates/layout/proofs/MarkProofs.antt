@@ -103,10 +103,13 @@ shown-at low high count places few shown i = elim (cases_lt i 65536) [
       ∙ sym (ap bit_from (get_or_past places i false (omega (arith, shown.count_is))))
 ]
 
-pub marks_laid : MarksLaid
+-- the bitmap sectors mark the places
+marks_of : (nodes : ℕ) (image : Image) (places : List Bool) → ((i : ℕ) → bit_in (image 98) (image 99) i ≡ mark_of places i) → (n : ℕ) → mark_in nodes image n ≡ mark_by (148 + nodes) places n
 unfolding mark_in mark_by
-marks_laid nodes count image places few shown n =
-    ap (λ (m : ℕ). if ltb n (148 + nodes) then 0 else m) (shown-at (image 98) (image 99) count places few shown (n - (148 + nodes)))
+marks_of nodes image places marked n = ap (λ (m : ℕ). if ltb n (148 + nodes) then 0 else m) (marked (n - (148 + nodes)))
+
+pub marks_laid : MarksLaid
+marks_laid nodes count image places few shown = marks_of nodes image places (shown-at (image 98) (image 99) count places few shown)
 
 -- ---- images that differ in what no card names
 
@@ -133,13 +136,13 @@ module _ (nodes : ℕ) (old new : Image) (marked mark : ℕ → ℕ) (cards : Li
   tree_still = tree-kept old new cards (λ i card there. node-kept old new card (λ n some. kept_all i n (rw there some)))
 
 pub lays_marks : LaysMarks
-lays_marks version size nodes count old new places cards writes =
+lays_marks version size nodes old new places cards writes =
     let laid = writes.laid in
-    let marks : (n : ℕ) → mark_in nodes new n ≡ mark_by (148 + nodes) places n = marks_laid nodes count new places writes.few writes.shown in
+    let marks = marks_of nodes new places writes.marked in
     record {
       laid = laid_still nodes old new (mark_by (148 + nodes) places) (mark_in nodes new) cards laid marks (λ place h. writes.same (node_sector place) (omega arith)) (λ n some. writes.same n (let far = laid.behind n some in omega arith));
       forms = writes.forms;
-      within = λ n h. marks n ∙ (let each = each_mark (148 + nodes) places 0 in each.within n (omega (arith, writes.size_is, writes.shown.count_is)));
+      within = λ n h. marks n ∙ (let each = each_mark (148 + nodes) places 0 in each.within n (omega (arith, writes.size_is)));
       spare = λ n low high. writes.same n low ∙ writes.spare n low high;
     }
 

@@ -1,7 +1,7 @@
 -- Marks: what they are after a change of the set, what sectors show them, and that they never pass what the tree is charged.
 use Rattle.std.specs.Prelude.{◌≡◌, ◌≤◌, ◌<◌, ◌+◌, ◌==◌, ℕ, Bool, true, false, List, Option, Some, length, slice_get, slice_set, slice_index_or}
 use Rattle.disk.specs.Moments.{Image}
-use Rattle.freemap.specs.Places.{Show}
+use Rattle.freemap.specs.Places.{Show, mark_of, bit_in}
 use Rattle.model.specs.Charge.{charge}
 use Rattle.model.specs.Keyed.{total}
 use Rattle.model.specs.Tree.{Tree}
@@ -29,19 +29,18 @@ MarksLaid = (nodes count : ℕ) (image : Image) (places : List Bool) → count �
     → (n : ℕ) → mark_in nodes image n ≡ mark_by (148 + nodes) places n
 
 -- where the bitmap sectors alone are written, what was laid by a set in memory is laid
-pub record WritesMarks (version : Version) (size nodes count : ℕ) (old new : Image) (places : List Bool)
+pub record WritesMarks (version : Version) (size nodes : ℕ) (old new : Image) (places : List Bool)
     (cards : List (Option Card)) : Type 0 where
-  pub few : count ≤ 65536
-  pub size_is : size ≡ 148 + nodes + count
+  pub size_is : size ≡ 148 + nodes + length places
   pub laid : AreLaid nodes old (mark_by (148 + nodes) places) cards
   pub forms : HaveForms version cards
   pub spare : (n : ℕ) → 100 ≤ n → n < 148 → old n ≡ version.spare n
   pub same : (n : ℕ) → 100 ≤ n → new n ≡ old n
-  pub shown : Show (new 98) (new 99) count places
+  pub marked : (i : ℕ) → bit_in (new 98) (new 99) i ≡ mark_of places i
 
 abbrev pub LaysMarks : Type 0
-LaysMarks = (version : Version) (size nodes count : ℕ) (old new : Image) (places : List Bool) (cards : List (Option Card))
-    → WritesMarks version size nodes count old new places cards → IsLaid version size nodes new cards
+LaysMarks = (version : Version) (size nodes : ℕ) (old new : Image) (places : List Bool) (cards : List (Option Card))
+    → WritesMarks version size nodes old new places cards → IsLaid version size nodes new cards
 
 -- Kept sectors alone are seen: the superblock, and what comes after the gate and the payload
 pub record SeesSame (version : Version) (size nodes : ℕ) (old new : Image) (cards : List (Option Card)) : Type 0 where
