@@ -1,13 +1,13 @@
 -- The results of a record's operations, one after the other.
-use Rattle.std.proofs.Common.{◌≡◌, ℕ, suc, ◌+◌, ◌<◌, ◌≤◌, Bool, true, false, List, [], ◌∷◌, length, get_or, drop, Option, Some, None, refl, sym, ap, ◌∙◌, arith}
-use Rattle.std.specs.Prelude.{map, not, ◌||◌, if◌then◌else◌}
-use Rattle.std.proofs.lemmas.List.{drop_more, drop_all, length-drop, length-map}
+use Rattle.std.proofs.Common.{◌≡◌, ℕ, ◌+◌, ◌<◌, true, false, List, [], ◌∷◌, length, get_or, drop, Some, None, refl, sym, ap, ◌∙◌, arith}
+use Rattle.std.specs.Prelude.{map}
+use Rattle.std.proofs.lemmas.List.{drop_more, length-drop, length-map}
 use Rattle.std.proofs.lemmas.Bool.{eq-eqb}
 use Rattle.model.specs.declared.status.Status.{Status}
 use Rattle.model.specs.Answer as answers
 use Rattle.wire.specs.declared.outcome.Outcome.{Outcome}
 use Rattle.wire.specs.OutcomeView.{outcome_view}
-use Rattle.client.specs.Replies.{ending, number_of, status_of, is_ok}
+use Rattle.client.specs.Replies.{ending, number_of, is_ok}
 
 pub none_left : (operations : List ℕ) → ending operations [] ≡ None
 none_left [] = refl

@@ -1,5 +1,5 @@
 -- How long a credential is.
-use Rattle.std.proofs.Common.{◌≡◌, ℕ, ◌+◌, ◌*◌, List, [], ◌++◌, length, refl, length-append, arith}
+use Rattle.std.proofs.Common.{◌≡◌, ◌+◌, ◌*◌, [], ◌++◌, length, length-append, arith}
 use Rattle.std.specs.Int.{w32}
 use Rattle.xdr.specs.Grammar.{number}
 use Rattle.xdr.specs.Forms.{counted, elements}

@@ -1,6 +1,6 @@
 -- What a reply tells of a record, and what the client knows from it: RFC 8881, sections 2.10.6.1, 16.2 and 18.36; RFC 5531,
 -- section 9.
-use Rattle.std.specs.Prelude.{◌≡◌, ◌≢◌, ℕ, ◌+◌, ◌%◌, ◌^◌, Bool, true, false, not, ◌&&◌, ◌||◌, ◌==◌, List, [], ◌∷◌, length, fold, Option, None, Some, Result, Ok, Err, bytes_eq, if◌then◌else◌}
+use Rattle.std.specs.Prelude.{ℕ, ◌+◌, ◌%◌, ◌^◌, Bool, true, false, not, ◌&&◌, ◌||◌, ◌==◌, List, [], ◌∷◌, length, fold, Option, None, Some, Result, Ok, Err, bytes_eq, if◌then◌else◌}
 use Rattle.std.specs.Option.{option_map}
 use Rattle.std.specs.Int.{w32}
 use Rattle.xdr.specs.declared.refusal.Refusal.{Refusal}

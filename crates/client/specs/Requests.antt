@@ -2,7 +2,6 @@
 use Rattle.std.specs.Prelude.{ℕ, ◌+◌, ◌%◌, ◌^◌, Bool, true, false, not, List, [], ◌∷◌, ◌++◌, map, length, Option, None, Some, if◌then◌else◌}
 use Rattle.std.specs.List.{flat_map}
 use Rattle.std.specs.Option.{option_map}
-use Rattle.xdr.specs.Grammar.{Grammar}
 use Rattle.model.specs.declared.acl.Cred.{Cred}
 use Rattle.model.specs.Operation.{Argument, SystemCredential, operation_of}
 use Rattle.model.specs.Record.{framed}

@@ -1,5 +1,5 @@
 -- A draft whose marks are written.
-use Rattle.std.proofs.Common.{◌≡◌, ◌≤◌, ◌<◌, ◌+◌, ◌-◌, ◌*◌, ◌/◌, ◌%◌, ℕ, Bool, false, List, Option, Some, None, length, get_or, refl, sym, ap, ap₂, ◌∙◌, arith, subst, inl, inr, zero-add, ltb, le-ltb, if◌then◌else◌}
+use Rattle.std.proofs.Common.{◌≡◌, ◌≤◌, ◌<◌, ◌+◌, ◌-◌, ◌*◌, ◌/◌, ◌%◌, ℕ, Bool, false, List, Option, length, get_or, refl, sym, ap, ap₂, ◌∙◌, arith, subst, inl, inr, zero-add, ltb, le-ltb}
 use Rattle.std.proofs.lemmas.Bool.{cases_lt}
 use Rattle.std.proofs.lemmas.List.{get_or_past}
 use Rattle.std.proofs.lemmas.Nat.Bits.{bit_at-zero}
@@ -9,11 +9,9 @@ use Rattle.freemap.specs.Places.{bit_from, bit_of, bit_in, mark_of, Shows}
 use Rattle.freemap.proofs.Bits.{low_bit, high_bit}
 use Rattle.freemap.proofs.PartLaws.{also_marked}
 use Rattle.layout.specs.Cards.{Card, node_sector, tree_of}
-use Rattle.layout.specs.Laid.{AreLaid, HoldsPlace}
-use Rattle.layout.specs.Marks.{mark_in, mark_by, named_by}
+use Rattle.layout.specs.Laid.{AreLaid}
+use Rattle.layout.specs.Marks.{mark_in, mark_by}
 use Rattle.layout.specs.Stands.{Version, HaveForms, IsLaid}
-use Rattle.layout.proofs.Changing.{named-at}
-use Rattle.layout.proofs.Frame.{held-still}
 use Rattle.layout.proofs.MarkProofs.{lays_marks, tree_still}
 use Rattle.draft.specs.Blocks.{IsPut}
 use Rattle.draft.specs.Whole.{IsMarked, ShowsPart}

@@ -1,15 +1,15 @@
 -- What can be done to a tree can be done to each that is blanked alike.
-use Rattle.std.proofs.Common.{◌≡◌, ◌<◌, ℕ, false, [], ◌∷◌, Option, Some, None, length, refl, sym, ap, ◌∙◌, arith, subst}
+use Rattle.std.proofs.Common.{◌≡◌, ℕ, false, [], ◌∷◌, Option, Some, None, refl, sym, ap, ◌∙◌, arith, subst}
 use Rattle.std.specs.Prelude.{is_some, IsTrue, IsFalse}
 use Rattle.edits.specs.declared.edit.Edit.{Edit}
 use Rattle.edits.specs.declared.edit.Edit.TheVariants as declared
-use Rattle.edits.specs.Edits.{edit_of, size_of, CanDo, DoableAlike, StayFew, FewAlike}
+use Rattle.edits.specs.Edits.{edit_of, size_of, CanDo, DoableAlike, FewAlike}
 use Rattle.edits.specs.Outlines.{blanked}
 use Rattle.edits.proofs.BlankLaws.{key-blanked, directory-blanked, names-blanked, size-blanked, few-blanked, done-blanked}
 use Rattle.model.specs.Charge.{few_names}
 use Rattle.model.specs.Edit.{done}
-use Rattle.model.specs.Keyed.{Keyed, at, is_key}
-use Rattle.model.specs.Tree.{Tree, Node, DirEntry, names_at, is_directory_at, entry_of}
+use Rattle.model.specs.Keyed.{at, is_key}
+use Rattle.model.specs.Tree.{Tree, Node, names_at, is_directory_at, entry_of}
 
 module _ (tree other : Tree) (alike : blanked other ≡ blanked tree) where
   key_alike : (number : ℕ) → is_key number other ≡ is_key number tree

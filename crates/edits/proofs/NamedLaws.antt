@@ -1,6 +1,6 @@
 -- Names of the outline and names of cards.
 use Rattle.std.proofs.Common.{◌≡◌, ◌<◌, ◌+◌, ◌≤◌, eqb, ℕ, Bool, true, false, List, [], ◌∷◌, Option, Some, None, length, refl, sym, ap, ◌∙◌, arith, subst}
-use Rattle.std.specs.Prelude.{bytes_eq, if◌then◌else◌, nat_le, ◌&&◌, IsTrue}
+use Rattle.std.specs.Prelude.{bytes_eq, if◌then◌else◌, nat_le, IsTrue}
 use Rattle.std.proofs.lemmas.Bool.{and_parts, leb-true}
 use Rattle.directory.specs.Listing.{by_stamp, without_entry}
 use Rattle.directory.specs.Records.{Record, record_from, place_of, with_record, without_place}

@@ -10,7 +10,7 @@ use Rattle.extents.specs.Runs.{AreRunsOf}
 use Rattle.extents.specs.Sector.{IsRun}
 use Rattle.directory.specs.Records.{IsDirectory, AreStamped}
 use Rattle.layout.specs.Cards.{Card, block_count}
-use Rattle.layout.specs.ChangeLaws.{IsOwnNumber, IsSameNumber}
+use Rattle.layout.specs.ChangeLaws.{IsOwnNumber}
 use Rattle.layout.specs.Laid.{AreLaid, AreNumbered}
 use Rattle.layout.specs.Marks.{named, named_by}
 

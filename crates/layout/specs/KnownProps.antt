@@ -1,11 +1,8 @@
 -- What is known of cards without their sectors has one proof at most.
-use Rattle.std.specs.Prelude.{◌+◌, ℕ, List, [], ◌∷◌, Option, Some, None}
+use Rattle.std.specs.Prelude.{ℕ, List, Option, Some, None}
 use Rattle.std.proofs.Props.{props}
 use Rattle.model.specs.declared.node.NodeKind.{NodeKind}
 use Rattle.model.specs.declared.node.NodeKind.TheVariants as kind
-use Rattle.inode.specs.Fields.{Fields, IsInode}
-use Rattle.extents.specs.declared.run.Run.{Run}
-use Rattle.extents.specs.Runs.{AreRunsOf}
 use Rattle.layout.specs.Cards.{Card}
 use Rattle.layout.specs.Known.{HasContent, IsCard, IsPlace, AreCards}
 use Rattle.layout.specs.LaidProps.{AreRunsOf-prop, IsInode-prop}

@@ -3,13 +3,12 @@ use Rattle.std.proofs.Common.{ℕ, zero, suc, Bool, true, false, List, [], ◌�
 use Rattle.std.specs.Prelude.{Option, Some, None, if◌then◌else◌}
 use Rattle.std.specs.List.{list_any}
 use Rattle.std.proofs.lemmas.Bool.{cases_eq, cases_Bool}
-use Rattle.model.specs.Ancestors.{parent_of, ancestors_in, is_below, IsBelowIsReached}
+use Rattle.model.specs.Ancestors.{parent_of, ancestors_in, IsBelowIsReached}
 use Rattle.model.specs.Keyed.{Keyed, at, is_key, without, total, IsAbove}
 use Rattle.model.specs.Limits.{Limits}
 use Rattle.model.specs.Tree.{Tree, Node, DirEntry, root, names_of, names_at, names_of_node}
-use Rattle.model.specs.WellFormed.{one_if, links_in, links_from, links_to, links_owed, IsFrom, Start, Named, IsWellFormed}
+use Rattle.model.specs.WellFormed.{one_if, links_from, links_to, links_owed, IsFrom, Start, Named, IsWellFormed}
 use Rattle.model.proofs.KeyedLaws.{at-first, at-rest, at-without_other, total-without, IsAbove-without, some≢none}
-use Rattle.model.proofs.EditLaws.{directory_at}
 
 some_value : {A : Type 0} (x y : A) → Some x ≡ Some y → x ≡ y
 some_value x y same = cc

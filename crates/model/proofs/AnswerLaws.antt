@@ -1,22 +1,20 @@
 -- What was answered was permitted.
-use Rattle.std.proofs.Common.{◌≡◌, ℕ, ◌⊎◌, inl, inr, Bool, true, false, cond, List, [], ◌∷◌, ◌++◌, Option, None, Some, Result, Ok, Err, refl, sym, ap, ◌∙◌, subst, find, slice_get, option_to_list, append-nil}
+use Rattle.std.proofs.Common.{◌≡◌, ℕ, ◌⊎◌, inl, inr, Bool, true, false, cond, List, [], ◌∷◌, ◌++◌, Option, None, Some, Result, Ok, Err, refl, sym, subst, find, slice_get, option_to_list, append-nil}
 use Rattle.model.specs.declared.status.Status.{Status}
 use Rattle.model.specs.declared.status.Status.TheVariants as status
 use Rattle.model.specs.declared.limits.Limits.{Limits}
-use Rattle.model.specs.AclLaws.{ModesKeepLimits, InheritanceKeepsLimits}
 use Rattle.model.specs.Answer.{Answer, Outcome, ExchangeIdAnswer, CreateSessionAnswer}
 use Rattle.model.specs.AnswerRuns.{IsPermittedAnswer, EveryAnswerIsPermitted}
 use Rattle.model.specs.Keyed.{at}
 use Rattle.model.specs.Need.{permitted}
 use Rattle.model.specs.Operation.{Argument, SequenceArguments, operation_of}
-use Rattle.model.specs.Refusal.{first_refusal}
 use Rattle.model.specs.Rpc.{CallRead, NoCall, OtherVersion, Calls, Request, Answers, Runs, read_call, request_of}
-use Rattle.model.specs.Runs.{Event, Arrives, Turns, HangsUp, Connects, Takes, executed_of, executed_by, Serving, History, IsRun, Begins, Goes_on, Fails_at, Stays_down, mounted, done_with, is_done}
+use Rattle.model.specs.Runs.{Event, Arrives, Turns, HangsUp, Connects, Takes, executed_of, executed_by, Serving, History, IsRun, Begins, Goes_on, Fails_at, Stays_down, mounted, is_done}
 use Rattle.model.specs.Session as sessions
 use Rattle.model.specs.Session.{Table, Session}
-use Rattle.model.specs.Step.{State, Stepped, does}
+use Rattle.model.specs.Step.{State, does}
 use Rattle.model.specs.Tree.{Tree}
-use Rattle.model.specs.World.{World, ServerLimits, InProgress, Connection, Quiet, Waiting, Busy, Replied, Closed, HasRun, Gives, Replays, exchanged, created_by, created, tabled, started_in, begun, reclaimed, stepped, state_of, refuses, in_room, has_room, run as run_of, Turned, Entry, entry_of, behind, ends, goes_on, with_result, is_last, has_run, operates, Next, Refuses, Reads, next_operation, requested, in_progress, called, turned, one, reply_at}
+use Rattle.model.specs.World.{World, ServerLimits, InProgress, Connection, Quiet, Waiting, Busy, Replied, Closed, HasRun, Gives, Replays, exchanged, created_by, tabled, started_in, begun, reclaimed, state_of, refuses, in_room, has_room, run as run_of, Turned, Entry, entry_of, behind, ends, goes_on, with_result, is_last, has_run, operates, Next, Refuses, Reads, next_operation, requested, in_progress, called, turned, one, reply_at}
 use Rattle.model.proofs.Headline.{slice_get-last}
 use Rattle.model.proofs.LimitLaws.{modes_keep_limits, inheritance_keeps_limits}
 use Rattle.model.proofs.Headline.{taken_done, done_behind}

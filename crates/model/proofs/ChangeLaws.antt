@@ -1,12 +1,11 @@
 -- A removal, a rename and a creation keep a tree well formed, and stamp what they alter.
 use Rattle.std.proofs.Common.{ℕ, Bool, true, false, List, [], ◌∷◌, ◌++◌, ◌≡◌, ◌≢◌, ◌+◌, ◌<◌, ◌≤◌, ◌&&◌, ◌⊎◌, not, inl, inr, refl, sym, ap, ◌∙◌, subst, arith, eqb, eq-eqb, lt_irrefl, is_some, bytes_eq}
 use Rattle.std.specs.Prelude.{Option, Some, None}
-use Rattle.std.specs.Cmp.Lexicographic.{bytes_decides}
-use Rattle.std.proofs.lemmas.Bool.{cases_eq, cases_Bool}
+use Rattle.std.proofs.lemmas.Bool.{cases_eq}
 use Rattle.model.specs.Changes.{touched, touch, removal, moving, made_edits, removed_edits, renamed_edits, IsStamped}
 use Rattle.model.specs.Charge.{fits}
 use Rattle.model.specs.Directory.{number_of_entry, acl_of}
-use Rattle.model.specs.Edit.{Edit, PutNode, DropNode, Show, PutName, DropName, done, edited}
+use Rattle.model.specs.Edit.{PutNode, PutName, DropName, done, edited}
 use Rattle.model.specs.Keyed.{Keyed, at, is_key, IsAbove}
 use Rattle.model.specs.Limits.{Limits}
 use Rattle.model.specs.Name.{name_refusals}
@@ -15,7 +14,7 @@ use Rattle.model.specs.Tree.{Tree, Node, Content, File, Directory, DirEntry, roo
 use Rattle.model.specs.WellFormed.{one_if, links_from, links_to, links_owed, times_named, IsFrom, AreNames, IsContent, IsNode, IsWellFormed, IsBefore}
 use Rattle.model.proofs.KeyedLaws.{at-first, at-rest, at-above, some≢none}
 use Rattle.model.proofs.EditLaws.{IsForest, forest_of, well_formed_of, from_more, from_leaf, directory_at}
-use Rattle.model.proofs.EditViews.{entry_before, NameDropped, name_is_dropped, NodeDropped, node_is_dropped, NamePut, name_is_put, NodePut, node_is_put, NodeShown, node_is_shown}
+use Rattle.model.proofs.EditViews.{entry_before, name_is_dropped, node_is_dropped, name_is_put, node_is_put, node_is_shown}
 use Rattle.model.proofs.AncestorLaws.{total-some}
 
 -- Names and what they lead to

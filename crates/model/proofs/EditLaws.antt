@@ -1,18 +1,18 @@
 -- Each edit keeps a tree well formed, but for one node that may have no name meanwhile.
-use Rattle.std.proofs.Common.{ℕ, Bool, true, false, List, [], ◌∷◌, ◌≡◌, ◌≢◌, ◌+◌, ◌<◌, ◌≤◌, ◌&&◌, ◌⊎◌, not, inl, inr, refl, sym, ap, ◌∙◌, subst, arith, eqb, eq-eqb, ne_eqb, lt_irrefl, is_some, bytes_eq}
+use Rattle.std.proofs.Common.{ℕ, Bool, true, false, List, [], ◌≡◌, ◌≢◌, ◌+◌, ◌<◌, ◌≤◌, ◌&&◌, ◌⊎◌, not, inl, inr, refl, sym, ap, ◌∙◌, subst, arith, eqb, eq-eqb, ne_eqb, lt_irrefl, is_some, bytes_eq}
 use Rattle.std.specs.Prelude.{Option, Some, None}
 use Rattle.std.specs.Cmp.Lexicographic.{bytes_decides}
 use Rattle.std.proofs.lemmas.Bool.{cases_eq, cases_Bool}
 use Rattle.model.specs.declared.node.NodeKind.TheVariants as kind
 use Rattle.model.specs.Acl.{is_list_for}
 use Rattle.model.specs.Charge.{fits}
-use Rattle.model.specs.Edit.{Shown, Edit, PutNode, DropNode, Show, PutName, DropName, showing, name_put, name_dropped, altered_at, done}
-use Rattle.model.specs.Keyed.{Keyed, at, is_key, with, without, total, IsAbove, worth_at}
+use Rattle.model.specs.Edit.{Shown, showing, name_put, name_dropped}
+use Rattle.model.specs.Keyed.{Keyed, at, is_key, with, without, total, IsAbove}
 use Rattle.model.specs.Limits.{Limits}
 use Rattle.model.specs.Name.{name_refusals}
 use Rattle.model.specs.Refusal.{first_refusal}
 use Rattle.model.specs.Tree.{Tree, Node, Content, File, Directory, DirEntry, root, kind_of, names_of, names_at, names_of_node, is_directory, is_directory_node, is_directory_at}
-use Rattle.model.specs.WellFormed.{one_if, links_in, links_from, links_to, links_owed, is_stamped, stamped_in, times_named, IsFrom, Start, Named, AreNames, IsContent, IsNode, IsWellFormed, IsBefore}
+use Rattle.model.specs.WellFormed.{one_if, links_in, links_from, links_to, links_owed, is_stamped, stamped_in, times_named, IsFrom, Start, Named, AreNames, IsContent, IsNode, IsWellFormed}
 use Rattle.model.proofs.KeyedLaws.{at-with_same, at-with_other, at-without_same, at-without_other, at-above, total-with, total-without, total-none, IsAbove-with, IsAbove-without, some≢none}
 
 -- Well formed, but for a node, the head, that no name leads to. Whether it fits is asked at the end alone.

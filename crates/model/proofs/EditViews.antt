@@ -1,19 +1,19 @@
 -- What each edit keeps, as a whole: asked of the edit itself, and of what the tree shows.
-use Rattle.std.proofs.Common.{ℕ, Bool, true, false, List, [], ◌∷◌, ◌≡◌, ◌≢◌, ◌+◌, ◌<◌, ◌≤◌, ◌⊎◌, inl, inr, refl, sym, ap, ◌∙◌, subst, arith, is_some, bytes_eq}
+use Rattle.std.proofs.Common.{ℕ, true, List, [], ◌≡◌, ◌≢◌, ◌+◌, ◌<◌, ◌≤◌, ◌⊎◌, inl, inr, refl, sym, ap, ◌∙◌, subst, arith, bytes_eq}
 use Rattle.std.specs.Prelude.{Option, Some, None}
 use Rattle.std.proofs.lemmas.Bool.{cases_eq}
 use Rattle.model.specs.declared.acl.Ace.{Ace}
 use Rattle.model.specs.Acl.{is_list_for}
 use Rattle.model.specs.Directory.{acl_of}
-use Rattle.model.specs.Edit.{Shown, Edit, PutNode, DropNode, Show, PutName, DropName, showing, name_put, name_dropped, altered_at, done}
-use Rattle.model.specs.Keyed.{Keyed, at, is_key, with, without, total, IsAbove}
+use Rattle.model.specs.Edit.{Shown, PutNode, DropNode, Show, PutName, DropName, showing, name_put, name_dropped, altered_at, done}
+use Rattle.model.specs.Keyed.{at, with, without}
 use Rattle.model.specs.Limits.{Limits}
 use Rattle.model.specs.Name.{name_refusals}
 use Rattle.model.specs.Refusal.{first_refusal}
-use Rattle.model.specs.Tree.{Tree, Node, DirEntry, root, kind_of, names_of, names_at, names_of_node, is_directory, is_directory_node, is_directory_at}
+use Rattle.model.specs.Tree.{Tree, Node, DirEntry, kind_of, names_of, names_at, names_of_node, is_directory_at}
 use Rattle.model.specs.WellFormed.{one_if, times_named, IsFrom, IsNode, IsBefore}
 use Rattle.model.proofs.KeyedLaws.{at-with_same, at-with_other, at-without_same, at-without_other, some≢none}
-use Rattle.model.proofs.EditLaws.{IsForest, directory_at, which, same_directories, names_before, names_here, names_elsewhere, at_place, at_other, sum_of_names, drop_stays, drop_fewer, drop_forest, drop_gone, free_forest, free_names, free_which, put_forest, put_sum, put_here, node_forest, node_names, node_which, show_forest, show_names}
+use Rattle.model.proofs.EditLaws.{IsForest, directory_at, which, same_directories, names_before, names_here, names_elsewhere, at_place, at_other, sum_of_names, drop_stays, drop_fewer, drop_forest, free_forest, free_names, free_which, put_forest, node_forest, node_names, node_which, show_forest, show_names}
 
 -- An entry's stamp is from before
 pub entry_before : (bound : ℕ) (tree : Tree) → IsBefore bound tree → (number of : ℕ) (entry : DirEntry) → at of (names_at tree number) ≡ Some entry → of < bound

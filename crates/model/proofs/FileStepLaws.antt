@@ -1,7 +1,6 @@
 -- What WRITE, SETATTR and OPEN passed, and that each of them keeps a tree well formed.
-use Rattle.std.proofs.Common.{ℕ, Bool, true, false, List, [], ◌∷◌, ◌++◌, ◌≡◌, ◌+◌, ◌<◌, ◌≤◌, ◌&&◌, ◌||◌, not, if◌then◌else◌, inl, inr, refl, sym, ap, ◌∙◌, subst, arith, is_some, length, nat_lt, ltb-true, le-leb, take, replicate}
+use Rattle.std.proofs.Common.{ℕ, Bool, true, false, List, [], ◌∷◌, ◌++◌, ◌≡◌, ◌+◌, ◌<◌, ◌≤◌, ◌&&◌, ◌||◌, not, if◌then◌else◌, refl, sym, ap, ◌∙◌, subst, arith, is_some, length, nat_lt, ltb-true, le-leb}
 use Rattle.std.specs.Prelude.{Option, Some, None, All, flat_map, unwrap_or, is_none}
-use Rattle.std.specs.List.{list_all, AllPass}
 use Rattle.std.proofs.lemmas.Bool.{true≢false, ltb-false}
 use Rattle.std.proofs.lemmas.List.{length-replicate}
 use Rattle.std.proofs.lemmas.List.Elements.{All-take, All-replicate, All-weaker}
@@ -9,7 +8,6 @@ use Rattle.std.proofs.lemmas.List.Sums.{AllPass-from_list_all}
 use Rattle.model.specs.declared.acl.Ace.{Ace}
 use Rattle.model.specs.declared.node.NodeKind.{NodeKind}
 use Rattle.model.specs.declared.node.NodeKind.TheVariants as kind
-use Rattle.model.specs.declared.status.Status.{Status}
 use Rattle.model.specs.declared.status.Status.TheVariants as status
 use Rattle.model.specs.Acl.{is_list_for}
 use Rattle.model.specs.AclLaws.{ModesKeepLimits, InheritanceKeepsLimits}
@@ -17,16 +15,15 @@ use Rattle.model.specs.Attribute.{attribute_refusals, settable_at_setattr, setta
 use Rattle.model.specs.AttributeValue.{Value, Size}
 use Rattle.model.specs.Changes.{touched, touch, made_edits}
 use Rattle.model.specs.Context.{has_current}
-use Rattle.model.specs.Directory.{number_of_entry, number_named, acl_of, is_named}
-use Rattle.model.specs.Edit.{Edit, PutBytes, SetSize, Show, showing, with_content, resized, overwritten, altered, edited}
+use Rattle.model.specs.Directory.{number_of_entry, number_named, acl_of}
+use Rattle.model.specs.Edit.{PutBytes, SetSize, Show, showing, with_content, resized, overwritten, altered, edited}
 use Rattle.model.specs.Files.{are_bytes, file_refusals, taken_bytes, has_bytes}
 use Rattle.model.specs.Inherit.{created, created_without_list, inherited}
-use Rattle.model.specs.Keyed.{Keyed, at, is_key, with}
+use Rattle.model.specs.Keyed.{at, is_key, with}
 use Rattle.model.specs.Limits.{Limits}
-use Rattle.model.specs.Mode.{moded}
 use Rattle.model.specs.Name.{name_refusals}
-use Rattle.model.specs.Open.{cuts, makes_file, cuts_file, creates, given_by, opening_refusals, share_refusals, place_refusals, known_refusals, new_refusals, name_opening_refusals, new_file, cut_or_not, with_file, opening_done, middle_at_open}
-use Rattle.model.specs.Operation.{Argument, Attributes, WriteArguments, SetAttrArguments, OpenArguments, OpenType, NoCreate, Unchecked, Guarded, Claim, ByName, ByHandle, OtherClaim, Opening, Opens as Opening_of, Exclusive}
+use Rattle.model.specs.Open.{cuts, makes_file, cuts_file, given_by, opening_refusals, share_refusals, place_refusals, known_refusals, new_refusals, name_opening_refusals, new_file, cut_or_not, with_file, opening_done, middle_at_open}
+use Rattle.model.specs.Operation.{Argument, Attributes, WriteArguments, SetAttrArguments, OpenArguments, OpenType, NoCreate, Unchecked, Guarded, ByName, ByHandle, OtherClaim, Opening, Opens as Opening_of, Exclusive}
 use Rattle.model.specs.Refusal.{Refusals, first_refusal, refused_or}
 use Rattle.model.specs.SetAttr.{kind_at, size_refusals, set_refusals, list_set, shown_set, size_edits, set_edits}
 use Rattle.model.specs.State.{State, current, stamp_of, current_refusals, named_refusals, is_name_there}

@@ -1,20 +1,17 @@
 -- A change of one node keeps a tree well formed, and stamps it: bytes are written, a size or other attributes are set.
-use Rattle.std.proofs.Common.{ℕ, Bool, true, false, List, [], ◌∷◌, ◌++◌, ◌≡◌, ◌≢◌, ◌+◌, ◌-◌, ◌<◌, ◌≤◌, not, inl, inr, refl, sym, ap, ◌∙◌, subst, arith, is_some, length, take, drop, replicate, min, length-append}
-use Rattle.std.specs.Prelude.{Option, Some, None, All}
+use Rattle.std.proofs.Common.{ℕ, List, ◌++◌, ◌≡◌, ◌+◌, ◌-◌, ◌<◌, ◌≤◌, not, inl, inr, sym, ap, ◌∙◌, arith, is_some, length, take, drop, replicate, length-append}
+use Rattle.std.specs.Prelude.{Some, None, All}
 use Rattle.std.proofs.lemmas.Bool.{cases_eq}
 use Rattle.std.proofs.lemmas.List.{length-take, length-drop, length-replicate}
 use Rattle.std.proofs.lemmas.List.Elements.{All-append, All-take, All-drop, All-replicate}
-use Rattle.model.specs.declared.acl.Ace.{Ace}
-use Rattle.model.specs.Acl.{is_list_for}
-use Rattle.model.specs.Changes.{IsStamped}
 use Rattle.model.specs.Edit.{resized, overwritten, altered, altered_at}
 use Rattle.model.specs.Keyed.{at, is_key, with}
 use Rattle.model.specs.Limits.{Limits}
-use Rattle.model.specs.Tree.{Tree, Node, Content, File, kind_of, names_of, is_directory}
-use Rattle.model.specs.WellFormed.{IsContent, IsNode, IsWellFormed, IsBefore}
+use Rattle.model.specs.Tree.{Tree, Node, names_of, is_directory}
+use Rattle.model.specs.WellFormed.{IsNode, IsWellFormed, IsBefore}
 use Rattle.model.proofs.KeyedLaws.{at-with_same, with-with_same}
 use Rattle.model.proofs.ChangeLaws.{IsChanged, is_file_node, was_before}
-use Rattle.model.proofs.EditLaws.{forest_of, well_formed_of, at_place, at_other, which, replaced_names, replaced_forest}
+use Rattle.model.proofs.EditLaws.{forest_of, well_formed_of, at_other, which, replaced_names, replaced_forest}
 use Rattle.model.proofs.EditViews.{entry_before, named_in}
 
 -- Bytes

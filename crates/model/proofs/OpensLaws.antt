@@ -1,11 +1,9 @@
 -- Every operation keeps the opens.
-use Rattle.std.proofs.Common.{ℕ, Bool, true, false, List, [], ◌∷◌, ◌≡◌, ◌≢◌, ◌+◌, ◌<◌, ◌≤◌, ◌⊎◌, ◌&&◌, ◌||◌, ◌==◌, not, inl, inr, refl, sym, ap, ◌∙◌, subst, arith, cond, is_some, length, filter, find, nat_le}
-use Rattle.std.specs.Prelude.{Option, Some, None}
-use Rattle.std.proofs.lemmas.Bool.{true≢false, cases_eq, cases_Bool, eqb-true, leb-false}
-use Rattle.model.specs.Keyed.{Keyed, at, is_key, with, without, IsAbove, total, worth_at}
-use Rattle.model.specs.Opens.{Opens, Open}
-use Rattle.model.specs.StateIds.{is_like, open_like, joined, opened, opened_by, Opened, is_table_full}
-use Rattle.model.proofs.KeyedLaws.{at-first, at-rest, at-above, at-with_same, at-with_other, at-without_same, at-without_other, IsAbove-with, IsAbove-without, IsAbove-lower, total-with, total-without, total-none, some≢none}
+use Rattle.std.proofs.Common.{ℕ, Bool, true, false, [], ◌∷◌, ◌≡◌, ◌+◌, ◌<◌, ◌≤◌, inl, inr, refl, sym, ap, ◌∙◌, subst, arith, cond, length, filter, find}
+use Rattle.std.specs.Prelude.{Some}
+use Rattle.std.proofs.lemmas.Bool.{cases_eq}
+use Rattle.model.specs.Keyed.{Keyed, at, with, without, IsAbove, total, worth_at}
+use Rattle.model.proofs.KeyedLaws.{at-first, at-rest, at-above, IsAbove-lower, total-with, total-without, some≢none}
 
 -- Maps of which some entries are left
 

@@ -1,31 +1,29 @@
 -- Every operation keeps the opens: those of a file that goes end, and an open that is new stands on a file.
-use Rattle.std.proofs.Common.{ℕ, Bool, true, false, List, [], ◌∷◌, ◌++◌, ◌≡◌, ◌≢◌, ◌+◌, ◌-◌, ◌^◌, ◌<◌, ◌≤◌, ◌⊎◌, ◌&&◌, ◌||◌, ◌==◌, not, if◌then◌else◌, inl, inr, refl, sym, ap, ◌∙◌, subst, arith, is_some, length, filter, find, nat_le, eq-eqb}
+use Rattle.std.proofs.Common.{ℕ, Bool, true, false, List, ◌++◌, ◌≡◌, ◌≢◌, ◌+◌, ◌-◌, ◌^◌, ◌<◌, ◌≤◌, ◌&&◌, ◌||◌, ◌==◌, not, if◌then◌else◌, inl, inr, refl, sym, ap, ◌∙◌, subst, arith, is_some, length, filter, nat_le, eq-eqb}
 use Rattle.std.specs.Prelude.{Option, Some, None, is_none}
 use Rattle.std.specs.List.{list_any}
-use Rattle.std.proofs.lemmas.Bool.{true≢false, cases_eq, cases_Bool, eqb-true, leb-false}
-use Rattle.model.specs.declared.status.Status.{Status}
+use Rattle.std.proofs.lemmas.Bool.{true≢false, cases_eq, cases_Bool, leb-false}
 use Rattle.model.specs.declared.status.Status.TheVariants as status
 use Rattle.model.specs.AclLaws.{ModesKeepLimits, InheritanceKeepsLimits}
-use Rattle.model.specs.Answer.{Answer, Outcome}
-use Rattle.model.specs.Changes.{touched, touch, made_edits}
+use Rattle.model.specs.Changes.{touched, made_edits}
 use Rattle.model.specs.Context.{is_same_name}
 use Rattle.model.specs.Directory.{number_named, acl_of}
-use Rattle.model.specs.Edit.{Edit, altered, altered_at, showing, name_put, edited}
+use Rattle.model.specs.Edit.{altered, altered_at, showing, name_put, edited}
 use Rattle.model.specs.Files.{has_bytes, write}
-use Rattle.model.specs.Keyed.{Keyed, at, is_key, with, without, IsAbove}
+use Rattle.model.specs.Keyed.{at, is_key, with, without, IsAbove}
 use Rattle.model.specs.Limits.{Limits}
-use Rattle.model.specs.Open.{creates, makes_file, cuts_file, cuts, file_opened, asked_open, opening_done, with_file, cut_or_not, opening_refusals, share_refusals, place_refusals, known_refusals, new_refusals, new_file, given_by, closed_by, middle_at_open, name_opening_refusals}
+use Rattle.model.specs.Open.{creates, makes_file, cuts_file, file_opened, asked_open, opening_done, with_file, opening_refusals, share_refusals, place_refusals, known_refusals, new_refusals, new_file, given_by, closed_by, middle_at_open, name_opening_refusals}
 use Rattle.model.specs.Opens.{Opens, Open, no_opens}
 use Rattle.model.specs.OpensLaws.{AreOpens, KeepsOpens, EveryStepKeepsOpens}
-use Rattle.model.specs.Operation.{Argument, Attributes, RenameArguments, SetAttrArguments, WriteArguments, OpenArguments, OpenType, NoCreate, Unchecked, Guarded, ByName, ByHandle, OtherClaim, Opening, Opens as Opening_of, Exclusive, CreateArguments, NewDirectory, OtherType}
+use Rattle.model.specs.Operation.{Argument, RenameArguments, SetAttrArguments, WriteArguments, OpenArguments, OpenType, NoCreate, Unchecked, Guarded, ByName, ByHandle, OtherClaim, Opening, Opens as Opening_of, Exclusive, NewDirectory, OtherType}
 use Rattle.model.specs.Refusal.{first_refusal}
 use Rattle.model.specs.SetAttr.{sets, set_attributes}
-use Rattle.model.specs.StateIds.{Found, Anonymous, Refused, Names, found, is_like, open_like, joined, opened, opened_by, Opened, is_table_full, without_number, without_open, without_clients}
-use Rattle.model.specs.Step.{State, Stepped, current, stamp_of, current_refusals, is_name_there, alters, effect, refused, does, rename, target_number}
+use Rattle.model.specs.StateIds.{Found, Anonymous, Refused, Names, found, is_like, open_like, joined, opened, opened_by, is_table_full, without_number, without_clients}
+use Rattle.model.specs.Step.{State, Stepped, current, stamp_of, current_refusals, is_name_there, alters, effect, rename, target_number}
 use Rattle.model.specs.StepLaws.{IsSound}
-use Rattle.model.specs.Tree.{Tree, Node, Content, File, Directory, DirEntry, is_directory, is_directory_node, is_directory_at}
-use Rattle.model.proofs.ChangeLaws.{IsChanged, is_file_node}
-use Rattle.model.proofs.FileStepLaws.{is_true, named_key, current_key, opening_changed, opening_leaves}
+use Rattle.model.specs.Tree.{Tree, Node, is_directory, is_directory_node, is_directory_at}
+use Rattle.model.proofs.ChangeLaws.{is_file_node}
+use Rattle.model.proofs.FileStepLaws.{named_key, current_key, opening_changed, opening_leaves}
 use Rattle.model.proofs.KeyedLaws.{at-above, at-with_same, at-with_other, at-without_same, at-without_other, IsAbove-with, IsAbove-without, some≢none}
 use Rattle.model.proofs.OpensLaws.{IsAbove-filter, length-filter, at-filter, length-with_new, length-with_same, length-without, find-at}
 use Rattle.model.proofs.StepCases.{Passes, none_in_front, none_in_both, does_cases}

@@ -1,16 +1,13 @@
 -- A page of READDIR has the entries that fit.
-use Rattle.std.proofs.Common.{ℕ, Bool, true, false, List, [], ◌∷◌, ◌++◌, ◌≡◌, ◌+◌, ◌-◌, ◌<◌, ◌≤◌, cond, nat_le, min, length, refl, sym, ap, ◌∙◌, subst, arith, length-append, leb-true, append_assoc}
+use Rattle.std.proofs.Common.{ℕ, Bool, true, false, List, [], ◌∷◌, ◌++◌, ◌≡◌, ◌+◌, ◌-◌, ◌<◌, ◌≤◌, cond, nat_le, min, length, refl, ap, arith, length-append, leb-true}
 use Rattle.std.proofs.lemmas.Bool.{leb-false}
 use Rattle.xdr.specs.Forms.{links, boolean}
 use Rattle.xdr.specs.Grammar.{number}
 use Rattle.std.specs.Int.{w32, w64}
 use Rattle.xdr.proofs.Sizes.{int_length, hyper_length}
 use Rattle.model.specs.Answer.{Entry}
-use Rattle.model.specs.Limits.{Limits}
-use Rattle.model.specs.Operation.{ReadDirArguments}
-use Rattle.model.specs.PageLaws.{page_size, IsPage, EveryPage}
+use Rattle.model.specs.PageLaws.{page_size, EveryPage}
 use Rattle.model.specs.ReadDir.{entry_size, fitting, all_entries, page_room, page}
-use Rattle.model.specs.State.{State}
 use Rattle.model.specs.WireAnswers as answers
 
 -- what entries come to

@@ -13,7 +13,7 @@ use Rattle.model.specs.SetAttr.{sets, set_attributes}
 use Rattle.model.specs.Operation.{Argument, NewDirectory}
 use Rattle.model.specs.Refusal.{Refusals, first_refusal, refused_or}
 use Rattle.model.specs.declared.limits.Limits.{Limits}
-use Rattle.model.specs.Step.{State, Stepped, alters, rename, effect, refusals, early, late, change_refusals, unless_refused, does}
+use Rattle.model.specs.Step.{State, Stepped, alters, rename, effect, refusals, change_refusals, unless_refused, does}
 use Rattle.model.specs.Tree.{Tree}
 use Rattle.model.specs.Answer.{ExchangeIdAnswer, CreateSessionAnswer}
 use Rattle.model.specs.Operation.{SequenceArguments, operation_of}

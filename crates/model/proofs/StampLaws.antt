@@ -1,18 +1,17 @@
 -- The stamps of a run, by induction: each change takes the next one, and no other operation does.
-use Rattle.std.proofs.Common.{◌≡◌, ◌≢◌, ℕ, zero, suc, ◌+◌, ◌*◌, ◌<◌, ◌≤◌, ◌^◌, ◌⊎◌, inl, inr, Bool, true, false, not, cond, ◌&&◌, ◌||◌, nat_lt, List, [], ◌∷◌, ◌++◌, length, slice_get, option_to_list, Option, None, Some, Result, Ok, Err, refl, sym, ap, ◌∙◌, subst, find, arith, rules, tests, length-append}
+use Rattle.std.proofs.Common.{◌≡◌, ◌≢◌, ℕ, ◌+◌, ◌<◌, ◌≤◌, ◌^◌, ◌⊎◌, inl, inr, Bool, true, false, not, cond, ◌&&◌, ◌||◌, List, [], ◌∷◌, ◌++◌, length, slice_get, option_to_list, Option, None, Some, Result, Ok, Err, refl, sym, ap, ◌∙◌, subst, find, arith, rules, tests, length-append}
 use Rattle.model.specs.declared.limits.Limits.{Limits}
 use Rattle.model.specs.declared.status.Status.{Status}
 use Rattle.model.specs.declared.status.Status.TheVariants as status
 use Rattle.model.specs.Answer.{Answer, Outcome, ExchangeIdAnswer, CreateSessionAnswer}
 use Rattle.model.specs.Charge.{fits}
 use Rattle.model.specs.Keyed.{at}
-use Rattle.model.specs.Operation.{Argument, NewDirectory, OtherType, RenameArguments, SetAttrArguments, WriteArguments, SequenceArguments, OpenType, ByName, ByHandle, OtherClaim, Opening, Opens as Opening_of, Exclusive, operation_of}
-use Rattle.model.specs.Refusal.{first_refusal}
+use Rattle.model.specs.Operation.{Argument, NewDirectory, RenameArguments, SetAttrArguments, WriteArguments, SequenceArguments, OpenType, ByName, ByHandle, OtherClaim, Opening, Opens as Opening_of, Exclusive, operation_of}
 use Rattle.model.specs.Rpc.{CallRead, NoCall, OtherVersion, Calls, Request, Answers, Runs, read_call, request_of}
-use Rattle.model.specs.Runs.{before, Event, Arrives, Turns, HangsUp, Connects, Takes, effect_of, executed_of, executed_by, executed, Serving, History, mounted, done_with, Happens, Fails, StaysDown, IsRun, Begins, Goes_on, Fails_at, Stays_down, AreStamped, EveryStamp}
+use Rattle.model.specs.Runs.{before, Event, Arrives, Turns, HangsUp, Connects, Takes, effect_of, executed_of, executed_by, executed, Serving, History, mounted, done_with, IsRun, Begins, Goes_on, Fails_at, Stays_down, EveryStamp}
 use Rattle.model.specs.Session as sessions
 use Rattle.model.specs.Session.{Table, Session}
-use Rattle.model.specs.Stamp.{stamp, next_stamp, is_stamp_left}
+use Rattle.model.specs.Stamp.{is_stamp_left}
 use Rattle.model.specs.Context.{is_same_name}
 use Rattle.model.specs.Directory.{number_named}
 use Rattle.model.specs.Files.{has_bytes, write}

@@ -1,7 +1,7 @@
 -- One operation is refused, or passes all its tests and has its effect.
 use Rattle.std.proofs.Common.{ℕ, Bool, true, false, [], ◌∷◌, ◌++◌, ◌≡◌, ◌⊎◌, ◌&&◌, not, inl, inr, refl, sym}
 use Rattle.std.specs.Prelude.{List, Option, Some, None}
-use Rattle.std.specs.List.{list_any, list_all}
+use Rattle.std.specs.List.{list_any}
 use Rattle.model.specs.declared.status.Status.{Status}
 use Rattle.model.specs.declared.status.Status.TheVariants as status
 use Rattle.model.specs.Charge.{fits}

@@ -1,9 +1,8 @@
 -- The laws of one operation.
-use Rattle.std.proofs.Common.{ℕ, Bool, true, false, List, [], ◌++◌, ◌≡◌, ◌≢◌, ◌+◌, ◌<◌, ◌≤◌, not, inl, inr, refl, sym, ap, ◌∙◌, subst, arith, ltb-true, lt-ltb, eqb, eq-eqb, ◌^◌, ◌∷◌, ◌⊎◌, ◌&&◌, ◌||◌, le-leb, is_some, length, bytes_eq, nat_lt}
+use Rattle.std.proofs.Common.{ℕ, Bool, true, false, List, [], ◌++◌, ◌≡◌, ◌+◌, ◌<◌, ◌≤◌, not, inl, inr, refl, sym, ap, ◌∙◌, subst, arith, ltb-true, lt-ltb, eqb, eq-eqb, ◌^◌, ◌∷◌, ◌⊎◌, ◌&&◌, ◌||◌, is_some, length, bytes_eq, nat_lt}
 use Rattle.std.specs.Prelude.{Option, Some, None}
 use Rattle.std.proofs.lemmas.Bool.{true≢false, cases_Bool}
 use Rattle.std.specs.Cmp.Lexicographic.{bytes_decides}
-use Rattle.model.specs.declared.acl.Ace.{Ace}
 use Rattle.model.specs.declared.node.NodeKind.TheVariants as kind
 use Rattle.model.specs.declared.status.Status.{Status}
 use Rattle.model.specs.declared.status.Status.TheVariants as status

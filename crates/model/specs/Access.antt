@@ -1,5 +1,5 @@
 -- ACCESS: RFC 8881, section 18.1. What each of its bits asks for of a mask is this server's profile.
-use Rattle.std.specs.Prelude.{ℕ, List, [], ◌∷◌, ◌+◌, ◌&&◌, ◌==◌, not, bit_and, sum, map, if◌then◌else◌, Option, Some, None}
+use Rattle.std.specs.Prelude.{ℕ, List, [], ◌∷◌, ◌+◌, ◌&&◌, sum, map, if◌then◌else◌, Option, Some, None}
 use Rattle.model.specs.declared.acl.Cred.{Cred}
 use Rattle.model.specs.declared.node.NodeKind.{NodeKind}
 use Rattle.model.specs.declared.node.NodeKind.TheVariants as kind

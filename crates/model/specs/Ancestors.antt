@@ -1,5 +1,5 @@
 -- A node's parent and ancestors: RFC 8881, sections 18.14 (LOOKUPP) and 18.26 (RENAME: no directory is moved below itself).
-use Rattle.std.specs.Prelude.{ℕ, zero, suc, Bool, List, [], ◌∷◌, ◌==◌, ◌≡◌, if◌then◌else◌, nat_lt, length, IsTrue}
+use Rattle.std.specs.Prelude.{ℕ, zero, suc, Bool, List, [], ◌∷◌, ◌==◌, if◌then◌else◌, nat_lt, length, IsTrue}
 use Rattle.std.specs.List.{list_any}
 use Rattle.model.specs.Keyed.{is_key}
 use Rattle.model.specs.Limits.{Limits}

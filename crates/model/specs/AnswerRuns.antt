@@ -1,6 +1,6 @@
 -- Over every run: nobody is answered what the lists deny him: RFC 8881, section 6.2.1. What was answered OK, a reading as well as
 -- a change, was permitted to its caller by the lists of the tree that it was answered from.
-use Rattle.std.specs.Prelude.{ℕ, ◌≡◌, true, Some, slice_get, IsTrue}
+use Rattle.std.specs.Prelude.{ℕ, ◌≡◌, Some, slice_get, IsTrue}
 use Rattle.model.specs.Need.{permitted}
 use Rattle.model.specs.Runs.{Event, Serving, History, IsRun, mounted, executed, done_with, is_done}
 use Rattle.model.specs.Tree.{Tree}

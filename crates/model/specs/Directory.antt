@@ -5,9 +5,8 @@ use Rattle.model.specs.declared.acl.Cred.{Cred}
 use Rattle.model.specs.declared.node.NodeKind.TheVariants as kind
 use Rattle.model.specs.Attribute.{is_empty, mode_given, acl_given}
 use Rattle.model.specs.Inherit.{created}
-use Rattle.model.specs.Keyed.{Keyed, at, with}
 use Rattle.model.specs.Operation.{Attributes}
-use Rattle.model.specs.Tree.{Tree, Node, DirEntry, Directory, names_of, names_at, entry_of}
+use Rattle.model.specs.Tree.{Tree, Node, DirEntry, Directory, names_at, entry_of}
 
 -- the number that a name leads to: 0, which no node has, where the directory lacks it
 abbrev pub number_of_entry : Option (ℕ × DirEntry) → ℕ

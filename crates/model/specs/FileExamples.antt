@@ -1,22 +1,16 @@
 -- Listing, attributes, opens, reading and writing worked out by hand, on a fresh volume of 256 sectors and 16 nodes in its first run.
-use Rattle.std.specs.Prelude.{ℕ, true, false, List, [], ◌∷◌, ◌++◌, ◌-◌, ◌^◌, Option, Some, None, ◌≡◌, map, length, replicate, codes}
-use Rattle.model.specs.declared.acl.Ace.{Ace}
-use Rattle.model.specs.declared.acl.AceKind.TheVariants as kind
-use Rattle.model.specs.declared.acl.Who.TheVariants as who
+use Rattle.std.specs.Prelude.{ℕ, true, false, List, [], ◌∷◌, ◌++◌, ◌^◌, None, ◌≡◌, map, replicate, codes}
 use Rattle.model.specs.declared.status.Status.{Status}
 use Rattle.model.specs.declared.status.Status.TheVariants as status
 use Rattle.model.specs.Answer.{Answer, Outcome, Entry}
 use Rattle.model.specs.Files.{bytes_at}
 use Rattle.model.specs.Fresh.{fresh_tree}
-use Rattle.model.specs.Keyed.{at, is_key}
 use Rattle.model.specs.Limits.{Limits}
-use Rattle.model.specs.Mode.{entry}
-use Rattle.model.specs.Opens.{no_opens}
 use Rattle.model.specs.Operation.{Argument, Attributes, NewDirectory, StateId, OpenType, NoCreate, Unchecked, Guarded, Claim, ByName, ByHandle, Opens, Exclusive}
 use Rattle.model.specs.StateIds.{zeros, closed_state}
-use Rattle.model.specs.Step.{State, Stepped, does}
-use Rattle.model.specs.StepExamples.{volume, caller, begun, outcomes, state_after, nothing_given, mode_given, make_a, with_a, made_a, at_root}
-use Rattle.model.specs.Tree.{Tree, names_at}
+use Rattle.model.specs.Step.{State, does}
+use Rattle.model.specs.StepExamples.{volume, caller, begun, outcomes, state_after, nothing_given, mode_given, with_a, at_root}
+use Rattle.model.specs.Tree.{names_at}
 use Rattle.model.specs.World.{status_of}
 
 abbrev pub statuses : Limits → State → List Argument → List Status

@@ -1,5 +1,5 @@
 -- READ, WRITE and COMMIT: RFC 8881, sections 18.22, 18.32 and 18.3. How many bytes one of them moves is this server's profile.
-use Rattle.std.specs.Prelude.{ℕ, Bool, true, false, [], ◌∷◌, List, ◌+◌, ◌==◌, ◌&&◌, not, nat_lt, nat_le, length, take, drop, min, if◌then◌else◌, Option, Some, None}
+use Rattle.std.specs.Prelude.{ℕ, Bool, true, false, [], ◌∷◌, List, ◌+◌, ◌==◌, ◌&&◌, nat_lt, nat_le, length, take, drop, min, if◌then◌else◌, Option, Some, None}
 use Rattle.std.specs.List.{list_all}
 use Rattle.std.specs.Int.{w64, to_be_bytes}
 use Rattle.model.specs.declared.status.Status.TheVariants as status

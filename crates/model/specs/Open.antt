@@ -1,6 +1,6 @@
 -- OPEN and CLOSE: RFC 8881, sections 18.16 and 18.2. The order of the tests, and that a share reservation is refused, are this
 -- server's profile; so is that an open grants no right.
-use Rattle.std.specs.Prelude.{ℕ, Bool, true, false, [], ◌∷◌, ◌++◌, List, ◌+◌, ◌==◌, ◌&&◌, ◌||◌, not, nat_lt, replicate, if◌then◌else◌, unwrap_or, Option, Some, None}
+use Rattle.std.specs.Prelude.{ℕ, Bool, true, false, [], ◌∷◌, ◌++◌, List, ◌==◌, ◌&&◌, ◌||◌, not, nat_lt, replicate, if◌then◌else◌, unwrap_or, Option, Some, None}
 use Rattle.model.specs.declared.acl.Ace.{Ace}
 use Rattle.model.specs.declared.acl.Cred.{Cred}
 use Rattle.model.specs.declared.node.NodeKind.TheVariants as kind
@@ -9,18 +9,17 @@ use Rattle.model.specs.Answer.{Answer}
 use Rattle.model.specs.Attribute.{attribute_refusals, settable_at_open, is_empty, trimmed, size_given, mode_given, acl_given}
 use Rattle.model.specs.Changes.{touch, made_edits}
 use Rattle.model.specs.Context.{Context, without_stateid}
-use Rattle.model.specs.Directory.{number_named, is_named, change_of, acl_of}
+use Rattle.model.specs.Directory.{number_named, change_of, acl_of}
 use Rattle.model.specs.Edit.{SetSize}
 use Rattle.model.specs.Inherit.{created}
 use Rattle.model.specs.Keyed.{at}
 use Rattle.model.specs.Limits.{Limits}
-use Rattle.model.specs.Name.{name_refusals}
 use Rattle.model.specs.Opens.{Open, Opens}
-use Rattle.model.specs.Operation.{Argument, Attributes, ChangeInfo, OpenArguments, OpenType, NoCreate, Unchecked, Guarded, Claim, ByName, ByHandle, OtherClaim, Opening, Opens as Opening_of, Exclusive, StateId, CloseArguments}
+use Rattle.model.specs.Operation.{Attributes, ChangeInfo, OpenArguments, OpenType, NoCreate, Unchecked, Guarded, ByName, ByHandle, OtherClaim, Opening, Opens as Opening_of, Exclusive, StateId, CloseArguments}
 use Rattle.model.specs.Refusal.{Refusals}
-use Rattle.model.specs.State.{State, Stepped, current, stamp_of, named_refusals, is_name_there, answered, refused, changed, change_to}
+use Rattle.model.specs.State.{State, Stepped, current, stamp_of, named_refusals, is_name_there, answered, changed, change_to}
 use Rattle.model.specs.StateIds.{Found, Anonymous, Refused, Names, found, close_refusals, new_open, opened, Opened, is_table_full, without_open, state_of, closed_state}
-use Rattle.model.specs.Tree.{Tree, Node, File, is_directory_at}
+use Rattle.model.specs.Tree.{Node, File, is_directory_at}
 
 -- What an opening asks
 

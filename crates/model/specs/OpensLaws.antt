@@ -1,5 +1,5 @@
 -- The opens of a run, as every operation on the tree keeps them: RFC 8881, sections 8.2 (stateids) and 18.16 (OPEN).
-use Rattle.std.specs.Prelude.{ℕ, ◌+◌, ◌≡◌, ◌≤◌, ◌<◌, Some, None, IsTrue, IsFalse, length}
+use Rattle.std.specs.Prelude.{ℕ, ◌+◌, ◌≡◌, ◌≤◌, Some, IsTrue, IsFalse, length}
 use Rattle.model.specs.Keyed.{at, is_key, IsAbove}
 use Rattle.model.specs.Limits.{Limits}
 use Rattle.model.specs.Opens.{Opens, Open}

@@ -1,18 +1,18 @@
 -- Each right of each operation: who has all rights is answered, and who lacks this one alone is answered ACCESS. RFC 8881, section
 -- 6.2.1.3.1. No law can tell which rights an operation asks for, so they stand here by name.
-use Rattle.std.specs.Prelude.{ℕ, true, List, [], ◌∷◌, ◌-◌, Option, Some, None, ◌≡◌, replicate}
+use Rattle.std.specs.Prelude.{ℕ, List, [], ◌∷◌, ◌-◌, Some, None, ◌≡◌, replicate}
 use Rattle.model.specs.declared.acl.Ace.{Ace}
 use Rattle.model.specs.declared.acl.AceKind.TheVariants as kind
 use Rattle.model.specs.declared.acl.Who.TheVariants as who
 use Rattle.model.specs.declared.status.Status.{Status}
 use Rattle.model.specs.declared.status.Status.TheVariants as status
 use Rattle.model.specs.Acl.{read_data, write_data, append_data, execute, delete_child, delete, read_acl, write_acl, write_owner, every_right}
-use Rattle.model.specs.Limits.{Limits, limits_of}
+use Rattle.model.specs.Limits.{limits_of}
 use Rattle.model.specs.Mode.{entry}
 use Rattle.model.specs.Opens.{no_opens}
 use Rattle.model.specs.Operation.{Argument, Attributes, NewDirectory, StateId, OpenType, NoCreate, Unchecked, Guarded, ByName, ByHandle, Claim, Opens}
 use Rattle.model.specs.StateIds.{zeros}
-use Rattle.model.specs.Step.{State, does}
+use Rattle.model.specs.Step.{does}
 use Rattle.model.specs.Tree.{Tree, Node, Content, File, Directory}
 use Rattle.model.specs.World.{status_of}
 

@@ -1,6 +1,6 @@
 -- SETATTR and GETATTR: RFC 8881, sections 18.30 and 18.7. A list that is set with a mode stands; the order of the tests is this
 -- server's profile.
-use Rattle.std.specs.Prelude.{ℕ, Bool, true, false, [], ◌∷◌, ◌++◌, List, ◌||◌, not, Option, Some, None, unwrap_or, if◌then◌else◌, is_some}
+use Rattle.std.specs.Prelude.{ℕ, Bool, true, false, [], ◌∷◌, ◌++◌, List, not, Option, Some, None, unwrap_or, if◌then◌else◌, is_some}
 use Rattle.model.specs.declared.acl.Ace.{Ace}
 use Rattle.model.specs.declared.node.NodeKind.{NodeKind}
 use Rattle.model.specs.declared.node.NodeKind.TheVariants as kind
@@ -13,7 +13,7 @@ use Rattle.model.specs.Keyed.{at}
 use Rattle.model.specs.Limits.{Limits}
 use Rattle.model.specs.Mode.{moded}
 use Rattle.model.specs.NodeAttributes.{node_attributes}
-use Rattle.model.specs.Operation.{Attributes, StateId, SetAttrArguments}
+use Rattle.model.specs.Operation.{Attributes, SetAttrArguments}
 use Rattle.model.specs.Refusal.{Refusals}
 use Rattle.model.specs.State.{State, Stepped, current, stamp_of, answered, changed}
 use Rattle.model.specs.StateIds.{state_refusals, write_access}

@@ -1,5 +1,5 @@
 -- What an operation of a COMPOUND works on and leaves: RFC 8881, section 16.2.3.1.
-use Rattle.std.specs.Prelude.{ℕ, Bool, true, [], ◌∷◌, ◌++◌, List, ◌+◌, not, Option, Some}
+use Rattle.std.specs.Prelude.{ℕ, Bool, true, [], ◌∷◌, List, ◌+◌, not}
 use Rattle.model.specs.declared.status.Status.{Status}
 use Rattle.model.specs.declared.status.Status.TheVariants as status
 use Rattle.model.specs.Answer.{Answer, Outcome}

@@ -1,13 +1,13 @@
 -- One operation of a COMPOUND on the tree: RFC 8881, sections 16.2 and 18. It is refused by the first of its tests that holds,
 -- and then changes nothing. The order of the tests is this server's profile: what an operation looks at before the caller's
 -- rights, the rights, what it looks at after them, room on the volume, and whether a stamp is left.
-use Rattle.std.specs.Prelude.{ℕ, Bool, true, false, List, [], ◌∷◌, ◌++◌, Option, Some, None, ◌&&◌, ◌||◌, ◌==◌, not, is_none, if◌then◌else◌}
+use Rattle.std.specs.Prelude.{ℕ, Bool, true, false, List, [], ◌∷◌, ◌++◌, Option, Some, None, ◌&&◌, ◌||◌, ◌==◌, not, if◌then◌else◌}
 use Rattle.model.specs.declared.node.NodeKind.TheVariants as kind
 use Rattle.model.specs.declared.status.Status.{Status}
 use Rattle.model.specs.declared.status.Status.TheVariants as status
 use Rattle.model.specs.Access.{access_of}
 use Rattle.model.specs.Ancestors.{parent_of}
-use Rattle.model.specs.Answer.{Answer, Outcome}
+use Rattle.model.specs.Answer.{Answer}
 use Rattle.model.specs.Attribute.{trimmed, attribute_refusals, settable_at_creation}
 use Rattle.model.specs.Changes.{made_edits}
 use Rattle.model.specs.Charge.{fits}

@@ -1,5 +1,5 @@
 -- Lists that are seen as maps by their keys.
-use Rattle.std.proofs.Common.{ℕ, suc, zero, Bool, true, false, cond, not, List, [], ◌∷◌, ◌++◌, ◌≡◌, ◌≢◌, ◌+◌, ◌<◌, ◌≤◌, ◌==◌, ◌||◌, Result, Ok, Err, length, get_or, set, map, filter, refl, sym, ap, subst, ◌∙◌, arith, eqb, eq-eqb, ne_eqb, le-ltb}
+use Rattle.std.proofs.Common.{ℕ, suc, zero, Bool, true, false, cond, not, List, [], ◌∷◌, ◌++◌, ◌≡◌, ◌≢◌, ◌<◌, ◌≤◌, ◌==◌, ◌||◌, Result, Ok, Err, length, get_or, set, map, filter, refl, sym, ap, subst, ◌∙◌, arith, eq-eqb, ne_eqb, le-ltb}
 use Rattle.std.specs.List.{All, AllPairs, list_any}
 use Rattle.std.specs.Result.{is_ok, is_err}
 use Rattle.std.proofs.lemmas.List.Elements.{All-filter}

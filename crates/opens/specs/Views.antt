@@ -1,5 +1,5 @@
 -- What the opens of the code stand for.
-use Rattle.std.specs.Prelude.{ℕ, ◌≡◌, ◌<◌, List, map, drop, find, length, slice_index_or, Option, Some, false}
+use Rattle.std.specs.Prelude.{ℕ, ◌≡◌, ◌<◌, List, map, drop, find, length, slice_index_or, Some, false}
 use Rattle.std.specs.Int.{w64, from_be_bytes}
 use Rattle.std.specs.Option.{option_map}
 use Rattle.std.specs.Vec.{vec_len, vec_capacity}

@@ -1,11 +1,11 @@
 -- A volume that serves, over a transaction that goes into its journal.
-use Rattle.std.proofs.Common.{◌≡◌, ◌≤◌, ◌<◌, ◌+◌, ◌⊎◌, ℕ, Bool, true, false, zero, suc, List, [], ◌∷◌, ◌++◌, Option, length, take, inl, inr, ⊎_elim, refl, sym, ap, ◌∙◌, subst, arith, true≢false}
+use Rattle.std.proofs.Common.{◌≡◌, ◌≤◌, ◌⊎◌, ℕ, Bool, true, false, suc, List, [], ◌∷◌, Option, length, take, inl, inr, ⊎_elim, refl, sym, ap, ◌∙◌, subst, arith, true≢false}
 use Rattle.std.proofs.Math.Logic.{∥∥₁_map, ∥∥₁_elim, ∥∥₁_prop}
 use Rattle.std.specs.List.{IsAmong}
-use Rattle.std.specs.Prelude.{Result, Err}
+use Rattle.std.specs.Prelude.{Err}
 use Rattle.disk.specs.Cause.{IsCounted}
 use Rattle.disk.specs.declared.update.Update.{Update}
-use Rattle.disk.specs.Moments.{Image, Left, applied}
+use Rattle.disk.specs.Moments.{Image, applied}
 use Rattle.journal.specs.Calls.{IsSafe, HasApplied, list_with}
 use Rattle.journal.specs.Log.{Log, IsSettled, Moved, contents, applied_all, Answers}
 use Rattle.journal.specs.Settled.{AreSame}
@@ -16,13 +16,13 @@ use Rattle.journal.proofs.Joins.{front_moved, moved_contents}
 use Rattle.layout.specs.Cards.{Card, tree_of, cards_in}
 use Rattle.model.specs.declared.limits.Limits.{Limits}
 use Rattle.model.specs.Tree.{Tree}
-use Rattle.volume.specs.Changes.{Given, Done, Nothing, Broken, Changes, ending_of}
-use Rattle.volume.specs.Held.{Held, IsSameVolume, IsRecent, MayAdd, AddsTrees, fronts_from}
+use Rattle.volume.specs.Changes.{Given, Done, Broken, Changes, ending_of}
+use Rattle.volume.specs.Held.{Held, IsRecent, AddsTrees, fronts_from}
 use Rattle.volume.specs.Known.{IsServing}
 use Rattle.volume.specs.Refusals.{fault_of}
 use Rattle.volume.specs.Stands.{Stands}
 use Rattle.volume.specs.Volumes.{held_by}
-use Rattle.volume.proofs.FrontLaws.{among_rest, among_more, applied_recent, front_among}
+use Rattle.volume.proofs.FrontLaws.{among_more, applied_recent, front_among}
 use Rattle.volume.proofs.ServeLaws.{flush_adds, still_serving, tree_same}
 use Rattle.volume.proofs.OneTree.{Tree-set}
 use Rattle.volume.proofs.StandLaws.{stands_same}

@@ -1,5 +1,5 @@
 -- A volume that was just formatted.
-use Rattle.std.proofs.Common.{ℕ, [], ◌∷◌, ◌≡◌, ◌≢◌, ◌≤◌, ◌<◌, ◌+◌, ◌⊎◌, ◌∙◌, inl, inr, refl, sym, arith, false, if◌then◌else◌, List, Bool, ap, eqb}
+use Rattle.std.proofs.Common.{ℕ, [], ◌∷◌, ◌≡◌, ◌≢◌, ◌<◌, ◌+◌, ◌⊎◌, ◌∙◌, inl, inr, refl, sym, arith, false, if◌then◌else◌, List, Bool, ap, eqb}
 use Rattle.std.proofs.lemmas.Bool.{ne_eqb}
 use Rattle.std.specs.Prelude.{IsTrue, Result, Ok, Err, OnOk, is_err}
 use Rattle.disk.specs.Calls.{zero_sector}
@@ -18,7 +18,7 @@ use Rattle.model.specs.Fresh.{fresh_tree}
 use Rattle.volume.specs.Formats.{root_update}
 use Rattle.volume.specs.Stands.{Stands, StandsFor}
 use Rattle.volume.specs.Superblock.{superblock}
-use Rattle.volume.proofs.StandLaws.{sized, large}
+use Rattle.volume.proofs.StandLaws.{sized}
 
 abbrev new_volume : (sectors nodes : ℕ) → Image
 new_volume sectors nodes = formatted (superblock sectors nodes 0) (root_update ∷ [])

@@ -1,5 +1,5 @@
 -- A change, and a flush after it.
-use Rattle.std.proofs.Common.{◌≡◌, ◌≤◌, ◌<◌, ◌^◌, ◌-◌, ◌⊎◌, ◌↔◌, ℕ, Bool, true, false, List, inl, inr, ⊎_elim, refl, sym, ap, ◌∙◌, subst, arith, true≢false}
+use Rattle.std.proofs.Common.{◌≡◌, ◌≤◌, ◌⊎◌, ◌↔◌, ℕ, Bool, true, false, List, inl, inr, ⊎_elim, refl, sym, ap, ◌∙◌, subst, arith, true≢false}
 use Rattle.std.proofs.lemmas.Bool.{cases_lt}
 use Rattle.std.specs.List.{IsAmong}
 use Rattle.std.specs.Prelude.{Result, Ok, Err, IfErr, IsErrOf}
@@ -8,7 +8,7 @@ use Rattle.disk.specs.Moments.{Image}
 use Rattle.journal.proofs.Moments.{AddsOnly-join, AddsOnly-weaken}
 use Rattle.model.specs.Tree.{Tree}
 use Rattle.volume.specs.Changes.{Ending, Done, Nothing, Broken, IsTree, Changes, ending_of}
-use Rattle.volume.specs.Held.{Held, IsSameVolume, IsRecent, StandsForOne, MayAdd, AddsTrees}
+use Rattle.volume.specs.Held.{Held, IsSameVolume, StandsForOne, MayAdd, AddsTrees}
 use Rattle.volume.specs.Stands.{StandsFor}
 use Rattle.volume.specs.declared.fault.VolumeFault.{VolumeFault}
 use Rattle.volume.specs.declared.fault.VolumeFault.TheVariants as faults

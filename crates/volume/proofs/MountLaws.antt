@@ -1,21 +1,19 @@
 -- A restart count that is raised.
-use Rattle.std.proofs.Common.{ℕ, List, [], ◌∷◌, Option, ◌≡◌, ◌≤◌, ◌+◌, ◌<◌, ◌⊎◌, ◌^◌, inl, inr, refl, sym, ap, ap₂, ◌∙◌, subst, arith}
+use Rattle.std.proofs.Common.{ℕ, [], ◌∷◌, ◌≡◌, ◌≤◌, ◌+◌, ◌<◌, ◌⊎◌, ◌^◌, inl, inr, refl, sym, ap, ◌∙◌, subst, arith}
 use Rattle.disk.specs.declared.update.Update.{Update}
 use Rattle.disk.specs.Moments.{Image, History, AddsOnly, put, applied}
 use Rattle.journal.specs.Commit.{AddsEither}
 use Rattle.journal.specs.Settled.{Settles, AreSame}
 use Rattle.journal.proofs.Images.{put_same, put_other}
 use Rattle.journal.proofs.Moments.{AddsOnly-weaken}
-use Rattle.layout.specs.Cards.{Card, tree_of, cards_in}
+use Rattle.layout.specs.Cards.{tree_of, cards_in}
 use Rattle.layout.specs.Stands.{version_1, IsLaid}
 use Rattle.layout.proofs.MarkProofs.{kept_alone}
 use Rattle.model.specs.Stamp.{stamp}
 use Rattle.model.specs.Tree.{Tree}
 use Rattle.model.specs.WellFormed.{IsBefore}
-use Rattle.volume.specs.Mounts.{StandsOn, StandsForEither}
 use Rattle.volume.specs.Stands.{Stands, StandsFor}
 use Rattle.volume.specs.Superblock.{superblock}
-use Rattle.volume.specs.declared.mount.Superblock.{Superblock}
 use Rattle.volume.proofs.StandLaws.{sized, stands_same}
 
 abbrev pub first_update : (sectors nodes run : ℕ) → Update

@@ -1,20 +1,18 @@
 -- A volume that serves, over a flush of its journal.
-use Rattle.std.proofs.Common.{◌≡◌, ◌≤◌, ◌<◌, ◌+◌, ◌⊎◌, ℕ, Bool, true, false, List, [], ◌∷◌, Option, Some, None, zero, suc, take, length, inl, inr, ⊎_elim, refl, sym, ap, ◌∙◌, subst, arith}
+use Rattle.std.proofs.Common.{◌≡◌, ◌≤◌, ◌<◌, ◌⊎◌, ℕ, Bool, true, false, List, [], ◌∷◌, Option, Some, None, zero, suc, take, length, inl, inr, ⊎_elim, refl, sym, ap, ◌∙◌, subst, arith}
 use Rattle.std.proofs.Math.Logic.{∥∥₁_map, ∥∥₁_elim, ∥∥₁_prop}
-use Rattle.std.proofs.Props.{props}
 use Rattle.std.specs.List.{IsAmong}
 use Rattle.std.specs.Result.{IsErrAnd}
-use Rattle.std.specs.Prelude.{IsTrue, IfSome, IfErr, OnOk, IsErrOf, Result, Ok, Err, get_or}
+use Rattle.std.specs.Prelude.{IfSome, IfErr, OnOk, Result, Ok, Err, get_or}
 use Rattle.disk.specs.Cause.{IsCounted}
-use Rattle.disk.specs.Moments.{Image, History, AddsOnly, Left}
+use Rattle.disk.specs.Moments.{Image}
 use Rattle.journal.specs.Calls.{IsSafe, HasFlushed}
 use Rattle.journal.specs.Log.{Log, IsSettled, StandsForFront, contents, applied_all, AddsFronts, Answers}
-use Rattle.journal.specs.Settled.{AreSame, Settles}
+use Rattle.journal.specs.Settled.{AreSame}
 use Rattle.journal.proofs.Moments.{AddsOnly-weaken}
 use Rattle.layout.specs.Cards.{Card, tree_of, cards_in}
 use Rattle.layout.specs.MarkLaws.{SeesSame}
 use Rattle.layout.specs.Stands.{version_1}
-use Rattle.layout.specs.Superblock.{is_size}
 use Rattle.layout.proofs.MarkProofs.{kept_alone}
 use Rattle.model.specs.declared.limits.Limits.{Limits}
 use Rattle.model.specs.Tree.{Tree}
@@ -22,7 +20,7 @@ use Rattle.journal.specs.declared.fault.JournalFault.{JournalFault}
 use Rattle.journal.specs.declared.fault.JournalFault.TheVariants as faults
 use Rattle.volume.specs.Changes.{Done, Nothing, Broken, IsTree, Changes, ending_of}
 use Rattle.volume.specs.Refusals.{fault_of}
-use Rattle.volume.specs.Held.{Held, IsSameVolume, IsRecent, Holds, MayAdd, StandsForOne, AddsTrees, fronts_from}
+use Rattle.volume.specs.Held.{Held, IsSameVolume, Holds, MayAdd, StandsForOne, AddsTrees, fronts_from}
 use Rattle.volume.specs.Known.{IsServing}
 use Rattle.volume.specs.Stands.{Stands}
 use Rattle.volume.specs.Volumes.{held_by}

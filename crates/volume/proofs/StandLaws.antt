@@ -1,5 +1,5 @@
 -- What a stop leaves of a volume, by its base alone: no sector of the journal's own is looked at.
-use Rattle.std.proofs.Common.{ℕ, ◌≡◌, ◌≤◌, ◌<◌, ◌+◌, ◌^◌, inl, inr, refl, rules, arith, sym}
+use Rattle.std.proofs.Common.{ℕ, ◌≤◌, inl, inr, refl, rules, arith, sym}
 use Rattle.std.specs.Prelude.{IsTrue}
 use Rattle.disk.specs.Moments.{Image}
 use Rattle.journal.specs.Settled.{AreSame}

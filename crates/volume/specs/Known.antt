@@ -1,11 +1,10 @@
 -- What a volume keeps in memory, and what it has of its sectors.
-use Rattle.std.specs.Prelude.{◌≡◌, ◌≤◌, ◌<◌, ◌+◌, ℕ, Bool, false, List, Option, length}
+use Rattle.std.specs.Prelude.{◌≡◌, ◌+◌, ℕ, Bool, List, Option, length}
 use Rattle.journal.specs.Log.{Log, IsSettled, contents}
 use Rattle.layout.specs.Cards.{Card, tree_of, cards_in}
 use Rattle.layout.specs.Known.{AreCards}
 use Rattle.layout.specs.Marks.{mark_by}
 use Rattle.layout.specs.Stands.{version_1, HaveForms}
-use Rattle.model.specs.declared.limits.Limits.{Limits}
 use Rattle.volume.specs.Stands.{Stands}
 
 -- on any device: cards, and the set of places that they name, which are those of the whole data

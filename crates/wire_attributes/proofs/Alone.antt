@@ -1,5 +1,5 @@
 -- A write with nothing after it.
-use Rattle.std.proofs.Common.{◌≡◌, ℕ, List, [], ◌++◌, Result, sym, subst}
+use Rattle.std.proofs.Common.{ℕ, List, [], ◌++◌, Result, sym, subst}
 use Rattle.std.proofs.lemmas.List.{append-nil}
 use Rattle.xdr.specs.declared.refusal.Refusal.{Refusal}
 use Rattle.xdr.specs.Clauses.{Written, Wrote}

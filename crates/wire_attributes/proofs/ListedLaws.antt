@@ -1,7 +1,7 @@
 -- How entries of a directory are spelled.
-use Rattle.std.proofs.Common.{◌≡◌, ℕ, ◌+◌, List, [], ◌∷◌, ◌++◌, length, refl, ap, ◌∙◌, arith}
+use Rattle.std.proofs.Common.{◌≡◌, ℕ, ◌+◌, List, [], ◌∷◌, ◌++◌, length, arith}
 use Rattle.std.specs.Int.{w32, w64}
-use Rattle.std.proofs.lemmas.List.{append-nil, length-append}
+use Rattle.std.proofs.lemmas.List.{length-append}
 use Rattle.xdr.specs.Grammar.{number}
 use Rattle.xdr.specs.Forms.{counted, elements}
 use Rattle.xdr.proofs.Sizes.{int_length, hyper_length, elements_length, counted_length}

@@ -1,5 +1,5 @@
 -- An entry of a directory, as READDIR answers it.
-use Rattle.std.specs.Prelude.{ℕ, ◌≤◌, ◌<◌, ◌^◌, List, [], length}
+use Rattle.std.specs.Prelude.{◌≤◌, [], length}
 use Rattle.model.specs.Answer as answer
 use Rattle.model.specs.NodeAttributes.{unreadable}
 use Rattle.model.specs.Operation as operation

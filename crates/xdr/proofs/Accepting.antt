@@ -1,8 +1,6 @@
 -- A reader that gives what an exact grammar reads takes exactly its spellings.
-use Rattle.std.proofs.Common.{◌≡◌, ℕ, List, ◌++◌, Result, Ok, Err, sym, ap, ◌∙◌, inl, inr}
-use Rattle.std.specs.Prelude.{◌⊎◌}
+use Rattle.std.proofs.Common.{◌≡◌, ℕ, List, Result, Ok, Err, sym, ap, ◌∙◌, inl, inr}
 use Rattle.xdr.specs.declared.refusal.Refusal.{Refusal}
-use Rattle.xdr.specs.declared.refusal.Refusal.TheVariants.{Memory}
 use Rattle.xdr.specs.Grammar.{Grammar}
 use Rattle.xdr.specs.Laws.{IsBytes, Exact}
 use Rattle.xdr.specs.Clauses.{Reads, Accepts, NoFront}

@@ -1,12 +1,12 @@
 -- Arrays, optional values and chains of what an exact grammar reads.
-use Rattle.std.proofs.Common.{◌≡◌, ℕ, zero, suc, ◌+◌, ◌^◌, ◌<◌, ◌≤◌, Bool, true, false, cond, eqb, ltb, List, [], ◌∷◌, ◌++◌, length, Option, Some, None, Result, Ok, Err, refl, sym, ap, subst, ◌∙◌, inl, inr, append_assoc, arith}
+use Rattle.std.proofs.Common.{◌≡◌, ℕ, zero, suc, ◌^◌, ◌<◌, ◌≤◌, Bool, true, false, cond, eqb, ltb, List, [], ◌∷◌, ◌++◌, length, Option, Some, None, Result, Ok, Err, refl, sym, ap, subst, ◌∙◌, inl, inr, append_assoc, arith}
 use Rattle.std.specs.Int.{w32}
 use Rattle.std.specs.List.{flat_map, AllByRecursion}
 use Rattle.std.proofs.lemmas.Bool.{ltb-false, le-ltb, eqb-true}
 use Rattle.std.proofs.lemmas.List.{length-append}
 use Rattle.std.proofs.lemmas.List.Concat.{flat_map-cons}
 use Rattle.xdr.specs.declared.refusal.Refusal.{Refusal}
-use Rattle.xdr.specs.declared.refusal.Refusal.TheVariants.{Short, Value, Long}
+use Rattle.xdr.specs.declared.refusal.Refusal.TheVariants.{Long}
 use Rattle.xdr.specs.Grammar.{Grammar, ◌>>=◌, number, number_at, unsigned_int}
 use Rattle.xdr.specs.Forms.{each_at, elements, elements_at, array, one_at_most, optional, optional_text, OptionalFits, truth_at, links, links_at, chain, bitmap, trimmed_bitmap, is_trimmed}
 use Rattle.xdr.specs.Laws.{IsBytes, Exact}

@@ -1,11 +1,10 @@
 -- Opaque data: what is read is padded with zeros, and what was padded is read.
-use Rattle.std.proofs.Common.{◌≡◌, ℕ, zero, suc, ◌+◌, ◌-◌, ◌%◌, ◌^◌, ◌<◌, ◌≤◌, Bool, true, false, cond, eqb, ltb, List, [], ◌∷◌, ◌++◌, length, take, drop, replicate, Result, Ok, Err, refl, sym, ap, subst, ◌∙◌, append_assoc, arith}
+use Rattle.std.proofs.Common.{◌≡◌, ℕ, zero, suc, ◌+◌, ◌^◌, ◌<◌, ◌≤◌, true, false, cond, eqb, ltb, List, [], ◌∷◌, ◌++◌, length, take, drop, replicate, Ok, Err, refl, sym, ap, subst, ◌∙◌, append_assoc, arith}
 use Rattle.std.specs.Int.{w32}
 use Rattle.std.proofs.lemmas.Bool.{ltb-false, le-ltb, eqb-true, and_parts}
-use Rattle.std.proofs.lemmas.List.{take_at, drop_at, drop-drop, take-append-drop, length-append, length-take, length-drop, length-replicate, length-take-le}
-use Rattle.xdr.specs.declared.refusal.Refusal.{Refusal}
+use Rattle.std.proofs.lemmas.List.{take_at, drop_at, drop-drop, take-append-drop, length-append, length-drop, length-replicate, length-take-le}
 use Rattle.xdr.specs.declared.refusal.Refusal.TheVariants.{Short, Value, Long}
-use Rattle.xdr.specs.Grammar.{Grammar, ◌>>=◌, number, number_at}
+use Rattle.xdr.specs.Grammar.{number, number_at}
 use Rattle.xdr.specs.Forms.{padding, padded, are_zeros, padded_at, fixed_opaque, counted, counted_at, opaque}
 use Rattle.xdr.specs.Laws.{IsBytes, Exact}
 use Rattle.xdr.proofs.Steps.{bind_ok, guard_ok, pass_ok, ok_is}

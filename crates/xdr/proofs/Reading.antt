@@ -1,12 +1,11 @@
 -- What the readers of numbers and of opaque data find.
-use Rattle.std.proofs.Common.{◌≡◌, ◌≢◌, ℕ, ◌+◌, ◌-◌, ◌%◌, ◌^◌, ◌<◌, ◌≤◌, Bool, true, false, cond, ltb, eqb, List, [], ◌∷◌, ◌++◌, length, take, drop, Result, Ok, Err, refl, sym, ap, subst, ◌∙◌, arith}
-use Rattle.std.specs.Int.{w32, w64, byte_len, from_be_bytes}
+use Rattle.std.proofs.Common.{◌≡◌, ℕ, ◌+◌, ◌-◌, ◌<◌, ◌≤◌, true, false, ltb, List, length, take, drop, Ok, Err, refl, sym, ap, ◌∙◌, arith}
+use Rattle.std.specs.Int.{w32, w64, from_be_bytes}
 use Rattle.std.proofs.lemmas.Bool.{lt-ltb, le-ltb}
-use Rattle.std.proofs.lemmas.List.{length-take, length-drop, drop-drop}
+use Rattle.std.proofs.lemmas.List.{length-drop, drop-drop}
 use Rattle.byteorder.specs.Endian.{big_number, big_from}
 use Rattle.byteorder.specs.Numbers.{big_from-take}
-use Rattle.xdr.specs.declared.refusal.Refusal.{Refusal}
-use Rattle.xdr.specs.declared.refusal.Refusal.TheVariants.{Short, Value, Long}
+use Rattle.xdr.specs.declared.refusal.Refusal.TheVariants.{Short, Value}
 use Rattle.xdr.specs.Grammar.{number_at}
 use Rattle.xdr.specs.Forms.{padding, are_zeros, padded_at}
 use Rattle.xdr.proofs.Opaques.{padded_takes}

@@ -1,6 +1,5 @@
 -- A sequence of exact grammars is exact, and so is one under other names.
-use Rattle.std.proofs.Common.{◌≡◌, ℕ, List, [], ◌∷◌, ◌++◌, Result, Ok, Err, refl, sym, ap, subst, ◌∙◌, append_assoc}
-use Rattle.xdr.specs.declared.refusal.Refusal.{Refusal}
+use Rattle.std.proofs.Common.{◌≡◌, ℕ, List, ◌++◌, Ok, refl, sym, ap, subst, ◌∙◌, append_assoc}
 use Rattle.xdr.specs.Grammar.{Grammar, ◌>>=◌, ◌&◌, void, of}
 use Rattle.xdr.specs.Laws.{IsBytes, Exact, OneSpelling}
 use Rattle.xdr.proofs.Steps.{bind_ok, ok_is, IsBytes-behind}

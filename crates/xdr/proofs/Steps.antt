@@ -1,7 +1,7 @@
 -- Steps that did not fail, and what is left of bytes.
-use Rattle.std.proofs.Common.{◌≡◌, ℕ, ◌+◌, ◌<◌, ◌≤◌, Bool, true, false, cond, List, ◌++◌, ◌⊎◌, ◌∙◌, length, get_or, take, drop, Result, Ok, Err, refl, ap, arith, inl, inr}
+use Rattle.std.proofs.Common.{◌≡◌, ℕ, ◌+◌, Bool, true, false, cond, List, ◌++◌, ◌⊎◌, ◌∙◌, length, get_or, take, drop, Result, Ok, Err, refl, ap, arith, inl, inr}
 use Rattle.std.proofs.lemmas.Bool.{cases_lt}
-use Rattle.std.proofs.lemmas.List.{length-take, get_or-drop, get_or-take, get_or_past, get_or-append-add, get_or_append_left}
+use Rattle.std.proofs.lemmas.List.{length-take, get_or-drop, get_or-take, get_or_past, get_or-append-add}
 use Rattle.xdr.specs.declared.refusal.Refusal.{Refusal}
 use Rattle.xdr.specs.Grammar.{◌>>=◌}
 use Rattle.xdr.specs.Laws.{IsBytes}

@@ -1,10 +1,9 @@
 -- A union of exact forms is exact.
-use Rattle.std.proofs.Common.{◌≡◌, ◌≢◌, ℕ, ◌^◌, ◌<◌, Bool, true, false, cond, eqb, ltb, List, [], ◌++◌, Result, Ok, Err, refl, sym, ap, subst, ◌∙◌, inl, inr, append_assoc}
+use Rattle.std.proofs.Common.{◌≡◌, ◌≢◌, ℕ, ◌^◌, ◌<◌, eqb, ltb, List, [], ◌++◌, Ok, refl, sym, ap, subst, ◌∙◌, inl, inr, append_assoc}
 use Rattle.std.specs.Int.{w32}
 use Rattle.std.proofs.lemmas.Bool.{eqb-true, eqb-false, ltb-true}
-use Rattle.xdr.specs.declared.refusal.Refusal.{Refusal}
 use Rattle.xdr.specs.declared.refusal.Refusal.TheVariants.{Value}
-use Rattle.xdr.specs.Grammar.{Grammar, ◌>>=◌, number, number_at}
+use Rattle.xdr.specs.Grammar.{Grammar, number, number_at}
 use Rattle.xdr.specs.Union.{Told, tells, Choice, made, on, no_other, any_other, other_below, union}
 use Rattle.xdr.specs.Laws.{IsBytes, Exact}
 use Rattle.xdr.proofs.Steps.{bind_ok, pass_ok, chosen, ok_is, IsBytes-behind}

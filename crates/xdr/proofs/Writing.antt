@@ -1,13 +1,11 @@
 -- What follows what: one write after the other.
-use Rattle.std.proofs.Common.{◌≡◌, ℕ, ◌+◌, ◌<◌, ◌≤◌, List, [], ◌++◌, length, get_or, drop, ◌∷◌, Result, Ok, Err, refl, sym, ap, subst, ◌∙◌, take, replicate, append_assoc, arith}
-use Rattle.std.specs.Prelude.{OnOk, OnErr, IfErr}
+use Rattle.std.proofs.Common.{◌≡◌, ℕ, ◌+◌, ◌<◌, List, [], ◌++◌, length, get_or, drop, ◌∷◌, Result, Ok, Err, refl, sym, ap, subst, ◌∙◌, take, replicate, append_assoc, arith}
+use Rattle.std.specs.Prelude.{OnOk, OnErr}
 use Rattle.std.specs.Result.{IsErrAnd}
 use Rattle.std.specs.List.{flat_map}
 use Rattle.std.proofs.lemmas.List.{append-nil, length-append, take_at, take-replicate, take_more, drop_more, take-append-drop}
 use Rattle.std.proofs.lemmas.Grind.{flat_map-append}
-use Rattle.std.proofs.lemmas.Result.{err_from_is_err_and}
 use Rattle.xdr.specs.declared.refusal.Refusal.{Refusal}
-use Rattle.xdr.specs.declared.refusal.Refusal.TheVariants.{Memory}
 use Rattle.xdr.specs.Forms.{padding, padded}
 use Rattle.xdr.specs.Clauses.{BeginsWith, Written, Wrote}
 

@@ -1,6 +1,5 @@
-use Rattle.std.proofs.Common.{◌≡◌, List, Some, length, sym, ap, ◌∙◌, subst, ◌<◌}
+use Rattle.std.proofs.Common.{◌≡◌, Some}
 use Rattle.std.specs.Prelude.{map}
-use Rattle.wire.specs.declared.outcome.Outcome.{Outcome}
 use Rattle.wire.specs.OutcomeView.{outcome_view}
 use Rattle.client.specs.Replies.{ending}
 use Rattle.client.proofs.Ending.{some_left}

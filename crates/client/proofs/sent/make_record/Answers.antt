@@ -1,4 +1,4 @@
-use Rattle.std.proofs.Common.{◌≡◌, ◌++◌, ◌∙◌, ℕ, List, ap, true, false}
+use Rattle.std.proofs.Common.{◌≡◌, ◌++◌, ◌∙◌, ℕ, List, ap, false}
 use Rattle.std.specs.Prelude.{map}
 use Rattle.std.specs.Option.{option_map}
 use Rattle.model.specs.Operation.{operation_of}

@@ -1,4 +1,4 @@
-use Rattle.std.proofs.Common.{◌≡◌, ap, sym}
+use Rattle.std.proofs.Common.{ap, sym}
 use Rattle.std.specs.Prelude.{Err}
 use Rattle.inode.specs.Fields.{fields_of}
 use Rattle.scan.specs.declared.fault.ScanFault.{ScanFault}

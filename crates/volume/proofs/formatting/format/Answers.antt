@@ -1,10 +1,9 @@
-use Rattle.std.proofs.Common.{ℕ, List, [], ◌∷◌, ◌≡◌, ◌∙◌, ap, sym, subst}
+use Rattle.std.proofs.Common.{ℕ, List, [], ◌∷◌, ◌∙◌, ap, sym, subst}
 use Rattle.std.specs.Prelude.{IsTrue}
 use Rattle.disk.specs.declared.update.Update.{Update}
 use Rattle.journal.specs.Format.{AddsFormats, IsFormatted}
 use Rattle.journal.specs.Layout.{AreTargets, targets}
 use Rattle.layout.specs.Superblock.{is_size}
-use Rattle.volume.specs.Formats.{root_update}
 use Rattle.volume.specs.Superblock.{superblock}
 use Rattle.volume.proofs.FormatLaws.{root_fits, format_moments, format_stands, on_ok}
 use Rattle.volume.proofs.formatting.format.Goals as goal

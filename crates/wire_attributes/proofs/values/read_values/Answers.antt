@@ -1,4 +1,4 @@
-use Rattle.std.proofs.Common.{◌≡◌, ◌≢◌, map, length, rules}
+use Rattle.std.proofs.Common.{◌≡◌, map, length, rules}
 use Rattle.wire_attributes.specs.Views.{value_view}
 use Rattle.model.proofs.AttributeExact.{are_values}
 use Rattle.wire_attributes.proofs.values.read_values.Goals as goal

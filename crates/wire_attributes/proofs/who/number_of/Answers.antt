@@ -1,6 +1,5 @@
-use Rattle.std.proofs.Common.{rules, ◌≡◌, ◌≢◌, ℕ, ◌<◌, ◌^◌}
+use Rattle.std.proofs.Common.{rules, ◌≡◌}
 use Rattle.std.specs.Prelude.{decimal}
-use Rattle.model.specs.AclText.{number_in}
 use Rattle.wire_attributes.proofs.Naming.{unread, read, no_number_bytes, is_number}
 use Rattle.wire_attributes.proofs.who.number_of.Goals as goal
 

@@ -1,4 +1,4 @@
-use Rattle.std.proofs.Common.{◌≡◌, ◌≢◌, ◌<◌, ℕ, None, get_or}
+use Rattle.std.proofs.Common.{◌≢◌, ◌<◌, ℕ, None, get_or}
 use Rattle.cards.proofs.overlay.Overlay.first_free.Given as goal
 
 abbrev pub invariant-loop-place : goal.invariant-loop-place

@@ -1,6 +1,6 @@
-use Rattle.std.proofs.Common.{◌≡◌, ◌<◌, ℕ, Bool, true, false, Option, Some, None, length, get_or, sym, ap, ◌∙◌, subst}
+use Rattle.std.proofs.Common.{◌≡◌, ◌<◌, ℕ, false, Option, Some, None, length, sym, ap, ◌∙◌, subst}
 use Rattle.std.specs.Prelude.{IfNone, is_some, not}
-use Rattle.cards.specs.Overlays.{Overlaid, changed}
+use Rattle.cards.specs.Overlays.{Overlaid}
 use Rattle.cards.proofs.OverlayLaws.{changed-length}
 use Rattle.cards.proofs.overlay.Overlay.free_place.Goals as goal
 

@@ -1,4 +1,4 @@
-use Rattle.std.proofs.Common.{ℕ, map, rules}
+use Rattle.std.proofs.Common.{ℕ, rules}
 use Rattle.std.proofs.lemmas.Simd.{map-map}
 use Rattle.model.specs.Opens as model
 use Rattle.opens.specs.Views.{entry_of, opens_of}

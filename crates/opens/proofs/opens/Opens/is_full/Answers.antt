@@ -1,5 +1,5 @@
 use Rattle.opens.specs.declared.open.Entry.{Entry}
-use Rattle.opens.specs.Views.{entry_of, open_of, opens_of}
+use Rattle.opens.specs.Views.{open_of, opens_of}
 use Rattle.opens.proofs.Naming.{is_not_full}
 use Rattle.opens.proofs.opens.Opens.is_full.Goals as goal
 

@@ -1,4 +1,4 @@
-use Rattle.std.proofs.Common.{◌∙◌, ◌+◌, ap, sym, refl, map, arith}
+use Rattle.std.proofs.Common.{◌∙◌, ◌+◌, ap, sym, map, arith}
 use Rattle.std.specs.Prelude.{Some}
 use Rattle.model.specs.Keyed.{with}
 use Rattle.model.specs.StateIds.{opened, opened_by}

@@ -4,7 +4,7 @@ use Rattle.std.specs.List.{list_any}
 use Rattle.model.specs.Opens as model
 use Rattle.opens.specs.declared.open.Entry.{Entry}
 use Rattle.opens.specs.Views.{entry_of, opens_of}
-use Rattle.opens.proofs.Known.{keeps, map-filter, map-without}
+use Rattle.opens.proofs.Known.{keeps, map-filter}
 use Rattle.opens.proofs.opens.Opens.remove_clients.Goals as goal
 
 pub invariant_of-self : goal.invariant_of-self

@@ -1,16 +1,15 @@
-use Rattle.std.proofs.Common.{◌≡◌, ◌+◌, ◌∙◌, ℕ, List, Option, Bool, refl, sym, ap, subst, arith}
+use Rattle.std.proofs.Common.{◌≡◌, ◌+◌, ◌∙◌, ℕ, refl, sym, ap, subst, arith}
 use Rattle.std.specs.Prelude.{IsTrue}
 use Rattle.edits.specs.Outlines.{outline_of}
 use Rattle.journal.specs.Journal.{log_of}
 use Rattle.journal.specs.Log.{Log, contents}
-use Rattle.layout.specs.Cards.{tree_of}
 use Rattle.layout.specs.Superblock.{is_size}
 use Rattle.model.specs.declared.limits.Limits.{Limits}
 use Rattle.model.specs.Limits.{limits_of}
 use Rattle.model.specs.Stamp.{stamp}
 use Rattle.model.specs.Tree.{Tree}
 use Rattle.volume.specs.Known.{IsKnown, IsServing}
-use Rattle.volume.specs.Mounts.{AddsRaised, IsRaised, StandsOn}
+use Rattle.volume.specs.Mounts.{IsRaised, StandsOn}
 use Rattle.volume.specs.Volumes.{held_of}
 use Rattle.volume.proofs.BeginLaws.{begun_serving, begun_holds, same_tree, raised_from}
 use Rattle.volume.proofs.FormatLaws.{on_ok}

@@ -1,8 +1,6 @@
-use Rattle.std.proofs.Common.{◌++◌, ◌∙◌, ℕ, List, take, drop, sym, ap, subst}
+use Rattle.std.proofs.Common.{◌++◌, ◌∙◌, ℕ, List, take, drop, sym, ap}
 use Rattle.journal.specs.Journal.{log_of}
 use Rattle.journal.specs.Log.{Log, contents}
-use Rattle.layout.specs.Cards.{bytes_in}
-use Rattle.reading.specs.Files.{AreWithin}
 use Rattle.volume.specs.Volumes.{held_of}
 use Rattle.volume.proofs.ReadLaws.{blocks_within, file_bytes, place_there, some_at}
 use Rattle.volume.proofs.volume.Volume.bytes.Goals as goal

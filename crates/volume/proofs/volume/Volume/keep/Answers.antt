@@ -1,4 +1,3 @@
-use Rattle.std.proofs.Common.{◌∙◌}
 use Rattle.volume.specs.Edits.{edited_by}
 use Rattle.volume.specs.Volumes.{held_of, volume_failures}
 use Rattle.volume.proofs.KeepLaws.{keep_flushed, refused_unchanged}

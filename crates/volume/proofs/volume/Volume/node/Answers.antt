@@ -1,5 +1,4 @@
-use Rattle.std.proofs.Common.{◌≡◌, ◌+◌, ℕ, Some, None}
-use Rattle.std.specs.Prelude.{IfSome, IfNone}
+use Rattle.std.proofs.Common.{◌+◌}
 use Rattle.journal.specs.Journal.{log_of}
 use Rattle.journal.specs.Log.{contents}
 use Rattle.draft.proofs.KnownLaws.{card_at}
