@@ -1,5 +1,5 @@
 -- READDIR, by the call that lists a directory.
-use Rattle.std.proofs.Common.{◌≡◌, ℕ, Bool, true, false, List, Ok, Err, IfOk, IfErr, refl}
+use Rattle.std.proofs.Common.{◌≡◌, ℕ, Bool, true, false, Err, IfOk, IfErr, refl}
 use Rattle.fs.specs.FileSystem.{FileSystem}
 use Rattle.fs.specs.Listing.{Lists}
 use Rattle.fs.specs.declared.fault.FsFault.{FsFault}

@@ -1,5 +1,5 @@
 -- What an OPEN comes to that is served.
-use Rattle.std.proofs.Common.{◌≡◌, ◌+◌, ◌≤◌, ℕ, Bool, true, false, not, ◌||◌, ◌&&◌, if◌then◌else◌, cond, find, List, [], ◌∷◌, ◌++◌, length, nat_le, Option, Some, None, Result, Ok, Err, refl, sym, ap, ap₂, subst, ◌∙◌, arith, length-append, replicate}
+use Rattle.std.proofs.Common.{◌≡◌, ◌+◌, ℕ, Bool, true, false, if◌then◌else◌, cond, find, List, [], ◌∷◌, ◌++◌, length, nat_le, Option, Some, None, Result, Ok, Err, refl, sym, ap, ap₂, subst, ◌∙◌, arith, length-append}
 use Rattle.std.proofs.lemmas.Bool.{and_parts, eqb-true}
 use Rattle.std.specs.Int.{w32, w64, to_be_bytes}
 use Rattle.xdr.specs.Forms.{padded, padding, trimmed_bitmap}
@@ -17,7 +17,7 @@ use Rattle.fs.specs.declared.opening.Opened.{Opened}
 use Rattle.fs.specs.declared.opening.Opening.{Opening as Asked}
 use Rattle.fs.specs.declared.opening.Share.{Share}
 use Rattle.model.specs.declared.acl.Cred.{Cred}
-use Rattle.model.specs.Answer.{Answer, Done}
+use Rattle.model.specs.Answer.{Done}
 use Rattle.model.specs.Attribute.{settable_at_open, trimmed}
 use Rattle.model.specs.Context.{Context, has_current, current_number}
 use Rattle.model.specs.Directory.{is_named}
@@ -25,9 +25,9 @@ use Rattle.model.specs.Name.{name_refusals}
 use Rattle.model.specs.Need.{need_first, need_then}
 use Rattle.model.specs.Open.{asked_open, at_opened, creates, cuts, file_opened, given_by, known_refusals, late_at_open, middle_at_open, new_refusals, no_change_info, open_refusals, opening_refusals, place_refusals, set_at_open, share_refusals, size_alone}
 use Rattle.model.specs.Opens.{Open, Opens}
-use Rattle.model.specs.Operation.{Argument, ChangeInfo, OpenArguments, OpenType, NoCreate, Unchecked, Guarded, Opening, Opens as Opens_as, Exclusive, ByName, ByHandle, OtherClaim, StateId}
+use Rattle.model.specs.Operation.{Argument, ChangeInfo, OpenArguments, OpenType, NoCreate, Unchecked, Guarded, Opening, Opens as Opens_as, Exclusive, ByName, ByHandle, OtherClaim}
 use Rattle.model.specs.Session.{Table}
-use Rattle.model.specs.StateIds.{closed_state, is_like, is_table_full, joined, new_open, open_like, opened, opened_by, state_of as stateid_of, zeros}
+use Rattle.model.specs.StateIds.{closed_state, is_like, is_table_full, new_open, open_like, opened, opened_by, state_of as stateid_of, zeros}
 use Rattle.model.specs.Step.{State, Stepped, alters, does, effect, refused, refusals, without_rights, answered, current, current_refusals}
 use Rattle.model.specs.Tree.{Tree}
 use Rattle.model.specs.World as turns
@@ -49,7 +49,7 @@ use Rattle.compound.specs.Trees.{IsHere, IsStatus, IsUp}
 use Rattle.compound.specs.Volumes.{OperationGives, ending, lasts, executed_by}
 use Rattle.compound.proofs.Changing.{HasThisRoom, done_runs, is_up, same_room, tree_given}
 use Rattle.compound.proofs.OpenLaws.{on_tree}
-use Rattle.compound.proofs.SettingLaws.{beside, given_bad}
+use Rattle.compound.proofs.SettingLaws.{given_bad}
 use Rattle.compound.proofs.Trees.{all_bad, append_bad, does_bad, here, is_on}
 
 -- Each refusal has a status that refuses

@@ -8,7 +8,7 @@ use Rattle.fs.specs.declared.fault.FsFault.{FsFault}
 use Rattle.fs.specs.declared.fault.FsFault.TheVariants as fault
 use Rattle.fs.proofs.ChangeLaws.{changes_by}
 use Rattle.model.specs.Answer.{Answer, Done, Refused}
-use Rattle.model.specs.Context.{Context, has_current, current_number}
+use Rattle.model.specs.Context.{has_current}
 use Rattle.model.specs.Need.{permitted, need_first, need_then}
 use Rattle.model.specs.Opens.{Opens}
 use Rattle.model.specs.Operation.{Argument, ReadArguments}
@@ -31,7 +31,7 @@ use Rattle.compound.specs.Volumes.{OperationGives, ending}
 use Rattle.compound.proofs.QuietLaws.{leaves_all, left_all, answers_quietly}
 use Rattle.compound.proofs.Rooms.{gives_refusal, state_same}
 use Rattle.compound.proofs.Telling.{OnTree}
-use Rattle.compound.proofs.Trees.{all_bad, append_bad, does_bad, here, tree_runs}
+use Rattle.compound.proofs.Trees.{append_bad, does_bad, here, tree_runs}
 use Rattle.compound.proofs.VerdictLaws.{verdict_bad}
 use Rattle.compound.proofs.VolumeLaws.{quiet_gives}
 

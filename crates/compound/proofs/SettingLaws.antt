@@ -1,21 +1,20 @@
 -- What a SETATTR comes to.
-use Rattle.std.proofs.Common.{◌≡◌, ℕ, Bool, true, false, not, ◌||◌, ◌&&◌, if◌then◌else◌, List, [], ◌∷◌, ◌++◌, length, nat_le, unwrap_or, flat_map, refl, sym, ap, ◌∙◌}
+use Rattle.std.proofs.Common.{◌≡◌, ℕ, Bool, true, false, if◌then◌else◌, List, [], ◌∷◌, ◌++◌, length, nat_le, unwrap_or, refl, ap, ◌∙◌}
 use Rattle.fs.specs.FileSystem.{FileSystem}
-use Rattle.fs.specs.Operations.{IsNotDone, IsOn, does_on}
+use Rattle.fs.specs.Operations.{IsNotDone, does_on}
 use Rattle.fs.specs.Setting.{IsSetting, SetsTree, after_setting}
 use Rattle.fs.specs.declared.fault.FsFault.{FsFault}
 use Rattle.fs.specs.declared.setting.Setting.{Setting}
-use Rattle.model.specs.Answer.{Answer, Done}
-use Rattle.model.specs.Attribute.{attribute_refusals, settable_at_setattr, trimmed, value_refusals, values_of}
+use Rattle.model.specs.Answer.{Done}
+use Rattle.model.specs.Attribute.{attribute_refusals, settable_at_setattr, values_of}
 use Rattle.model.specs.Context.{Context, has_current, current_number}
 use Rattle.model.specs.Need.{need_first, need_then}
 use Rattle.model.specs.Opens.{Opens}
 use Rattle.model.specs.Operation.{Argument, Attributes, SetAttrArguments}
-use Rattle.model.specs.Runs.{is_commit}
 use Rattle.model.specs.Session.{Table}
 use Rattle.model.specs.SetAttr.{kind_at, set_attributes, sets, sets_size, size_refusals, was_set}
 use Rattle.model.specs.StateIds.{state_refusals, write_access}
-use Rattle.model.specs.Step.{State, Stepped, alters, does, effect, refused, refusals, without_rights, late, answered, current, current_refusals}
+use Rattle.model.specs.Step.{State, alters, does, effect, refused, refusals, without_rights, answered, current, current_refusals}
 use Rattle.model.specs.Tree.{Tree, is_directory_at}
 use Rattle.model.specs.World as turns
 use Rattle.model.specs.World.{World, InProgress, HasRun, run, stepped, state_of, reply_with}

@@ -3,8 +3,7 @@ use Rattle.std.proofs.Common.{◌≡◌, ℕ, ◌==◌, ◌&&◌, ◌||◌, Bool
 use Rattle.model.specs.Context.{Context, current_number}
 use Rattle.model.specs.Operation.{StateId}
 use Rattle.model.specs.Opens.{Open, Opens}
-use Rattle.model.specs.StateIds.{Found, Anonymous, Refused, Names, found, access_refusals, by_meaning, by_open, by_seqid, is_anonymous, meant, open_named, state_refusals}
-use Rattle.model.specs.declared.status.Status.TheVariants as status
+use Rattle.model.specs.StateIds.{Found, found, access_refusals, by_meaning, by_open, by_seqid, is_anonymous, meant, open_named, state_refusals}
 use Rattle.compound.proofs.Trees.{all_bad}
 
 module _ (access : ℕ) where

@@ -1,25 +1,25 @@
 -- What a WRITE and a COMMIT come to.
-use Rattle.std.proofs.Common.{◌≡◌, ◌+◌, ℕ, Bool, true, false, not, List, [], ◌∷◌, ◌++◌, length, nat_le, IsTrue, Option, Some, None, Err, Result, refl, sym, ap, ap₂, subst, ◌∙◌, arith, length-append}
+use Rattle.std.proofs.Common.{◌≡◌, ◌+◌, ℕ, Bool, true, false, not, List, ◌∷◌, ◌++◌, length, nat_le, Option, Some, None, Err, Result, refl, sym, ap, ◌∙◌, arith, length-append}
 use Rattle.std.specs.Int.{w64, to_be_bytes}
 use Rattle.xdr.specs.Forms.{padded, padding}
 use Rattle.xdr.specs.Grammar.{number}
 use Rattle.xdr.proofs.Sizes.{int_length, hyper_length, padded_length}
 use Rattle.fs.specs.FileSystem.{FileSystem}
-use Rattle.fs.specs.Operations.{IsNotDone, IsOn, does_on}
-use Rattle.fs.specs.Writing.{Commits, IsWriting, WritesTree, after_write, is_lasting}
+use Rattle.fs.specs.Operations.{IsNotDone, does_on}
+use Rattle.fs.specs.Writing.{Commits, IsWriting, WritesTree, after_write}
 use Rattle.fs.specs.declared.fault.FsFault.{FsFault}
 use Rattle.fs.specs.declared.fault.FsFault.TheVariants as fault
 use Rattle.fs.specs.declared.writing.Writing.{Writing}
-use Rattle.model.specs.Answer.{Answer, Done, Refused}
+use Rattle.model.specs.Answer.{Done, Refused}
 use Rattle.model.specs.Context.{Context, has_current, current_number}
-use Rattle.model.specs.Files.{are_bytes, commit, file_refusals, has_bytes, taken_bytes, write, write_refusals}
+use Rattle.model.specs.Files.{are_bytes, commit, file_refusals, has_bytes, write, write_refusals}
 use Rattle.model.specs.Need.{need_first, need_then}
 use Rattle.model.specs.Opens.{Opens}
 use Rattle.model.specs.Operation.{Argument, CommitArguments, WriteArguments}
 use Rattle.model.specs.Refusal.{Refusals}
 use Rattle.model.specs.Session.{Table}
 use Rattle.model.specs.StateIds.{state_refusals, write_access}
-use Rattle.model.specs.Step.{State, Stepped, does, effect, refused, refusals, without_rights, answered, current_refusals, unless_refused}
+use Rattle.model.specs.Step.{State, does, effect, refused, refusals, without_rights, answered, current_refusals, unless_refused}
 use Rattle.model.specs.Tree.{Tree}
 use Rattle.model.specs.World as turns
 use Rattle.model.specs.World.{World, InProgress, HasRun, run, stepped, state_of, reply_with, outcome_text}
@@ -28,14 +28,14 @@ use Rattle.model.specs.declared.status.Status.{Status}
 use Rattle.model.specs.declared.status.Status.TheVariants as status
 use Rattle.wire.specs.Short.{IsRefusal}
 use Rattle.compound.specs.Files.{committed_answer, written_answer}
-use Rattle.compound.specs.Operates.{RunsTo, run_in_room}
+use Rattle.compound.specs.Operates.{RunsTo}
 use Rattle.compound.specs.Runs.{with_rest}
 use Rattle.compound.specs.States.{shared}
 use Rattle.compound.specs.Trees.{IsHere, IsUp}
 use Rattle.compound.specs.Volumes.{OperationGives, lasts, executed_by}
 use Rattle.compound.proofs.Changing.{HasThisRoom, is_up, ran_given, same_room, tree_given}
 use Rattle.compound.proofs.Rooms.{state_same}
-use Rattle.compound.proofs.Trees.{all_bad, append_bad, does_bad, here, is_on}
+use Rattle.compound.proofs.Trees.{append_bad, does_bad, here, is_on}
 use Rattle.compound.proofs.VerdictLaws.{verdict_bad}
 
 verifier_length : (of : ℕ) → length (padded (to_be_bytes w64 of)) ≡ 8

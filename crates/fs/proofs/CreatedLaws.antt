@@ -1,14 +1,11 @@
 -- CREATE of a directory that passed its tests: it may be made, and what the tests of room and stamps say of it is what the definition says.
-use Rattle.std.proofs.Common.{◌≡◌, ◌≤◌, ◌<◌, ◌+◌, ◌^◌, ◌++◌, ℕ, Bool, true, false, List, [], ◌∷◌, Option, Some, None, refl, sym, ap, ◌∙◌, subst, is_some, true≢false, not, arith}
+use Rattle.std.proofs.Common.{◌≡◌, ◌+◌, ◌++◌, ℕ, Bool, true, false, List, [], Option, Some, None, refl, sym, ap, ◌∙◌, subst, is_some, not, arith}
 use Rattle.std.proofs.Math.Logic.{∥∥₁_elim}
 use Rattle.std.proofs.Props.{props}
 use Rattle.std.proofs.lemmas.Bool.{not-false}
-use Rattle.std.specs.Prelude.{IsTrue}
 use Rattle.directory.specs.Listing.{by_stamp}
 use Rattle.layout.specs.Cards.{Card}
 use Rattle.layout.specs.Known.{IsCard}
-use Rattle.edits.proofs.BlankLaws.{at-blanked}
-use Rattle.edits.specs.Outlines.{blank_node}
 use Rattle.model.specs.declared.acl.Ace.{Ace}
 use Rattle.model.specs.declared.acl.Cred.{Cred}
 use Rattle.model.specs.declared.limits.Limits.{Limits}
@@ -31,14 +28,13 @@ use Rattle.model.specs.Operation.{Attributes}
 use Rattle.model.specs.Refusal.{first_refusal, refused_or}
 use Rattle.model.specs.Stamp.{next_stamp, is_stamp_left}
 use Rattle.model.specs.Step.{State, made, answered, refused, current, stamp_of}
-use Rattle.model.specs.Tree.{Tree, Node, Content, kind_of, is_directory, is_directory_at, names_at, entry_of}
+use Rattle.model.specs.Tree.{Tree, Node, kind_of, names_at, entry_of}
 use Rattle.model.specs.WellFormed.{IsNode}
 use Rattle.model.proofs.StepCases.{none_in_front, none_in_both}
 use Rattle.settings.specs.declared.said.Settings.{Settings}
 use Rattle.settings.specs.Given.{AreSettings, AreWithin}
 use Rattle.fs.specs.OnTree.{new_directory_refusals}
 use Rattle.fs.proofs.Creating as creating
-use Rattle.fs.specs.declared.created.Created.{Created}
 use Rattle.fs.specs.FileSystem.{FileSystem}
 use Rattle.fs.specs.Making.{first_node, room_tests, tree_with, IsDirectoryOf, MayBeMade}
 use Rattle.fs.specs.Operations as operations

@@ -4,11 +4,11 @@ use Rattle.model.specs.declared.acl.Cred.{Cred}
 use Rattle.model.specs.declared.limits.Limits.{Limits}
 use Rattle.model.specs.declared.status.Status.{Status}
 use Rattle.model.specs.declared.status.Status.TheVariants as status
-use Rattle.model.specs.Open.{asked_open, late_at_open, open_file}
+use Rattle.model.specs.Open.{asked_open, late_at_open}
 use Rattle.model.specs.Operation.{Argument, OpenArguments, NoCreate, Opening, Opens as Opening_of, ByHandle}
 use Rattle.model.specs.Refusal.{first_refusal, refused_or}
 use Rattle.model.specs.StateIds.{is_table_full}
-use Rattle.model.specs.Step.{State, Stepped, current, does, refused}
+use Rattle.model.specs.Step.{State, current, does, refused}
 use Rattle.model.specs.Tree.{Tree}
 use Rattle.settings.proofs.Refusing.{or_else}
 use Rattle.fs.specs.declared.opening.Share.{Share}

@@ -1,5 +1,5 @@
 -- The file that an OPEN makes: it may be made, and is the one that the definition says.
-use Rattle.std.proofs.Common.{◌≡◌, ◌≤◌, ◌<◌, ◌+◌, ◌^◌, ℕ, Bool, true, false, List, Option, Some, None, refl, sym, ap, ap₂, ◌∙◌, arith, subst, is_some}
+use Rattle.std.proofs.Common.{◌≡◌, ◌≤◌, ◌<◌, ℕ, Bool, false, List, Option, Some, None, refl, sym, ap, ◌∙◌, arith, subst, is_some}
 use Rattle.std.specs.Prelude.{unwrap_or}
 use Rattle.std.specs.Option.{ForSome}
 use Rattle.std.proofs.lemmas.List.Elements.{All-replicate}
@@ -9,7 +9,7 @@ use Rattle.model.specs.declared.acl.Ace.{Ace}
 use Rattle.model.specs.declared.acl.Cred.{Cred}
 use Rattle.model.specs.declared.limits.Limits.{Limits}
 use Rattle.model.specs.declared.node.NodeKind.TheVariants as kind
-use Rattle.model.specs.Attribute.{is_empty, mode_given, size_given, acl_given}
+use Rattle.model.specs.Attribute.{is_empty, mode_given, size_given}
 use Rattle.model.specs.Directory.{acl_of, is_named}
 use Rattle.model.specs.Edit.{Shown}
 use Rattle.model.specs.Inherit.{created}
@@ -20,7 +20,7 @@ use Rattle.model.specs.Open.{new_file}
 use Rattle.model.specs.Operation.{Attributes}
 use Rattle.model.specs.Refusal.{first_refusal}
 use Rattle.model.specs.Stamp.{next_stamp}
-use Rattle.model.specs.Tree.{Tree, Node, entry_of, names_at}
+use Rattle.model.specs.Tree.{Node, entry_of, names_at}
 use Rattle.model.specs.WellFormed.{IsNode}
 use Rattle.settings.specs.declared.said.Settings.{Settings}
 use Rattle.settings.specs.Given.{AreSettings, AreWithin}

@@ -1,21 +1,21 @@
 -- A node and its name more, whichever operation makes them: the tree after them may stand, and what fits after all edits fits after each of them.
-use Rattle.std.proofs.Common.{◌≡◌, ◌≢◌, ◌≤◌, ◌<◌, ◌+◌, ◌-◌, ◌/◌, ◌^◌, ℕ, zero, suc, true, false, List, [], ◌∷◌, Option, Some, None, length, refl, sym, ap, ap₂, ◌∙◌, arith, subst, is_some}
+use Rattle.std.proofs.Common.{◌≡◌, ◌≢◌, ◌≤◌, ◌<◌, ◌+◌, ◌-◌, ◌/◌, ℕ, true, List, [], Option, Some, None, length, refl, sym, ap, ap₂, ◌∙◌, arith, subst, is_some}
 use Rattle.std.proofs.Math.Logic.{∥∥₁_map, ∥∥₁_elim}
 use Rattle.std.proofs.Props.{props}
 use Rattle.std.specs.Prelude.{IsTrue, option_map}
 use Rattle.draft.specs.Nodes.{no_content}
 use Rattle.edits.specs.Edits.{fresh_node}
 use Rattle.edits.specs.Outlines.{blank, blank_node, blanked, zeros}
-use Rattle.edits.proofs.BlankLaws.{at-blanked, blanked-with, blanked-twice, edits_blanked, names-blanked, directory-blanked, length-zeros}
+use Rattle.edits.proofs.BlankLaws.{at-blanked, blanked-with, blanked-twice, edits_blanked, names-blanked, length-zeros}
 use Rattle.model.specs.declared.limits.Limits.{Limits}
 use Rattle.model.specs.declared.node.NodeKind.{NodeKind}
 use Rattle.model.specs.declared.node.NodeKind.TheVariants as kind
-use Rattle.model.specs.Changes.{made_edits, touched}
+use Rattle.model.specs.Changes.{touched}
 use Rattle.model.specs.Charge.{charge, charge_of_blocks, blocks, fits}
-use Rattle.model.specs.Edit.{Edit, Shown, PutNode, PutName, Show, done, edited, altered_at, with_content, name_put, showing}
-use Rattle.model.specs.Keyed.{Keyed, at, with, is_key, total, worth_at, IsAbove}
+use Rattle.model.specs.Edit.{Edit, Shown, Show, done, edited, altered_at, with_content, name_put, showing}
+use Rattle.model.specs.Keyed.{Keyed, at, with, is_key, worth_at, IsAbove}
 use Rattle.model.specs.Stamp.{next_stamp}
-use Rattle.model.specs.Tree.{Tree, Node, Content, File, Directory, DirEntry, names_of, names_of_node, names_at, is_directory, is_directory_node, is_directory_at, entry_of}
+use Rattle.model.specs.Tree.{Tree, Node, Content, File, Directory, DirEntry, names_of, names_at, is_directory, is_directory_node, is_directory_at, entry_of}
 use Rattle.model.specs.WellFormed.{IsWellFormed, IsBefore, IsContent}
 use Rattle.model.proofs.ChangeLaws.{IsChanged, creation_keeps}
 use Rattle.model.proofs.KeyedLaws.{at-with_same, at-with_other, with-with_same, at-above, total-with, IsAbove-with}

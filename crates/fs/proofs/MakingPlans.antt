@@ -1,6 +1,6 @@
 -- The edits that make a node and its name, as they stand in memory: they are a change that may be kept, and leave the tree that the definition says.
 use denote.Ref.{Bor}
-use Rattle.std.proofs.Common.{◌≡◌, ◌≢◌, ◌≤◌, ◌<◌, ◌+◌, ◌-◌, ◌^◌, ◌++◌, ℕ, zero, suc, true, false, List, [], ◌∷◌, Option, Some, None, length, take, replicate, refl, sym, ap, ap₂, ◌∙◌, arith, subst, is_some, inr, get_or}
+use Rattle.std.proofs.Common.{◌≡◌, ◌≢◌, ◌≤◌, ◌<◌, ◌+◌, ◌-◌, ◌^◌, ◌++◌, ℕ, zero, suc, false, List, [], ◌∷◌, Option, Some, None, length, take, replicate, refl, sym, ap, ◌∙◌, arith, subst, is_some, inr, get_or}
 use Rattle.std.proofs.Math.Logic.{∥∥₁_elim}
 use Rattle.std.proofs.Props.{props}
 use Rattle.std.specs.Prelude.{IsTrue, nat_lt, ◌==◌}
@@ -12,7 +12,7 @@ use Rattle.draft.specs.Nodes.{shown_of}
 use Rattle.edits.specs.declared.edit.Edit.{Edit}
 use Rattle.edits.specs.declared.edit.Edit.TheVariants as edit
 use Rattle.edits.specs.Doing.{made_by as made_in, updates_of_all}
-use Rattle.edits.specs.Edits.{AreEntries, AreDoable, edits_of, edit_of, fresh_node, size_of}
+use Rattle.edits.specs.Edits.{AreEntries, AreDoable, edits_of, fresh_node, size_of}
 use Rattle.edits.specs.Outlines.{blanked}
 use Rattle.edits.proofs.BlankLaws.{edits_blanked}
 use Rattle.model.specs.declared.limits.Limits.{Limits}
@@ -28,12 +28,12 @@ use Rattle.model.specs.Name.{name_refusals}
 use Rattle.model.specs.Refusal.{first_refusal}
 use Rattle.model.specs.declared.status.Status.TheVariants as status
 use Rattle.model.specs.Stamp.{next_stamp}
-use Rattle.model.specs.Tree.{Tree, Node, Content, File, Directory, DirEntry, bytes_of, names_at, names_of, names_of_node, is_directory, is_directory_node, entry_of}
+use Rattle.model.specs.Tree.{Tree, Node, File, Directory, DirEntry, bytes_of, names_at, names_of, names_of_node, is_directory, is_directory_node, entry_of}
 use Rattle.model.specs.WellFormed.{IsWellFormed}
-use Rattle.model.proofs.KeyedLaws.{at-with_same, at-with_other, with-with_same}
+use Rattle.model.proofs.KeyedLaws.{at-with_same, with-with_same}
 use Rattle.model.proofs.NodeChangeLaws.{altered-once}
 use Rattle.fs.specs.FileSystem.{FileSystem}
-use Rattle.fs.specs.Making.{first_content, first_node, sizing, tree_with, IsSizeOf, MayBeMade}
+use Rattle.fs.specs.Making.{first_node, sizing, tree_with, IsSizeOf, MayBeMade}
 use Rattle.fs.specs.Planned.{IsPlanned}
 use Rattle.fs.specs.Ready.{MayStand}
 use Rattle.fs.proofs.FrontLaws.{parent_there, named_there, name_is_there, second_is}

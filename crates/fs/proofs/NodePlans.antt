@@ -1,6 +1,6 @@
 -- The edits of a node that is made, as code puts them together: what is proved of them, and what refuses them.
 use denote.Ref.{Bor}
-use Rattle.std.proofs.Common.{◌≡◌, ◌<◌, ◌+◌, ◌^◌, ◌++◌, ℕ, Bool, true, false, List, [], ◌∷◌, Option, Some, None, refl, sym, ap, ◌∙◌, subst, not}
+use Rattle.std.proofs.Common.{◌≡◌, ◌<◌, ◌+◌, ◌^◌, ◌++◌, ℕ, Bool, true, false, List, [], ◌∷◌, Option, Some, None, sym, ap, ◌∙◌, subst, not}
 use Rattle.std.specs.Prelude.{IsTrue}
 use Rattle.directory.specs.Listing.{by_stamp}
 use Rattle.draft.specs.declared.nodes.Shown.{Shown}
@@ -9,9 +9,7 @@ use Rattle.edits.specs.declared.edit.Edit.{Edit}
 use Rattle.edits.specs.declared.edit.Edit.TheVariants as edit
 use Rattle.edits.specs.Edits.{AreEntries, AreDoable}
 use Rattle.layout.specs.Cards.{Card}
-use Rattle.model.specs.declared.limits.Limits.{Limits}
 use Rattle.model.specs.declared.node.NodeKind.{NodeKind}
-use Rattle.model.specs.declared.status.Status.{Status}
 use Rattle.model.specs.declared.status.Status.TheVariants as status
 use Rattle.model.specs.Changes.{touched}
 use Rattle.model.specs.Charge.{fits}

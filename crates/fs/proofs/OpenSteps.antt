@@ -1,21 +1,19 @@
 -- OPEN by the definition: its tests, one after the other, and what it does.
-use Rattle.std.proofs.Common.{◌≡◌, ℕ, Bool, true, false, List, [], ◌∷◌, ◌++◌, ◌&&◌, ◌||◌, not, ◌+◌, length, refl, sym, ap, ap₂, ◌∙◌}
+use Rattle.std.proofs.Common.{◌≡◌, ℕ, Bool, true, false, List, [], ◌∷◌, ◌++◌, ◌&&◌, ◌||◌, not, refl, sym, ap, ap₂, ◌∙◌}
 use Rattle.std.specs.Prelude.{Option, Some, None, IsTrue}
 use Rattle.model.specs.declared.limits.Limits.{Limits}
 use Rattle.model.specs.declared.status.Status.{Status}
 use Rattle.model.specs.declared.status.Status.TheVariants as status
 use Rattle.model.specs.Acl.{execute}
-use Rattle.model.specs.Charge.{fits}
 use Rattle.model.specs.Context.{has_current}
 use Rattle.model.specs.Keyed.{at, is_key}
 use Rattle.model.specs.Name.{name_refusals}
 use Rattle.model.specs.Need.{granted_on, here, opening_rights}
-use Rattle.model.specs.Open.{asked_open, cuts, late_at_open, name_opening_refusals, open_file, share_refusals}
-use Rattle.model.specs.Operation.{Argument, OpenArguments, OpenType, Opening, Opens as Opening_of, ByName, ByHandle}
+use Rattle.model.specs.Open.{asked_open, late_at_open, name_opening_refusals, open_file, share_refusals}
+use Rattle.model.specs.Operation.{Argument, OpenArguments, OpenType, Opens as Opening_of, ByName, ByHandle}
 use Rattle.model.specs.Refusal.{Refusals, first_refusal, refused_or}
-use Rattle.model.specs.Stamp.{is_stamp_left}
 use Rattle.model.specs.StateIds.{is_table_full}
-use Rattle.model.specs.Step.{State, Stepped, current, is_name_there, refusals, change_refusals, alters, without_rights, effect, does, refused, unless_refused}
+use Rattle.model.specs.Step.{State, current, refusals, change_refusals, without_rights, effect, does, unless_refused}
 use Rattle.model.specs.Tree.{is_directory_at}
 use Rattle.settings.proofs.Refusing.{or_else, first-append}
 use Rattle.fs.specs.Opening.{file_tests, handle_tests, place_tests}

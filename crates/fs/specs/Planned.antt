@@ -6,7 +6,6 @@ use Rattle.model.specs.declared.acl.Ace.{Ace}
 use Rattle.model.specs.declared.acl.Cred.{Cred}
 use Rattle.model.specs.declared.limits.Limits.{Limits}
 use Rattle.model.specs.declared.node.NodeKind.{NodeKind}
-use Rattle.model.specs.declared.node.NodeKind.TheVariants as kind
 use Rattle.model.specs.Acl.{is_list_for}
 use Rattle.model.specs.Charge.{fits}
 use Rattle.model.specs.Edit.{Shown}

@@ -1,5 +1,5 @@
 -- A turn of a connection, as the turn of its server.
-use Rattle.std.proofs.Common.{◌≡◌, ℕ, List, subst, true, false, Option, Some, refl, sym, ap, ◌∙◌, inl, inr}
+use Rattle.std.proofs.Common.{◌≡◌, ℕ, List, subst, false, Option, Some, refl, sym, ap, ◌∙◌, inl, inr}
 use Rattle.disk.specs.Moments.{History, AddsOnly}
 use Rattle.server.proofs.Moments.{adds_weaker}
 use Rattle.compound.specs.States.{SharedState, HasState, with_state}

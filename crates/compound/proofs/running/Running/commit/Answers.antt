@@ -1,16 +1,13 @@
-use Rattle.std.proofs.Common.{◌≡◌, ℕ, ◌==◌, Bool, not, true, false, Result, refl, sym, ap, subst, ◌∙◌, arith, IfOk}
+use Rattle.std.proofs.Common.{◌≡◌, true, Result, refl, sym, subst, ◌∙◌, arith, IfOk}
 use Rattle.fs.proofs.ChangeLaws.{changes_by}
 use Rattle.fs.specs.Changes.{Changes}
 use Rattle.fs.specs.FileSystems.{fs_of, fs_failures}
-use Rattle.fs.specs.Writing.{IsWriting}
 use Rattle.model.specs.Answer.{Outcome, Refused}
 use Rattle.model.specs.Operation.{Argument, CommitArguments}
-use Rattle.model.specs.Opens.{Opens, no_opens}
+use Rattle.model.specs.Opens.{no_opens}
 use Rattle.model.specs.Step.{State}
 use Rattle.model.specs.declared.status.Status.{Status}
-use Rattle.opens.specs.Views.{opens_of}
-use Rattle.wire.specs.ArgumentViews.{commit_view}
-use Rattle.compound.specs.Files.{committed_answer, written_answer}
+use Rattle.compound.specs.Files.{committed_answer}
 use Rattle.compound.specs.Operates.{GivesIn, HasRoom, ChangesOpens, IsAnswered, IsKept}
 use Rattle.compound.specs.States.{shared}
 use Rattle.compound.specs.Trees.{IsHere}

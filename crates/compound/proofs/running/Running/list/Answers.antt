@@ -1,6 +1,6 @@
-use Rattle.std.proofs.Common.{◌≡◌, ℕ, Result, Ok, Err, IfOk, IfErr, sym, subst, refl, ◌∙◌, arith}
+use Rattle.std.proofs.Common.{◌≡◌, Result, Ok, Err, IfOk, IfErr, sym, subst, refl, ◌∙◌, arith}
 use Rattle.fs.specs.FileSystems.{fs_of}
-use Rattle.fs.specs.Listing.{Lists, list_arguments, page_view}
+use Rattle.fs.specs.Listing.{Lists, page_view}
 use Rattle.model.specs.Answer.{Answer, Refused}
 use Rattle.model.specs.Operation.{Argument, ReadDirArguments}
 use Rattle.model.specs.declared.status.Status.{Status}

@@ -1,7 +1,6 @@
 use Rattle.std.proofs.Common.{refl}
 use Rattle.fs.specs.FileSystems.{fs_of, fs_failures}
 use Rattle.opens.specs.Views.{opens_of}
-use Rattle.session.specs.Views.{table_of}
 use Rattle.wire.specs.ArgumentViews.{open_view}
 use Rattle.compound.specs.States.{shared}
 use Rattle.compound.specs.Views.{in_progress_of}

@@ -1,4 +1,4 @@
-use Rattle.std.proofs.Common.{◌≡◌, ℕ, List, [], true, false, Ok, Err, refl, sym, ap, subst, ◌∙◌}
+use Rattle.std.proofs.Common.{ℕ, List, [], false, refl, sym, ap, subst, ◌∙◌}
 use Rattle.fs.specs.FileSystems.{fs_of}
 use Rattle.fs.specs.Opening.{current_opened}
 use Rattle.fs.specs.Operations.{IsRefused}
@@ -10,7 +10,6 @@ use Rattle.model.specs.Open.{at_opened}
 use Rattle.model.specs.Opens.{Open, Opens}
 use Rattle.model.specs.Operation.{Argument, ChangeInfo, NoCreate}
 use Rattle.model.specs.StateIds.{is_table_full, new_open, opened}
-use Rattle.model.specs.Step.{State}
 use Rattle.model.specs.declared.status.Status.{Status}
 use Rattle.model.specs.declared.status.Status.TheVariants as status
 use Rattle.opens.specs.Views.{named_by, open_of, opens_of}
@@ -19,7 +18,6 @@ use Rattle.wire.specs.SmallViews.{change_view}
 use Rattle.compound.specs.Beside.{has_opened_room, opened_answer, OpensTo}
 use Rattle.compound.specs.Operates.{GivesIn, Operates}
 use Rattle.compound.specs.States.{shared}
-use Rattle.compound.specs.Trees.{IsHere}
 use Rattle.compound.specs.Views.{in_progress_of}
 use Rattle.compound.proofs.OpenLaws.{on_tree}
 use Rattle.compound.proofs.OpenNamedLaws.{is_current, open_bad, open_status, opened_room, opens_to}

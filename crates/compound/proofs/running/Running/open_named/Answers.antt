@@ -1,8 +1,8 @@
-use Rattle.std.proofs.Common.{◌≡◌, ℕ, Bool, List, true, false, Result, refl, sym, ap, subst, ◌∙◌, arith, IfOk}
+use Rattle.std.proofs.Common.{◌≡◌, ℕ, List, Result, refl, sym, ap, subst, ◌∙◌, arith, IfOk}
 use Rattle.fs.proofs.ChangeLaws.{changes_by}
 use Rattle.fs.specs.Changes.{Changes}
 use Rattle.fs.specs.FileSystems.{fs_of, fs_failures}
-use Rattle.fs.specs.Opening.{IsOpening, after_open, effect_of, has_room, set_by, type_of}
+use Rattle.fs.specs.Opening.{after_open, effect_of, has_room, set_by, type_of}
 use Rattle.fs.specs.Operations.{does_on}
 use Rattle.fs.specs.Renaming.{info_of}
 use Rattle.model.specs.declared.limits.Limits.{Limits}
@@ -10,7 +10,6 @@ use Rattle.model.specs.Answer.{Refused}
 use Rattle.model.specs.Opens.{Open, Opens}
 use Rattle.model.specs.Operation.{Argument, ChangeInfo, OpenType, ByName, Opens as Opens_as}
 use Rattle.model.specs.StateIds.{is_table_full, new_open, opened}
-use Rattle.model.specs.Step.{State}
 use Rattle.model.specs.declared.status.Status.{Status}
 use Rattle.opens.specs.Views.{open_of, opens_of}
 use Rattle.wire.specs.ArgumentViews.{open_type_view, open_view}
@@ -18,7 +17,6 @@ use Rattle.wire.specs.SmallViews.{change_view}
 use Rattle.compound.specs.Beside.{has_opened_room, OpensTo}
 use Rattle.compound.specs.Operates.{GivesIn, Operates, ChangesOpens, IsAnswered}
 use Rattle.compound.specs.States.{shared}
-use Rattle.compound.specs.Trees.{IsHere}
 use Rattle.compound.specs.Volumes.{OperationGives, ending}
 use Rattle.compound.specs.Views.{in_progress_of}
 use Rattle.compound.specs.declared.fault.Fault.{Fault}

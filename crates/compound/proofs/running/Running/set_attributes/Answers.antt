@@ -1,11 +1,9 @@
-use Rattle.std.proofs.Common.{◌≡◌, ℕ, List, true, Result, refl, sym, ap, subst, ◌∙◌, arith, IfOk}
+use Rattle.std.proofs.Common.{◌≡◌, ℕ, List, Result, refl, sym, ap, subst, ◌∙◌, arith, IfOk}
 use Rattle.fs.specs.Changes.{Changes}
 use Rattle.fs.specs.FileSystems.{fs_of, fs_failures}
 use Rattle.fs.specs.Setting.{IsSetting}
-use Rattle.fs.specs.declared.setting.Setting.{Setting}
 use Rattle.fs.proofs.ChangeLaws.{changes_by}
 use Rattle.model.specs.Answer.{Outcome, Refused}
-use Rattle.model.specs.Attribute.{trimmed}
 use Rattle.model.specs.Operation.{Argument, Attributes}
 use Rattle.model.specs.SetAttr.{was_set}
 use Rattle.model.specs.Step.{State}

@@ -1,16 +1,15 @@
-use Rattle.std.proofs.Common.{◌≡◌, ℕ, ◌==◌, Bool, not, true, false, Result, refl, sym, ap, subst, ◌∙◌, arith, IfOk}
+use Rattle.std.proofs.Common.{◌≡◌, ℕ, ◌==◌, Bool, not, true, false, Result, refl, sym, subst, ◌∙◌, arith, IfOk}
 use Rattle.fs.proofs.ChangeLaws.{changes_by}
 use Rattle.fs.specs.Changes.{Changes}
 use Rattle.fs.specs.FileSystems.{fs_of, fs_failures}
 use Rattle.fs.specs.Writing.{IsWriting}
 use Rattle.model.specs.Answer.{Outcome, Refused}
 use Rattle.model.specs.Operation.{Argument}
-use Rattle.model.specs.Opens.{Opens}
 use Rattle.model.specs.Step.{State}
 use Rattle.model.specs.declared.status.Status.{Status}
 use Rattle.opens.specs.Views.{opens_of}
 use Rattle.wire.specs.ArgumentViews.{write_view}
-use Rattle.compound.specs.Files.{committed_answer, written_answer}
+use Rattle.compound.specs.Files.{written_answer}
 use Rattle.compound.specs.Operates.{GivesIn, HasRoom, ChangesOpens, IsAnswered, IsKept}
 use Rattle.compound.specs.States.{shared}
 use Rattle.compound.specs.Trees.{IsHere}
@@ -20,7 +19,7 @@ use Rattle.compound.specs.declared.fault.Fault.{Fault}
 use Rattle.compound.specs.declared.operated.Operated.{Operated}
 use Rattle.compound.proofs.Changing.{done_runs, told_gives, told_changes, told_spelled, told_kept, is_short}
 use Rattle.compound.proofs.Rooms.{gives_in_room, gives_refusal}
-use Rattle.compound.proofs.Trees.{is_on, wants}
+use Rattle.compound.proofs.Trees.{is_on}
 use Rattle.compound.proofs.VolumeLaws.{refusal_changes}
 use Rattle.compound.proofs.WriteLaws.{wants_file, write_on_tree, write_sized, does_write, write_makes, write_up, written_room}
 use Rattle.compound.proofs.running.Running.write.Goals as goal

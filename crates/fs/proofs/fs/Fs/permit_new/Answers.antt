@@ -1,4 +1,4 @@
-use Rattle.std.proofs.Common.{◌≡◌, ◌∙◌, true, false, Option, sym, ap}
+use Rattle.std.proofs.Common.{◌∙◌, true, false, Option, sym, ap}
 use Rattle.std.proofs.lemmas.Result.{err_from_is_err_and}
 use Rattle.model.specs.Acl.{write_data}
 use Rattle.model.specs.Need.{granted_on}

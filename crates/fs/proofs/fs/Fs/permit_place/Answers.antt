@@ -1,5 +1,4 @@
-use Rattle.std.proofs.Common.{◌≡◌, ◌∙◌, true, false, sym, ap}
-use Rattle.std.specs.Prelude.{None}
+use Rattle.std.proofs.Common.{◌∙◌, true, false, sym, ap}
 use Rattle.std.proofs.lemmas.Result.{err_from_is_err_and}
 use Rattle.model.specs.declared.limits.Limits.{Limits}
 use Rattle.model.specs.Acl.{execute}
@@ -7,7 +6,7 @@ use Rattle.model.specs.Name.{name_refusals}
 use Rattle.model.specs.Refusal.{first_refusal}
 use Rattle.model.specs.Tree.{is_directory}
 use Rattle.fs.specs.FileSystems.{fs_of}
-use Rattle.fs.proofs.CardViews.{granted_by, names_are, no_directory}
+use Rattle.fs.proofs.CardViews.{granted_by, names_are}
 use Rattle.fs.proofs.OpenTests as tests
 use Rattle.fs.proofs.fs.Fs.permit_place.Goals as goal
 

@@ -8,7 +8,7 @@ use Rattle.fs.specs.FileSystems.{fs_of}
 use Rattle.model.specs.World.{Connection, Busy, turned}
 use Rattle.rpc.specs.Assembly.{Assembly}
 use Rattle.server.specs.Connections.{HasGoneOn, connection_view}
-use Rattle.server.specs.Stages.{asked_held, begun, left_by}
+use Rattle.server.specs.Stages.{asked_held, begun}
 use Rattle.server.proofs.Resumptions.{gone_on}
 use Rattle.server.proofs.Turning.{same_changes}
 use Rattle.server.proofs.connection.Connection.next_turn.Goals as goal

@@ -1,4 +1,4 @@
-use Rattle.std.proofs.Common.{◌≡◌, ℕ, true, false, List, Option, Some, OnOk, refl, ap, sym, subst, ◌∙◌}
+use Rattle.std.proofs.Common.{◌≡◌, ℕ, true, false, List, Some, OnOk, refl, ap, sym, subst, ◌∙◌}
 use Rattle.compound.specs.States.{shared_of}
 use Rattle.compound.specs.Steps.{turn_by}
 use Rattle.compound.specs.Volumes.{ending, ending_of}
