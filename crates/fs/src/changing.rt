@@ -1,6 +1,6 @@
 //! Changes of the tree: the edits that they are made of, and keeping them.
 
-ghost use Rattle.std.specs.Prelude.{◌≡◌, ◌⊎◌, ◌+◌, ◌∷◌, [], ◌++◌, false, IfOk, IfErr, OnOk, IfSome};
+ghost use Rattle.std.specs.Prelude.{◌≡◌, ◌⊎◌, ◌+◌, ◌∷◌, [], ◌++◌, false, IfOk, IfErr, OnOk, MatchOption, ◌≤◌, ◌^◌};
 ghost use Rattle.draft.specs.Nodes.{shown_of};
 ghost use Rattle.edits.specs.declared.edit.Edit.TheVariants as edit;
 ghost use Rattle.fs.specs.Making.{sizing};
@@ -161,8 +161,9 @@ impl<D: Device> Fs<D> {
     /// The stamp of the next change: none where it has more than 64 bits, after the last change of
     /// the last run.
     pub(crate) fn next_stamp(&self) -> Option<u64>
-        ensures { IfSome result (λ stamp.
-            stamp ≡ next_stamp (fs_of self.now).volume.run (fs_of self.now).changes) }
+        ensures { MatchOption result
+            (2 ^ 64 ≤ next_stamp (fs_of self.now).volume.run (fs_of self.now).changes)
+            (λ stamp. stamp ≡ next_stamp (fs_of self.now).volume.run (fs_of self.now).changes) }
     {
         let first = u64::from(self.restart_count()) * 0x1_0000_0000;
         first.checked_add(u64::from(self.changes) + 1)

@@ -127,10 +127,11 @@ pub(crate) fn may_open(card: &Card, cred: &Cred, access: u32, is_cut: bool) -> b
 
 #[tactic(auto, unfolding(crate::specs::FileSystems::fs_of))]
 impl<D: Device> Fs<D> {
-    ghost use Rattle.std.specs.Prelude.{◌≡◌, ℕ, true, false, IfSome, IsErrOf, OnOk};
+    ghost use Rattle.std.specs.Prelude.{◌≡◌, ℕ, true, false, MatchOption, IsErrOf, OnOk, ◌≤◌, ◌^◌};
     ghost use Rattle.model.specs.Open.{creates, file_opened};
     ghost use Rattle.model.specs.Operation.{OpenType};
     ghost use Rattle.model.specs.Operation as operation;
+    ghost use Rattle.model.specs.Stamp.{next_stamp};
     ghost use Rattle.model.specs.Step.{State};
     ghost use Rattle.fs.specs.OnTree.{IsState};
     ghost use Rattle.fs.specs.FileSystems.{fs_of};
@@ -139,9 +140,12 @@ impl<D: Device> Fs<D> {
 
     /// The number of the file that an OPEN by a name opens where nothing refuses it, by which a caller
     /// tells whether the table of opens has room: that which the name leads to, or that of the file
-    /// which is made. None after the last change of the last run.
+    /// which is made. None only after the last change of the last run, whose stamp would have more
+    /// than 64 bits.
     pub fn file_to_open(&self, asked: Opening<'_>) -> Option<u64>
-        ensures { IfSome result (λ number. (state : State) (cred : _)
+        ensures { MatchOption result
+            (2 ^ 64 ≤ next_stamp (fs_of self.now).volume.run (fs_of self.now).changes)
+            (λ number. (state : State) (cred : _)
             → IsOn (fs_of self.now) cred asked.entry.directory state → file_opened state
             (operation.Opens (type_of asked.entry.how) (operation.ByName asked.entry.name.now))
             ≡ number) }
