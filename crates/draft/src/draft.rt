@@ -365,6 +365,7 @@ impl<'a> Draft<'a> {
         ensures targets { OnOk result (AreTargets (end_of self.old) self.new.updates) }
         ensures cards { self.new.cards ≡ self.old.cards }
         ensures places { self.new.places ≡ self.old.places }
+        ensures nodes { self.new.nodes ≡ self.old.nodes }
         ensures count { OnOk result (length self.new.updates ≤ length self.old.updates + 2) }
     {
         put_marks(&mut self.updates, &self.places, before, 0)?;
