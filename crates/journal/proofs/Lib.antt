@@ -9,6 +9,7 @@ pub mod Joins
 pub mod Journals
 pub mod Lists
 pub mod Moments
+pub mod Parts
 pub mod Phases
 pub mod Recovers
 pub mod Stages

@@ -1,15 +1,16 @@
 -- Recovery: an image settles to one image, and a mount keeps what it settles to.
-use Rattle.std.proofs.Common.{◌≡◌, ◌≤◌, ◌<◌, ◌^◌, ℕ, List, [], length, refl, sym, ap, ◌∙◌, subst, inr, arith, Err}
-use Rattle.disk.specs.Moments.{Image, History, AddsOnly, seen, synced}
+use Rattle.std.proofs.Common.{◌≡◌, ◌≤◌, ◌<◌, ◌^◌, ℕ, Bool, true, false, eqb, eq-eqb, List, [], ◌∷◌, length, refl, sym, ap, ◌∙◌, subst, inl, inr, arith, Ok, Err}
+use Rattle.disk.specs.Moments.{Image, History, AddsOnly, seen, synced, moment}
+use Rattle.disk.specs.Cause.{IsCounted}
 use Rattle.journal.specs.declared.fault.JournalFault.TheVariants as faults
 use Rattle.journal.specs.Layout.{AreTargets, NamesTargets, gate, through}
 use Rattle.journal.specs.Settled.{AreSame, Settles, SettlesAs}
 use Rattle.journal.specs.Phase.{IsGated}
-use Rattle.journal.specs.Commit.{KeepsShown}
-use Rattle.journal.specs.Recover.{FaultsCounted}
+use Rattle.journal.specs.Commit.{IsCopiedHome, KeepsShown}
+use Rattle.journal.specs.Recover.{FaultsCounted, Recovers}
 use Rattle.journal.proofs.GateWords.{names_one}
 use Rattle.journal.proofs.Stages.{gated_stage, no_targets}
-use Rattle.journal.proofs.Moments.{AddsOnly-weaken, AddsOnly-join, AddsOnly-synced}
+use Rattle.journal.proofs.Moments.{AddsOnly-same, AddsOnly-weaken, AddsOnly-join, AddsOnly-synced}
 use Rattle.journal.proofs.Fronts.{settles_same}
 
 -- an image settles to one image
@@ -58,6 +59,12 @@ keeps_shown_at old new xs ys h h1 e q f gated =
     let Q : ℕ → Type 0 = λ size. KeepsShown size ys h h1 in
     subst Q e (subst P q f gated)
 
+pub copied_home_at : (old new : ℕ) (xs ys : List ℕ) (h h1 : History) → new ≡ old → xs ≡ ys → (IsGated xs h → IsCopiedHome new xs h h1) → IsGated ys h → IsCopiedHome old ys h h1
+copied_home_at old new xs ys h h1 e q f gated =
+    let P : List ℕ → Type 0 = λ to. IsGated to h → IsCopiedHome new to h h1 in
+    let Q : ℕ → Type 0 = λ size. IsCopiedHome size ys h h1 in
+    subst Q e (subst P q f gated)
+
 pub gated_after : (h h1 h2 : History) (sector to : List ℕ) → h2 ≡ h1 → h1 ≡ synced h → sector ≡ seen h1.now 1 → sector ≡ gate to → IsGated to h2
 gated_after h h1 h2 sector to q e read names = record {
   rests = ap (λ (k : History). k.now.unsynced) (q ∙ e);
@@ -76,4 +83,61 @@ damaged_counted before after l = record {
   counted = λ e. absurd (let q : faults.Damaged ≡ faults.Fault = cc in cc);
   none = λ n. l;
   only = inr refl;
+}
+
+pub unmoved : (P : Image → Type 0) (h h1 : History) → h1 ≡ h → AddsOnly P h h1
+unmoved P h h1 e = let Q : History → Type 0 = λ k. AddsOnly P h k in subst Q (sym e) (AddsOnly-same P h)
+
+pub fault_counted : {T : Type 0} (before mid after : ℕ) → mid ≡ before → IsCounted mid after → FaultsCounted {T = T} before after (Err faults.Fault)
+fault_counted before mid after e counted =
+    let P : ℕ → Type 0 = λ n. IsCounted n after in
+    record {
+      later = elim counted [ inl grew ↦ omega arith | inr full ↦ omega arith ];
+      counted = λ _. subst P e counted;
+      none = λ n. absurd (n refl);
+      only = inl refl;
+    }
+
+pub none_counted : {T : Type 0} (before after : ℕ) (x : T) → after ≡ before → FaultsCounted before after (Ok x)
+none_counted before after x e = record { later = omega arith; counted = λ q. absurd (cc); none = λ n. e; only = tt }
+
+pub no_elements : (xs : List ℕ) → length xs ≡ 0 → xs ≡ []
+no_elements [] e = refl
+no_elements (x ∷ xs) e = absurd (omega arith)
+
+pub not_empty : (is_empty : Bool) (n : ℕ) → is_empty ≡ eqb n 0 → is_empty ≡ false → n ≡ 0 → ⊥
+not_empty is_empty n is filled zero = let w : true ≡ false = sym (eq-eqb n 0 zero) ∙ sym is ∙ filled in cc
+
+-- a closed gate leaves nothing to copy
+pub recovers_closed : (size : ℕ) (h h2 : History) (to : List ℕ) → h2 ≡ synced h → length to ≡ 0 → IsGated to h2 → Recovers size h h2
+recovers_closed size h h2 to e none gated =
+    let P : List ℕ → Type 0 = λ ts. IsGated ts h2 in
+    let Q : History → Type 0 = λ k. AddsOnly (SettlesAs size (seen h.now)) k h2 in
+    let closed = subst P (no_elements to none) gated in
+    record {
+      gated = closed;
+      settles = record {
+        to = [];
+        few = omega arith;
+        fit = no_targets size;
+        gate_is = sym (ap (λ (k : History). seen k.now 1) e) ∙ closed.gate_is;
+        same = λ n kept. ap (λ (k : History). seen k.now n) e;
+      };
+      since_sync = subst Q e (AddsOnly-same (SettlesAs size (seen h.now)) h2);
+      cost = omega (arith, ap moment e);
+    }
+
+pub recovers_copied : (size : ℕ) (h h2 h3 : History) (to : List ℕ) → h2 ≡ synced h → size < 2 ^ 32 → length to ≤ 96 → AreTargets size to → IsGated to h2
+    → KeepsShown size to h2 h3 → IsCopiedHome size to h2 h3 → Recovers size h h3
+recovers_copied size h h2 h3 to e small few fit gated shown copied = record {
+  gated = copied.gated;
+  settles = record {
+    to = to;
+    few = few;
+    fit = fit;
+    gate_is = sym (ap (λ (k : History). seen k.now 1) e) ∙ gated.gate_is;
+    same = λ n kept. sym (copied.same n kept) ∙ ap (λ (k : History). through to (seen k.now) n) e;
+  };
+  since_sync = recover_since size h h2 h3 to e small few fit gated shown;
+  cost = omega (arith, copied.cost, ap moment e);
 }

@@ -1,11 +1,13 @@
-use Rattle.std.proofs.Common.{◌≤◌, ◌<◌, ◌∙◌, ◌++◌, ◌∷◌, [], ap, sym, subst, arith, length, ℕ, List, ⊎_elim}
+use Rattle.std.proofs.Common.{◌≤◌, ◌<◌, ◌∙◌, ◌++◌, ◌∷◌, [], ap, refl, sym, subst, arith, length, ℕ, List, ⊎_elim}
 use Rattle.std.proofs.lemmas.Bool.{cases_lt}
 use Rattle.disk.specs.declared.update.Update.{Update}
 use Rattle.disk.specs.Moments.{seen, applied}
-use Rattle.journal.specs.Journal.{log_of, listed}
+use Rattle.journal.specs.Journal.{failures_of, log_of, listed}
 use Rattle.journal.specs.Layout.{targets}
 use Rattle.journal.specs.Log.{Log, IsJoined, Moved, Takes}
 use Rattle.journal.specs.Transactions.{FitTogether, gathered, sectors_of}
+use Rattle.journal.proofs.Answerings.{answers_down, answers_up, is_fault}
+use Rattle.journal.proofs.Parts.{part_failed, part_is_safe, stays_safe}
 use Rattle.journal.proofs.Fronts.{joined_as_one, listed_sectors, moved_flushed, moved_takes, put_alone, put_does}
 use Rattle.journal.proofs.Images.{Fit, length-targets}
 use Rattle.journal.proofs.Joins.{pushed_contents}
@@ -118,3 +120,36 @@ returns-clause-ok g c =
           let P : List Update → Type 0 = λ vs. FitTogether (listed was ++ vs ∷ []) in
           (c.in_ok-make_room.ensures.flushed (λ fit. over (subst P c.deref.ensures.value fit))).cost k;
     }
+
+pub returns-then-self-clause-safe : goal.returns-then-self-clause-safe
+returns-then-self-clause-safe g c = stays_safe c.args.self.now
+
+pub returns-then-self-clause-answers : goal.returns-then-self-clause-answers
+unfolding log_of failures_of
+returns-then-self-clause-answers g c = answers_down _ _ c.if-self.true
+
+pub returns-then-len-gt-MAX_UPDATES-clause-safe : goal.returns-then-len-gt-MAX_UPDATES-clause-safe
+returns-then-len-gt-MAX_UPDATES-clause-safe g c = stays_safe c.args.self.now
+
+pub returns-then-len-gt-MAX_UPDATES-clause-answers : goal.returns-then-len-gt-MAX_UPDATES-clause-answers
+unfolding log_of failures_of
+returns-then-len-gt-MAX_UPDATES-clause-answers g c = answers_up _ _ _ _ _ (λ e. cc) (λ e. cc) c.if-self.false c.if-self.false refl
+
+pub returns-in_err-make_room-clause-safe : goal.returns-in_err-make_room-clause-safe
+returns-in_err-make_room-clause-safe g c = part_is_safe _ _ _ _ _ c.in_err-make_room.ensures.part
+
+pub returns-in_err-make_room-clause-answers : goal.returns-in_err-make_room-clause-answers
+unfolding log_of failures_of
+returns-in_err-make_room-clause-answers g c = rw (is_fault _ c.from_residual.ensures.1) (part_failed _ _ _ _ _ c.if-self.false c.in_err-make_room.ensures.part)
+
+pub returns-clause-safe : goal.returns-clause-safe
+unfolding log_of
+returns-clause-safe g c =
+    let safe = part_is_safe c.args.self.now c.make_room.new.self _ _ _ c.in_ok-make_room.ensures.part in
+    record { size = safe.size; moments = safe.moments; settled = safe.settled }
+
+pub returns-clause-answers : goal.returns-clause-answers
+unfolding log_of failures_of
+returns-clause-answers g c =
+    let part = c.in_ok-make_room.ensures.part in
+    answers_up _ _ _ _ _ (λ e. cc) (λ e. cc) c.if-self.false part.is_down part.failures.ok

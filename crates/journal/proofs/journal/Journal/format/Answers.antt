@@ -1,56 +1,71 @@
-use Rattle.std.proofs.Common.{ℕ, arith}
-use Rattle.disk.specs.Moments.{History}
-use Rattle.journal.proofs.Formats.{format_fresh, format_last, format_done, erased_at, erased_fixed, fresh_moments_at, fresh_fixed_at, length-fresh}
+use Rattle.std.proofs.Common.{◌∙◌, ◌∷◌, [], arith, refl}
+use Rattle.journal.specs.Format.{fresh}
+use Rattle.journal.specs.Phase.{AddsUpdates, IsFixedAs}
+use Rattle.journal.proofs.Answerings.{fails_after, is_fault, never_fails}
+use Rattle.journal.proofs.Formats.{zero_update, format_fresh, format_last, format_done, erased_at, erased_fixed, fresh_moments_at, fresh_fixed_at, length-fresh}
 use Rattle.journal.proofs.journal.Journal.format.Goals as goal
+use Rattle.journal.proofs.journal.Journal.format.Given.{Over}
+use Rattle.journal.proofs.journal.Journal.format.Goals.{In_ok-write_sector, In_ok-write_fresh}
 
-pub returns-in_err-write_fresh-clause-moments : goal.returns-in_err-write_fresh-clause-moments
-returns-in_err-write_fresh-clause-moments g c = λ k.
-    let size : ℕ = g.D.Device.size c.args.device.now in
-    let h0 : History = g.D.Device.history c.args.device.now in
-    let h1 : History = g.D.Device.history c.write_sector.new.device in
-    let h2 : History = g.D.Device.history c.write_fresh.new.device in
-    format_fresh size c.args.sector0.now c.args.updates.now h0 c.requires.large c.requires.fit h1 h2
-    (erased_at c.zeros.result h0 h1 c.zeros.ensures (c.in_ok-write_sector.ensures.moments k))
-    (erased_fixed c.zeros.result h0 h1 c.zeros.ensures (c.in_ok-write_sector.ensures.ok k)) (fresh_moments_at size (g.D.Device.size c.write_sector.new.device) c.args.updates.now h1 h2 c.in_ok-write_sector.ensures.size (c.in_err-write_fresh.ensures.moments k))
+erased : (g : Over) (c : In_ok-write_sector g) → g.D.Device.keeps_word → AddsUpdates (zero_update ∷ []) (g.D.Device.history c.args.device.now) (g.D.Device.history c.write_sector.new.device)
+erased g c k = erased_at c.zeros.result _ _ c.zeros.ensures (c.in_ok-write_sector.ensures.moments k)
 
-pub returns-in_err-write_sector-2-clause-moments : goal.returns-in_err-write_sector-2-clause-moments
-returns-in_err-write_sector-2-clause-moments g c = λ k.
-    let size : ℕ = g.D.Device.size c.args.device.now in
-    let h0 : History = g.D.Device.history c.args.device.now in
-    let h1 : History = g.D.Device.history c.write_sector.new.device in
-    let h2 : History = g.D.Device.history c.write_fresh.new.device in
-    let h3 : History = g.D.Device.history c.write_sector-2.new.device in
-    format_last size c.args.sector0.now c.args.updates.now h0 c.requires.large c.requires.fit h1 h2 h3
-    (erased_at c.zeros.result h0 h1 c.zeros.ensures (c.in_ok-write_sector.ensures.moments k))
-    (erased_fixed c.zeros.result h0 h1 c.zeros.ensures (c.in_ok-write_sector.ensures.ok k)) (fresh_moments_at size (g.D.Device.size c.write_sector.new.device) c.args.updates.now h1 h2 c.in_ok-write_sector.ensures.size (c.in_ok-write_fresh.ensures.moments k)) (fresh_fixed_at size (g.D.Device.size c.write_sector.new.device) c.args.updates.now h1 h2 c.in_ok-write_sector.ensures.size (c.in_ok-write_fresh.ensures.ok k)) (c.in_err-write_sector-2.ensures.moments k)
+fixed : (g : Over) (c : In_ok-write_sector g) → g.D.Device.keeps_word → IsFixedAs (zero_update ∷ []) (g.D.Device.history c.args.device.now) (g.D.Device.history c.write_sector.new.device)
+fixed g c k = erased_fixed c.zeros.result _ _ c.zeros.ensures (c.in_ok-write_sector.ensures.ok k)
 
-pub returns-clause-moments : goal.returns-clause-moments
-returns-clause-moments g c = λ k.
-    let size : ℕ = g.D.Device.size c.args.device.now in
-    let h0 : History = g.D.Device.history c.args.device.now in
-    let h1 : History = g.D.Device.history c.write_sector.new.device in
-    let h2 : History = g.D.Device.history c.write_fresh.new.device in
-    let h3 : History = g.D.Device.history c.write_sector-2.new.device in
-    format_last size c.args.sector0.now c.args.updates.now h0 c.requires.large c.requires.fit h1 h2 h3
-    (erased_at c.zeros.result h0 h1 c.zeros.ensures (c.in_ok-write_sector.ensures.moments k))
-    (erased_fixed c.zeros.result h0 h1 c.zeros.ensures (c.in_ok-write_sector.ensures.ok k)) (fresh_moments_at size (g.D.Device.size c.write_sector.new.device) c.args.updates.now h1 h2 c.in_ok-write_sector.ensures.size (c.in_ok-write_fresh.ensures.moments k)) (fresh_fixed_at size (g.D.Device.size c.write_sector.new.device) c.args.updates.now h1 h2 c.in_ok-write_sector.ensures.size (c.in_ok-write_fresh.ensures.ok k)) (c.in_ok-write_sector-2.ensures.moments k)
+fresh_moments : (g : Over) (c : In_ok-write_fresh g) → g.D.Device.keeps_word
+    → AddsUpdates (fresh (g.D.Device.size c.args.device.now) c.args.updates.now) (g.D.Device.history c.write_sector.new.device) (g.D.Device.history c.write_fresh.new.device)
+fresh_moments g c k = fresh_moments_at _ _ c.args.updates.now _ _ c.in_ok-write_sector.ensures.size (c.in_ok-write_fresh.ensures.moments k)
 
-pub returns-clause-ok : goal.returns-clause-ok
-returns-clause-ok g c = λ k.
-    let size : ℕ = g.D.Device.size c.args.device.now in
-    let h0 : History = g.D.Device.history c.args.device.now in
-    let h1 : History = g.D.Device.history c.write_sector.new.device in
-    let h2 : History = g.D.Device.history c.write_fresh.new.device in
-    let h3 : History = g.D.Device.history c.write_sector-2.new.device in
-    format_done size c.args.sector0.now c.args.updates.now h0 c.requires.large c.requires.fit h1 h2 h3 (fresh_fixed_at size (g.D.Device.size c.write_sector.new.device) c.args.updates.now h1 h2 c.in_ok-write_sector.ensures.size (c.in_ok-write_fresh.ensures.ok k)) (c.in_ok-write_sector-2.ensures.ok k)
+fresh_fixed : (g : Over) (c : In_ok-write_fresh g) → g.D.Device.keeps_word
+    → IsFixedAs (fresh (g.D.Device.size c.args.device.now) c.args.updates.now) (g.D.Device.history c.write_sector.new.device) (g.D.Device.history c.write_fresh.new.device)
+fresh_fixed g c k = fresh_fixed_at _ _ c.args.updates.now _ _ c.in_ok-write_sector.ensures.size (c.in_ok-write_fresh.ensures.ok k)
 
-pub returns-clause-cost : goal.returns-clause-cost
-returns-clause-cost g c = λ k. omega (
-  arith,
-  (c.in_ok-write_sector.ensures.ok k).cost,
-  (c.in_ok-write_fresh.ensures.ok k).cost,
-  (c.in_ok-write_sector-2.ensures.ok k).cost,
-  length-fresh (g.D.Device.size c.write_sector.new.device) c.args.updates.now,
-  c.in_ok-write_sector.ensures.size,
-  c.requires.large,
-)
+pub returns-in_err-write_fresh : goal.returns-in_err-write_fresh
+returns-in_err-write_fresh g c =
+    let first = (goal.at.returns-in_err-write_fresh g c).In_ok-write_sector in
+    rw (is_fault _ c.from_residual-in_err-write_fresh.ensures.1) (record {
+      moments = λ k. format_fresh _ _ c.args.updates.now _ c.requires.large c.requires.fit _ _ (erased g first k) (fixed g first k)
+          (fresh_moments_at _ _ c.args.updates.now _ _ c.in_ok-write_sector.ensures.size (c.in_err-write_fresh.ensures.moments k));
+      ok = λ k. tt;
+      cost = λ k. tt;
+      size = c.in_err-write_fresh.ensures.size ∙ c.in_ok-write_sector.ensures.size;
+      failures = fails_after _ _ _ _ _ c.in_ok-write_sector.ensures.failures.ok c.in_err-write_fresh.ensures.failures;
+      refuses = refl;
+    })
+
+pub returns-in_err-write_sector-2 : goal.returns-in_err-write_sector-2
+returns-in_err-write_sector-2 g c =
+    let first = (goal.at.returns-in_err-write_sector-2 g c).In_ok-write_sector in
+    let second = (goal.at.returns-in_err-write_sector-2 g c).In_ok-write_fresh in
+    rw (is_fault _ c.from_residual-in_err-write_sector-2.ensures.1) (record {
+      moments = λ k. format_last _ _ c.args.updates.now _ c.requires.large c.requires.fit _ _ _ (erased g first k) (fixed g first k)
+          (fresh_moments g second k) (fresh_fixed g second k) (c.in_err-write_sector-2.ensures.moments k);
+      ok = λ k. tt;
+      cost = λ k. tt;
+      size = c.in_err-write_sector-2.ensures.size ∙ c.in_ok-write_fresh.ensures.size ∙ c.in_ok-write_sector.ensures.size;
+      failures = fails_after _ _ _ _ _ (c.in_ok-write_fresh.ensures.failures.ok ∙ c.in_ok-write_sector.ensures.failures.ok) c.in_err-write_sector-2.ensures.failures;
+      refuses = refl;
+    })
+
+pub returns : goal.returns
+returns g c =
+    let first = (goal.at.returns g c).In_ok-write_sector in
+    let second = (goal.at.returns g c).In_ok-write_fresh in
+    record {
+      moments = λ k. format_last _ _ c.args.updates.now _ c.requires.large c.requires.fit _ _ _ (erased g first k) (fixed g first k)
+          (fresh_moments g second k) (fresh_fixed g second k) (c.in_ok-write_sector-2.ensures.moments k);
+      ok = λ k. format_done _ _ c.args.updates.now (g.D.Device.history c.args.device.now) c.requires.large c.requires.fit _ _ _ (fresh_fixed g second k) (c.in_ok-write_sector-2.ensures.ok k);
+      cost = λ k. omega (
+        arith,
+        (c.in_ok-write_sector.ensures.ok k).cost,
+        (c.in_ok-write_fresh.ensures.ok k).cost,
+        (c.in_ok-write_sector-2.ensures.ok k).cost,
+        length-fresh (g.D.Device.size c.write_sector.new.device) c.args.updates.now,
+        c.in_ok-write_sector.ensures.size,
+        c.requires.large,
+      );
+      size = c.in_ok-write_sector-2.ensures.size ∙ c.in_ok-write_fresh.ensures.size ∙ c.in_ok-write_sector.ensures.size;
+      failures = never_fails _ _ _ (c.in_ok-write_sector-2.ensures.failures.ok ∙ c.in_ok-write_fresh.ensures.failures.ok ∙ c.in_ok-write_sector.ensures.failures.ok);
+      refuses = tt;
+    }
