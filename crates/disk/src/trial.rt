@@ -107,13 +107,26 @@ fn edge_landings(alloc: Global, unsynced: &[Unsynced]) -> Result<Vec<Vec<Landed>
     ensures { IfOk result (λ landings. lists_of landings.items ≡ edge_landings_of unsynced.now) }
 {
     let mut landings = Vec::new(alloc);
-    landings.push(edge_landing(alloc, unsynced, Edge::Nothing)?)?;
-    landings.push(edge_landing(alloc, unsynced, Edge::Everything)?)?;
+    push_edge(alloc, &mut landings, unsynced, Edge::Nothing)?;
+    push_edge(alloc, &mut landings, unsynced, Edge::Everything)?;
     for place in 0..unsynced.len() {
-        landings.push(edge_landing(alloc, unsynced, Edge::Only(place))?)?;
-        landings.push(edge_landing(alloc, unsynced, Edge::AllBut(place))?)?;
+        push_edge(alloc, &mut landings, unsynced, Edge::Only(place))?;
+        push_edge(alloc, &mut landings, unsynced, Edge::AllBut(place))?;
     }
     Ok(landings)
+}
+
+fn push_edge(
+    alloc: Global,
+    landings: &mut Vec<Vec<Landed>>,
+    unsynced: &[Unsynced],
+    edge: Edge,
+) -> Result<(), AllocError>
+    ensures { OnOk result (lists_of landings.new.items
+        ≡ lists_of landings.old.items ++ edge_landing_of edge 0 unsynced.now ∷ []) }
+{
+    landings.push(edge_landing(alloc, unsynced, edge)?)?;
+    Ok(())
 }
 
 fn edge_landing(alloc: Global, unsynced: &[Unsynced], edge: Edge) -> Result<Vec<Landed>, AllocError>
