@@ -18,7 +18,6 @@ pub struct AccessAnswer {
 
 impl AccessAnswer {
     /// Writes it. A refusal may leave a front of it.
-    #[tactic(auto, using(xdr::proofs::Writing::wrote_on, xdr::proofs::Writing::wrote_exit, xdr::proofs::Writing::wrote_end))]
     pub(crate) fn write(&self, w: &mut Writer) -> Result<(), Refusal>
         ensures { Wrote w.old w.new result (access_answer.spelling (access_view self.now)) }
     {
@@ -36,7 +35,6 @@ pub struct CreateAnswer {
 
 impl CreateAnswer {
     /// Writes it. A refusal may leave a front of it.
-    #[tactic(auto, using(xdr::proofs::Writing::wrote_on, xdr::proofs::Writing::wrote_exit, xdr::proofs::Writing::wrote_end))]
     pub(crate) fn write(&self, w: &mut Writer) -> Result<(), Refusal>
         ensures { Wrote w.old w.new result (create_answer.spelling (create_view self.now)) }
     {
@@ -56,7 +54,6 @@ pub struct OpenAnswer {
 
 impl OpenAnswer {
     /// Writes it. A refusal may leave a front of it.
-    #[tactic(auto, using(xdr::proofs::Writing::wrote_on, xdr::proofs::Writing::wrote_exit, xdr::proofs::Writing::wrote_end))]
     pub(crate) fn write(&self, w: &mut Writer) -> Result<(), Refusal>
         ensures { Wrote w.old w.new result (open_answer.spelling (open_view self.now)) }
     {
@@ -65,7 +62,6 @@ impl OpenAnswer {
         self.write_rest(w)
     }
 
-    #[tactic(auto, using(xdr::proofs::Writing::wrote_on, xdr::proofs::Writing::wrote_exit, xdr::proofs::Writing::wrote_end))]
     fn write_rest(&self, w: &mut Writer) -> Result<(), Refusal>
         ensures { Wrote w.old w.new result (open_rest self.now) }
     {
@@ -84,7 +80,6 @@ pub struct ReadAnswer<'a> {
 
 impl ReadAnswer<'_> {
     /// Writes it. A refusal may leave a front of it.
-    #[tactic(auto, using(xdr::proofs::Writing::wrote_on, xdr::proofs::Writing::wrote_exit, xdr::proofs::Writing::wrote_end))]
     pub(crate) fn write(&self, w: &mut Writer) -> Result<(), Refusal>
         requires { length self.now.data.now < 2 ^ 32 }
         ensures { Wrote w.old w.new result (read_answer.spelling (read_view self.now)) }
@@ -104,7 +99,6 @@ pub struct Entry<'a> {
 
 impl Entry<'_> {
     /// Writes it. A refusal may leave a front of it.
-    #[tactic(auto, using(xdr::proofs::Writing::wrote_on, xdr::proofs::Writing::wrote_exit, xdr::proofs::Writing::wrote_end))]
     pub(crate) fn write(&self, w: &mut Writer) -> Result<(), Refusal>
         requires { EntryFits self.now }
         ensures { Wrote w.old w.new result (entry.spelling (entry_view self.now)) }
@@ -154,7 +148,6 @@ fn write_links(w: &mut Writer, entries: &[Entry<'_>]) -> Result<(), Refusal>
     Ok(())
 }
 
-#[tactic(auto, using(xdr::proofs::Writing::wrote_on, xdr::proofs::Writing::wrote_exit, xdr::proofs::Writing::wrote_end))]
 fn write_link(w: &mut Writer, entry: &Entry<'_>) -> Result<(), Refusal>
     requires { EntryFits entry.now }
     ensures { Wrote w.old w.new result (link_of entry.now) }
@@ -172,7 +165,6 @@ pub struct RenameAnswer {
 
 impl RenameAnswer {
     /// Writes it. A refusal may leave a front of it.
-    #[tactic(auto, using(xdr::proofs::Writing::wrote_on, xdr::proofs::Writing::wrote_exit, xdr::proofs::Writing::wrote_end))]
     pub(crate) fn write(&self, w: &mut Writer) -> Result<(), Refusal>
         ensures { Wrote w.old w.new result (rename_answer.spelling (rename_view self.now)) }
     {
@@ -191,7 +183,6 @@ pub struct WriteAnswer {
 
 impl WriteAnswer {
     /// Writes it. A refusal may leave a front of it.
-    #[tactic(auto, using(xdr::proofs::Writing::wrote_on, xdr::proofs::Writing::wrote_exit, xdr::proofs::Writing::wrote_end))]
     pub(crate) fn write(&self, w: &mut Writer) -> Result<(), Refusal>
         ensures { Wrote w.old w.new result (write_answer.spelling (write_view self.now)) }
     {
@@ -213,7 +204,6 @@ pub struct ExchangeIdAnswer<'a> {
 
 impl ExchangeIdAnswer<'_> {
     /// Writes it. A refusal may leave a front of it.
-    #[tactic(auto, using(xdr::proofs::Writing::wrote_on, xdr::proofs::Writing::wrote_exit, xdr::proofs::Writing::wrote_end))]
     pub(crate) fn write(&self, w: &mut Writer) -> Result<(), Refusal>
         requires { (length self.now.major_id.now < 2 ^ 32) × (length self.now.scope.now < 2 ^ 32) }
         ensures { Wrote w.old w.new result
@@ -225,7 +215,6 @@ impl ExchangeIdAnswer<'_> {
         self.write_rest(w)
     }
 
-    #[tactic(auto, using(xdr::proofs::Writing::wrote_on, xdr::proofs::Writing::wrote_exit, xdr::proofs::Writing::wrote_end))]
     fn write_rest(&self, w: &mut Writer) -> Result<(), Refusal>
         requires { (length self.now.major_id.now < 2 ^ 32) × (length self.now.scope.now < 2 ^ 32) }
         ensures { Wrote w.old w.new result (exchange_id_rest self.now) }
@@ -235,7 +224,6 @@ impl ExchangeIdAnswer<'_> {
         self.write_names(w)
     }
 
-    #[tactic(auto, using(xdr::proofs::Writing::wrote_on, xdr::proofs::Writing::wrote_exit, xdr::proofs::Writing::wrote_end))]
     fn write_names(&self, w: &mut Writer) -> Result<(), Refusal>
         requires { (length self.now.major_id.now < 2 ^ 32) × (length self.now.scope.now < 2 ^ 32) }
         ensures { Wrote w.old w.new result (exchange_id_names self.now) }
@@ -258,7 +246,6 @@ pub struct CreateSessionAnswer {
 
 impl CreateSessionAnswer {
     /// Writes it. A refusal may leave a front of it.
-    #[tactic(auto, using(xdr::proofs::Writing::wrote_on, xdr::proofs::Writing::wrote_exit, xdr::proofs::Writing::wrote_end))]
     pub(crate) fn write(&self, w: &mut Writer) -> Result<(), Refusal>
         ensures { Wrote w.old w.new result
             (create_session_answer.spelling (create_session_view self.now)) }
@@ -269,7 +256,6 @@ impl CreateSessionAnswer {
         self.write_rest(w)
     }
 
-    #[tactic(auto, using(xdr::proofs::Writing::wrote_on, xdr::proofs::Writing::wrote_exit, xdr::proofs::Writing::wrote_end))]
     fn write_rest(&self, w: &mut Writer) -> Result<(), Refusal>
         ensures { Wrote w.old w.new result (create_session_rest self.now) }
     {
@@ -291,7 +277,6 @@ pub struct SequenceAnswer {
 
 impl SequenceAnswer {
     /// Writes it. A refusal may leave a front of it.
-    #[tactic(auto, using(xdr::proofs::Writing::wrote_on, xdr::proofs::Writing::wrote_exit, xdr::proofs::Writing::wrote_end))]
     pub(crate) fn write(&self, w: &mut Writer) -> Result<(), Refusal>
         ensures { Wrote w.old w.new result (sequence_answer.spelling (sequence_view self.now)) }
     {
@@ -301,7 +286,6 @@ impl SequenceAnswer {
         self.write_rest(w)
     }
 
-    #[tactic(auto, using(xdr::proofs::Writing::wrote_on, xdr::proofs::Writing::wrote_exit, xdr::proofs::Writing::wrote_end))]
     fn write_rest(&self, w: &mut Writer) -> Result<(), Refusal>
         ensures { Wrote w.old w.new result (sequence_rest self.now) }
     {

@@ -125,7 +125,6 @@ pub enum Outcome<'a> {
 
 impl Outcome<'_> {
     /// Writes the number, the status and what follows it.
-    #[tactic(auto, using(xdr::proofs::Writing::wrote_undone, xdr::proofs::Writing::unchanged))]
     pub fn write(&self, w: &mut Writer) -> Result<(), Refusal>
         requires { outcome.Fits (outcome_view self.now) }
         ensures wrote { Wrote w.old w.new result (outcome.spelling (outcome_view self.now)) }
@@ -147,7 +146,6 @@ impl Outcome<'_> {
     }
 }
 
-#[tactic(auto, using(xdr::proofs::Writing::wrote_on, xdr::proofs::Writing::wrote_exit, xdr::proofs::Writing::wrote_end))]
 fn write_done(answer: &Answer<'_>, w: &mut Writer) -> Result<(), Refusal>
     requires { (answer_told (answer_view answer.now)).Fits }
     ensures { Wrote w.old w.new result (done_text (answer_view answer.now)) }
@@ -157,7 +155,6 @@ fn write_done(answer: &Answer<'_>, w: &mut Writer) -> Result<(), Refusal>
     answer.write(w)
 }
 
-#[tactic(auto, using(xdr::proofs::Writing::wrote_on, xdr::proofs::Writing::wrote_exit, xdr::proofs::Writing::wrote_end, xdr::proofs::Writing::wrote_nothing))]
 fn write_refused(operation: u32, status: Status, w: &mut Writer) -> Result<(), Refusal>
     ensures { Wrote w.old w.new result (refused_text operation status) }
 {

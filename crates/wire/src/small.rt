@@ -68,7 +68,6 @@ impl StateId {
     }
 
     /// Writes it. A refusal may leave a front of it.
-    #[tactic(auto, using(xdr::proofs::Writing::wrote_on, xdr::proofs::Writing::wrote_exit, xdr::proofs::Writing::wrote_end))]
     pub fn write(&self, w: &mut Writer) -> Result<(), Refusal>
         ensures { Wrote w.old w.new result (state_id.spelling (state_view self.now)) }
     {
@@ -97,7 +96,6 @@ impl<'a> Attributes<'a> {
     }
 
     /// Writes it. A refusal may leave a front of it.
-    #[tactic(auto, using(xdr::proofs::Writing::wrote_on, xdr::proofs::Writing::wrote_exit, xdr::proofs::Writing::wrote_end))]
     pub fn write(&self, w: &mut Writer) -> Result<(), Refusal>
         requires { length self.now.values.now < 2 ^ 32 }
         ensures { Wrote w.old w.new result (attributes.spelling (attributes_view self.now)) }
@@ -117,7 +115,6 @@ pub struct ChangeInfo {
 
 impl ChangeInfo {
     /// Writes it. A refusal may leave a front of it.
-    #[tactic(auto, using(xdr::proofs::Writing::wrote_on, xdr::proofs::Writing::wrote_exit, xdr::proofs::Writing::wrote_end))]
     pub(crate) fn write(&self, w: &mut Writer) -> Result<(), Refusal>
         ensures { Wrote w.old w.new result (change_info.spelling (change_view self.now)) }
     {
@@ -165,7 +162,6 @@ impl Channel {
     }
 
     /// Writes it. A refusal may leave a front of it.
-    #[tactic(auto, using(xdr::proofs::Writing::wrote_on, xdr::proofs::Writing::wrote_exit, xdr::proofs::Writing::wrote_end))]
     pub fn write(&self, w: &mut Writer) -> Result<(), Refusal>
         ensures { Wrote w.old w.new result (channel.spelling (channel_view self.now)) }
     {
@@ -175,7 +171,6 @@ impl Channel {
         self.write_rest(w)
     }
 
-    #[tactic(auto, using(xdr::proofs::Writing::wrote_on, xdr::proofs::Writing::wrote_exit, xdr::proofs::Writing::wrote_end))]
     fn write_rest(&self, w: &mut Writer) -> Result<(), Refusal>
         ensures { Wrote w.old w.new result (channel_rest self.now) }
     {

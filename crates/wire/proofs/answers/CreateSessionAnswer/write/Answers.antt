@@ -1,5 +1,14 @@
-use Rattle.xdr.proofs.Writing.{wrote_on}
+use Rattle.wire.proofs.Writes.{writes}
 use Rattle.wire.proofs.answers.CreateSessionAnswer.write.Goals as goal
 
+pub returns-in_err-write_fixed : goal.returns-in_err-write_fixed
+returns-in_err-write_fixed c = search writes
+
+pub returns-in_err-write_u32 : goal.returns-in_err-write_u32
+returns-in_err-write_u32 c = search writes
+
+pub returns-in_err-write_u32-2 : goal.returns-in_err-write_u32-2
+returns-in_err-write_u32-2 c = search writes
+
 pub returns : goal.returns
-returns c = wrote_on c.in_ok-write_fixed.ensures.wrote (wrote_on c.in_ok-write_u32.ensures.wrote (wrote_on c.in_ok-write_u32-2.ensures.wrote c.write_rest.ensures))
+returns c = search writes

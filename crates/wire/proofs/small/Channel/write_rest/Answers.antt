@@ -1,0 +1,14 @@
+use Rattle.wire.proofs.Writes.{writes}
+use Rattle.wire.proofs.small.Channel.write_rest.Goals as goal
+
+pub returns-in_err-write_u32 : goal.returns-in_err-write_u32
+returns-in_err-write_u32 c = search writes
+
+pub returns-in_err-write_u32-2 : goal.returns-in_err-write_u32-2
+returns-in_err-write_u32-2 c = search writes
+
+pub returns-in_err-write_u32-3 : goal.returns-in_err-write_u32-3
+returns-in_err-write_u32-3 c = search writes
+
+pub returns : goal.returns
+returns c = search writes
