@@ -14,7 +14,6 @@ use wire::Argument;
 use xdr::{Refusal, Writer};
 
 /// Writes an operation's number and its arguments (`nfs_argop4`).
-#[tactic(auto, using(xdr::proofs::Writing::wrote_undone, xdr::proofs::Writing::unchanged))]
 pub fn write_argument(w: &mut Writer, call: &Argument<'_>) -> Result<(), Refusal>
     requires { ArgumentFits call.now }
     ensures wrote { Wrote w.old w.new result (argument.spelling (argument_view call.now)) }
@@ -25,7 +24,6 @@ pub fn write_argument(w: &mut Writer, call: &Argument<'_>) -> Result<(), Refusal
     w.undo(mark, result)
 }
 
-#[tactic(auto, using(xdr::proofs::Writing::wrote_on, xdr::proofs::Writing::wrote_exit, xdr::proofs::Writing::wrote_end))]
 fn write_numbered(w: &mut Writer, call: &Argument<'_>) -> Result<(), Refusal>
     requires { ArgumentFits call.now }
     ensures { Wrote w.old w.new result (argument.spelling (argument_view call.now)) }

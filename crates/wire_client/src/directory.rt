@@ -29,7 +29,6 @@ pub(crate) fn write_create(w: &mut Writer, a: &CreateArguments<'_>) -> Result<()
 }
 
 /// Writes `READDIR4args`. A refusal may leave a front of them.
-#[tactic(auto, using(xdr::proofs::Writing::wrote_on, xdr::proofs::Writing::wrote_exit, xdr::proofs::Writing::wrote_end))]
 pub(crate) fn write_read_dir(w: &mut Writer, a: &ReadDirArguments) -> Result<(), Refusal>
     ensures { Wrote w.old w.new result (read_dir_arguments.spelling (read_dir_view a.now)) }
 {
@@ -38,7 +37,6 @@ pub(crate) fn write_read_dir(w: &mut Writer, a: &ReadDirArguments) -> Result<(),
     write_read_dir_rest(w, a)
 }
 
-#[tactic(auto, using(xdr::proofs::Writing::wrote_on, xdr::proofs::Writing::wrote_exit, xdr::proofs::Writing::wrote_end))]
 fn write_read_dir_rest(w: &mut Writer, a: &ReadDirArguments) -> Result<(), Refusal>
     ensures { Wrote w.old w.new result (read_dir_rest a.now) }
 {
@@ -48,7 +46,6 @@ fn write_read_dir_rest(w: &mut Writer, a: &ReadDirArguments) -> Result<(), Refus
 }
 
 /// Writes `RENAME4args`. A refusal may leave a front of them.
-#[tactic(auto, using(xdr::proofs::Writing::wrote_on, xdr::proofs::Writing::wrote_exit, xdr::proofs::Writing::wrote_end))]
 pub(crate) fn write_rename(w: &mut Writer, a: &RenameArguments<'_>) -> Result<(), Refusal>
     requires { RenameFits a.now }
     ensures { Wrote w.old w.new result (rename_arguments.spelling (rename_view a.now)) }

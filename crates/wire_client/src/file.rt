@@ -9,7 +9,6 @@ use wire::{CloseArguments, CommitArguments, ReadArguments, SetAttrArguments, Wri
 use xdr::{Refusal, Writer};
 
 /// Writes `CLOSE4args`. A refusal may leave a front of them.
-#[tactic(auto, using(xdr::proofs::Writing::wrote_on, xdr::proofs::Writing::wrote_exit, xdr::proofs::Writing::wrote_end))]
 pub(crate) fn write_close(w: &mut Writer, a: &CloseArguments) -> Result<(), Refusal>
     ensures { Wrote w.old w.new result (close_arguments.spelling (close_view a.now)) }
 {
@@ -18,7 +17,6 @@ pub(crate) fn write_close(w: &mut Writer, a: &CloseArguments) -> Result<(), Refu
 }
 
 /// Writes `COMMIT4args`. A refusal may leave a front of them.
-#[tactic(auto, using(xdr::proofs::Writing::wrote_on, xdr::proofs::Writing::wrote_exit, xdr::proofs::Writing::wrote_end))]
 pub(crate) fn write_commit(w: &mut Writer, a: &CommitArguments) -> Result<(), Refusal>
     ensures { Wrote w.old w.new result (commit_arguments.spelling (commit_view a.now)) }
 {
@@ -27,7 +25,6 @@ pub(crate) fn write_commit(w: &mut Writer, a: &CommitArguments) -> Result<(), Re
 }
 
 /// Writes `READ4args`. A refusal may leave a front of them.
-#[tactic(auto, using(xdr::proofs::Writing::wrote_on, xdr::proofs::Writing::wrote_exit, xdr::proofs::Writing::wrote_end))]
 pub(crate) fn write_read(w: &mut Writer, a: &ReadArguments) -> Result<(), Refusal>
     ensures { Wrote w.old w.new result (read_arguments.spelling (read_view a.now)) }
 {
@@ -37,7 +34,6 @@ pub(crate) fn write_read(w: &mut Writer, a: &ReadArguments) -> Result<(), Refusa
 }
 
 /// Writes `WRITE4args`. A refusal may leave a front of them.
-#[tactic(auto, using(xdr::proofs::Writing::wrote_on, xdr::proofs::Writing::wrote_exit, xdr::proofs::Writing::wrote_end))]
 pub(crate) fn write_write(w: &mut Writer, a: &WriteArguments<'_>) -> Result<(), Refusal>
     requires { WriteFits a.now }
     ensures { Wrote w.old w.new result (write_arguments.spelling (write_view a.now)) }
@@ -49,7 +45,6 @@ pub(crate) fn write_write(w: &mut Writer, a: &WriteArguments<'_>) -> Result<(), 
 }
 
 /// Writes `SETATTR4args`. A refusal may leave a front of them.
-#[tactic(auto, using(xdr::proofs::Writing::wrote_on, xdr::proofs::Writing::wrote_exit, xdr::proofs::Writing::wrote_end))]
 pub(crate) fn write_set_attr(w: &mut Writer, a: &SetAttrArguments<'_>) -> Result<(), Refusal>
     requires { AttributesFit a.now.attributes }
     ensures { Wrote w.old w.new result (set_attr_arguments.spelling (set_attr_view a.now)) }

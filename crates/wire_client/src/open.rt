@@ -54,7 +54,6 @@ fn write_opens(w: &mut Writer, how: &OpenType<'_>, by: &Claim<'_>) -> Result<(),
     }
 }
 
-#[tactic(auto, using(xdr::proofs::Writing::wrote_on, xdr::proofs::Writing::wrote_exit, xdr::proofs::Writing::wrote_end))]
 fn write_created(
     w: &mut Writer,
     mode: u32,
@@ -72,7 +71,6 @@ fn write_created(
 }
 
 /// Writes `OPEN4args`. A refusal may leave a front of them.
-#[tactic(auto, using(xdr::proofs::Writing::wrote_on, xdr::proofs::Writing::wrote_exit, xdr::proofs::Writing::wrote_end))]
 pub(crate) fn write_open(w: &mut Writer, a: &OpenArguments<'_>) -> Result<(), Refusal>
     requires { OpenFits a.now }
     ensures { Wrote w.old w.new result (open_arguments.spelling (open_view a.now)) }
@@ -83,7 +81,6 @@ pub(crate) fn write_open(w: &mut Writer, a: &OpenArguments<'_>) -> Result<(), Re
     write_open_rest(w, a)
 }
 
-#[tactic(auto, using(xdr::proofs::Writing::wrote_on, xdr::proofs::Writing::wrote_exit, xdr::proofs::Writing::wrote_end))]
 fn write_open_rest(w: &mut Writer, a: &OpenArguments<'_>) -> Result<(), Refusal>
     requires { OpenFits a.now }
     ensures { Wrote w.old w.new result (open_rest a.now) }

@@ -17,7 +17,6 @@ use wire::{CallbackSecurity, CreateSessionArguments, ExchangeIdArguments, Sequen
 use xdr::{Refusal, Writer};
 
 /// Writes `EXCHANGE_ID4args`. A refusal may leave a front of them.
-#[tactic(auto, using(xdr::proofs::Writing::wrote_on, xdr::proofs::Writing::wrote_exit, xdr::proofs::Writing::wrote_end))]
 pub(crate) fn write_exchange_id(w: &mut Writer, a: &ExchangeIdArguments<'_>) -> Result<(), Refusal>
     requires { ExchangeIdFits a.now }
     ensures { Wrote w.old w.new result (exchange_id_arguments.spelling (exchange_id_view a.now)) }
@@ -28,7 +27,6 @@ pub(crate) fn write_exchange_id(w: &mut Writer, a: &ExchangeIdArguments<'_>) -> 
     write_exchange_id_rest(w, a)
 }
 
-#[tactic(auto, using(xdr::proofs::Writing::wrote_on, xdr::proofs::Writing::wrote_exit, xdr::proofs::Writing::wrote_end))]
 fn write_exchange_id_rest(w: &mut Writer, a: &ExchangeIdArguments<'_>) -> Result<(), Refusal>
     requires { MaybeImplementationFits a.now.implementation }
     ensures { Wrote w.old w.new result (exchange_id_rest a.now) }
@@ -38,7 +36,6 @@ fn write_exchange_id_rest(w: &mut Writer, a: &ExchangeIdArguments<'_>) -> Result
 }
 
 /// Writes `CREATE_SESSION4args`. A refusal may leave a front of them.
-#[tactic(auto, using(xdr::proofs::Writing::wrote_on, xdr::proofs::Writing::wrote_exit, xdr::proofs::Writing::wrote_end))]
 pub(crate) fn write_create_session(
     w: &mut Writer,
     a: &CreateSessionArguments<'_>,
@@ -53,7 +50,6 @@ pub(crate) fn write_create_session(
     write_create_session_rest(w, a)
 }
 
-#[tactic(auto, using(xdr::proofs::Writing::wrote_on, xdr::proofs::Writing::wrote_exit, xdr::proofs::Writing::wrote_end))]
 fn write_create_session_rest(w: &mut Writer, a: &CreateSessionArguments<'_>) -> Result<(), Refusal>
     requires { CreateSessionFits a.now }
     ensures { Wrote w.old w.new result (create_session_rest a.now) }
@@ -72,7 +68,6 @@ fn write_create_session_end(w: &mut Writer, a: &CreateSessionArguments<'_>) -> R
     write_securities(w, &a.security)
 }
 
-#[tactic(auto, unfolding(xdr::specs::Forms::elements), using(xdr::proofs::Writing::wrote_on, xdr::proofs::Writing::wrote_exit, xdr::proofs::Writing::wrote_end, crate::proofs::Securities::securities_text))]
 fn write_securities(w: &mut Writer, list: &[CallbackSecurity<'_>]) -> Result<(), Refusal>
     requires limit { length list.now ≤ 4 }
     requires fits { All SecurityFits list.now }
@@ -94,7 +89,6 @@ fn write_each_security(w: &mut Writer, list: &[CallbackSecurity<'_>]) -> Result<
 }
 
 /// Writes `SEQUENCE4args`. A refusal may leave a front of them.
-#[tactic(auto, using(xdr::proofs::Writing::wrote_on, xdr::proofs::Writing::wrote_exit, xdr::proofs::Writing::wrote_end))]
 pub(crate) fn write_sequence(w: &mut Writer, a: &SequenceArguments) -> Result<(), Refusal>
     ensures { Wrote w.old w.new result (sequence_arguments.spelling (sequence_view a.now)) }
 {
@@ -104,7 +98,6 @@ pub(crate) fn write_sequence(w: &mut Writer, a: &SequenceArguments) -> Result<()
     write_sequence_rest(w, a)
 }
 
-#[tactic(auto, using(xdr::proofs::Writing::wrote_on, xdr::proofs::Writing::wrote_exit, xdr::proofs::Writing::wrote_end))]
 fn write_sequence_rest(w: &mut Writer, a: &SequenceArguments) -> Result<(), Refusal>
     ensures { Wrote w.old w.new result (sequence_rest a.now) }
 {

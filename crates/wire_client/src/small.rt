@@ -45,7 +45,6 @@ pub(crate) fn read_answered<'a>(r: &mut Reader<'a>) -> Result<Attributes<'a>, Re
     Ok(Attributes { bitmap, values })
 }
 
-#[tactic(auto, using(xdr::proofs::Writing::wrote_on, xdr::proofs::Writing::wrote_exit, xdr::proofs::Writing::wrote_end))]
 fn write_implementation(w: &mut Writer, a: &Implementation<'_>) -> Result<(), Refusal>
     requires { ImplementationFits a.now }
     ensures { Wrote w.old w.new result (implementation.spelling (implementation_view a.now)) }
@@ -75,7 +74,6 @@ pub(crate) fn write_implementations(
     }
 }
 
-#[tactic(auto, using(xdr::proofs::Writing::wrote_on, xdr::proofs::Writing::wrote_exit, xdr::proofs::Writing::wrote_end))]
 fn write_credential(w: &mut Writer, a: &SystemCredential<'_>) -> Result<(), Refusal>
     requires { CredentialFits a.now }
     ensures { Wrote w.old w.new result (system_credential.spelling (credential_view a.now)) }
@@ -85,7 +83,6 @@ fn write_credential(w: &mut Writer, a: &SystemCredential<'_>) -> Result<(), Refu
     write_credential_rest(w, a)
 }
 
-#[tactic(auto, using(xdr::proofs::Writing::wrote_on, xdr::proofs::Writing::wrote_exit, xdr::proofs::Writing::wrote_end))]
 fn write_credential_rest(w: &mut Writer, a: &SystemCredential<'_>) -> Result<(), Refusal>
     ensures { Wrote w.old w.new result (credential_rest a.now) }
 {

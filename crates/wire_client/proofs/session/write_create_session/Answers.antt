@@ -1,5 +1,14 @@
-use Rattle.xdr.proofs.Writing.{wrote_on}
+use Rattle.wire.proofs.Writes.{writes}
 use Rattle.wire_client.proofs.session.write_create_session.Goals as goal
 
+pub returns-in_err-write_u64 : goal.returns-in_err-write_u64
+returns-in_err-write_u64 c = search writes
+
+pub returns-in_err-write_u32 : goal.returns-in_err-write_u32
+returns-in_err-write_u32 c = search writes
+
+pub returns-in_err-write_u32-2 : goal.returns-in_err-write_u32-2
+returns-in_err-write_u32-2 c = search writes
+
 pub returns : goal.returns
-returns c = wrote_on c.in_ok-write_u64.ensures.wrote (wrote_on c.in_ok-write_u32.ensures.wrote (wrote_on c.in_ok-write_u32-2.ensures.wrote c.write_create_session_rest.ensures))
+returns c = search writes

@@ -1,0 +1,11 @@
+use Rattle.wire.proofs.Writes.{writes}
+use Rattle.wire_client.proofs.directory.write_read_dir.Goals as goal
+
+pub returns-in_err-write_u64 : goal.returns-in_err-write_u64
+returns-in_err-write_u64 c = search writes
+
+pub returns-in_err-write_fixed : goal.returns-in_err-write_fixed
+returns-in_err-write_fixed c = search writes
+
+pub returns : goal.returns
+returns c = search writes
