@@ -54,29 +54,29 @@ pub(crate) fn made_edits<'a>(
         ++ (edit.PutName new.entry.directory stamp new.entry.name stamp
         ∷ edit.Show new.entry.directory directory_shown ∷ []))) }
 {
-    let mut edits = Vec::new(alloc);
-    edits.push(Edit::PutNode {
+    let node = Edit::PutNode {
         number: stamp,
         kind: new.kind,
         shown,
-    })?;
-    if new.size > 0 {
-        edits.push(Edit::SetSize {
-            file: stamp,
-            size: new.size,
-        })?;
-    }
-    edits.push(Edit::PutName {
+    };
+    let name = Edit::PutName {
         directory: new.directory,
         stamp,
         name: new.name,
         number: stamp,
-    })?;
-    edits.push(Edit::Show {
+    };
+    let shows = Edit::Show {
         number: new.directory,
         shown: directory_shown,
-    })?;
-    Ok(edits)
+    };
+    if new.size == 0 {
+        return Ok(vec![in alloc; node, name, shows]?);
+    }
+    let size = Edit::SetSize {
+        file: stamp,
+        size: new.size,
+    };
+    Ok(vec![in alloc; node, size, name, shows]?)
 }
 
 /// A name and the node that it leads to are gone, and what its directory shows then.
@@ -92,18 +92,16 @@ pub(crate) fn removed_edits<'a>(
         ∷ edit.DropNode number
         ∷ edit.Show directory directory_shown ∷ []) }
 {
-    let mut edits = Vec::new(alloc);
-    edits.push(Edit::DropName {
+    let name_gone = Edit::DropName {
         directory,
         stamp,
         name,
-    })?;
-    edits.push(Edit::DropNode { number })?;
-    edits.push(Edit::Show {
+    };
+    let shows = Edit::Show {
         number: directory,
         shown: directory_shown,
-    })?;
-    Ok(edits)
+    };
+    Ok(vec![in alloc; name_gone, Edit::DropNode { number }, shows]?)
 }
 
 /// Bytes of a file from a place on, and what the file shows then.
@@ -117,17 +115,16 @@ pub(crate) fn written_edits<'a>(
     ensures { IfOk result (λ edits. edits.items
         ≡ edit.PutBytes file offset bytes.entry ∷ edit.Show file shown ∷ []) }
 {
-    let mut edits = Vec::new(alloc);
-    edits.push(Edit::PutBytes {
+    let put = Edit::PutBytes {
         file,
         offset,
         bytes,
-    })?;
-    edits.push(Edit::Show {
+    };
+    let shows = Edit::Show {
         number: file,
         shown,
-    })?;
-    Ok(edits)
+    };
+    Ok(vec![in alloc; put, shows]?)
 }
 
 /// The size of a file, where one is set, and what the node shows then.
@@ -140,12 +137,11 @@ pub(crate) fn set_edits<'a>(
     ensures { IfOk result (λ edits. edits.items
         ≡ resizing number size ++ (edit.Show number shown ∷ [])) }
 {
-    let mut edits = Vec::new(alloc);
-    if let Some(size) = size {
-        edits.push(Edit::SetSize { file: number, size })?;
+    let shows = Edit::Show { number, shown };
+    match size {
+        None => Ok(vec![in alloc; shows]?),
+        Some(size) => Ok(vec![in alloc; Edit::SetSize { file: number, size }, shows]?),
     }
-    edits.push(Edit::Show { number, shown })?;
-    Ok(edits)
 }
 
 #[tactic(auto, unfolding(crate::specs::FileSystems::fs_of, crate::specs::FileSystems::fs_failures))]

@@ -99,35 +99,35 @@ fn renamed_edits<'a>(
         ++ moving_edits asked.entry moving.entry.stamp moving.entry.number stamp from_shown
         to_shown) }
 {
-    let mut edits = Vec::new(alloc);
-    if let Some((target_stamp, number)) = target {
-        edits.push(Edit::DropName {
-            directory: asked.to,
-            stamp: target_stamp,
-            name: asked.new_name,
-        })?;
-        edits.push(Edit::DropNode { number })?;
-    }
-    edits.push(Edit::DropName {
+    let old_gone = Edit::DropName {
         directory: asked.from,
         stamp: moving.stamp,
         name: asked.old_name,
-    })?;
-    edits.push(Edit::PutName {
+    };
+    let new = Edit::PutName {
         directory: asked.to,
         stamp,
         name: asked.new_name,
         number: moving.number,
-    })?;
-    edits.push(Edit::Show {
+    };
+    let from_shows = Edit::Show {
         number: asked.from,
         shown: from_shown,
-    })?;
-    edits.push(Edit::Show {
+    };
+    let to_shows = Edit::Show {
         number: asked.to,
         shown: to_shown,
-    })?;
-    Ok(edits)
+    };
+    let Some((target_stamp, number)) = target else {
+        return Ok(vec![in alloc; old_gone, new, from_shows, to_shows]?);
+    };
+    let target_gone = Edit::DropName {
+        directory: asked.to,
+        stamp: target_stamp,
+        name: asked.new_name,
+    };
+    let node_gone = Edit::DropNode { number };
+    Ok(vec![in alloc; target_gone, node_gone, old_gone, new, from_shows, to_shows]?)
 }
 
 #[tactic(auto, unfolding(crate::specs::FileSystems::fs_of, crate::specs::FileSystems::fs_failures))]
