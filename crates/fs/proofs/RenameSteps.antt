@@ -17,7 +17,7 @@ use Rattle.model.specs.Stamp.{is_stamp_left}
 use Rattle.model.specs.Step.{State, current, saved, late, without_rights, refusals, effect, does, refused, unless_refused}
 use Rattle.model.specs.Tree.{Tree, is_directory_at}
 use Rattle.settings.proofs.Refusing.{or_else, first-append}
-use Rattle.fs.specs.RenameTests.{moving_refusals, placing_refusals}
+use Rattle.fs.specs.RenameTests.{directory_refusals, moving_refusals, placing_refusals}
 
 or_behind : (test : Bool) (reason : Status) (front rest : Option Status) → refused_or test reason (or_else front rest) ≡ or_else (refused_or test reason front) rest
 or_behind true reason front rest = refl
@@ -25,8 +25,7 @@ or_behind false reason front rest = refl
 
 -- Both directories and the old name
 
-module _ (limits : Limits) (tree : Tree) (from to : ℕ) (arguments : RenameArguments) (to_key : is_key to tree ≡ true) (from_key : is_key from tree ≡ true)
-    (from_place : is_directory_at tree from ≡ true) (to_place : is_directory_at tree to ≡ true) where
+module _ (limits : Limits) (tree : Tree) (from to : ℕ) (arguments : RenameArguments) where
   abbrev old_tests : Refusals
   old_tests = name_refusals limits arguments.old_name
 
@@ -39,31 +38,30 @@ module _ (limits : Limits) (tree : Tree) (from to : ℕ) (arguments : RenameArgu
   abbrev tests : Refusals
   tests = moving_refusals limits tree from to arguments
 
-  found_first : first_refusal tests ≡ first_refusal (old_tests ++ (new_tests ++ entry_tests))
-  found_first =
-      let rest = first_refusal (old_tests ++ (new_tests ++ entry_tests)) in
-      ap (λ (b : Bool). refused_or (not b) status.Stale (refused_or (not (is_key from tree)) status.Stale (refused_or (not (is_directory_at tree from)) status.NotDir
-      (refused_or (not (is_directory_at tree to)) status.NotDir rest)))) to_key
-      ∙ ap (λ (b : Bool). refused_or (not b) status.Stale (refused_or (not (is_directory_at tree from)) status.NotDir (refused_or (not (is_directory_at tree to)) status.NotDir rest))) from_key
-      ∙ ap (λ (b : Bool). refused_or (not b) status.NotDir (refused_or (not (is_directory_at tree to)) status.NotDir rest)) from_place
-      ∙ ap (λ (b : Bool). refused_or (not b) status.NotDir rest) to_place
+  by_directories : (o : Option Status) → first_refusal (directory_refusals tree from to) ≡ o → first_refusal tests ≡ or_else o (first_refusal (old_tests ++ (new_tests ++ entry_tests)))
+  by_directories o is = first-append (directory_refusals tree from to) (old_tests ++ (new_tests ++ entry_tests))
+      ∙ ap (λ (p : Option Status). or_else p (first_refusal (old_tests ++ (new_tests ++ entry_tests)))) is
 
-  by_old : (o : Option Status) → first_refusal old_tests ≡ o → first_refusal tests ≡ or_else o (first_refusal (new_tests ++ entry_tests))
-  by_old o is = found_first ∙ first-append old_tests (new_tests ++ entry_tests) ∙ ap (λ (p : Option Status). or_else p (first_refusal (new_tests ++ entry_tests))) is
+  pub bad_directories : (reason : Status) → first_refusal (directory_refusals tree from to) ≡ Some reason → first_refusal tests ≡ Some reason
+  bad_directories reason bad = by_directories (Some reason) bad
 
-  pub bad_old : (reason : Status) → first_refusal old_tests ≡ Some reason → first_refusal tests ≡ Some reason
-  bad_old reason bad = by_old (Some reason) bad
+  module _ (both : first_refusal (directory_refusals tree from to) ≡ None) where
+    by_old : (o : Option Status) → first_refusal old_tests ≡ o → first_refusal tests ≡ or_else o (first_refusal (new_tests ++ entry_tests))
+    by_old o is = by_directories None both ∙ first-append old_tests (new_tests ++ entry_tests) ∙ ap (λ (p : Option Status). or_else p (first_refusal (new_tests ++ entry_tests))) is
 
-  module _ (old_good : first_refusal old_tests ≡ None) where
-    by_new : (o : Option Status) → first_refusal new_tests ≡ o → first_refusal tests ≡ or_else o (first_refusal entry_tests)
-    by_new o is = by_old None old_good ∙ first-append new_tests entry_tests ∙ ap (λ (p : Option Status). or_else p (first_refusal entry_tests)) is
+    pub bad_old : (reason : Status) → first_refusal old_tests ≡ Some reason → first_refusal tests ≡ Some reason
+    bad_old reason bad = by_old (Some reason) bad
 
-    pub bad_new : (reason : Status) → first_refusal new_tests ≡ Some reason → first_refusal tests ≡ Some reason
-    bad_new reason bad = by_new (Some reason) bad
+    module _ (old_good : first_refusal old_tests ≡ None) where
+      by_new : (o : Option Status) → first_refusal new_tests ≡ o → first_refusal tests ≡ or_else o (first_refusal entry_tests)
+      by_new o is = by_old None old_good ∙ first-append new_tests entry_tests ∙ ap (λ (p : Option Status). or_else p (first_refusal entry_tests)) is
 
-    module _ (new_good : first_refusal new_tests ≡ None) where
-      pub by_entry : (b : Bool) → is_named tree from arguments.old_name ≡ b → first_refusal tests ≡ refused_or (not b) status.NoEnt None
-      by_entry b is = by_new None new_good ∙ ap (λ (named : Bool). refused_or (not named) status.NoEnt None) is
+      pub bad_new : (reason : Status) → first_refusal new_tests ≡ Some reason → first_refusal tests ≡ Some reason
+      bad_new reason bad = by_new (Some reason) bad
+
+      module _ (new_good : first_refusal new_tests ≡ None) where
+        pub by_entry : (b : Bool) → is_named tree from arguments.old_name ≡ b → first_refusal tests ≡ refused_or (not b) status.NoEnt None
+        by_entry b is = by_new None new_good ∙ ap (λ (named : Bool). refused_or (not named) status.NoEnt None) is
 
 -- In a state
 

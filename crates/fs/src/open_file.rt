@@ -34,7 +34,7 @@ impl<D: Device> Fs<D> {
     ghost use Rattle.model.specs.Directory.{is_named};
     ghost use Rattle.model.specs.Name.{name_refusals};
     ghost use Rattle.model.specs.Open.{cuts, given_by, known_refusals, new_refusals};
-    ghost use Rattle.model.specs.Operation.{Argument, OpenArguments};
+    ghost use Rattle.model.specs.Operation.{Argument, OpenArguments, Unchecked};
     ghost use Rattle.model.specs.Refusal.{first_refusal};
     ghost use Rattle.model.specs.Step.{State};
     ghost use Rattle.settings.specs.Given.{given_of, AreSettings, AreWithin, IsChecked, IsCheckedInMemory};
@@ -276,15 +276,21 @@ impl<D: Device> Fs<D> {
         ensures file { OnOk result (card.now.fields.kind ≡ kind.File) }
         ensures cut { IfOk result (λ is_cut. is_cut ≡ cuts (type_of how.entry)) }
     {
-        if matches!(how, How::Guarded(_)) {
-            return Err(NotDone::Status(Status::Exist));
+        match how {
+            How::Guarded(_) => Err(NotDone::Status(Status::Exist)),
+            _ if is_directory(card) => Err(NotDone::Status(Status::IsDir)),
+            How::NoCreate => Ok(false),
+            How::Unchecked(given) => self.check_cut(given),
         }
-        if is_directory(card) {
-            return Err(NotDone::Status(Status::IsDir));
-        }
-        let How::Unchecked(given) = how else {
-            return Ok(false);
-        };
+    }
+
+    /// The tests of attributes that an open gives of a file that is there, and whether they cut it.
+    fn check_cut(&self, given: Attributes<'_>) -> Result<bool, NotDone>
+        requires { length given.bitmap.now ≤ 8 }
+        ensures tests { IsCheckedInMemory (attribute_refusals (fs_of self.now).volume.limits
+            kind.File settable_at_open (given_of given.entry)) result }
+        ensures cut { IfOk result (λ is_cut. is_cut ≡ cuts (Unchecked (given_of given.entry))) }
+    {
         let settings = self.check_given(given)?;
         Ok(settings.size == Some(0))
     }

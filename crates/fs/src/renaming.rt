@@ -141,12 +141,14 @@ impl<D: Device> Fs<D> {
     ghost use Rattle.settings.specs.Given.{IsChecked};
     ghost use Rattle.fs.specs.Changes.{fs_ending};
     ghost use Rattle.fs.specs.FileSystems.{fs_of, Alters};
+    ghost use Rattle.fs.specs.Making.{IsDirectoryOf};
     ghost use Rattle.fs.specs.Operations.{IsNotDone};
     ghost use Rattle.fs.specs.Planned.{IsPlanned};
     ghost use Rattle.fs.specs.Refusals.{fault_of};
     ghost use Rattle.fs.specs.Renaming.{IsOnBoth, Renames, RenamesTree, arguments_of, replaced_in};
     ghost use Rattle.fs.specs.Renaming.{StaysNamed, IsMoved, is_itself, number_under};
-    ghost use Rattle.fs.specs.RenameTests.{HasMoved, IsTarget, moving_refusals, placing_refusals};
+    ghost use Rattle.fs.specs.RenameTests.{HasMoved, IsTarget, directory_refusals};
+    ghost use Rattle.fs.specs.RenameTests.{moving_refusals, placing_refusals};
     ghost use Rattle.fs.specs.RenameTests.{is_in_the_way, may_rename, may_replace};
 
     /// RENAME of what a name in one directory leads to (RFC 8881, section 18.26), by this caller at
@@ -255,18 +257,7 @@ impl<D: Device> Fs<D> {
         ensures moved { IfOk result (λ moving.
             HasMoved (fs_of self.entry.now).volume.tree asked.entry moving) }
     {
-        let Some(to) = self.volume.node(asked.to) else {
-            return Err(Status::Stale);
-        };
-        let Some(from) = self.volume.node(asked.from) else {
-            return Err(Status::Stale);
-        };
-        if !is_directory(from) {
-            return Err(Status::NotDir);
-        }
-        if !is_directory(to) {
-            return Err(Status::NotDir);
-        }
+        let (from, to) = self.both_directories(asked)?;
         let limits = self.volume.limits();
         check_name(asked.old_name, limits)?;
         check_name(asked.new_name, limits)?;
@@ -279,6 +270,28 @@ impl<D: Device> Fs<D> {
             stamp,
             number,
         })
+    }
+
+    /// The directory that has the old name, and the one that is to have the new one. STALE, NOTDIR.
+    fn both_directories(&self, asked: Renaming<'_>) -> Result<(&Card, &Card), Status>
+        ensures tests { IsChecked (directory_refusals (fs_of self.entry.now).volume.tree
+            asked.entry.from asked.entry.to) result }
+        ensures from { IfOk result (λ both.
+            IsDirectoryOf (fs_of self.entry.now).volume.tree asked.entry.from both.0.now) }
+        ensures to { IfOk result (λ both.
+            IsDirectoryOf (fs_of self.entry.now).volume.tree asked.entry.to both.1.now) }
+    {
+        let Some(to) = self.volume.node(asked.to) else {
+            return Err(Status::Stale);
+        };
+        let Some(from) = self.volume.node(asked.from) else {
+            return Err(Status::Stale);
+        };
+        if is_directory(from) && is_directory(to) {
+            Ok((from, to))
+        } else {
+            Err(Status::NotDir)
+        }
     }
 
     /// The change of a name that is not given to itself, after the tests of both directories and
