@@ -17,3 +17,7 @@ returns-clause-entries g c =
     let few = small.few in
     let most : held.limits.aces ≡ 40 = ap (λ (l : Limits). l.aces) c.args.self.now.volume.limited in
     record { few = omega (arith, few, most); each = small.each }
+
+pub returns-clause-shown : goal.returns-clause-shown
+unfolding fs_of
+returns-clause-shown g c = search rules

@@ -1,4 +1,4 @@
-use Rattle.std.proofs.Common.{◌+◌, ◌^◌, ap, arith}
+use Rattle.std.proofs.Common.{rules, ◌+◌, ◌^◌, ap, arith}
 use Rattle.std.proofs.lemmas.Bool.{le-ltb, lt-ltb}
 use Rattle.std.proofs.lemmas.Result.{err_from_is_err_and}
 use Rattle.directory.specs.Records.{record_from}
@@ -46,3 +46,7 @@ returns-clause-step g c state on =
     c.in-Some.stamp c.in_ok-shown.shown c.in_ok-edits.edits.items c.in-Some.ensures c.in_ok-shown.ensures c.in_ok-edits.ensures
     state on (lt-ltb (fs.changes + 1) (2 ^ 32) (omega (arith, c.args.self.now.counted, c.if-self.false)))
     c.holder.inside.inode.change (ap (λ (it : Card). it.fields.change) c.holder.view_is)
+
+pub returns-clause-gone : goal.returns-clause-gone
+unfolding fs_of
+returns-clause-gone g c = search rules

@@ -1,0 +1,7 @@
+use Rattle.std.proofs.Common.{rules}
+use Rattle.fs.specs.FileSystems.{fs_of}
+use Rattle.fs.proofs.fs.Fs.file_to_open.Goals as goal
+
+pub returns-in-Some : goal.returns-in-Some
+unfolding fs_of
+returns-in-Some g c = search rules
