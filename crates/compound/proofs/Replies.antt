@@ -16,8 +16,8 @@ use Rattle.compound.specs.Operates.{IsSpelled}
 
 pub reply_length : (xid : ℕ) (status : Status) (tag : List ℕ) (count : ℕ) (results more : List ℕ)
     → length (reply_text xid (Success (compound_text status tag count (results ++ more)))) ≡ 32 + length (counted tag) + length results + length more
-unfolding reply_text compound_text number
-reply_length xid status tag count results more = grind (arith, common_steps)
+unfolding reply_text compound_text
+reply_length xid status tag count results more = simp (length-append, int_length) (omega arith)
 
 pub room_length : (request : InProgress) (outcome : Outcome)
     → length (reply_with request outcome) ≡ 32 + length (counted request.tag) + length request.results + length (outcome_text outcome)
@@ -25,8 +25,8 @@ room_length request outcome = reply_length request.xid (status_of outcome) reque
 
 -- round a result stand the xid, the message type and four words
 pub success_length : (xid : ℕ) (result : List ℕ) → length (reply_text xid (Success result)) ≡ 24 + length result
-unfolding reply_text number
-success_length xid result = grind (arith, common_steps)
+unfolding reply_text
+success_length xid result = simp (length-append, int_length) (omega arith)
 
 pub framed_length : (bytes : List ℕ) → length (framed bytes) ≡ 4 + length bytes
 unfolding framed

@@ -1,6 +1,7 @@
 -- What operations and turns do to a file system, by the definition.
 use Rattle.std.proofs.Common.{◌≡◌, ◌≤◌, ℕ, Bool, true, false, ◌&&◌, ◌||◌, if◌then◌else◌, List, length, nat_le, Option, Some, None, Result, Ok, Err, refl, ap, ◌∙◌, arith}
-use Rattle.volume.specs.Changes.{Done}
+use Rattle.std.specs.Result.{IsErrAnd}
+use Rattle.volume.specs.Changes.{Given, Done}
 use Rattle.fs.specs.Changes.{Changes}
 use Rattle.fs.specs.FileSystem.{FileSystem}
 use Rattle.model.specs.Answer as model
@@ -141,6 +142,12 @@ quiet_result keeps_word state failed request now operation (Err fault.Memory) up
 quiet_result keeps_word state failed request now operation (Err fault.Device) up quiet memory =
     let is : fault.Device ≡ fault.Memory = memory fault.Device refl in
     let never : ⊥ = cc in absurd never
+
+-- one that is not done, for memory alone
+pub memory_changes : {T : Type 0} (keeps_word : Type 0) (given : Given) (fs : FileSystem) (failed : ℕ) (result : Result T Fault) (reason : Fault)
+    → IsErrAnd result (λ told. told ≡ reason) → reason ≡ fault.Memory → Changes keeps_word given fs fs failed failed (ending result)
+memory_changes keeps_word given fs failed (Ok done) reason is memory = absurd is
+memory_changes keeps_word given fs failed (Err told) reason is memory = rw (is, memory) (leaves_all keeps_word given fs fs failed failed refl (omega arith))
 
 -- Turns
 

@@ -20,9 +20,9 @@ impl Progress {
         ensures ok { IfOk result (IsBegin run) }
         ensures err { IfErr result (λ fault. fault ≡ Memory) }
     {
-        let results = Writer::from_vec(Vec::with_capacity(alloc, RESULT_BUFFER)?);
-        let kept = Writer::from_vec(Vec::with_capacity(alloc, RESULT_BUFFER)?);
-        let reply = Writer::from_vec(Vec::with_capacity(alloc, RECORD_BUFFER)?);
+        let results = Writer::with_capacity(alloc, RESULT_BUFFER)?;
+        let kept = Writer::with_capacity(alloc, RESULT_BUFFER)?;
+        let reply = Writer::with_capacity(alloc, RECORD_BUFFER)?;
         Ok(Progress {
             position: 0,
             answered: 0,

@@ -1,7 +1,7 @@
-use Rattle.std.proofs.Common.{refl, ◌∙◌}
+use Rattle.std.proofs.Common.{refl}
 use Rattle.compound.proofs.Resuming.{begins}
 use Rattle.compound.proofs.progress.Progress.begin.Goals as goal
 
 pub returns-clause-ok : goal.returns-clause-ok
 returns-clause-ok c =
-    begins c.args.run _ refl refl (c.from_vec-results.ensures.bytes ∙ c.in_ok-with_capacity.ensures.items) refl refl refl refl refl
+    begins c.args.run _ refl refl c.in_ok-results.ensures.bytes refl refl refl refl refl

@@ -1,8 +1,9 @@
-use Rattle.std.proofs.Common.{arith, ap, ◌∙◌}
+use Rattle.std.proofs.Common.{arith, rules, ap, ◌∙◌}
 use Rattle.std.proofs.lemmas.List.{length-append}
 use Rattle.std.specs.Prelude.{length}
 use Rattle.compound.specs.Told.{told_text}
 use Rattle.compound.specs.Views.{in_progress_of}
+use Rattle.compound.proofs.Replies.{success_length}
 use Rattle.compound.proofs.Tellings.{told_length}
 use Rattle.compound.proofs.running.Running.end.Goals as goal
 
@@ -21,3 +22,15 @@ write_reply-requires c =
       ap length (c.result_of-compound.ensures.results ∙ (c.as_slice.ensures ∙ c.write-results.ensures.bytes)),
       length-append c.args.self.progress.results.bytes (told_text c.args.told),
     )
+
+pub keep-requires-clause-short : goal.keep-requires-clause-short
+unfolding in_progress_of
+keep-requires-clause-short c = grind (arith, success_length)
+
+pub returns-clause-kept : goal.returns-clause-kept
+unfolding in_progress_of
+returns-clause-kept c = search rules
+
+pub returns-clause-reply : goal.returns-clause-reply
+unfolding in_progress_of
+returns-clause-reply c = search rules

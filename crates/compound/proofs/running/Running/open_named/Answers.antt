@@ -20,13 +20,15 @@ use Rattle.compound.specs.States.{shared}
 use Rattle.compound.specs.Volumes.{OperationGives, ending}
 use Rattle.compound.specs.Views.{in_progress_of}
 use Rattle.compound.specs.declared.fault.Fault.{Fault}
+use Rattle.compound.specs.declared.fault.Fault.TheVariants as fault
 use Rattle.compound.specs.declared.operated.Operated.{Operated}
 use Rattle.compound.proofs.Changing.{told_gives, told_changes, told_spelled}
 use Rattle.compound.proofs.OpenLaws.{on_tree}
 use Rattle.compound.proofs.OpenNamedLaws.{is_opening, open_makes, open_up, opens_to, sized}
+use Rattle.compound.proofs.QuietLaws.{leaves_all}
 use Rattle.compound.proofs.Rooms.{gives_refusal}
 use Rattle.compound.proofs.Trees.{is_on, wants}
-use Rattle.compound.proofs.VolumeLaws.{refusal_changes}
+use Rattle.compound.proofs.VolumeLaws.{memory_changes, refusal_changes}
 use Rattle.compound.proofs.WriteLaws.{beside, is_beside}
 use Rattle.compound.proofs.running.Running.open_named.Goals as goal
 
@@ -51,6 +53,21 @@ returns-in-Err-clause-volume g c = λ table.
     refusal_changes g.D.Device.keeps_word fs fs table opens (fs_failures c.args.fs.now) (fs_failures c.args.fs.now) request c.args.now kind 18 c.in-Err.status refl (omega arith) c.requires.up
     (subst (λ (reason : Status). GivesIn c.args.now (shared fs table opens) (shared fs table opens) request request kind (Refused 18 reason)) (sym c.in-Err.ensures.err.0)
     (gives_refusal c.args.now (shared fs table opens) (shared fs table opens) request kind 18 _ (wants c.args.now fs table opens request kind refl c.in-Err.ensures.err.1)))
+
+-- Where there is no memory
+
+pub returns-in_default-clause-volume : goal.returns-in_default-clause-volume
+returns-in_default-clause-volume g c = λ table. leaves_all g.D.Device.keeps_word _ _ _ _ _ refl (omega arith)
+
+pub returns-in_err-asked-clause-volume : goal.returns-in_err-asked-clause-volume
+returns-in_err-asked-clause-volume g c = λ table.
+    memory_changes g.D.Device.keeps_word _ (fs_of c.args.fs.now) (fs_failures c.args.fs.now) c.from_residual.result c.in_err-asked.field-0.0
+    c.from_residual.ensures.1 (rw c.in_err-asked.was at c.asked_open.ensures.err)
+
+pub returns-in_err-reserve-clause-volume : goal.returns-in_err-reserve-clause-volume
+returns-in_err-reserve-clause-volume g c = λ table.
+    memory_changes g.D.Device.keeps_word _ (fs_of c.args.fs.now) (fs_failures c.args.fs.now) c.from_residual-in_err-reserve.result fault.Memory
+    c.from_residual-in_err-reserve.ensures.1 refl
 
 -- Where it is done
 

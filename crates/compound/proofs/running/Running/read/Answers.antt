@@ -1,4 +1,4 @@
-use Rattle.std.proofs.Common.{◌<◌, ◌^◌, Bool, length, min, drop, Result, IfOk, refl, sym, subst, arith, length-take}
+use Rattle.std.proofs.Common.{◌≡◌, ◌<◌, ◌^◌, Bool, length, min, drop, Result, IfOk, refl, sym, subst, arith, length-take}
 use Rattle.fs.specs.Changes.{Changes}
 use Rattle.fs.specs.FileSystem.{FileSystem}
 use Rattle.fs.specs.FileSystems.{fs_of, fs_failures}
@@ -18,9 +18,12 @@ use Rattle.compound.specs.declared.fault.Fault.{Fault}
 use Rattle.compound.specs.declared.operated.Operated.{Operated}
 use Rattle.compound.proofs.Changing.{told_spelled}
 use Rattle.compound.proofs.QuietLaws.{left_all}
-use Rattle.compound.proofs.ReadLaws.{read_wants, read_ok, read_up, told_reads, told_changes}
+use Rattle.compound.proofs.ReadLaws.{read_wants, read_ok, read_up, read_nothing, read_quietly, told_reads, told_changes}
 use Rattle.compound.proofs.Rooms.{gives_refusal}
 use Rattle.compound.proofs.Trees.{is_on}
+use Rattle.compound.proofs.VolumeLaws.{memory_changes, quiet_changes}
+use Rattle.volume.proofs.ServeLaws.{told_err}
+use Rattle.compound.specs.declared.fault.Fault.TheVariants as fault
 use Rattle.compound.proofs.running.Running.read.Goals as goal
 
 pub returns-in-Err-clause-gives : goal.returns-in-Err-clause-gives
@@ -34,6 +37,16 @@ returns-in-Err-clause-gives g c = λ now keeps table.
     c.refuse.ensures.gives now (shared fs table opens) (shared fs table opens) kind
     (subst (λ (reason : Status). GivesIn now (shared fs table opens) (shared fs table opens) request request kind (Refused 25 reason)) (sym c.in-Err.ensures.err.0)
     (gives_refusal now (shared fs table opens) (shared fs table opens) request kind 25 _ (read_wants now fs table opens request arguments c.in-Err.ensures.err.1)))
+
+pub returns-in-Err-clause-volume : goal.returns-in-Err-clause-volume
+returns-in-Err-clause-volume g c = λ now table.
+    quiet_changes g.D.Device.keeps_word (shared (fs_of c.args.fs.now) table (opens_of c.args.opens.now)) (fs_failures c.args.fs.now) (in_progress_of c.args.self.now) now
+    (Argument.Read (read_view c.args.arguments.now)) c.requires.up refl
+
+pub returns-in_err-values-clause-volume : goal.returns-in_err-values-clause-volume
+returns-in_err-values-clause-volume g c = λ now table.
+    memory_changes g.D.Device.keeps_word _ (fs_of c.args.fs.now) (fs_failures c.args.fs.now) c.from_residual.result c.in_err-values.field-0.0
+    c.from_residual.ensures.1 (rw c.in_err-values.was at c.room_for.ensures.err)
 
 -- Where it is done
 
@@ -57,6 +70,19 @@ returns-in_ok-finish-in-Ok-read-clause-gives g c = λ now keeps table.
     (read_ok now fs opens request arguments table answer
     (λ state there known. c.in-Ok-read.ensures.step state now arguments.state (is_on fs request c.in-Ok.number state c.requires.run c.in-Ok.ensures.ok.0 c.in-Ok.ensures.ok.1 there)
     (c.verdict-verdict.ensures state known there.context_is))))
+
+pub returns-in_ok-finish-in-Ok-read-clause-volume : goal.returns-in_ok-finish-in-Ok-read-clause-volume
+returns-in_ok-finish-in-Ok-read-clause-volume g c = λ now table.
+    read_quietly now (fs_of c.args.fs.now) (opens_of c.args.opens.now) (in_progress_of c.args.self.now) (read_view c.args.arguments.now) g.D.Device.keeps_word
+    (fs_of c.read.new.self) _ _ table c.requires.up c.in-Ok-read.ensures.volume
+
+pub returns-in_err-finish-in-Ok-read-clause-volume : goal.returns-in_err-finish-in-Ok-read-clause-volume
+returns-in_err-finish-in-Ok-read-clause-volume g c = λ now table.
+    let reason = c.in_err-finish-in-Ok-read.field-0.0 in
+    let told = told_err c.from_residual-in_err-finish-in-Ok-read.result reason c.from_residual-in_err-finish-in-Ok-read.ensures.1 in
+    let memory : reason ≡ fault.Memory = rw c.in_err-finish-in-Ok-read.was at c.finish.ensures.err in
+    rw (told, memory) (read_nothing now (fs_of c.args.fs.now) (opens_of c.args.opens.now) (in_progress_of c.args.self.now) (read_view c.args.arguments.now) g.D.Device.keeps_word
+    (fs_of c.read.new.self) _ _ table c.in-Ok-read.ensures.volume)
 
 -- Where it is not
 

@@ -46,3 +46,17 @@ returns-in-GivesSpelled-clause-further g c =
 
 pub repeat-requires : goal.repeat-requires
 repeat-requires g c = rw c.in-Replays.is at c.in-Ok.ensures.kept
+
+-- The file system is as the operation left it
+
+pub returns-in-Err-clause-volume : goal.returns-in-Err-clause-volume
+returns-in-Err-clause-volume g c = c.in-Err.ensures.volume
+
+pub returns-in-Replays-clause-volume : goal.returns-in-Replays-clause-volume
+returns-in-Replays-clause-volume g c = c.in-Ok.ensures.volume
+
+pub returns-in-GivesSpelled-clause-volume : goal.returns-in-GivesSpelled-clause-volume
+returns-in-GivesSpelled-clause-volume g c = c.in-Ok.ensures.volume
+
+pub returns-in-Gives-clause-volume : goal.returns-in-Gives-clause-volume
+returns-in-Gives-clause-volume g c = c.in-Ok.ensures.volume
