@@ -4,7 +4,7 @@ use crate::progress::SlotId;
 use wire::{Operation, Outcome, StateId};
 
 /// What an operation leaves of its COMPOUND, beside the result.
-#[derive(Clone, Copy, Debug, PartialEq, Eq)]
+#[derive(Clone, Copy)]
 pub enum Effect {
     /// Nothing changes.
     Stays,

@@ -20,7 +20,7 @@ pub struct SlotId {
 }
 
 /// A filehandle, and the stateid that goes with it (RFC 8881, section 16.2.3.1.2).
-#[derive(Clone, Copy, Debug)]
+#[derive(Clone, Copy)]
 pub(crate) struct HandlePlace {
     /// The number of the node that the filehandle names.
     pub(crate) number: u64,
