@@ -1,12 +1,13 @@
 //! What the lines of a script have a user do.
 
-ghost use Rattle.std.specs.Prelude.{IfOk};
-ghost use Rattle.wire_client.specs.ArgumentFits.{ArgumentFits};
+ghost use Rattle.std.specs.Prelude.{◌≤◌, length, All, IfOk};
+ghost use Rattle.wire_client.specs.ArgumentFits.{ArgumentFits, SecurityFits};
 
-use crate::loopback::{Connection, connect};
+use crate::caller::{Caller, Results};
+use crate::loopback::connect;
 use crate::operation::{Operation, arguments_of};
 use crate::refused::Refused;
-use crate::user::{Known, Results, User};
+use crate::user::{Known, User};
 use disk::Device;
 use model::status::Status;
 use server::{Server, Turn};
@@ -32,39 +33,57 @@ const CHANNEL: Channel = Channel {
     rdma_ird: None,
 };
 
-/// Connects a new user, makes it known and tells its number.
+/// Makes a new caller known by this name, and tells its number.
 pub fn hello<S, D, O>(
-    alloc: Global,
     server: &mut Server<D>,
-    user: &mut User<S>,
+    caller: &mut Caller<S>,
+    name: &str,
     out: &mut O,
-) -> Result<(), Refused>
+) -> Result<Known, Refused>
 where
     S: Read + Write + Drop,
     D: Device,
     O: Write,
 {
-    let reply = ask_hello(alloc, server, user)?;
-    let known = known_of(&user.read_reply(&reply)?)?;
-    writeln!(out, "{} client {} {}", user.name, known.id, known.sequence)?;
-    user.known = Some(known);
-    Ok(())
+    let known = ask_hello(server, caller, name)?;
+    writeln!(out, "{name} client {} {}", known.id, known.sequence)?;
+    Ok(known)
 }
 
-/// The reply to EXCHANGE_ID.
+/// What EXCHANGE_ID answers.
 fn ask_hello<S, D>(
-    alloc: Global,
     server: &mut Server<D>,
-    user: &mut User<S>,
-) -> Result<Vec<u8>, Refused>
+    caller: &mut Caller<S>,
+    name: &str,
+) -> Result<Known, Refused>
 where
     S: Read + Write + Drop,
     D: Device,
 {
-    let name = String::from_str(alloc, &user.name)?;
-    let asked = exchange_id(&name)?;
-    user.ask(server, &[asked], words(alloc, "hello")?)?;
-    user.await_reply(server)
+    let owner = owner_of(name)?;
+    let reply = exchange_ids(server, caller, owner)?;
+    known_in(caller, &reply)
+}
+
+/// The reply to EXCHANGE_ID.
+fn exchange_ids<S, D>(
+    server: &mut Server<D>,
+    caller: &mut Caller<S>,
+    owner: &[u8],
+) -> Result<Vec<u8>, Refused>
+where
+    S: Read + Write + Drop,
+    D: Device,
+    requires { length owner.now ≤ 1024 }
+{
+    caller.call(server, &[exchange_id(owner)])
+}
+
+fn known_in<S>(caller: &mut Caller<S>, reply: &[u8]) -> Result<Known, Refused>
+where
+    S: Read + Write + Drop,
+{
+    known_of(&caller.read_reply(reply)?)
 }
 
 fn known_of(results: &Results<'_>) -> Result<Known, Refused> {
@@ -89,29 +108,53 @@ where
     D: Device,
     O: Write,
 {
-    let reply = ask_session(alloc, server, user)?;
-    let id = session_of(&user.read_reply(&reply)?)?;
+    user.words = words(alloc, "session")?;
+    let id = ask_session(alloc, server, &mut user.caller, user.known)?;
     user.has_session = true;
-    write!(out, "{} session ", user.name)?;
-    write_hex(out, &id)
+    tell_session(out, &user.name, &id)
 }
 
-/// The reply to CREATE_SESSION.
+/// The session's id, which CREATE_SESSION answers.
 fn ask_session<S, D>(
     alloc: Global,
     server: &mut Server<D>,
-    user: &mut User<S>,
-) -> Result<Vec<u8>, Refused>
+    caller: &mut Caller<S>,
+    known: Known,
+) -> Result<[u8; 16], Refused>
 where
     S: Read + Write + Drop,
     D: Device,
 {
-    let Some(known) = user.known else {
-        return Err(Refused::Script);
-    };
-    let asked = create_session(alloc, known)?;
-    user.ask(server, &[asked], words(alloc, "session")?)?;
-    user.await_reply(server)
+    let security = vec![in alloc; CallbackSecurity::NoSecurity]?;
+    let reply = make_session(server, caller, known, security)?;
+    session_in(caller, &reply)
+}
+
+/// The reply to CREATE_SESSION.
+fn make_session<S, D>(
+    server: &mut Server<D>,
+    caller: &mut Caller<S>,
+    known: Known,
+    security: Vec<CallbackSecurity<'_>>,
+) -> Result<Vec<u8>, Refused>
+where
+    S: Read + Write + Drop,
+    D: Device,
+    requires { (length security.items ≤ 4) × All SecurityFits security.items }
+{
+    caller.call(server, &[create_session(known, security)])
+}
+
+fn session_in<S>(caller: &mut Caller<S>, reply: &[u8]) -> Result<[u8; 16], Refused>
+where
+    S: Read + Write + Drop,
+{
+    session_of(&caller.read_reply(reply)?)
+}
+
+fn tell_session<O: Write>(out: &mut O, name: &str, id: &[u8]) -> Result<(), Refused> {
+    write!(out, "{name} session ")?;
+    write_hex(out, id)
 }
 
 fn session_of(results: &Results<'_>) -> Result<[u8; 16], Refused> {
@@ -144,9 +187,23 @@ where
     if !user.has_session {
         return Err(Refused::Script);
     }
-    let owner = String::from_str(alloc, &user.name)?;
-    let arguments = arguments_of(alloc, operations, &owner)?;
-    user.ask(server, &arguments, words_of(alloc, operations)?)
+    user.words = words_of(alloc, operations)?;
+    ask_call(alloc, server, &mut user.caller, &user.name, operations)
+}
+
+fn ask_call<S, D>(
+    alloc: Global,
+    server: &mut Server<D>,
+    caller: &mut Caller<S>,
+    owner: &str,
+    operations: &[Operation<'_>],
+) -> Result<(), Refused>
+where
+    S: Read + Write + Drop,
+    D: Device,
+{
+    let arguments = arguments_of(alloc, operations, owner)?;
+    caller.ask(server, &arguments)
 }
 
 /// The words for a SEQUENCE, and for the operations after it.
@@ -165,7 +222,7 @@ where
     D: Device,
     O: Write,
 {
-    let word = match user.turn(server)? {
+    let word = match user.caller.turn(server)? {
         Turn::Idle => "idle",
         Turn::Ran => "ran",
         Turn::Answered => "answered",
@@ -181,7 +238,7 @@ where
     D: Device,
     O: Write,
 {
-    let reply = user.await_reply(server)?;
+    let reply = user.caller.await_reply(server)?;
     tell_reply(user, &reply, out)
 }
 
@@ -190,7 +247,7 @@ where
     S: Read + Write + Drop,
     O: Write,
 {
-    let results = user.read_reply(reply)?;
+    let results = user.caller.read_reply(reply)?;
     tell(out, &user.name, &user.words, &results)
 }
 
@@ -208,38 +265,43 @@ where
         return Err(Refused::Script);
     }
     let connection = connect(rt, server)?;
-    user.ask_again(server, connection)
+    user.caller.ask_again(server, connection)
 }
 
 fn words(alloc: Global, word: &'static str) -> Result<Vec<&'static str>, Refused> {
-    let mut words = Vec::new(alloc);
-    words.push(word)?;
-    Ok(words)
+    Ok(vec![in alloc; word]?)
 }
 
-/// EXCHANGE_ID of this owner id: a zero verifier, no flags (RFC 8881, section 18.35).
-fn exchange_id(name: &str) -> Result<Argument<'_>, Refused>
-    ensures { IfOk result ArgumentFits }
+/// The owner id of a user of this name.
+fn owner_of(name: &str) -> Result<&[u8], Refused>
+    ensures { IfOk result (λ owner. length owner.now ≤ 1024) }
 {
     let owner = name.as_bytes();
     if owner.len() > MAX_OWNER_BYTES {
         return Err(Refused::Script);
     }
-    Ok(Argument::ExchangeId(ExchangeIdArguments {
+    Ok(owner)
+}
+
+/// EXCHANGE_ID of this owner id: a zero verifier, no flags (RFC 8881, section 18.35).
+fn exchange_id(owner: &[u8]) -> Argument<'_>
+    requires { length owner.now ≤ 1024 }
+    ensures { ArgumentFits result }
+{
+    Argument::ExchangeId(ExchangeIdArguments {
         verifier: [0; 8],
         owner,
         flags: 0,
         implementation: None,
-    }))
+    })
 }
 
 /// CREATE_SESSION of this client (section 18.36).
-fn create_session<'a>(alloc: Global, known: Known) -> Result<Argument<'a>, Refused>
-    ensures { IfOk result ArgumentFits }
+fn create_session<'a>(known: Known, security: Vec<CallbackSecurity<'a>>) -> Argument<'a>
+    requires { (length security.items ≤ 4) × All SecurityFits security.items }
+    ensures { ArgumentFits result }
 {
-    let mut security = Vec::new(alloc);
-    security.push(CallbackSecurity::NoSecurity)?;
-    Ok(Argument::CreateSession(CreateSessionArguments {
+    Argument::CreateSession(CreateSessionArguments {
         client: known.id,
         sequence: known.sequence,
         flags: 0,
@@ -247,7 +309,7 @@ fn create_session<'a>(alloc: Global, known: Known) -> Result<Argument<'a>, Refus
         back: CHANNEL,
         callback_program: 0,
         security,
-    }))
+    })
 }
 
 /// Tells the results of what the words name.
@@ -257,13 +319,26 @@ fn tell<O: Write>(
     words: &[&'static str],
     results: &Results<'_>,
 ) -> Result<(), Refused> {
-    for (word, outcome) in words.iter().zip(results.done.iter()) {
+    tell_done(out, name, words, &results.done)?;
+    let Some(status) = results.refusal else {
+        return Ok(());
+    };
+    match words.get(results.done.len()) {
+        Some(word) => tell_refusal(out, name, *word, status),
+        None => Ok(()),
+    }
+}
+
+fn tell_done<O: Write>(
+    out: &mut O,
+    name: &str,
+    words: &[&'static str],
+    done: &[Outcome<'_>],
+) -> Result<(), Refused> {
+    for (word, outcome) in words.iter().zip(done) {
         tell_outcome(out, name, *word, outcome)?;
     }
-    match (results.refusal, words.get(results.done.len())) {
-        (Some(status), Some(word)) => tell_refusal(out, name, *word, status),
-        _ => Ok(()),
-    }
+    Ok(())
 }
 
 fn tell_outcome<O: Write>(

@@ -77,10 +77,19 @@ impl<D: Device> Host<D> {
     {
         self.hang_up(rt)?;
         let mut stream = BufReader::with_capacity(rt.alloc(), PIECE_BYTES, peer)?;
+        self.admit(rt, &mut stream)
+    }
+
+    /// Connects a peer, and hangs it up at its end.
+    fn admit<C, S>(&mut self, clock: &C, stream: &mut BufReader<S>) -> Result<(), Parting>
+    where
+        C: Clock,
+        S: Read + Write,
+    {
         let conn = link::connect(&mut self.server)?;
         self.conn = Some(conn);
-        let parting = self.converse(rt, conn, &mut stream);
-        self.hang_up(rt)?;
+        let parting = self.converse(clock, conn, stream);
+        self.hang_up(clock)?;
         parting
     }
 
@@ -123,11 +132,10 @@ impl<D: Device> Host<D> {
                 break;
             }
         }
-        if let Some(reply) = link::take_output(&mut self.server, conn)? {
-            out.write_all(&reply)?;
-            out.flush()?;
+        match link::take_output(&mut self.server, conn)? {
+            Some(reply) => Ok(write_reply(out, &reply)?),
+            None => Ok(()),
         }
-        Ok(())
     }
 
     /// A turn. For want of memory it leaves all as it was, so it is tried again.
@@ -157,6 +165,11 @@ impl<D: Device> Host<D> {
         }
         Err(Refused::Memory)
     }
+}
+
+fn write_reply<W: Write>(out: &mut W, reply: &[u8]) -> io::Result<()> {
+    out.write_all(reply)?;
+    out.flush()
 }
 
 fn pause<C: Clock>(clock: &C) {

@@ -3,6 +3,7 @@
 
 mod actions;
 mod arguments;
+mod caller;
 mod host;
 mod line;
 mod link;

@@ -37,10 +37,14 @@ pub fn read_line(alloc: Global, text: &str) -> Result<Option<Line<'_>>, AllocErr
         return Ok(Some(Line::Nothing));
     }
     let words: Vec<&str> = text.split(' ').collect(alloc)?;
+    read_words(alloc, &words)
+}
+
+fn read_words<'a>(alloc: Global, words: &[&'a str]) -> Result<Option<Line<'a>>, AllocError> {
     if words.iter().any(|word| word.is_empty()) {
         return Ok(None);
     }
-    match words.as_slice() {
+    match words {
         [word] if *word == "restart" => Ok(Some(Line::Restart)),
         [name, rest @ ..] => match read_action(alloc, rest)? {
             Some(action) => Ok(Some(Line::Client {

@@ -1,10 +1,15 @@
-//! The calls of the server, and of the file system below it, as the program makes them: each stands here once, so that what is above need not see all that the server promises.
+//! The calls of the server, of the file system below it, and of a client's records, as the program makes them: each stands here once, so that what is above need not see all that they promise.
+
+ghost use Rattle.std.specs.Prelude.{All};
+ghost use Rattle.wire_client.specs.ArgumentFits.{ArgumentFits};
 
 use crate::refused::Refused;
+use client::Client;
 use disk::Device;
 use fs::{Checked, Fs};
 use server::{Server, Turn};
 use std::alloc::Global;
+use wire::Argument;
 
 /// The moment that every turn of a script is handed.
 const MOMENT: u64 = 0;
@@ -72,4 +77,16 @@ pub fn hangup<D: Device>(server: &mut Server<D>, conn: usize) -> Result<(), Refu
 /// Ends the connection at this moment.
 pub fn hangup_at<D: Device>(server: &mut Server<D>, conn: usize, now: u64) -> Result<(), Refused> {
     Ok(server.hangup(conn, now)?)
+}
+
+/// Makes the record of these arguments, which the client keeps.
+pub fn request(client: &mut Client, arguments: &[Argument<'_>]) -> Result<(), Refused>
+    requires { All ArgumentFits arguments.now }
+{
+    Ok(client.request(arguments)?)
+}
+
+/// The record that the client keeps.
+pub fn last_record(client: &Client) -> Result<&[u8], Refused> {
+    Ok(client.retry()?)
 }

@@ -5,7 +5,7 @@ use crate::link;
 use crate::refused::Refused;
 use disk::Device;
 use server::Server;
-use std::alloc::Global;
+use std::alloc::{AllocError, Global};
 use std::io::{Read, Write};
 use std::net::{Ipv4Addr, Net, OpenListener, OpenStream, TcpListener, TcpStream};
 
@@ -34,9 +34,7 @@ where
     R: Net + AllocGlobal,
     D: Device,
 {
-    let listener = TcpListener::bind(rt, (Ipv4Addr::LOCALHOST, 0))?;
-    let users = TcpStream::connect(rt, listener.local_addr()?)?;
-    let (servers, _) = listener.accept()?;
+    let (users, servers) = ends(rt)?;
     Ok(Connection {
         alloc: rt.alloc(),
         number: link::connect(server)?,
@@ -48,6 +46,14 @@ where
     })
 }
 
+/// A user's end, and the server's.
+fn ends<R: Net>(rt: &R) -> Result<(R::Stream, R::Stream), Refused> {
+    let listener = TcpListener::bind(rt, (Ipv4Addr::LOCALHOST, 0))?;
+    let users = TcpStream::connect(rt, listener.local_addr()?)?;
+    let (servers, _) = listener.accept()?;
+    Ok((users, servers))
+}
+
 impl<S: Read + Write + Drop> Connection<S> {
     /// A record is to be sent from its beginning.
     pub fn begin(&mut self) {
@@ -55,34 +61,41 @@ impl<S: Read + Write + Drop> Connection<S> {
         self.awaits_reply = true;
     }
 
-    /// Sends what is left of the record, up to what the server does not take yet: that is offered to it again the next time.
+    /// Sends what is left of the record whose reply is to come, up to what the server does not take yet: that is offered to it again
+    /// the next time.
     pub fn send<D: Device>(
         &mut self,
         server: &mut Server<D>,
         record: &[u8],
     ) -> Result<(), Refused> {
-        self.offer(server)?;
+        if !self.awaits_reply {
+            return Ok(());
+        }
         let rest = record.get(self.written..).unwrap_or_default();
         for piece in rest.chunks(PIECE_BYTES) {
-            if !self.arrived.is_empty() {
-                break;
+            if !self.offer(server)? {
+                return Ok(());
             }
-            carry(&mut self.users, &mut self.servers, piece, &mut self.arrived)?;
-            self.written = self.written.saturating_add(piece.len());
-            self.offer(server)?;
+            self.write(piece)?;
         }
+        self.offer(server)?;
         Ok(())
     }
 
-    /// Hands the server what came to its end.
-    fn offer<D: Device>(&mut self, server: &mut Server<D>) -> Result<(), Refused> {
-        if self.arrived.is_empty() {
-            return Ok(());
-        }
-        let taken = link::feed(server, self.number, &self.arrived)?;
-        let rest = self.arrived.get(taken..).unwrap_or_default();
-        self.arrived = Vec::from_slice(self.alloc, rest)?;
+    /// Has a piece of the record come to the server's end.
+    fn write(&mut self, piece: &[u8]) -> Result<(), Refused> {
+        carry(&mut self.users, &mut self.servers, piece, &mut self.arrived)?;
+        self.written = self.written.saturating_add(piece.len());
         Ok(())
+    }
+
+    /// Hands the server what came to its end. Whether it took all.
+    fn offer<D: Device>(&mut self, server: &mut Server<D>) -> Result<bool, Refused> {
+        if !self.arrived.is_empty() {
+            let taken = link::feed(server, self.number, &self.arrived)?;
+            self.arrived = rest_of(self.alloc, &self.arrived, taken)?;
+        }
+        Ok(self.arrived.is_empty())
     }
 
     /// The reply, if the server has made it, as it comes to the user's end.
@@ -90,16 +103,36 @@ impl<S: Read + Write + Drop> Connection<S> {
         &mut self,
         server: &mut Server<D>,
     ) -> Result<Option<Vec<u8>>, Refused> {
-        let Some(reply) = link::take_output(server, self.number)? else {
-            return Ok(None);
-        };
-        let mut received = Vec::new(self.alloc);
-        for piece in reply.chunks(PIECE_BYTES) {
-            carry(&mut self.servers, &mut self.users, piece, &mut received)?;
+        match link::take_output(server, self.number)? {
+            Some(reply) => Ok(Some(self.read(&reply)?)),
+            None => Ok(None),
         }
-        self.awaits_reply = false;
-        Ok(Some(received))
     }
+
+    /// Has a reply come to the user's end.
+    fn read(&mut self, reply: &[u8]) -> Result<Vec<u8>, Refused> {
+        self.awaits_reply = false;
+        carry_all(self.alloc, &mut self.servers, &mut self.users, reply)
+    }
+}
+
+/// The bytes after the first so many.
+fn rest_of(alloc: Global, bytes: &[u8], taken: usize) -> Result<Vec<u8>, AllocError> {
+    Vec::from_slice(alloc, bytes.get(taken..).unwrap_or_default())
+}
+
+/// Writes bytes to one end of a connection, and reads them from the other, piece by piece.
+fn carry_all<S: Read + Write>(
+    alloc: Global,
+    from: &mut S,
+    to: &mut S,
+    bytes: &[u8],
+) -> Result<Vec<u8>, Refused> {
+    let mut received = Vec::new(alloc);
+    for piece in bytes.chunks(PIECE_BYTES) {
+        carry(from, to, piece, &mut received)?;
+    }
+    Ok(received)
 }
 
 /// Writes a piece to one end of a connection, and reads it from the other.

@@ -7,10 +7,10 @@ use crate::script::script;
 use crate::serve::serve;
 use crate::words::{Request, read_words};
 use disk::{FileDevice, MemDevice};
+use fs::Checked;
 use server::is_volume_size;
 use std::convert::AsStr;
-use std::fs;
-use std::fs::File;
+use std::fs::{File, read_to_string};
 use std::io::{BufRead, ErrorKind, Write};
 use std::rt::Files;
 
@@ -35,17 +35,22 @@ where
     O: Write,
     E: Write,
 {
-    let outcome = match read_words(rt.alloc(), words) {
-        Ok(Request::Usage) => {
-            let _ = writeln!(
-                err,
-                "usage: nfs41 [format FILE SECTORS NODES | run FILE SCRIPT | check FILE | serve FILE PORT COUNT]"
-            );
-            return USAGE;
-        }
-        Ok(request) => do_request(rt, request, input, out),
-        Err(error) => Err(error.into()),
-    };
+    match read_words(rt.alloc(), words) {
+        Ok(Request::Usage) => tell_usage(err),
+        Ok(request) => tell_outcome(err, do_request(rt, request, input, out)),
+        Err(error) => tell_outcome(err, Err(error.into())),
+    }
+}
+
+fn tell_usage<E: Write>(err: &mut E) -> u8 {
+    let _ = writeln!(
+        err,
+        "usage: nfs41 [format FILE SECTORS NODES | run FILE SCRIPT | check FILE | serve FILE PORT COUNT]"
+    );
+    USAGE
+}
+
+fn tell_outcome<E: Write>(err: &mut E, outcome: Result<(), Refused>) -> u8 {
     match outcome {
         Ok(()) => DONE,
         Err(refused) => {
@@ -104,14 +109,20 @@ where
     R: Files<File = File> + AllocGlobal,
     O: Write,
 {
+    make_volume(rt, file, sectors, nodes)?;
+    Ok(writeln!(out, "formatted")?)
+}
+
+fn make_volume<R>(rt: &R, file: &str, sectors: u32, nodes: u32) -> Result<(), Refused>
+where
+    R: Files<File = File> + AllocGlobal,
+{
     // The size is tested before the file is touched.
     if !is_volume_size(sectors, nodes) {
         return Err(Refused::Size);
     }
     let mut device = FileDevice::create(rt, rt.alloc(), file, sectors)?;
-    link::format(rt.alloc(), &mut device, nodes)?;
-    writeln!(out, "formatted")?;
-    Ok(())
+    link::format(rt.alloc(), &mut device, nodes)
 }
 
 fn run_file<R, O>(rt: &R, file: &str, script_file: &str, out: &mut O) -> Result<(), Refused>
@@ -119,13 +130,20 @@ where
     R: Machine,
     O: Write,
 {
-    let text = match fs::read_to_string(rt, script_file) {
-        Ok(text) => text,
-        Err(error) => return Err(read_refusal(error.kind())),
-    };
+    match read_to_string(rt, script_file) {
+        Ok(text) => run_text(rt, file, &text, out),
+        Err(error) => Err(read_refusal(error.kind())),
+    }
+}
+
+/// Runs the script of this text on the volume in a file.
+fn run_text<R, O>(rt: &R, file: &str, text: &str, out: &mut O) -> Result<(), Refused>
+where
+    R: Machine,
+    O: Write,
+{
     let mut device = open_volume(rt, file)?;
-    let mut lines = text.as_bytes();
-    script(rt, &mut device, &mut lines, out)
+    script(rt, &mut device, &mut text.as_bytes(), out)
 }
 
 /// Tells what a mount would find, and writes nothing.
@@ -134,14 +152,20 @@ where
     R: Files<File = File> + AllocGlobal,
     O: Write,
 {
-    let mut device = open_volume(rt, file)?;
-    let found = link::check(rt.alloc(), &mut device)?;
-    writeln!(
+    let found = check_volume(rt, file)?;
+    Ok(writeln!(
         out,
         "volume {} {} run {}",
         found.sectors, found.nodes, found.count
-    )?;
-    Ok(())
+    )?)
+}
+
+fn check_volume<R>(rt: &R, file: &str) -> Result<Checked, Refused>
+where
+    R: Files<File = File> + AllocGlobal,
+{
+    let mut device = open_volume(rt, file)?;
+    link::check(rt.alloc(), &mut device)
 }
 
 /// The device over a file of whole sectors.

@@ -1,6 +1,7 @@
 //! Running a script: its users and the server in one thread, which take turns.
 
 use crate::actions::{call, hello, retry, session, take, turn};
+use crate::caller::Caller;
 use crate::line::{Action, Line, read_line};
 use crate::link;
 use crate::loopback::connect;
@@ -41,7 +42,7 @@ where
     Ok(())
 }
 
-/// Mounts the volume, tells the run of a restart, and runs the lines of this mount.
+/// Mounts the volume, and runs the lines up to the next mount.
 fn run_mount<R, D, I, O>(
     rt: &R,
     device: &mut D,
@@ -57,16 +58,34 @@ where
     O: Write,
 {
     let mut server = link::mount(rt.alloc(), device)?;
+    run_server(rt, &mut server, users, restarted, input, out)
+}
+
+/// Tells the run of a restart, and runs the lines of this mount.
+fn run_server<R, D, I, O>(
+    rt: &R,
+    server: &mut Server<D>,
+    users: &mut Vec<User<R::Stream>>,
+    restarted: bool,
+    input: &mut I,
+    out: &mut O,
+) -> Result<End, Refused>
+where
+    R: Net + AllocGlobal,
+    D: Device,
+    I: BufRead,
+    O: Write,
+{
     if restarted {
-        writeln!(out, "run {}", link::restart_count(&server))?;
+        writeln!(out, "run {}", link::restart_count(server))?;
     }
-    run_lines(rt, &mut server, users, input, out)
+    run_lines(rt, server, users, input, out)
 }
 
 /// The connections ended with the server. What the users know stays.
 fn disconnect<S: Read + Write + Drop>(users: &mut Vec<User<S>>) {
     for user in users.iter_mut() {
-        user.disconnect();
+        user.caller.disconnect();
     }
 }
 
@@ -121,13 +140,31 @@ where
     O: Write,
 {
     match read_line(rt.alloc(), text.trim_end_matches('\n'))? {
-        Some(Line::Nothing) => Ok(false),
-        Some(Line::Restart) => Ok(true),
-        Some(Line::Client { name, action }) => {
+        Some(line) => obey(rt, server, users, &line, out),
+        None => Err(Refused::Script),
+    }
+}
+
+/// Does what a line asks for. Whether the server is to be mounted again.
+fn obey<R, D, O>(
+    rt: &R,
+    server: &mut Server<D>,
+    users: &mut Vec<User<R::Stream>>,
+    line: &Line<'_>,
+    out: &mut O,
+) -> Result<bool, Refused>
+where
+    R: Net + AllocGlobal,
+    D: Device,
+    O: Write,
+{
+    match line {
+        Line::Nothing => Ok(false),
+        Line::Restart => Ok(true),
+        Line::Client { name, action } => {
             act(rt, server, users, name, action, out)?;
             Ok(false)
         }
-        None => Err(Refused::Script),
     }
 }
 
@@ -137,7 +174,7 @@ fn act<R, D, O>(
     server: &mut Server<D>,
     users: &mut Vec<User<R::Stream>>,
     name: &str,
-    action: Action<'_>,
+    action: &Action<'_>,
     out: &mut O,
 ) -> Result<(), Refused>
 where
@@ -146,7 +183,7 @@ where
     O: Write,
 {
     if let Action::Hello { uid, gid } = action {
-        return begin(rt, server, users, name, (uid, gid), out);
+        return begin(rt, server, users, name, (*uid, *gid), out);
     }
     match users.iter_mut().find(|user| user.name.as_str() == name) {
         Some(user) => act_as(rt, server, user, action, out),
@@ -169,11 +206,28 @@ where
     O: Write,
 {
     forget(server, users, name)?;
+    users.push(greet(rt, server, name, ids, out)?)?;
+    Ok(())
+}
+
+/// A new user, which connects and makes itself known.
+fn greet<R, D, O>(
+    rt: &R,
+    server: &mut Server<D>,
+    name: &str,
+    ids: (u32, u32),
+    out: &mut O,
+) -> Result<User<R::Stream>, Refused>
+where
+    R: Net + AllocGlobal,
+    D: Device,
+    O: Write,
+{
     let connection = connect(rt, server)?;
     let (uid, gid) = ids;
-    let mut user = User::new(rt.alloc(), name, uid, gid, connection)?;
-    hello(rt.alloc(), server, &mut user, out)?;
-    Ok(users.push(user)?)
+    let mut caller = Caller::new(rt.alloc(), uid, gid, connection)?;
+    let known = hello(server, &mut caller, name, out)?;
+    User::new(rt.alloc(), name, known, caller)
 }
 
 /// Does what a line asks of this user, which is there.
@@ -181,7 +235,7 @@ fn act_as<R, D, O>(
     rt: &R,
     server: &mut Server<D>,
     user: &mut User<R::Stream>,
-    action: Action<'_>,
+    action: &Action<'_>,
     out: &mut O,
 ) -> Result<(), Refused>
 where
@@ -192,7 +246,7 @@ where
     match action {
         Action::Hello { .. } => Ok(()),
         Action::Session => session(rt.alloc(), server, user, out),
-        Action::Call(operations) => call(rt.alloc(), server, user, &operations),
+        Action::Call(operations) => call(rt.alloc(), server, user, operations),
         Action::Turn => turn(server, user, out),
         Action::Take => take(server, user, out),
         Action::Retry => retry(rt, server, user),
@@ -205,12 +259,19 @@ where
     S: Read + Write + Drop,
     D: Device,
 {
-    let Some(place) = users.iter().position(|user| user.name.as_str() == name) else {
-        return Ok(());
-    };
-    let old = users.remove(place);
-    if let Some(number) = old.connection() {
-        link::hangup(server, number)?;
+    match users.iter().position(|user| user.name.as_str() == name) {
+        Some(place) => hang_up(server, users.remove(place)),
+        None => Ok(()),
     }
-    Ok(())
+}
+
+fn hang_up<S, D>(server: &mut Server<D>, user: User<S>) -> Result<(), Refused>
+where
+    S: Read + Write + Drop,
+    D: Device,
+{
+    match user.caller.number() {
+        Some(number) => link::hangup(server, number),
+        None => Ok(()),
+    }
 }

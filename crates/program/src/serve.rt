@@ -17,9 +17,24 @@ where
     O: Write,
 {
     let mut host = Host::mount(rt.alloc(), device)?;
+    listen(rt, &mut host, port, count, out)
+}
+
+fn listen<R, D, O>(
+    rt: &R,
+    host: &mut Host<D>,
+    port: u16,
+    count: u32,
+    out: &mut O,
+) -> Result<(), Refused>
+where
+    R: Machine,
+    D: Device,
+    O: Write,
+{
     let listener = TcpListener::bind(rt, (Ipv4Addr::LOCALHOST, port))?;
     tell_port(&listener, out)?;
-    serve_peers(rt, &mut host, &listener, count)
+    serve_peers(rt, host, &listener, count)
 }
 
 fn tell_port<L: OpenListener, O: Write>(listener: &L, out: &mut O) -> Result<(), Refused> {

@@ -1,22 +1,8 @@
-//! A user of the script: a client of the server, and the connection that it uses.
+//! A user of the script.
 
-ghost use Rattle.std.specs.Prelude.{All};
-ghost use Rattle.wire_client.specs.ArgumentFits.{ArgumentFits};
-
-use crate::link;
-use crate::loopback::Connection;
+use crate::caller::Caller;
 use crate::refused::Refused;
-use client::{Client, ClientFault};
-use disk::Device;
-use model::acl::{Cred, Gids};
-use model::status::Status;
-use server::{Server, Turn};
 use std::alloc::Global;
-use std::io::{Read, Write};
-use wire::{Argument, Outcome};
-
-/// The number of a client's first record.
-const FIRST_XID: u32 = 1;
 
 /// What EXCHANGE_ID answers of a client.
 #[derive(Clone, Copy)]
@@ -27,158 +13,31 @@ pub struct Known {
     pub sequence: u32,
 }
 
-/// A user.
+/// A user, which the server knows.
 #[derive(Drop)]
 pub struct User<S> {
     pub name: String,
-    pub known: Option<Known>,
+    pub known: Known,
     pub has_session: bool,
-    client: Client,
     /// The words for what its last record asks.
     pub words: Vec<&'static str>,
-    /// None after a restart of the server.
-    connection: Option<Connection<S>>,
+    pub caller: Caller<S>,
 }
 
-/// The results of a reply: of the operations that ended well, and the status of the one that did not.
-#[derive(Drop)]
-pub struct Results<'a> {
-    pub done: Vec<Outcome<'a>>,
-    pub refusal: Option<Status>,
-}
-
-impl<S: Read + Write + Drop> User<S> {
-    /// A user that sent nothing.
+impl<S: Drop> User<S> {
+    /// A user that has just made itself known.
     pub fn new(
         alloc: Global,
         name: &str,
-        uid: u32,
-        gid: u32,
-        connection: Connection<S>,
+        known: Known,
+        caller: Caller<S>,
     ) -> Result<User<S>, Refused> {
-        let cred = Cred {
-            uid,
-            gid,
-            gids: Gids::new(),
-        };
         Ok(User {
             name: String::from_str(alloc, name)?,
-            known: None,
+            known,
             has_session: false,
-            client: Client::new(alloc, &cred, b"", FIRST_XID)?,
-            words: Vec::new(alloc),
-            connection: Some(connection),
+            words: vec![in alloc; "hello"]?,
+            caller,
         })
-    }
-
-    /// The number of its connection at the server, if it has one.
-    pub fn connection(&self) -> Option<usize> {
-        Some(self.connection.as_ref()?.number)
-    }
-
-    /// Whether a reply is to come.
-    pub fn awaits_reply(&self) -> bool {
-        match &self.connection {
-            Some(connection) => connection.awaits_reply,
-            None => false,
-        }
-    }
-
-    /// The server was mounted again: connections, and what was sent over them, are gone.
-    pub fn disconnect(&mut self) {
-        self.connection = None;
-    }
-
-    /// Sends the record of these arguments, which the words name.
-    pub fn ask<D: Device>(
-        &mut self,
-        server: &mut Server<D>,
-        arguments: &[Argument<'_>],
-        words: Vec<&'static str>,
-    ) -> Result<(), Refused>
-        requires { All ArgumentFits arguments.now }
-    {
-        if self.connection.is_none() {
-            return Err(Refused::Script);
-        }
-        self.client.request(arguments)?;
-        self.words = words;
-        self.begin();
-        self.send(server)
-    }
-
-    /// Sends the last record again, over this connection, which is the user's from now on.
-    pub fn ask_again<D: Device>(
-        &mut self,
-        server: &mut Server<D>,
-        connection: Connection<S>,
-    ) -> Result<(), Refused> {
-        self.connection = Some(connection);
-        self.begin();
-        self.send(server)
-    }
-
-    fn begin(&mut self) {
-        if let Some(connection) = &mut self.connection {
-            connection.begin();
-        }
-    }
-
-    /// Sends what the server did not take yet of the record whose reply is to come.
-    fn send<D: Device>(&mut self, server: &mut Server<D>) -> Result<(), Refused> {
-        match &mut self.connection {
-            Some(connection) if connection.awaits_reply => {
-                connection.send(server, self.client.retry()?)
-            }
-            Some(_) => Ok(()),
-            None => Err(Refused::Script),
-        }
-    }
-
-    /// Gives its connection a turn.
-    pub fn turn<D: Device>(&mut self, server: &mut Server<D>) -> Result<Turn, Refused> {
-        self.send(server)?;
-        match self.connection() {
-            Some(number) => link::turn(server, number),
-            None => Err(Refused::Script),
-        }
-    }
-
-    /// Runs turns until the reply is there, and takes it.
-    pub fn await_reply<D: Device>(&mut self, server: &mut Server<D>) -> Result<Vec<u8>, Refused> {
-        if !self.awaits_reply() {
-            return Err(Refused::Script);
-        }
-        for _ in 0..u64::MAX {
-            if let Some(reply) = self.receive(server)? {
-                return Ok(reply);
-            }
-            if self.turn(server)? == Turn::Idle {
-                break;
-            }
-        }
-        Err(Refused::Garbled)
-    }
-
-    fn receive<D: Device>(&mut self, server: &mut Server<D>) -> Result<Option<Vec<u8>>, Refused> {
-        match &mut self.connection {
-            Some(connection) => connection.receive(server),
-            None => Err(Refused::Script),
-        }
-    }
-
-    /// The results in the reply to its record.
-    pub fn read_reply<'a>(&mut self, reply: &'a [u8]) -> Result<Results<'a>, Refused> {
-        match self.client.reply(reply) {
-            Ok(done) => Ok(Results {
-                done,
-                refusal: None,
-            }),
-            Err(ClientFault::Status { status, before, .. }) => Ok(Results {
-                done: before,
-                refusal: Some(status),
-            }),
-            Err(fault) => Err(fault.into()),
-        }
     }
 }

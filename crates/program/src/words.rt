@@ -46,22 +46,19 @@ const COMMANDS: [(&str, &[&str]); 4] = [
 
 /// Reads the words after the program's name.
 pub fn read_words<'a, S: AsStr>(alloc: Global, words: &'a [S]) -> Result<Request<'a>, AllocError> {
-    match matches_of(whole_command(alloc)?, words)? {
-        Some(matches) => Ok(request_of(&matches)),
-        None => Ok(Request::Usage),
-    }
+    request_in(whole_command(alloc)?, words)
 }
 
-/// What the words are to the command; none where they have no form.
-fn matches_of<'a, S: AsStr>(
+/// What the words ask of the command.
+fn request_in<'a, S: AsStr>(
     command: Command<'a>,
     words: &'a [S],
-) -> Result<Option<ArgMatches<'a>>, AllocError> {
+) -> Result<Request<'a>, AllocError> {
     match command.try_get_matches_from(words) {
-        Ok(matches) => Ok(Some(matches)),
+        Ok(matches) => Ok(request_of(&matches)),
         Err(error) => match error.kind() {
             ErrorKind::OutOfMemory => Err(AllocError),
-            _ => Ok(None),
+            _ => Ok(Request::Usage),
         },
     }
 }
@@ -101,16 +98,16 @@ fn with_word<'a>(
 
 fn request_of<'a>(matches: &ArgMatches<'a>) -> Request<'a> {
     if let Some(words) = command_in(matches, "format") {
-        return format_of(words).unwrap_or(Request::Usage);
+        return format_of(words);
     }
     if let Some(words) = command_in(matches, "run") {
-        return run_of(words).unwrap_or(Request::Usage);
+        return run_of(words);
     }
     if let Some(words) = command_in(matches, "check") {
-        return check_of(words).unwrap_or(Request::Usage);
+        return check_of(words);
     }
     if let Some(words) = command_in(matches, "serve") {
-        return serve_of(words).unwrap_or(Request::Usage);
+        return serve_of(words);
     }
     Request::Script
 }
@@ -124,37 +121,51 @@ fn word_in<'a>(words: &ArgMatches<'a>, name: &str) -> Option<&'a str> {
     words.get_str(name)
 }
 
-fn format_of<'a>(words: &ArgMatches<'a>) -> Option<Request<'a>> {
-    let sectors = decimal(word_in(words, "SECTORS")?)?;
-    let nodes = decimal(word_in(words, "NODES")?)?;
-    if !(256..=65536).contains(&sectors) || !(2..=16384).contains(&nodes) {
-        return None;
+fn number_in(words: &ArgMatches<'_>, name: &str) -> Option<u32> {
+    decimal(word_in(words, name)?)
+}
+
+fn format_of<'a>(words: &ArgMatches<'a>) -> Request<'a> {
+    let sectors = number_in(words, "SECTORS");
+    match (word_in(words, "FILE"), sectors, number_in(words, "NODES")) {
+        (Some(file), Some(sectors), Some(nodes)) if is_size(sectors, nodes) => Request::Format {
+            file,
+            sectors,
+            nodes,
+        },
+        _ => Request::Usage,
     }
-    Some(Request::Format {
-        file: word_in(words, "FILE")?,
-        sectors,
-        nodes,
-    })
 }
 
-fn run_of<'a>(words: &ArgMatches<'a>) -> Option<Request<'a>> {
-    Some(Request::Run {
-        file: word_in(words, "FILE")?,
-        script: word_in(words, "SCRIPT")?,
-    })
+fn is_size(sectors: u32, nodes: u32) -> bool {
+    (256..=65536).contains(&sectors) && (2..=16384).contains(&nodes)
 }
 
-fn check_of<'a>(words: &ArgMatches<'a>) -> Option<Request<'a>> {
-    Some(Request::Check {
-        file: word_in(words, "FILE")?,
-    })
+fn run_of<'a>(words: &ArgMatches<'a>) -> Request<'a> {
+    match (word_in(words, "FILE"), word_in(words, "SCRIPT")) {
+        (Some(file), Some(script)) => Request::Run { file, script },
+        _ => Request::Usage,
+    }
 }
 
-fn serve_of<'a>(words: &ArgMatches<'a>) -> Option<Request<'a>> {
-    let port = decimal(word_in(words, "PORT")?)?;
-    Some(Request::Serve {
-        file: word_in(words, "FILE")?,
-        port: u16::try_from(port).ok()?,
-        count: decimal(word_in(words, "COUNT")?)?,
-    })
+fn check_of<'a>(words: &ArgMatches<'a>) -> Request<'a> {
+    match word_in(words, "FILE") {
+        Some(file) => Request::Check { file },
+        None => Request::Usage,
+    }
+}
+
+fn serve_of<'a>(words: &ArgMatches<'a>) -> Request<'a> {
+    match (
+        word_in(words, "FILE"),
+        port_in(words),
+        number_in(words, "COUNT"),
+    ) {
+        (Some(file), Some(port), Some(count)) => Request::Serve { file, port, count },
+        _ => Request::Usage,
+    }
+}
+
+fn port_in(words: &ArgMatches<'_>) -> Option<u16> {
+    u16::try_from(number_in(words, "PORT")?).ok()
 }

@@ -1,0 +1,175 @@
+//! Who calls the server: a client of it, and the connection that it uses.
+
+ghost use Rattle.std.specs.Prelude.{All};
+ghost use Rattle.wire_client.specs.ArgumentFits.{ArgumentFits};
+
+use crate::link;
+use crate::loopback::Connection;
+use crate::refused::Refused;
+use client::{Client, ClientFault};
+use disk::Device;
+use model::acl::{Cred, Gids};
+use model::status::Status;
+use server::{Server, Turn};
+use std::alloc::Global;
+use std::io::{Read, Write};
+use wire::{Argument, Outcome};
+
+/// The number of a client's first record.
+const FIRST_XID: u32 = 1;
+
+/// A caller.
+#[derive(Drop)]
+pub struct Caller<S> {
+    client: Client,
+    /// None after a restart of the server.
+    connection: Option<Connection<S>>,
+}
+
+/// The results of a reply: of the operations that ended well, and the status of the one that did not.
+#[derive(Drop)]
+pub struct Results<'a> {
+    pub done: Vec<Outcome<'a>>,
+    pub refusal: Option<Status>,
+}
+
+impl<S: Read + Write + Drop> Caller<S> {
+    /// A caller that sent nothing.
+    pub fn new(
+        alloc: Global,
+        uid: u32,
+        gid: u32,
+        connection: Connection<S>,
+    ) -> Result<Caller<S>, Refused> {
+        let cred = Cred {
+            uid,
+            gid,
+            gids: Gids::new(),
+        };
+        Ok(Caller {
+            client: Client::new(alloc, &cred, b"", FIRST_XID)?,
+            connection: Some(connection),
+        })
+    }
+
+    /// The number of its connection at the server, if it has one.
+    pub fn number(&self) -> Option<usize> {
+        match &self.connection {
+            Some(connection) => Some(connection.number),
+            None => None,
+        }
+    }
+
+    /// The server was mounted again: connections, and what was sent over them, are gone.
+    pub fn disconnect(&mut self) {
+        self.connection = None;
+    }
+
+    /// Sends the record of these arguments, and runs turns until the reply to it is there.
+    pub fn call<D: Device>(
+        &mut self,
+        server: &mut Server<D>,
+        arguments: &[Argument<'_>],
+    ) -> Result<Vec<u8>, Refused>
+        requires { All ArgumentFits arguments.now }
+    {
+        self.ask(server, arguments)?;
+        self.await_reply(server)
+    }
+
+    /// Sends the record of these arguments.
+    pub fn ask<D: Device>(
+        &mut self,
+        server: &mut Server<D>,
+        arguments: &[Argument<'_>],
+    ) -> Result<(), Refused>
+        requires { All ArgumentFits arguments.now }
+    {
+        if self.connection.is_none() {
+            return Err(Refused::Script);
+        }
+        link::request(&mut self.client, arguments)?;
+        self.begin();
+        self.send(server)
+    }
+
+    /// Sends the last record again, over this connection, which is the caller's from now on.
+    pub fn ask_again<D: Device>(
+        &mut self,
+        server: &mut Server<D>,
+        connection: Connection<S>,
+    ) -> Result<(), Refused> {
+        self.connection = Some(connection);
+        self.begin();
+        self.send(server)
+    }
+
+    fn begin(&mut self) {
+        if let Some(connection) = &mut self.connection {
+            connection.begin();
+        }
+    }
+
+    /// Sends what the server did not take yet of the record whose reply is to come.
+    fn send<D: Device>(&mut self, server: &mut Server<D>) -> Result<(), Refused> {
+        match &mut self.connection {
+            Some(connection) => connection.send(server, link::last_record(&self.client)?),
+            None => Err(Refused::Script),
+        }
+    }
+
+    /// Gives its connection a turn.
+    pub fn turn<D: Device>(&mut self, server: &mut Server<D>) -> Result<Turn, Refused> {
+        self.send(server)?;
+        match self.number() {
+            Some(number) => link::turn(server, number),
+            None => Err(Refused::Script),
+        }
+    }
+
+    /// Runs turns until the reply is there, and takes it.
+    pub fn await_reply<D: Device>(&mut self, server: &mut Server<D>) -> Result<Vec<u8>, Refused> {
+        if !self.awaits_reply() {
+            return Err(Refused::Script);
+        }
+        for _ in 0..u64::MAX {
+            if let Some(reply) = self.receive(server)? {
+                return Ok(reply);
+            }
+            if self.turn(server)? == Turn::Idle {
+                break;
+            }
+        }
+        Err(Refused::Garbled)
+    }
+
+    /// Whether a reply is to come.
+    fn awaits_reply(&self) -> bool {
+        match &self.connection {
+            Some(connection) => connection.awaits_reply,
+            None => false,
+        }
+    }
+
+    fn receive<D: Device>(&mut self, server: &mut Server<D>) -> Result<Option<Vec<u8>>, Refused> {
+        match &mut self.connection {
+            Some(connection) => connection.receive(server),
+            None => Err(Refused::Script),
+        }
+    }
+
+    /// The results in the reply to its record.
+    pub fn read_reply<'a>(&mut self, reply: &'a [u8]) -> Result<Results<'a>, Refused> {
+        match self.client.reply(reply) {
+            Ok(done) => Ok(Results {
+                done,
+                refusal: None,
+            }),
+            Err(ClientFault::Status { status, before, .. }) => Ok(Results {
+                done: before,
+                refusal: Some(status),
+            }),
+            Err(fault) => Err(fault.into()),
+        }
+    }
+}
