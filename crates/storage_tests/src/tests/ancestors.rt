@@ -5,9 +5,9 @@ ghost use Rattle.cards.specs.Tables.{HaveOwnPlaces};
 ghost use Rattle.layout.specs.Known.{AreCards};
 ghost use Rattle.shape.specs.Trees.{IsOneTree};
 
-use super::scans::{Rows, SIZE, put, read};
+use super::rows::{Part, rows_of};
+use super::scans::{SIZE, read};
 use cards::Table;
-use disk::SECTOR;
 use parents::{Parents, is_below};
 use shape::is_one_tree;
 use std::alloc::Global;
@@ -48,25 +48,20 @@ const DIRECTORY_PLACE: u32 = 3;
 
 const OTHER_PLACE: u32 = 1;
 
-fn volume(alloc: Global) -> Result<Rows, Fail> {
-    let mut rows = vec![in alloc; [0; SECTOR]; SIZE as usize]?;
-    put(&mut rows, 98, 0, &[0xf0]);
-    put(&mut rows, 148, 0, &ROOT);
-    put(&mut rows, 149, 0, &OTHER_FILE);
-    put(&mut rows, 150, 0, &FILE);
-    put(&mut rows, 151, 0, &DIRECTORY);
-    put(&mut rows, 164, 0, b"RUNS");
-    put(&mut rows, 164, 96, &[0, 0, 0, 1, 0, 0, 0, 165]);
-    put(&mut rows, 165, 0, &D);
-    put(&mut rows, 165, 272, &F);
-    put(&mut rows, 166, 0, b"RUNS");
-    put(&mut rows, 166, 96, &[0, 0, 0, 1, 0, 0, 0, 167]);
-    put(&mut rows, 167, 0, &OTHER_F);
-    Ok(Rows {
-        rows,
-        is_down: false,
-    })
-}
+const VOLUME: [Part<'static>; 12] = [
+    (98, 0, &[0xf0]),
+    (148, 0, &ROOT),
+    (149, 0, &OTHER_FILE),
+    (150, 0, &FILE),
+    (151, 0, &DIRECTORY),
+    (164, 0, b"RUNS"),
+    (164, 96, &[0, 0, 0, 1, 0, 0, 0, 165]),
+    (165, 0, &D),
+    (165, 272, &F),
+    (166, 0, b"RUNS"),
+    (166, 96, &[0, 0, 0, 1, 0, 0, 0, 167]),
+    (167, 0, &OTHER_F),
+];
 
 /// The nodes of the volume, which are one tree.
 fn table(alloc: Global) -> Result<Table, Fail>
@@ -75,7 +70,7 @@ fn table(alloc: Global) -> Result<Table, Fail>
     ensures apart { IfOk result (λ table. HaveOwnPlaces table) }
     ensures tree { IfOk result (λ table. IsOneTree table) }
 {
-    let mut rows = volume(alloc)?;
+    let mut rows = rows_of(alloc, SIZE, &VOLUME)?;
     let contents = read(alloc, &mut rows)?;
     let table = Table::from_cards(alloc, contents.cards)?;
     if !is_one_tree(alloc, &table)? {

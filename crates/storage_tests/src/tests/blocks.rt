@@ -1,5 +1,6 @@
-ghost use Rattle.std.specs.Prelude.{◌≤◌, ◌<◌, length};
+ghost use Rattle.std.specs.Prelude.{◌≤◌, ◌<◌};
 
+use super::drivers::{filled, put};
 use extents::{BlockList, ExtentsFault, MAX_RUNS, Run, read_run_sector, write_run_sector};
 use std::alloc::{AllocError, Global};
 use std::test::Fail;
@@ -18,11 +19,12 @@ fn runs_in(alloc: Global, sector: &[u8; 4096]) -> Result<Vec<Run>, ExtentsFault>
     read_run_sector(alloc, sector)
 }
 
-fn sector_of(runs: &[Run]) -> [u8; 4096]
-    requires { length runs.now ≤ 500 }
-{
-    let mut sector = [0xff; 4096];
-    write_run_sector(runs, &mut sector);
+/// More runs than a sector has are not written.
+fn sector_of(runs: &[Run]) -> [u8; 4096] {
+    let mut sector = filled(0xff);
+    if runs.len() <= MAX_RUNS {
+        write_run_sector(runs, &mut sector);
+    }
     sector
 }
 
@@ -50,51 +52,88 @@ fn copy_of(list: &BlockList) -> Result<BlockList, AllocError> {
     list.try_clone()
 }
 
+// the sectors of the first blocks
+fn first_blocks(list: &BlockList) -> [Option<u32>; 7] {
+    let mut sectors = [None; 7];
+    for block in 0..7_u32 {
+        sectors[block as usize] = at(list, block);
+    }
+    sectors
+}
+
+fn are_no_runs(alloc: Global, sector: &[u8; 4096]) -> bool {
+    matches!(runs_in(alloc, sector), Err(ExtentsFault::NotRuns))
+}
+
 /// Blocks 1 and 2 in sectors 256 and 257, block 4 in sector 7.
+const RUNS: [u8; 16] = [0, 1, 0, 2, 0, 0, 1, 0, 0, 4, 0, 1, 0, 0, 0, 7];
+
+fn vector() -> [u8; 4096] {
+    let mut sector = filled(0);
+    put(&mut sector, 0, b"RUNS");
+    put(&mut sector, 96, &RUNS);
+    sector
+}
+
 #[test]
 fn reads_the_layout(rt: HostRuntime) -> Result<(), Fail> {
-    let mut bytes = [0; 4096];
-    bytes[..4].copy_from_slice(b"RUNS");
-    bytes[96..112].copy_from_slice(&[0, 1, 0, 2, 0, 0, 1, 0, 0, 4, 0, 1, 0, 0, 0, 7]);
-    let runs = runs_in(rt.alloc(), &bytes)?;
+    let runs = runs_in(rt.alloc(), &vector())?;
     assert_eq!(rt; runs.as_slice(), [run(1, 2, 256), run(4, 1, 7)].as_slice());
-    assert!(rt; runs.len() <= MAX_RUNS && sector_of(&runs) == bytes);
+    assert!(rt; sector_of(&runs) == vector());
     let list = list_of(rt.alloc(), 6, &runs)?;
     assert_eq!(rt; list.count(), 6);
     let wanted = [None, Some(256), Some(257), None, Some(7), None, None];
-    for (block, sector) in (0..7).zip(wanted) {
-        assert_eq!(rt; at(&list, block), sector, "at {block}");
-    }
-    for place in [0, 50, 112, 4095] {
-        bytes[place] ^= 1;
-        assert!(rt;
-            matches!(runs_in(rt.alloc(), &bytes), Err(ExtentsFault::NotRuns)),
-            "byte {place}"
-        );
-        bytes[place] ^= 1;
-    }
-    assert!(rt;
-        matches!(
-            runs_in(rt.alloc(), &sector_of(&[])),
-            Err(ExtentsFault::NotRuns)
-        )
-    );
+    assert_eq!(rt; first_blocks(&list), wanted);
     Ok(())
 }
 
 #[test]
-fn refuses_what_are_no_runs(rt: HostRuntime) -> Result<(), Fail> {
-    let refused = [
-        [run(0, 1, 9), run(5, 2, 20)],
-        [run(0, 0, 9), run(5, 1, 20)],
-        [run(0, 3, 9), run(2, 1, 20)],
-        [run(4, 1, 9), run(2, 1, 20)],
-        [run(0, 2, u32::MAX), run(5, 1, 20)],
-    ];
-    for runs in &refused {
-        assert!(rt; matches!(list_of(rt.alloc(), 6, runs), Err(ExtentsFault::NotRuns)));
+fn refuses_other_bytes(rt: HostRuntime) {
+    for place in [0, 50, 112, 4095] {
+        let mut bytes = vector();
+        bytes[place] ^= 1;
+        assert!(rt; are_no_runs(rt.alloc(), &bytes), "byte {place}");
     }
-    Ok(())
+    assert!(rt; are_no_runs(rt.alloc(), &sector_of(&[])));
+}
+
+const REFUSED: [[(u16, u16, u32); 2]; 5] = [
+    [(0, 1, 9), (5, 2, 20)],
+    [(0, 0, 9), (5, 1, 20)],
+    [(0, 3, 9), (2, 1, 20)],
+    [(4, 1, 9), (2, 1, 20)],
+    [(0, 2, u32::MAX), (5, 1, 20)],
+];
+
+fn is_list(alloc: Global, runs: [(u16, u16, u32); 2]) -> bool {
+    let [
+        (block, length, sector),
+        (next_block, next_length, next_sector),
+    ] = runs;
+    let runs = [
+        run(block, length, sector),
+        run(next_block, next_length, next_sector),
+    ];
+    !matches!(list_of(alloc, 6, &runs), Err(ExtentsFault::NotRuns))
+}
+
+#[test]
+fn refuses_what_are_no_runs(rt: HostRuntime) {
+    for runs in REFUSED {
+        assert!(rt; !is_list(rt.alloc(), runs), "{runs:?}");
+    }
+}
+
+// whether these are the runs of a list
+fn has_runs(alloc: Global, list: &BlockList, wanted: &[Run]) -> Result<bool, AllocError> {
+    Ok(runs_of(alloc, list)?.as_slice() == wanted)
+}
+
+// sets block 0, and grows to five blocks, and no further
+fn set_and_grow(list: &mut BlockList) -> Result<(), AllocError> {
+    set(list, 0, 100)?;
+    list.grow(5)?;
+    list.grow(4)
 }
 
 #[test]
@@ -102,49 +141,51 @@ fn sets_grows_and_cuts(rt: HostRuntime) -> Result<(), Fail> {
     let mut list = BlockList::new(rt.alloc());
     set(&mut list, 2, 200)?;
     assert_eq!(rt; list.count(), 3);
-    set(&mut list, 0, 100)?;
-    list.grow(5)?;
-    list.grow(4)?;
+    set_and_grow(&mut list)?;
     assert_eq!(rt; list.count(), 5);
-    let wanted = [Some(100), None, Some(200), None];
-    for (block, sector) in (0..4).zip(wanted) {
-        assert_eq!(rt; at(&list, block), sector);
-    }
+    let wanted = [Some(100), None, Some(200), None, None, None, None];
+    assert_eq!(rt; first_blocks(&list), wanted);
     let copy = copy_of(&list)?;
     list.cut(2);
-    assert_eq!(rt; copy.count(), 5);
-    assert_eq!(rt; at(&copy, 2), Some(200));
-    assert_eq!(rt; list.count(), 2);
-    assert_eq!(rt; at(&list, 2), None);
-    assert_eq!(rt;
-        runs_of(rt.alloc(), &list)?.as_slice(),
-        [run(0, 1, 100)].as_slice()
-    );
+    assert_eq!(rt; (copy.count(), at(&copy, 2)), (5, Some(200)));
+    assert_eq!(rt; (list.count(), at(&list, 2)), (2, None));
+    assert!(rt; has_runs(rt.alloc(), &list, &[run(0, 1, 100)])?);
     Ok(())
 }
 
-/// A file of 16,777,216 bytes in one run, and one of the same size in 4,096 runs.
+/// A file of 16,777,216 bytes in one run.
 #[test]
-fn largest_files(rt: HostRuntime) -> Result<(), Fail> {
-    let mut whole = BlockList::new(rt.alloc());
-    let mut scattered = BlockList::new(rt.alloc());
+fn a_whole_file(rt: HostRuntime) -> Result<(), Fail> {
+    let mut list = BlockList::new(rt.alloc());
     for block in 0..BlockList::MAX_BLOCKS {
-        set(&mut whole, block, 300 + block)?;
-        set(&mut scattered, block, 60_000 - 2 * block)?;
+        set(&mut list, block, 300 + block)?;
     }
-    assert_eq!(rt;
-        runs_of(rt.alloc(), &whole)?.as_slice(),
-        [run(0, 4096, 300)].as_slice()
-    );
-    let runs = runs_of(rt.alloc(), &scattered)?;
+    assert!(rt; has_runs(rt.alloc(), &list, &[run(0, 4096, 300)])?);
+    Ok(())
+}
+
+/// A file of the same size in 4,096 runs.
+fn scattered(alloc: Global) -> Result<Vec<Run>, AllocError> {
+    let mut list = BlockList::new(alloc);
+    for block in 0..BlockList::MAX_BLOCKS {
+        set(&mut list, block, 60_000 - 2 * block)?;
+    }
+    runs_of(alloc, &list)
+}
+
+// whether the sector of these runs is read as them
+fn is_read_back(alloc: Global, runs: &[Run]) -> Result<bool, ExtentsFault> {
+    Ok(runs_in(alloc, &sector_of(runs))?.as_slice() == runs)
+}
+
+#[test]
+fn a_scattered_file(rt: HostRuntime) -> Result<(), Fail> {
+    let runs = scattered(rt.alloc())?;
     assert_eq!(rt; runs.len(), 4096);
     let again = list_of(rt.alloc(), BlockList::MAX_BLOCKS, &runs)?;
     assert_eq!(rt; at(&again, 4095), Some(51_810));
-    let Some(front) = runs.get(..MAX_RUNS) else {
-        return Err("too few runs".into());
-    };
-    let first = runs_in(rt.alloc(), &sector_of(front))?;
-    assert!(rt; first.as_slice() == front);
+    let front = runs.get(..MAX_RUNS).ok_or("too few runs")?;
+    assert!(rt; is_read_back(rt.alloc(), front)?);
     Ok(())
 }
 
@@ -155,9 +196,7 @@ fn neighbours_are_one_run(rt: HostRuntime) -> Result<(), Fail> {
     for (block, sector) in [(2, 302), (0, 300), (1, 301), (3, 400), (5, 402), (4, 401)] {
         set(&mut list, block, sector)?;
     }
-    assert_eq!(rt;
-        runs_of(rt.alloc(), &list)?.as_slice(),
-        [run(0, 3, 300), run(3, 3, 400)].as_slice()
-    );
+    let wanted = [run(0, 3, 300), run(3, 3, 400)];
+    assert!(rt; has_runs(rt.alloc(), &list, &wanted)?);
     Ok(())
 }

@@ -1,51 +1,76 @@
+use super::drivers::{byte_of, fill, filled, landed, memory, stopping, sync};
 use disk::{
-    Call, CrashDevice, Device, DiskFault, FileDevice, Landed, MemDevice, SECTOR, Stop, Unsynced,
-    landings,
+    Call, CrashDevice, Device, DiskFault, FileDevice, Landed, MemDevice, Stop, Unsynced, landings,
 };
-use std::alloc::{AllocGlobal, Global};
+use std::alloc::{AllocError, AllocGlobal, Global};
 use std::fs;
+use std::process::Abort;
 use std::test::Fail;
 
-fn filled(byte: u8) -> [u8; SECTOR] {
-    [byte; SECTOR]
+/// What is asked of a device.
+#[derive(Clone, Copy)]
+enum Ask {
+    Sectors,
+    Failures,
+    Sync,
+    /// Fills a sector with a byte.
+    Fill(u32, u8),
+    /// The byte that a sector is filled with, or 255.
+    Byte(u32),
 }
 
-// the byte that a sector is filled with, or 255
-fn byte_of<D: Device>(device: &mut D, n: u32) -> Result<u8, DiskFault> {
-    let mut content = filled(255);
-    device.read(n, &mut content)?;
-    if content == filled(content[0]) {
-        Ok(content[0])
-    } else {
-        Ok(255)
+/// What is answered: a number, 0 where none is asked.
+type Answer = Result<u64, DiskFault>;
+
+fn answer<D: Device>(device: &mut D, ask: Ask) -> Answer {
+    match ask {
+        Ask::Sectors => return Ok(u64::from(device.sectors())),
+        Ask::Failures => return Ok(device.failures()),
+        Ask::Byte(n) => return Ok(u64::from(byte_of(device, n)?)),
+        Ask::Sync => sync(device)?,
+        Ask::Fill(n, byte) => fill(device, n, byte)?,
+    }
+    Ok(0)
+}
+
+fn play<D: Device>(rt: &impl Abort, device: &mut D, rows: &[(Ask, Answer)]) {
+    for (i, (ask, wanted)) in rows.iter().enumerate() {
+        let found = answer(device, *ask);
+        assert!(rt; found == *wanted, "row {i}: {found:?}");
     }
 }
 
+const KEPT: [(Ask, Answer); 10] = [
+    (Ask::Sectors, Ok(3)),
+    (Ask::Byte(2), Ok(0)),
+    (Ask::Fill(1, 7), Ok(0)),
+    (Ask::Sync, Ok(0)),
+    (Ask::Fill(1, 8), Ok(0)),
+    (Ask::Byte(0), Ok(0)),
+    (Ask::Byte(1), Ok(8)),
+    (Ask::Fill(3, 9), Err(DiskFault::Range)),
+    (Ask::Byte(3), Err(DiskFault::Range)),
+    (Ask::Failures, Ok(0)),
+];
+
 #[test]
 fn memory_keeps_what_is_written(rt: HostRuntime) -> Result<(), Fail> {
-    let mut device = MemDevice::new(rt.alloc(), 3)?;
-    assert_eq!(rt; device.sectors(), 3);
-    assert_eq!(rt; byte_of(&mut device, 2)?, 0);
-    device.write(1, &filled(7))?;
-    device.sync()?;
-    device.write(1, &filled(8))?;
-    assert_eq!(rt; byte_of(&mut device, 0)?, 0);
-    assert_eq!(rt; byte_of(&mut device, 1)?, 8);
-    assert_eq!(rt; device.write(3, &filled(9)), Err(DiskFault::Range));
-    assert_eq!(rt; byte_of(&mut device, 3), Err(DiskFault::Range));
-    assert_eq!(rt; device.failures(), 0);
+    let mut device = memory(rt.alloc(), 3)?;
+    play(&rt, &mut device, &KEPT);
     Ok(())
 }
 
 #[test]
 fn memory_records_its_calls(rt: HostRuntime) -> Result<(), Fail> {
-    let mut device = MemDevice::new(rt.alloc(), 3)?;
-    device.write(2, &filled(7))?;
-    device.sync()?;
+    let mut device = memory(rt.alloc(), 3)?;
+    play(
+        &rt,
+        &mut device,
+        &[(Ask::Fill(2, 7), Ok(0)), (Ask::Sync, Ok(0))],
+    );
     match device.calls() {
         [Call::Write(update), Call::Sync] => {
-            assert_eq!(rt; update.target, 2);
-            assert!(rt; update.content == filled(7));
+            assert!(rt; update.target == 2 && update.content == filled(7))
         }
         _ => assert!(rt; false, "one write and one sync"),
     }
@@ -54,279 +79,324 @@ fn memory_records_its_calls(rt: HostRuntime) -> Result<(), Fail> {
 
 #[test]
 fn memory_takes_given_contents(rt: HostRuntime) -> Result<(), Fail> {
-    let mut rows = Vec::new(rt.alloc());
-    rows.push(filled(4))?;
-    rows.push(filled(5))?;
+    let rows = vec![in rt.alloc(); filled(4), filled(5)]?;
     let mut device = MemDevice::with_sectors(rt.alloc(), rows)?;
-    assert_eq!(rt; device.sectors(), 2);
-    assert_eq!(rt; byte_of(&mut device, 0)?, 4);
-    assert_eq!(rt; byte_of(&mut device, 1)?, 5);
+    play(
+        &rt,
+        &mut device,
+        &[
+            (Ask::Sectors, Ok(2)),
+            (Ask::Byte(0), Ok(4)),
+            (Ask::Byte(1), Ok(5)),
+        ],
+    );
     Ok(())
 }
 
+const PASSED: [(Ask, Answer); 5] = [
+    (Ask::Fill(1, 6), Ok(0)),
+    (Ask::Sync, Ok(0)),
+    (Ask::Sectors, Ok(2)),
+    (Ask::Failures, Ok(0)),
+    (Ask::Byte(1), Ok(6)),
+];
+
 #[test]
 fn a_borrowed_device_passes_calls_on(rt: HostRuntime) -> Result<(), Fail> {
-    let mut device = MemDevice::new(rt.alloc(), 2)?;
+    let mut device = memory(rt.alloc(), 2)?;
     {
         let mut borrowed = &mut device;
-        borrowed.write(1, &filled(6))?;
-        borrowed.sync()?;
-        assert_eq!(rt; borrowed.sectors(), 2);
-        assert_eq!(rt; borrowed.failures(), 0);
-        assert_eq!(rt; byte_of(&mut borrowed, 1)?, 6);
+        play(&rt, &mut borrowed, &PASSED);
     }
-    assert_eq!(rt; byte_of(&mut device, 1)?, 6);
+    play(&rt, &mut device, &[(Ask::Byte(1), Ok(6))]);
     Ok(())
 }
 
 // sector 0 holds 1 for good; then 2 and 3 are written to it and 4 to sector 2
 fn with_unsynced(alloc: Global, stop: Stop) -> Result<CrashDevice, DiskFault> {
-    let mut device = CrashDevice::new(MemDevice::new(alloc, 4)?, stop);
-    let _ = device.write(0, &filled(1));
-    let _ = device.sync();
-    let _ = device.write(0, &filled(2));
-    let _ = device.write(2, &filled(4));
-    let _ = device.write(0, &filled(3));
+    let mut device = stopping(alloc, 4, stop)?;
+    for ask in [
+        Ask::Fill(0, 1),
+        Ask::Sync,
+        Ask::Fill(0, 2),
+        Ask::Fill(2, 4),
+        Ask::Fill(0, 3),
+    ] {
+        let _ = answer(&mut device, ask);
+    }
     Ok(device)
+}
+
+fn land(sector: u32, content: usize) -> Landed {
+    Landed { sector, content }
+}
+
+fn of(sector: u32, contents: usize) -> Unsynced {
+    Unsynced { sector, contents }
 }
 
 // the bytes of sectors 0 and 2 where these contents of theirs landed
 fn landed_bytes(
-    device: &CrashDevice,
     alloc: Global,
+    stop: Stop,
     of_0: usize,
     of_2: usize,
 ) -> Result<(u8, u8), DiskFault> {
-    let landing = [
-        Landed {
-            sector: 2,
-            content: of_2,
-        },
-        Landed {
-            sector: 0,
-            content: of_0,
-        },
-        Landed {
-            sector: 0,
-            content: 1,
-        },
-    ];
-    let mut found = device.landed(alloc, &landing)?;
+    let device = with_unsynced(alloc, stop)?;
+    let landing = [land(2, of_2), land(0, of_0), land(0, 1)];
+    let mut found = landed(&device, alloc, &landing)?;
     Ok((byte_of(&mut found, 0)?, byte_of(&mut found, 2)?))
 }
 
+// where the device stops, which contents of sectors 0 and 2 land, and the bytes that they then hold
+const LANDED: [(Stop, (usize, usize), (u8, u8)); 8] = [
+    (Stop::Never, (0, 0), (1, 0)),
+    (Stop::Never, (1, 0), (2, 0)),
+    (Stop::Never, (2, 1), (3, 4)),
+    (Stop::Never, (3, 2), (1, 0)),
+    (Stop::Before(3), (1, 1), (2, 0)),
+    (Stop::Within(3), (0, 1), (1, 4)),
+    (Stop::Within(1), (0, 0), (0, 0)),
+    (Stop::Within(1), (1, 1), (1, 0)),
+];
+
 #[test]
 fn each_content_can_land(rt: HostRuntime) -> Result<(), Fail> {
-    let device = with_unsynced(rt.alloc(), Stop::Never)?;
-    assert_eq!(rt; device.steps(), 5);
-    assert!(rt; !device.is_stopped());
-    assert_eq!(rt; device.calls().len(), 5);
-    let unsynced = device.unsynced(rt.alloc())?;
-    let expected = [
-        Unsynced {
-            sector: 0,
-            contents: 2,
-        },
-        Unsynced {
-            sector: 2,
-            contents: 1,
-        },
-    ];
-    assert_eq!(rt; unsynced.as_slice(), expected.as_slice());
-    assert_eq!(rt; landed_bytes(&device, rt.alloc(), 0, 0)?, (1, 0));
-    assert_eq!(rt; landed_bytes(&device, rt.alloc(), 1, 0)?, (2, 0));
-    assert_eq!(rt; landed_bytes(&device, rt.alloc(), 2, 1)?, (3, 4));
-    assert_eq!(rt; landed_bytes(&device, rt.alloc(), 3, 2)?, (1, 0));
+    for (stop, (of_0, of_2), wanted) in LANDED {
+        let found = landed_bytes(rt.alloc(), stop, of_0, of_2)?;
+        assert!(rt; found == wanted, "{stop:?}, {of_0} and {of_2}: {found:?}");
+    }
     Ok(())
 }
+
+#[test]
+fn it_tells_what_is_unsynced(rt: HostRuntime) -> Result<(), Fail> {
+    let device = with_unsynced(rt.alloc(), Stop::Never)?;
+    assert!(rt; !device.is_stopped());
+    assert_eq!(rt; (device.steps(), device.calls().len()), (5, 5));
+    let unsynced = device.unsynced(rt.alloc())?;
+    assert_eq!(rt; unsynced.as_slice(), [of(0, 2), of(2, 1)].as_slice());
+    Ok(())
+}
+
+const STOPPED: [(Ask, Answer); 5] = [
+    (Ask::Failures, Ok(2)),
+    (Ask::Sync, Err(DiskFault::Fault)),
+    (Ask::Byte(0), Err(DiskFault::Fault)),
+    (Ask::Byte(4), Err(DiskFault::Range)),
+    (Ask::Failures, Ok(4)),
+];
 
 #[test]
 fn it_stops_before_or_within_a_step(rt: HostRuntime) -> Result<(), Fail> {
     let before = with_unsynced(rt.alloc(), Stop::Before(3))?;
     assert!(rt; before.is_stopped());
-    assert_eq!(rt; before.steps(), 4);
-    assert_eq!(rt; before.failures(), 2);
-    assert_eq!(rt; landed_bytes(&before, rt.alloc(), 1, 1)?, (2, 0));
+    assert_eq!(rt; (before.steps(), before.failures()), (4, 2));
     let mut within = with_unsynced(rt.alloc(), Stop::Within(3))?;
-    assert_eq!(rt; within.failures(), 2);
-    assert_eq!(rt; landed_bytes(&within, rt.alloc(), 0, 1)?, (1, 4));
-    assert_eq!(rt; within.sync(), Err(DiskFault::Fault));
-    assert_eq!(rt; byte_of(&mut within, 0), Err(DiskFault::Fault));
-    assert_eq!(rt; byte_of(&mut within, 4), Err(DiskFault::Range));
-    assert_eq!(rt; within.failures(), 4);
-    let in_sync = with_unsynced(rt.alloc(), Stop::Within(1))?;
-    assert_eq!(rt; landed_bytes(&in_sync, rt.alloc(), 0, 0)?, (0, 0));
-    assert_eq!(rt; landed_bytes(&in_sync, rt.alloc(), 1, 1)?, (1, 0));
+    play(&rt, &mut within, &STOPPED);
     Ok(())
+}
+
+// how many landings are tried, and that of this number
+fn tried(
+    alloc: Global,
+    unsynced: &[Unsynced],
+    number: usize,
+) -> Result<(usize, Vec<Landed>), AllocError> {
+    let tried = landings(alloc, unsynced)?;
+    let mut landing = Vec::new(alloc);
+    if let Some(found) = tried.get(number) {
+        landing.extend_from_slice(found)?;
+    }
+    Ok((tried.len(), landing))
 }
 
 #[test]
 fn few_sectors_land_in_each_combination(rt: HostRuntime) -> Result<(), Fail> {
-    let sectors = [
-        Unsynced {
-            sector: 7,
-            contents: 2,
-        },
-        Unsynced {
-            sector: 9,
-            contents: 1,
-        },
-    ];
-    let tried = landings(rt.alloc(), &sectors)?;
-    assert_eq!(rt; tried.len(), 6);
-    let last = [
-        Landed {
-            sector: 7,
-            content: 2,
-        },
-        Landed {
-            sector: 9,
-            content: 1,
-        },
-    ];
-    assert_eq!(rt; tried[5].as_slice(), last.as_slice());
-    assert_eq!(rt; landings(rt.alloc(), &[])?.len(), 1);
+    let (count, last) = tried(rt.alloc(), &[of(7, 2), of(9, 1)], 5)?;
+    assert_eq!(rt; count, 6);
+    assert_eq!(rt; last.as_slice(), [land(7, 2), land(9, 1)].as_slice());
+    assert_eq!(rt; tried(rt.alloc(), &[], 0)?.0, 1);
     Ok(())
 }
 
 #[test]
 fn many_sectors_land_alone_or_all_but_one(rt: HostRuntime) -> Result<(), Fail> {
-    let sectors = [Unsynced {
-        sector: 5,
-        contents: 3,
-    }; 7];
-    let tried = landings(rt.alloc(), &sectors)?;
-    assert_eq!(rt; tried.len(), 16);
-    assert_eq!(rt; tried[2].len(), 7);
-    assert_eq!(rt; tried[2][0].content, 3);
-    assert_eq!(rt; tried[2][1].content, 0);
+    let (count, third) = tried(rt.alloc(), &[of(5, 3); 7], 2)?;
+    assert_eq!(rt; (count, third.len()), (16, 7));
+    let contents = [third[0].content, third[1].content];
+    assert_eq!(rt; contents, [3, 0]);
     Ok(())
 }
+
+fn created(rt: &HostRuntime, path: &str, sectors: u32) -> Result<FileDevice, DiskFault> {
+    FileDevice::create(rt, rt.alloc(), path, sectors)
+}
+
+fn opened(rt: &HostRuntime, path: &str) -> Result<FileDevice, DiskFault> {
+    FileDevice::open(rt, rt.alloc(), path)
+}
+
+// a file of 5,000 bytes, each 1
+fn write_short(rt: &HostRuntime, path: &str) -> Result<(), DiskFault> {
+    match fs::write(rt, path, [1; 5000]) {
+        Ok(()) => Ok(()),
+        Err(_) => Err(DiskFault::Open),
+    }
+}
+
+fn remove(rt: &HostRuntime, path: &str) -> Result<(), DiskFault> {
+    match fs::remove_file(rt, path) {
+        Ok(()) => Ok(()),
+        Err(_) => Err(DiskFault::Open),
+    }
+}
+
+const WRITTEN: [(Ask, Answer); 4] = [
+    (Ask::Sectors, Ok(3)),
+    (Ask::Fill(2, 9), Ok(0)),
+    (Ask::Sync, Ok(0)),
+    (Ask::Fill(3, 9), Err(DiskFault::Range)),
+];
+
+const OPENED: [(Ask, Answer); 5] = [
+    (Ask::Sectors, Ok(3)),
+    (Ask::Byte(1), Ok(0)),
+    (Ask::Byte(2), Ok(9)),
+    (Ask::Byte(3), Err(DiskFault::Range)),
+    (Ask::Failures, Ok(0)),
+];
 
 #[test]
 fn a_file_keeps_what_is_written(rt: HostRuntime) -> Result<(), Fail> {
     let path = "disk-file-round-trip.img";
     {
-        let mut device = FileDevice::create(&rt, rt.alloc(), path, 3)?;
-        assert_eq!(rt; device.sectors(), 3);
-        device.write(2, &filled(9))?;
-        device.sync()?;
-        assert_eq!(rt; device.write(3, &filled(9)), Err(DiskFault::Range));
+        let mut device = created(&rt, path, 3)?;
+        play(&rt, &mut device, &WRITTEN);
     }
-    let mut device = FileDevice::open(&rt, rt.alloc(), path)?;
-    assert_eq!(rt; device.sectors(), 3);
+    let mut device = opened(&rt, path)?;
     assert!(rt; device.is_whole());
-    assert_eq!(rt; byte_of(&mut device, 1)?, 0);
-    assert_eq!(rt; byte_of(&mut device, 2)?, 9);
-    assert_eq!(rt; byte_of(&mut device, 3), Err(DiskFault::Range));
-    assert_eq!(rt; device.failures(), 0);
-    fs::remove_file(&rt, path)?;
+    play(&rt, &mut device, &OPENED);
+    remove(&rt, path)?;
     Ok(())
 }
 
 // the bytes that the first sectors are filled with
 fn bytes_of<D: Device>(device: &mut D) -> Result<[u8; 4], DiskFault> {
-    Ok([
-        byte_of(device, 0)?,
-        byte_of(device, 1)?,
-        byte_of(device, 2)?,
-        byte_of(device, 3)?,
-    ])
+    let mut bytes = [0; 4];
+    for n in 0..4_u32 {
+        bytes[n as usize] = byte_of(device, n)?;
+    }
+    Ok(bytes)
 }
 
-// writes sectors of a new file, and reads them before a sync, after it, and from the file opened anew
-fn write_and_read(rt: &HostRuntime, writes: &[(u32, u8)]) -> Result<[[u8; 4]; 3], DiskFault> {
-    let path = "disk-file-gathered.img";
-    let mut device = FileDevice::create(rt, rt.alloc(), path, 4)?;
+// writes sectors of a new file, and reads them before a sync and after it
+fn write_and_read(
+    rt: &HostRuntime,
+    path: &str,
+    writes: &[(u32, u8)],
+) -> Result<[[u8; 4]; 2], DiskFault> {
+    let mut device = created(rt, path, 4)?;
     for (n, byte) in writes {
-        device.write(*n, &filled(*byte))?;
+        fill(&mut device, *n, *byte)?;
     }
     let before = bytes_of(&mut device)?;
-    device.sync()?;
-    let behind = bytes_of(&mut device)?;
-    let mut opened = FileDevice::open(rt, rt.alloc(), path)?;
-    Ok([before, behind, bytes_of(&mut opened)?])
+    sync(&mut device)?;
+    Ok([before, bytes_of(&mut device)?])
 }
+
+// what is written, by its sector, and what then stands in the first sectors
+const GATHERED: [(&[(u32, u8)], [u8; 4]); 6] = [
+    (&[], [0, 0, 0, 0]),
+    // neighbours, by rising number
+    (&[(0, 1), (1, 2), (2, 3)], [1, 2, 3, 0]),
+    // by falling number, and in no order
+    (&[(3, 1), (2, 2), (1, 3), (0, 4)], [4, 3, 2, 1]),
+    (&[(2, 1), (0, 2), (3, 3), (1, 4)], [2, 4, 1, 3]),
+    // some again, within what is gathered
+    (
+        &[(1, 1), (2, 2), (3, 3), (1, 4), (3, 5), (2, 6)],
+        [0, 4, 6, 5],
+    ),
+    // some again, after others that are no neighbours
+    (
+        &[(1, 1), (2, 2), (0, 3), (1, 4), (3, 5), (2, 6)],
+        [3, 4, 6, 5],
+    ),
+];
 
 #[test]
 fn a_file_gives_what_was_written_last(rt: HostRuntime) -> Result<(), Fail> {
     let path = "disk-file-gathered.img";
-    let rows: [(&[(u32, u8)], [u8; 4]); 6] = [
-        (&[], [0, 0, 0, 0]),
-        // neighbours, by rising number
-        (&[(0, 1), (1, 2), (2, 3)], [1, 2, 3, 0]),
-        // by falling number, and in no order
-        (&[(3, 1), (2, 2), (1, 3), (0, 4)], [4, 3, 2, 1]),
-        (&[(2, 1), (0, 2), (3, 3), (1, 4)], [2, 4, 1, 3]),
-        // some again, within what is gathered
-        (
-            &[(1, 1), (2, 2), (3, 3), (1, 4), (3, 5), (2, 6)],
-            [0, 4, 6, 5],
-        ),
-        // some again, after others that are no neighbours
-        (
-            &[(1, 1), (2, 2), (0, 3), (1, 4), (3, 5), (2, 6)],
-            [3, 4, 6, 5],
-        ),
-    ];
-    for (writes, wanted) in rows {
-        let _ = fs::remove_file(&rt, path);
-        assert_eq!(rt; write_and_read(&rt, writes)?, [wanted; 3]);
+    for (writes, wanted) in GATHERED {
+        let _ = remove(&rt, path);
+        assert_eq!(rt; write_and_read(&rt, path, writes)?, [wanted; 2]);
+        assert_eq!(rt; bytes_of(&mut opened(&rt, path)?)?, wanted);
     }
-    fs::remove_file(&rt, path)?;
+    remove(&rt, path)?;
+    Ok(())
+}
+
+// fails where a sector is not filled with its number
+fn read_numbers(device: &mut FileDevice) -> Result<(), Fail> {
+    for n in 0..200_u8 {
+        if byte_of(device, u32::from(n))? != n {
+            return Err("another byte".into());
+        }
+    }
     Ok(())
 }
 
 #[test]
 fn a_file_takes_any_number_of_neighbours(rt: HostRuntime) -> Result<(), Fail> {
     let path = "disk-file-neighbours.img";
-    let mut device = FileDevice::create(&rt, rt.alloc(), path, 200)?;
+    let mut device = created(&rt, path, 200)?;
     for n in 0..200_u8 {
-        device.write(u32::from(n), &filled(n))?;
+        fill(&mut device, u32::from(n), n)?;
     }
-    for n in 0..200_u8 {
-        assert_eq!(rt; byte_of(&mut device, u32::from(n))?, n);
-    }
-    device.sync()?;
-    let mut opened = FileDevice::open(&rt, rt.alloc(), path)?;
-    for n in 0..200_u8 {
-        assert_eq!(rt; byte_of(&mut opened, u32::from(n))?, n);
-    }
-    fs::remove_file(&rt, path)?;
+    read_numbers(&mut device)?;
+    sync(&mut device)?;
+    read_numbers(&mut opened(&rt, path)?)?;
+    remove(&rt, path)?;
     Ok(())
 }
 
 #[test]
 fn a_file_that_shrank_fails_and_counts(rt: HostRuntime) -> Result<(), Fail> {
     let path = "disk-file-shrank.img";
-    let mut device = FileDevice::create(&rt, rt.alloc(), path, 2)?;
-    let _ = FileDevice::create(&rt, rt.alloc(), path, 1)?;
-    assert_eq!(rt; byte_of(&mut device, 0)?, 0);
-    assert_eq!(rt; byte_of(&mut device, 1), Err(DiskFault::Fault));
-    assert_eq!(rt; device.failures(), 1);
-    fs::remove_file(&rt, path)?;
+    let mut device = created(&rt, path, 2)?;
+    let _ = created(&rt, path, 1)?;
+    play(
+        &rt,
+        &mut device,
+        &[
+            (Ask::Byte(0), Ok(0)),
+            (Ask::Byte(1), Err(DiskFault::Fault)),
+            (Ask::Failures, Ok(1)),
+        ],
+    );
+    remove(&rt, path)?;
     Ok(())
 }
 
 #[test]
 fn a_file_with_part_of_a_sector_is_not_whole(rt: HostRuntime) -> Result<(), Fail> {
     let path = "disk-file-short.img";
-    fs::write(&rt, path, [1; 5000])?;
-    let mut device = FileDevice::open(&rt, rt.alloc(), path)?;
-    assert_eq!(rt; device.sectors(), 1);
+    write_short(&rt, path)?;
+    let mut device = opened(&rt, path)?;
     assert!(rt; !device.is_whole());
-    assert_eq!(rt; byte_of(&mut device, 0)?, 1);
-    fs::remove_file(&rt, path)?;
+    play(
+        &rt,
+        &mut device,
+        &[(Ask::Sectors, Ok(1)), (Ask::Byte(0), Ok(1))],
+    );
+    remove(&rt, path)?;
     Ok(())
 }
 
 #[test]
 fn a_file_that_is_not_there_is_refused(rt: HostRuntime) {
-    assert!(rt;
-        matches!(
-            FileDevice::open(&rt, rt.alloc(), "disk-no-such-file.img"),
-            Err(DiskFault::Open)
-        )
-    );
-    assert!(rt; matches!(FileDevice::open(&rt, rt.alloc(), "."), Err(DiskFault::Open)));
+    for path in ["disk-no-such-file.img", "."] {
+        assert!(rt; matches!(opened(&rt, path), Err(DiskFault::Open)), "{path}");
+    }
 }

@@ -1,3 +1,4 @@
+use super::drivers::{change, filled, put};
 use bitflags::Flags;
 use inode::{Form, Inode, InodeFault, from_sector, to_sector};
 use model::acl::{Ace, AceFlags, AceKind, Acl, Mask, Who};
@@ -18,41 +19,24 @@ const ENTRIES: [u8; 32] = [
 ];
 
 fn vector() -> [u8; 4096] {
-    let mut sector = [0; 4096];
-    sector[..52].copy_from_slice(&HEAD);
-    sector[128..160].copy_from_slice(&ENTRIES);
+    let mut sector = filled(0);
+    put(&mut sector, 0, &HEAD);
+    put(&mut sector, 128, &ENTRIES);
     sector
 }
 
-#[test]
-fn reads_the_layout(rt: HostRuntime) -> Result<(), Fail> {
-    let sector = vector();
-    let inode = from_sector(rt.alloc(), Form::One, &sector)?;
-    assert_eq!(rt; inode.kind, NodeKind::Directory);
-    assert_eq!(rt; inode.number, 0x1_0000_0002);
-    assert_eq!(rt; inode.owner, 7);
-    assert_eq!(rt; inode.group, 8);
-    assert_eq!(rt; inode.change, 3);
-    assert_eq!(rt; inode.time_modify, 4);
-    assert_eq!(rt; inode.size, 1);
-    assert_eq!(rt; inode.runs, 1);
-    assert_eq!(rt; inode.run_sectors.as_slice(), [261].as_slice());
-    let wanted = [
-        Ace {
-            kind: AceKind::Allow,
-            flags: AceFlags::from_bits_retain(0),
-            mask: Mask::from_bits_retain(0x1f_01e7),
-            who: Who::Everyone,
-        },
-        Ace {
-            kind: AceKind::Deny,
-            flags: AceFlags::from_bits_retain(3),
-            mask: Mask::from_bits_retain(1),
-            who: Who::NamedGroup(9),
-        },
-    ];
-    assert_eq!(rt; inode.acl.as_slice(), wanted.as_slice());
-    Ok(())
+// The calls of nodes, each of which stands here once: a call brings all that it promises into the proof of its caller.
+
+fn node_in(alloc: Global, sector: &[u8; 4096]) -> Result<Inode, InodeFault> {
+    from_sector(alloc, Form::One, sector)
+}
+
+/// The sector of the node that a sector has.
+fn written_back(alloc: Global, sector: &[u8; 4096]) -> Result<[u8; 4096], InodeFault> {
+    let inode = from_sector(alloc, Form::One, sector)?;
+    let mut written = filled(0xff);
+    to_sector(&inode, Form::One, &mut written);
+    Ok(written)
 }
 
 fn copy_of(alloc: Global, inode: &Inode) -> Result<Inode, AllocError> {
@@ -63,15 +47,39 @@ fn reserve(inode: &mut Inode) -> Result<(), AllocError> {
     inode.reserve()
 }
 
+fn entry(kind: AceKind, flags: u32, mask: u32, who: Who) -> Ace {
+    Ace {
+        kind,
+        flags: AceFlags::from_bits_retain(flags),
+        mask: Mask::from_bits_retain(mask),
+        who,
+    }
+}
+
+#[test]
+fn reads_the_layout(rt: HostRuntime) -> Result<(), Fail> {
+    let inode = node_in(rt.alloc(), &vector())?;
+    assert_eq!(rt; inode.kind, NodeKind::Directory);
+    assert_eq!(rt; (inode.owner, inode.group, inode.runs), (7, 8, 1));
+    let numbers = [inode.number, inode.change, inode.time_modify, inode.size];
+    assert_eq!(rt; numbers, [0x1_0000_0002, 3, 4, 1]);
+    assert_eq!(rt; inode.run_sectors.as_slice(), [261].as_slice());
+    let entries = [
+        entry(AceKind::Allow, 0, 0x1f_01e7, Who::Everyone),
+        entry(AceKind::Deny, 3, 1, Who::NamedGroup(9)),
+    ];
+    assert_eq!(rt; inode.acl.as_slice(), entries.as_slice());
+    Ok(())
+}
+
 #[test]
 fn copies_a_node(rt: HostRuntime) -> Result<(), Fail> {
-    let mut inode = from_sector(rt.alloc(), Form::One, &vector())?;
+    let mut inode = node_in(rt.alloc(), &vector())?;
     let copy = copy_of(rt.alloc(), &inode)?;
-    reserve(&mut inode)?;
+    assert!(rt; reserve(&mut inode).is_ok());
     inode.run_sectors.clear();
     inode.number = 1;
-    assert_eq!(rt; copy.number, 0x1_0000_0002);
-    assert_eq!(rt; copy.runs, 1);
+    assert_eq!(rt; (copy.number, copy.runs), (0x1_0000_0002, 1));
     assert_eq!(rt; copy.run_sectors.as_slice(), [261].as_slice());
     assert_eq!(rt; copy.acl.as_slice(), inode.acl.as_slice());
     Ok(())
@@ -79,10 +87,7 @@ fn copies_a_node(rt: HostRuntime) -> Result<(), Fail> {
 
 #[test]
 fn writes_the_layout(rt: HostRuntime) -> Result<(), Fail> {
-    let inode = from_sector(rt.alloc(), Form::One, &vector())?;
-    let mut sector = [0xff; 4096];
-    to_sector(&inode, Form::One, &mut sector);
-    assert!(rt; sector == vector());
+    assert!(rt; written_back(rt.alloc(), &vector())? == vector());
     Ok(())
 }
 
@@ -107,42 +112,31 @@ const CHANGES: [(usize, u8); 17] = [
     (4095, 1),
 ];
 
+fn is_refused(alloc: Global, sector: &[u8; 4096]) -> bool {
+    matches!(node_in(alloc, sector), Err(InodeFault::NotInode))
+}
+
 #[test]
-fn refuses_what_no_inode_spells(rt: HostRuntime) -> Result<(), Fail> {
+fn refuses_what_no_inode_spells(rt: HostRuntime) {
     for (place, byte) in CHANGES {
         let mut sector = vector();
-        let Some(at) = sector.get_mut(place) else {
-            return Err("no such byte".into());
-        };
-        *at = byte;
+        change(&mut sector, &[(place, byte)]);
         if place == 51 {
             sector[50] = 0;
         }
-        assert!(rt;
-            matches!(
-                from_sector(rt.alloc(), Form::One, &sector),
-                Err(InodeFault::NotInode)
-            ),
-            "byte {place}"
-        );
+        assert!(rt; is_refused(rt.alloc(), &sector), "byte {place}");
     }
-    assert!(rt;
-        matches!(
-            from_sector(rt.alloc(), Form::One, &[0; 4096]),
-            Err(InodeFault::NotInode)
-        )
-    );
-    Ok(())
+    assert!(rt; is_refused(rt.alloc(), &filled(0)));
 }
 
 #[test]
 fn forty_entries(rt: HostRuntime) -> Result<(), Fail> {
     let mut sector = vector();
     sector[5] = 40;
-    for at in (128..768).step_by(16) {
-        sector[at..at + 16].copy_from_slice(&ENTRIES[16..]);
+    for i in 0..40 {
+        put(&mut sector, 128 + 16 * i, &ENTRIES[16..]);
     }
-    let inode = from_sector(rt.alloc(), Form::One, &sector)?;
+    let inode = node_in(rt.alloc(), &sector)?;
     assert_eq!(rt; inode.acl.as_slice().len(), Acl::MAX_STORED);
     Ok(())
 }

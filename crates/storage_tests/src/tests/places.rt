@@ -79,6 +79,15 @@ fn takes_and_gives(rt: HostRuntime) -> Result<(), Fail> {
     Ok(())
 }
 
+const USED: [(u32, bool); 6] = [
+    (0, true),
+    (1, false),
+    (8, false),
+    (9, true),
+    (32_770, true),
+    (32_771, false),
+];
+
 /// Places 0, 9 and 32,770: bytes 0x80 and 0x40 of the first sector, 0x20 of the second.
 #[test]
 fn reads_the_layout(rt: HostRuntime) -> Result<(), Fail> {
@@ -89,14 +98,7 @@ fn reads_the_layout(rt: HostRuntime) -> Result<(), Fail> {
     high[0] = 0x20;
     let places = read(rt.alloc(), 32_771, &low, &high)?;
     assert_eq!(rt; free_count(&places), 32_768);
-    for (place, used) in [
-        (0, true),
-        (1, false),
-        (8, false),
-        (9, true),
-        (32_770, true),
-        (32_771, false),
-    ] {
+    for (place, used) in USED {
         assert_eq!(rt; is_used(&places, place), used, "at {place}");
     }
     assert!(rt; sector_of(&places, 0) == low);
@@ -110,21 +112,24 @@ fn reads_the_layout(rt: HostRuntime) -> Result<(), Fail> {
     Ok(())
 }
 
+fn take_some(places: &mut Bitmap, count: u32) -> Result<(), Full> {
+    for _ in 0..count {
+        take(places)?;
+    }
+    Ok(())
+}
+
 /// A volume of 65,536 sectors filled, emptied and filled again.
 #[test]
 fn fills_and_empties(rt: HostRuntime) -> Result<(), Fail> {
     let mut places = empty(rt.alloc(), 65_536)?;
-    for _ in 0..65_536 {
-        take(&mut places)?;
-    }
+    take_some(&mut places, 65_536)?;
     assert_eq!(rt; take(&mut places), Err(Full));
     for place in 0..65_536 {
         give_back(&mut places, place);
     }
     assert_eq!(rt; free_count(&places), 65_536);
-    for _ in 0..65_536 {
-        take(&mut places)?;
-    }
+    take_some(&mut places, 65_536)?;
     assert_eq!(rt; free_count(&places), 0);
     Ok(())
 }

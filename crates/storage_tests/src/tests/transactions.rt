@@ -8,11 +8,5 @@ mod held;
 mod stops;
 mod work;
 
-use disk::SECTOR;
-
 /// The sectors of each device here: the fewest that a journal takes.
 const SECTORS: u32 = 256;
-
-fn filled(byte: u8) -> [u8; SECTOR] {
-    [byte; SECTOR]
-}

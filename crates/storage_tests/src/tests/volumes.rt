@@ -1,9 +1,10 @@
 //! Volumes of files and directories: formatted, mounted, and with a byte that is another one.
 
-use disk::{Device, MemDevice, SECTOR};
+use super::drivers::{byte_of, change, content_of, fill, filled, memory, put, sync, write};
+use disk::{Device, DiskFault, MemDevice};
 use std::alloc::Global;
 use std::test::Fail;
-use volume::{Checked, FormatFault, MountFault, Unmounted, Volume, check, format};
+use volume::{Checked, FormatFault, MountFault, Volume, VolumeFault, check, format};
 
 /// The smallest volume of 16 nodes: 92 sectors of it are the data region.
 const SECTORS: u32 = 256;
@@ -17,73 +18,79 @@ const PAYLOAD: u32 = 2;
 
 const ROOT: u32 = 148;
 
+// The calls of volumes, each of which stands here once: a call brings all that it promises into the proof of its caller.
+
+fn format_on(alloc: Global, device: &mut MemDevice, nodes: u32) -> Result<(), FormatFault> {
+    format(alloc, device, nodes)
+}
+
+fn checked(alloc: Global, device: &mut MemDevice) -> Result<Checked, MountFault> {
+    check(alloc, device)
+}
+
+fn mounted<D: Device>(alloc: Global, device: D) -> Result<Volume<D>, MountFault> {
+    match Volume::mount(alloc, device) {
+        Ok(volume) => Ok(volume),
+        Err(refused) => Err(refused.fault),
+    }
+}
+
+fn flush<D: Device>(volume: &mut Volume<D>) -> Result<(), VolumeFault> {
+    volume.flush()
+}
+
+// the change of a node, and how many names it has
+fn shown<D: Device>(volume: &Volume<D>, number: u64) -> Option<(u64, usize)> {
+    let card = volume.node(number)?;
+    Some((card.inode.change, card.names.count()))
+}
+
+// the run of a mount
+fn run_of(alloc: Global, device: &mut MemDevice) -> Result<u32, MountFault> {
+    let volume = mounted(alloc, device)?;
+    let count = volume.restart_count();
+    let _ = volume.into_device();
+    Ok(count)
+}
+
 // a new volume in memory
 fn formatted(alloc: Global) -> Result<MemDevice, Fail> {
-    let mut device = MemDevice::new(alloc, SECTORS)?;
-    format(alloc, &mut device, NODES)?;
-    device.sync()?;
+    let mut device = memory(alloc, SECTORS)?;
+    format_on(alloc, &mut device, NODES)?;
+    sync(&mut device)?;
     Ok(device)
-}
-
-// a device with these bytes of a sector changed
-fn changed(alloc: Global, sector: u32, bytes: &[(usize, u8)]) -> Result<MemDevice, Fail> {
-    let mut device = formatted(alloc)?;
-    let mut content = [0; SECTOR];
-    device.read(sector, &mut content)?;
-    for (place, byte) in bytes {
-        if let Some(old) = content.get_mut(*place) {
-            *old = *byte;
-        }
-    }
-    device.write(sector, &content)?;
-    device.sync()?;
-    Ok(device)
-}
-
-// the run of a mount, or why there was none
-fn run_of(alloc: Global, device: MemDevice) -> Result<(u32, MemDevice), Unmounted<MemDevice>> {
-    let volume = Volume::mount(alloc, device)?;
-    Ok((volume.restart_count(), volume.into_device()))
 }
 
 #[test]
 fn each_mount_raises_the_count(rt: HostRuntime) -> Result<(), Fail> {
     let mut device = formatted(rt.alloc())?;
     for count in 1..4 {
-        match run_of(rt.alloc(), device) {
-            Ok((run, back)) => {
-                assert_eq!(rt; run, count);
-                device = back;
-            }
-            Err(refused) => return Err(refused.fault.into()),
-        }
+        assert_eq!(rt; run_of(rt.alloc(), &mut device), Ok(count));
     }
     Ok(())
 }
 
+// what a flush answers after a mount, and nodes 1 and 2
+type Seen = (Result<(), VolumeFault>, [Option<(u64, usize)>; 2]);
+
+fn seen(alloc: Global, device: MemDevice) -> Result<Seen, MountFault> {
+    let mut volume = mounted(alloc, device)?;
+    let flushed = flush(&mut volume);
+    Ok((flushed, [shown(&volume, 1), shown(&volume, 2)]))
+}
+
 #[test]
 fn the_root_is_there(rt: HostRuntime) -> Result<(), Fail> {
-    let device = formatted(rt.alloc())?;
-    let Ok(mut volume) = Volume::mount(rt.alloc(), device) else {
-        return Err("not mounted".into());
-    };
-    volume.flush()?;
-    match volume.node(1) {
-        Some(root) => {
-            assert_eq!(rt; root.inode.change, 1);
-            assert_eq!(rt; root.names.count(), 0);
-        }
-        None => assert!(rt; false, "no root"),
-    }
-    assert!(rt; volume.node(2).is_none());
+    let found = seen(rt.alloc(), formatted(rt.alloc())?)?;
+    assert_eq!(rt; found, (Ok(()), [Some((1, 0)), None]));
     Ok(())
 }
 
 #[test]
 fn sizes_that_no_volume_has(rt: HostRuntime) -> Result<(), Fail> {
     for (sectors, nodes) in [(255, 2), (256, 1), (256, 93), (65_537, 2), (65_536, 16_385)] {
-        let mut device = MemDevice::new(rt.alloc(), sectors)?;
-        let answer = format(rt.alloc(), &mut device, nodes);
+        let mut device = memory(rt.alloc(), sectors)?;
+        let answer = format_on(rt.alloc(), &mut device, nodes);
         assert!(rt;
             answer == Err(FormatFault::Size),
             "{sectors} sectors, {nodes} nodes"
@@ -123,22 +130,40 @@ const CHANGES: [(u32, &[(usize, u8)], MountFault); 17] = [
     (148, &[(90, 1)], MountFault::Damaged),
 ];
 
+fn change_on(device: &mut MemDevice, sector: u32, bytes: &[(usize, u8)]) -> Result<(), DiskFault> {
+    let mut content = content_of(device, sector)?;
+    change(&mut content, bytes);
+    write(device, sector, &content)?;
+    sync(device)
+}
+
+// a volume with these bytes of a sector changed
+fn changed(alloc: Global, sector: u32, bytes: &[(usize, u8)]) -> Result<MemDevice, Fail> {
+    let mut device = formatted(alloc)?;
+    change_on(&mut device, sector, bytes)?;
+    Ok(device)
+}
+
 #[test]
 fn changed_bytes_are_found(rt: HostRuntime) -> Result<(), Fail> {
     for (sector, bytes, fault) in CHANGES {
-        let device = changed(rt.alloc(), sector, bytes)?;
-        match run_of(rt.alloc(), device) {
-            Ok((run, _device)) => assert!(rt; false, "sector {sector}, {bytes:?}: run {run}"),
-            Err(refused) => {
-                assert!(rt;
-                    refused.fault == fault,
-                    "sector {sector}, {bytes:?}: {:?}",
-                    refused.fault
-                )
-            }
-        }
+        let mut device = changed(rt.alloc(), sector, bytes)?;
+        let found = run_of(rt.alloc(), &mut device);
+        assert!(rt;
+            found == Err(fault),
+            "sector {sector}, {bytes:?}: {found:?}"
+        );
     }
     Ok(())
+}
+
+// what a volume is that was mounted so often
+fn counted(count: u32) -> Result<Checked, MountFault> {
+    Ok(Checked {
+        sectors: SECTORS,
+        nodes: NODES,
+        count,
+    })
 }
 
 /// A check answers as a mount does, but for a full count, and the volume stays as it was.
@@ -146,55 +171,37 @@ fn changed_bytes_are_found(rt: HostRuntime) -> Result<(), Fail> {
 fn changed_bytes_are_checked(rt: HostRuntime) -> Result<(), Fail> {
     for (sector, bytes, fault) in CHANGES {
         let mut device = changed(rt.alloc(), sector, bytes)?;
-        let found = check(rt.alloc(), &mut device);
-        let expected = match fault {
-            MountFault::Worn => Ok(Checked {
-                sectors: SECTORS,
-                nodes: NODES,
-                count: u32::MAX,
-            }),
+        let found = checked(rt.alloc(), &mut device);
+        let wanted = match fault {
+            MountFault::Worn => counted(u32::MAX),
             _ => Err(fault),
         };
-        assert!(rt; found == expected, "sector {sector}, {bytes:?}: {found:?}");
+        assert!(rt; found == wanted, "sector {sector}, {bytes:?}: {found:?}");
     }
     Ok(())
 }
 
-// a volume whose root stands behind an open gate, and at home not yet
-fn behind_a_gate(alloc: Global) -> Result<MemDevice, Fail> {
-    let mut device = formatted(alloc)?;
-    let mut root = [0; SECTOR];
-    device.read(ROOT, &mut root)?;
-    device.write(PAYLOAD, &root)?;
-    device.write(ROOT, &[0; SECTOR])?;
-    let mut gate = [0; SECTOR];
-    let words = [1_u32, 1, ROOT];
-    for (bytes, word) in gate.chunks_exact_mut(4).zip(words) {
-        bytes.copy_from_slice(&word.to_be_bytes());
-    }
-    device.write(GATE, &gate)?;
-    device.sync()?;
-    Ok(device)
+// puts the root behind an open gate, and at home zeros
+fn hide_root(device: &mut MemDevice) -> Result<(), DiskFault> {
+    let root = content_of(device, ROOT)?;
+    write(device, PAYLOAD, &root)?;
+    fill(device, ROOT, 0)?;
+    let mut gate = filled(0);
+    put(&mut gate, 0, &[0, 0, 0, 1, 0, 0, 0, 1, 0, 0, 0, 148]);
+    write(device, GATE, &gate)?;
+    sync(device)
 }
 
 #[test]
 fn a_check_reads_through_an_open_gate(rt: HostRuntime) -> Result<(), Fail> {
-    let mut device = behind_a_gate(rt.alloc())?;
+    let mut device = formatted(rt.alloc())?;
+    hide_root(&mut device)?;
     for _ in 0..2 {
-        let found = check(rt.alloc(), &mut device);
-        let expected = Ok(Checked {
-            sectors: SECTORS,
-            nodes: NODES,
-            count: 0,
-        });
-        assert!(rt; found == expected, "{found:?}");
-        let mut content = [1; SECTOR];
-        device.read(ROOT, &mut content)?;
-        assert!(rt; content == [0; SECTOR], "the root was copied home");
+        let found = checked(rt.alloc(), &mut device);
+        assert!(rt; found == counted(0), "{found:?}");
+        let home = byte_of(&mut device, ROOT)?;
+        assert!(rt; home == 0, "the root was copied home");
     }
-    match run_of(rt.alloc(), device) {
-        Ok((run, _device)) => assert_eq!(rt; run, 1),
-        Err(refused) => return Err(refused.fault.into()),
-    }
+    assert_eq!(rt; run_of(rt.alloc(), &mut device), Ok(1));
     Ok(())
 }

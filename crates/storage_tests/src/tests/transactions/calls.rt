@@ -1,77 +1,133 @@
 //! Each call once, and its refusals.
 
-use super::held::Held;
-use super::work::updates;
-use super::{SECTORS, filled};
-use disk::{CrashDevice, MemDevice, Stop};
+use super::super::drivers::{memory, stopping};
+use super::SECTORS;
+use super::held::{Held, Step};
+use disk::{Device, Stop};
 use journal::JournalFault;
+use std::alloc::{AllocError, Global};
+use std::process::Abort;
 use std::test::Fail;
 
+/// Why a call is refused.
+#[derive(Clone, Copy, PartialEq, Eq)]
+enum Refused {
+    Fault,
+    Down,
+    TooMany,
+    Else,
+}
+
+fn reason(fault: JournalFault) -> Refused {
+    match fault {
+        JournalFault::Fault => Refused::Fault,
+        JournalFault::Down => Refused::Down,
+        JournalFault::TooMany => Refused::TooMany,
+        _ => Refused::Else,
+    }
+}
+
+fn answer<D: Device>(held: &mut Held<D>, alloc: Global, step: Step<'_>) -> Result<u8, Refused> {
+    match held.take(alloc, step) {
+        Ok(byte) => Ok(byte),
+        Err(fault) => Err(reason(fault)),
+    }
+}
+
+/// A call, and what is answered.
+type Row<'a> = (Step<'a>, Result<u8, Refused>);
+
+fn play<D: Device>(rt: &impl Abort, alloc: Global, held: &mut Held<D>, rows: &[Row<'_>]) {
+    for (i, (step, wanted)) in rows.iter().enumerate() {
+        assert!(rt; answer(held, alloc, *step) == *wanted, "row {i}");
+    }
+}
+
+/// So many sectors from this one on.
+fn sectors_from(alloc: Global, first: u32, count: u32) -> Result<Vec<u32>, AllocError> {
+    let mut sectors = Vec::new(alloc);
+    for i in 0..count {
+        sectors.push(first.saturating_add(i))?;
+    }
+    Ok(sectors)
+}
+
+const KEPT: [Row<'static>; 5] = [
+    (Step::Byte(0), Ok(0)),
+    (Step::Superblock(2), Ok(0)),
+    (Step::Byte(0), Ok(2)),
+    (Step::Flush, Ok(0)),
+    (Step::Byte(0), Ok(2)),
+];
+
+/// Two transactions, which are read before a flush and after it, and flushed again.
+const READ: [Row<'static>; 10] = [
+    (Step::Apply(&[200, 201], 1), Ok(0)),
+    (Step::Apply(&[202, 201], 2), Ok(0)),
+    (Step::Byte(200), Ok(1)),
+    (Step::Byte(201), Ok(2)),
+    (Step::Byte(202), Ok(2)),
+    (Step::Flush, Ok(0)),
+    (Step::Byte(200), Ok(1)),
+    (Step::Byte(201), Ok(2)),
+    (Step::Byte(202), Ok(2)),
+    (Step::Flush, Ok(0)),
+];
+
 #[test]
-fn a_superblock_is_kept(rt: HostRuntime) -> Result<(), Fail> {
-    let mut held = Held::mount(rt.alloc(), MemDevice::new(rt.alloc(), SECTORS)?)?;
-    assert_eq!(rt; held.byte_at(0)?, 0);
-    held.superblock(&filled(2))?;
-    assert_eq!(rt; held.byte_at(0)?, 2);
-    held.flush()?;
-    assert_eq!(rt; held.byte_at(0)?, 2);
+fn calls_are_answered(rt: HostRuntime) -> Result<(), Fail> {
+    for rows in [KEPT.as_slice(), &READ] {
+        let mut held = Held::mount(rt.alloc(), memory(rt.alloc(), SECTORS)?)?;
+        play(&rt, rt.alloc(), &mut held, rows);
+    }
     Ok(())
 }
+
+const DOWN: [Row<'static>; 5] = [
+    (Step::Superblock(2), Err(Refused::Fault)),
+    (Step::Superblock(2), Err(Refused::Down)),
+    (Step::Flush, Err(Refused::Down)),
+    (Step::Byte(0), Err(Refused::Down)),
+    (Step::Apply(&[98], 1), Err(Refused::Down)),
+];
 
 #[test]
 fn a_journal_stays_down(rt: HostRuntime) -> Result<(), Fail> {
-    let device = MemDevice::new(rt.alloc(), SECTORS)?;
-    let mut held = Held::mount(rt.alloc(), CrashDevice::new(device, Stop::Before(1)))?;
-    let listed = updates(rt.alloc(), &[98], 1)?;
-    assert!(rt; matches!(held.superblock(&filled(2)), Err(JournalFault::Fault)));
-    assert!(rt; matches!(held.superblock(&filled(2)), Err(JournalFault::Down)));
-    assert!(rt; matches!(held.flush(), Err(JournalFault::Down)));
-    assert!(rt; matches!(held.byte_at(0), Err(JournalFault::Down)));
-    assert!(rt; matches!(held.apply(rt.alloc(), listed), Err(JournalFault::Down)));
-    Ok(())
-}
-
-#[test]
-fn transactions_are_read_and_flushed(rt: HostRuntime) -> Result<(), Fail> {
-    let mut held = Held::mount(rt.alloc(), MemDevice::new(rt.alloc(), SECTORS)?)?;
-    held.apply(rt.alloc(), updates(rt.alloc(), &[200, 201], 1)?)?;
-    held.apply(rt.alloc(), updates(rt.alloc(), &[202, 201], 2)?)?;
-    for _ in 0..2 {
-        assert_eq!(rt; held.byte_at(200)?, 1);
-        assert_eq!(rt; held.byte_at(201)?, 2);
-        assert_eq!(rt; held.byte_at(202)?, 2);
-        held.flush()?;
-    }
+    let device = stopping(rt.alloc(), SECTORS, Stop::Before(1))?;
+    let mut held = Held::mount(rt.alloc(), device)?;
+    play(&rt, rt.alloc(), &mut held, &DOWN);
     Ok(())
 }
 
 #[test]
 fn a_transaction_has_48_sectors_at_most(rt: HostRuntime) -> Result<(), Fail> {
-    let mut held = Held::mount(rt.alloc(), MemDevice::new(rt.alloc(), SECTORS)?)?;
-    let mut targets = Vec::new(rt.alloc());
-    for target in 98..146 {
-        targets.push(target)?;
-    }
-    held.apply(rt.alloc(), updates(rt.alloc(), &targets, 1)?)?;
-    targets.push(146)?;
-    let refused = held.apply(rt.alloc(), updates(rt.alloc(), &targets, 2)?);
-    assert!(rt; matches!(refused, Err(JournalFault::TooMany)));
-    assert_eq!(rt; held.byte_at(98)?, 1);
-    assert_eq!(rt; held.byte_at(146)?, 0);
+    let mut held = Held::mount(rt.alloc(), memory(rt.alloc(), SECTORS)?)?;
+    let fit = sectors_from(rt.alloc(), 98, 48)?;
+    let many = sectors_from(rt.alloc(), 98, 49)?;
+    let rows = [
+        (Step::Apply(&fit, 1), Ok(0)),
+        (Step::Apply(&many, 2), Err(Refused::TooMany)),
+        (Step::Byte(98), Ok(1)),
+        (Step::Byte(146), Ok(0)),
+    ];
+    play(&rt, rt.alloc(), &mut held, &rows);
     Ok(())
 }
 
 #[test]
 fn transactions_of_the_same_sectors_become_one(rt: HostRuntime) -> Result<(), Fail> {
-    let mut device = CrashDevice::new(MemDevice::new(rt.alloc(), SECTORS)?, Stop::Never);
+    let mut device = stopping(rt.alloc(), SECTORS, Stop::Never)?;
     {
         let mut held = Held::mount(rt.alloc(), &mut device)?;
         for byte in 1..200 {
-            held.apply(rt.alloc(), updates(rt.alloc(), &[200, 201], byte)?)?;
+            held.take(rt.alloc(), Step::Apply(&[200, 201], byte))?;
         }
-        held.flush()?;
-        assert_eq!(rt; held.byte_at(201)?, 199);
-        held.flush()?;
+        let rows = [
+            (Step::Flush, Ok(0)),
+            (Step::Byte(201), Ok(199)),
+            (Step::Flush, Ok(0)),
+        ];
+        play(&rt, rt.alloc(), &mut held, &rows);
     }
     // the mount's sync; two sectors to the payload and home, the gate twice, and four syncs
     assert_eq!(rt; device.steps(), 11);
@@ -80,18 +136,15 @@ fn transactions_of_the_same_sectors_become_one(rt: HostRuntime) -> Result<(), Fa
 
 #[test]
 fn a_list_that_would_not_fit_is_flushed_first(rt: HostRuntime) -> Result<(), Fail> {
-    let mut device = CrashDevice::new(MemDevice::new(rt.alloc(), SECTORS)?, Stop::Never);
+    let mut device = stopping(rt.alloc(), SECTORS, Stop::Never)?;
     {
         let mut held = Held::mount(rt.alloc(), &mut device)?;
         for first in [98, 146, 194] {
-            let mut targets = Vec::new(rt.alloc());
-            for target in first..first + 48 {
-                targets.push(target)?;
-            }
-            held.apply(rt.alloc(), updates(rt.alloc(), &targets, 7)?)?;
+            let sectors = sectors_from(rt.alloc(), first, 48)?;
+            held.take(rt.alloc(), Step::Apply(&sectors, 7))?;
         }
-        assert_eq!(rt; held.byte_at(98)?, 7);
-        assert_eq!(rt; held.byte_at(241)?, 7);
+        let rows = [(Step::Byte(98), Ok(7)), (Step::Byte(241), Ok(7))];
+        play(&rt, rt.alloc(), &mut held, &rows);
     }
     assert_eq!(rt; device.steps(), 1 + 2 * 96 + 6);
     Ok(())

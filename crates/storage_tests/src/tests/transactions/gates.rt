@@ -1,48 +1,37 @@
 //! Gate sectors that have a form, and such as have none.
 
-ghost use Rattle.std.specs.Prelude.{◌≡◌, IfOk};
-ghost use Rattle.disk.specs.Memory.{size_of};
-
+use super::super::drivers::{change, filled, landed, put, stopping, sync, write};
 use super::SECTORS;
-use disk::{Call, CrashDevice, Device, DiskFault, MemDevice, SECTOR, Stop};
-use journal::{Journal, JournalFault};
+use super::held::Held;
+use disk::{Call, Device, DiskFault, MemDevice, SECTOR, Stop};
+use journal::JournalFault;
 use std::alloc::Global;
 use std::test::Fail;
 
 // a gate that is open for so many targets from 98 on, with these bytes changed
 fn gate_of(count: u8, changes: &[(usize, u8)]) -> [u8; SECTOR] {
-    let mut sector = [0; SECTOR];
-    sector[3] = 1;
-    sector[7] = count;
-    for (target, word) in (98..).zip(sector[8..].chunks_exact_mut(4).take(count as usize)) {
-        word.copy_from_slice(&u32::to_be_bytes(target));
+    let mut sector = filled(0);
+    put(&mut sector, 3, &[1, 0, 0, 0, count]);
+    for i in 0..count {
+        let target = 98 + u32::from(i);
+        put(&mut sector, 8 + 4 * usize::from(i), &target.to_be_bytes());
     }
-    for (place, byte) in changes {
-        if let Some(old) = sector.get_mut(*place) {
-            *old = *byte;
-        }
-    }
+    change(&mut sector, changes);
     sector
 }
 
 // a device at rest with this gate, and no call so far
-fn device_with(alloc: Global, gate: &[u8; SECTOR]) -> Result<MemDevice, DiskFault>
-    ensures { IfOk result (λ device. size_of device ≡ 256) }
-{
-    let mut device = CrashDevice::new(MemDevice::new(alloc, SECTORS)?, Stop::Never);
-    device.write(1, gate)?;
-    device.sync()?;
-    device.landed(alloc, &[])
+fn device_with(alloc: Global, gate: &[u8; SECTOR]) -> Result<MemDevice, DiskFault> {
+    let mut device = stopping(alloc, SECTORS, Stop::Never)?;
+    write(&mut device, 1, gate)?;
+    sync(&mut device)?;
+    landed(&device, alloc, &[])
 }
 
-// what a mount answers, with the device that comes back with a refusal
-fn mount(alloc: Global, device: MemDevice) -> Result<(), (JournalFault, MemDevice)>
-    requires { size_of device ≡ 256 }
-{
-    match Journal::mount(alloc, device) {
-        Ok(_) => Ok(()),
-        Err(refused) => Err((refused.fault, refused.device)),
-    }
+// whether a mount takes the device
+fn mount<D: Device>(alloc: Global, device: D) -> Result<(), JournalFault> {
+    let _held = Held::mount(alloc, device)?;
+    Ok(())
 }
 
 // how many targets the gate has, and the bytes of it that are changed
@@ -56,8 +45,8 @@ const GOOD: [(u8, &[(usize, u8)]); 4] = [
 #[test]
 fn gates_that_are_replayed(rt: HostRuntime) -> Result<(), Fail> {
     for (count, changes) in GOOD {
-        let device = device_with(rt.alloc(), &gate_of(count, changes))?;
-        let mounted = mount(rt.alloc(), device);
+        let mut device = device_with(rt.alloc(), &gate_of(count, changes))?;
+        let mounted = mount(rt.alloc(), &mut device);
         assert!(rt; mounted.is_ok(), "{count} targets, {changes:?}");
     }
     Ok(())
@@ -85,14 +74,13 @@ const BAD: [(u8, &[(usize, u8)]); 14] = [
 #[test]
 fn gates_that_are_damaged(rt: HostRuntime) -> Result<(), Fail> {
     for (count, changes) in BAD {
-        let device = device_with(rt.alloc(), &gate_of(count, changes))?;
-        match mount(rt.alloc(), device) {
-            Ok(()) => assert!(rt; false, "{count} targets, {changes:?}"),
-            Err((fault, left)) => {
-                assert!(rt; matches!(&fault, JournalFault::Damaged));
-                assert!(rt; matches!(left.calls(), [Call::Sync]));
-            }
-        }
+        let mut device = device_with(rt.alloc(), &gate_of(count, changes))?;
+        let mounted = mount(rt.alloc(), &mut device);
+        assert!(rt;
+            matches!(mounted, Err(JournalFault::Damaged)),
+            "{count} targets, {changes:?}"
+        );
+        assert!(rt; matches!(device.calls(), [Call::Sync]));
     }
     Ok(())
 }

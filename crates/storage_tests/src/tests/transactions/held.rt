@@ -1,27 +1,42 @@
 //! A journal on a device of 256 sectors, whose calls test what the journal asks of its caller.
 
-ghost use Rattle.std.specs.Prelude.{◌≡◌, ◌≤◌, IsTrue, length, vec_capacity};
+ghost use Rattle.std.specs.Prelude.{◌≡◌, IsTrue, IfOk};
 ghost use Rattle.journal.specs.Journal.{log_of};
 ghost use Rattle.journal.specs.Layout.{AreTargets, targets};
 
-use super::{SECTORS, filled};
-use disk::{Device, SECTOR, Update};
+use super::super::drivers::{byte_in, filled};
+use super::SECTORS;
+use disk::{Device, Update};
 use journal::{Journal, JournalFault};
-use std::alloc::Global;
+use std::alloc::{AllocError, Global};
 
 /// The first sector that a transaction may write.
 const FIRST_TARGET: u32 = 98;
 
-/// Puts the updates' targets in place of what `named` held.
-fn name_targets(named: &mut Vec<u32>, updates: &[Update])
-    requires { length updates.now ≤ vec_capacity named.old }
-    ensures items { named.new.items ≡ targets updates.now }
-    ensures capacity { vec_capacity named.new ≡ vec_capacity named.old }
+/// What is asked of a journal.
+#[derive(Clone, Copy)]
+pub(super) enum Step<'a> {
+    /// A transaction that fills these sectors with this.
+    Apply(&'a [u32], u8),
+    Flush,
+    /// Fills sector 0 with this.
+    Superblock(u8),
+    /// The byte that a sector is filled with, or 255.
+    Byte(u32),
+}
+
+/// Updates that fill these sectors with this.
+fn updates(alloc: Global, to: &[u32], byte: u8) -> Result<Vec<Update>, AllocError>
+    ensures { IfOk result (λ updates. targets updates.items ≡ to.now) }
 {
-    named.clear();
-    for update in updates {
-        named.push_reserved(update.target);
+    let mut updates = Vec::new(alloc);
+    for target in to {
+        updates.push(Update {
+            target: *target,
+            content: filled(byte),
+        })?;
     }
+    Ok(updates)
 }
 
 /// Whether a transaction may write these sectors of 256: all from 98 on, and different.
@@ -54,54 +69,56 @@ impl<D: Device> Held<D> {
         }
     }
 
+    /// Makes a call, which answers 0 where no byte is asked.
+    pub(super) fn take(&mut self, alloc: Global, step: Step<'_>) -> Result<u8, JournalFault> {
+        match step {
+            Step::Apply(to, byte) => self.apply(alloc, to, byte),
+            Step::Flush => self.flush(),
+            Step::Superblock(byte) => self.superblock(byte),
+            Step::Byte(n) => self.byte_at(n),
+        }
+    }
+
     /// The byte that the sector is filled with, or 255.
     pub(super) fn byte_at(&mut self, n: u32) -> Result<u8, JournalFault> {
         if n >= SECTORS {
             return Ok(255);
         }
-        let mut content = [0; SECTOR];
+        let mut content = filled(0);
         self.journal.read(n, &mut content)?;
-        if content == filled(content[0]) {
-            Ok(content[0])
-        } else {
-            Ok(255)
-        }
+        Ok(byte_in(&content))
     }
 
-    /// Applies; updates that are no transaction are refused as too many.
-    pub(super) fn apply(
-        &mut self,
-        alloc: Global,
-        updates: Vec<Update>,
-    ) -> Result<(), JournalFault> {
-        let mut to = Vec::with_capacity(alloc, updates.len())?;
-        name_targets(&mut to, &updates);
-        if !are_targets(&to) {
+    /// What is no transaction is refused as too many.
+    fn apply(&mut self, alloc: Global, to: &[u32], byte: u8) -> Result<u8, JournalFault> {
+        if !are_targets(to) {
             return Err(JournalFault::TooMany);
         }
-        self.journal.apply(updates)
+        self.journal.apply(updates(alloc, to, byte)?)?;
+        Ok(0)
     }
 
-    pub(super) fn flush(&mut self) -> Result<(), JournalFault> {
-        self.journal.flush()
+    fn flush(&mut self) -> Result<u8, JournalFault> {
+        self.journal.flush()?;
+        Ok(0)
     }
 
-    pub(super) fn superblock(&mut self, content: &[u8; SECTOR]) -> Result<(), JournalFault> {
-        self.journal.superblock(content)
+    fn superblock(&mut self, byte: u8) -> Result<u8, JournalFault> {
+        self.journal.superblock(&filled(byte))?;
+        Ok(0)
     }
 }
 
-/// Formats a device of 256 sectors.
+/// Formats a device of 256 sectors: fills sector 0 with one byte, and these with another.
 pub(super) fn format<D: Device>(
     alloc: Global,
     device: &mut D,
-    sector0: &[u8; SECTOR],
-    updates: &[Update],
+    first: u8,
+    others: (&[u32], u8),
 ) -> Result<(), JournalFault> {
-    let mut to = Vec::with_capacity(alloc, updates.len())?;
-    name_targets(&mut to, updates);
-    if device.sectors() != SECTORS || !are_targets(&to) {
+    let (to, byte) = others;
+    if device.sectors() != SECTORS || !are_targets(to) {
         return Err(JournalFault::TooMany);
     }
-    Journal::format(device, sector0, updates)
+    Journal::format(device, &filled(first), &updates(alloc, to, byte)?)
 }

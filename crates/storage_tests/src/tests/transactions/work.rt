@@ -1,75 +1,43 @@
 //! What a caller does with a journal, and what may then be found on its device.
 
-use super::held::Held;
-use super::{SECTORS, filled};
-use disk::{CrashDevice, Device, Update};
+use super::SECTORS;
+use super::held::{Held, Step};
+use disk::{CrashDevice, Device};
 use journal::JournalFault;
 use std::alloc::{AllocError, Global};
 
-/// A call of the journal.
-#[derive(Clone, Copy)]
-pub(super) enum Step {
-    /// The next transaction, of these sectors: the k-th one fills each of them with k.
-    Apply(&'static [u32]),
-    Flush,
-    /// Fills sector 0 with this.
-    Superblock(u8),
+/// What a device holds: for each sector the byte that fills it. The journal's own count as 0.
+pub(super) type Contents = [u8; 256];
+
+const ZEROS: Contents = [0; 256];
+
+/// What a mount finds.
+pub(super) fn mounted<D: Device>(alloc: Global, device: D) -> Result<Contents, JournalFault> {
+    let mut held = Held::mount(alloc, device)?;
+    let mut found = ZEROS;
+    for n in 0..SECTORS {
+        if n == 0 || n >= 98 {
+            found[n as usize] = held.byte_at(n)?;
+        }
+    }
+    Ok(found)
 }
 
-/// What a device holds: a byte for each sector, that which fills it. The journal's own count as 0.
-#[derive(Drop, PartialEq, Eq)]
-pub(super) struct Contents {
-    bytes: Vec<u8>,
+/// Whether both hold the same but for sector 0.
+pub(super) fn are_alike(one: &Contents, other: &Contents) -> bool {
+    one[1..] == other[1..]
 }
 
-impl Contents {
-    pub(super) fn zeros(alloc: Global) -> Result<Contents, AllocError> {
-        let mut bytes = Vec::new(alloc);
-        for _ in 0..SECTORS {
-            bytes.push(0)?;
+fn put(contents: &mut Contents, targets: &[u32], byte: u8) {
+    for target in targets {
+        if *target < SECTORS {
+            contents[*target as usize] = byte;
         }
-        Ok(Contents { bytes })
-    }
-
-    /// What a mount finds.
-    pub(super) fn mounted<D: Device>(alloc: Global, device: D) -> Result<Contents, JournalFault> {
-        let mut held = Held::mount(alloc, device)?;
-        let mut found = Contents::zeros(alloc)?;
-        found.set(0, held.byte_at(0)?);
-        for n in 98..SECTORS {
-            found.set(n, held.byte_at(n)?);
-        }
-        Ok(found)
-    }
-
-    fn set(&mut self, n: u32, byte: u8) {
-        if let Some(old) = self.bytes.get_mut(n as usize) {
-            *old = byte;
-        }
-    }
-
-    fn with(&self, alloc: Global, targets: &[u32], byte: u8) -> Result<Contents, AllocError> {
-        let mut bytes = Vec::from_slice(alloc, &self.bytes)?;
-        for target in targets {
-            if let Some(old) = bytes.get_mut(*target as usize) {
-                *old = byte;
-            }
-        }
-        Ok(Contents { bytes })
-    }
-
-    pub(super) fn superblock(&self) -> u8 {
-        self.bytes.first().copied().unwrap_or(255)
-    }
-
-    /// Whether both hold the same but for sector 0.
-    pub(super) fn is_like(&self, other: &Contents) -> bool {
-        self.bytes.get(1..) == other.bytes.get(1..)
     }
 }
 
 /// How far the calls came.
-#[derive(Clone, Copy, Debug)]
+#[derive(Clone, Copy)]
 pub(super) struct Reached {
     /// So many transactions were flushed.
     pub(super) flushed: usize,
@@ -82,64 +50,38 @@ pub(super) struct Reached {
 }
 
 impl Reached {
-    fn new() -> Reached {
-        Reached {
-            flushed: 0,
-            applied: 0,
-            superblock: 0,
-            next_superblock: 0,
-        }
-    }
-
     fn take<D: Device>(
         &mut self,
         alloc: Global,
         held: &mut Held<D>,
-        step: Step,
+        step: Step<'_>,
     ) -> Result<(), JournalFault> {
+        if let Step::Superblock(byte) = step {
+            self.next_superblock = byte;
+        }
+        held.take(alloc, step)?;
         match step {
-            Step::Apply(targets) => {
-                let count = self.applied.saturating_add(1);
-                held.apply(alloc, updates(alloc, targets, byte_of(count))?)?;
-                self.applied = count;
-            }
-            Step::Flush => {
-                held.flush()?;
-                self.flushed = self.applied;
-            }
-            Step::Superblock(byte) => {
-                self.next_superblock = byte;
-                held.superblock(&filled(byte))?;
-                self.superblock = byte;
-            }
+            Step::Apply(_, _) => self.applied = self.applied.saturating_add(1),
+            Step::Flush => self.flushed = self.applied,
+            Step::Superblock(byte) => self.superblock = byte,
+            Step::Byte(_) => {}
         }
         Ok(())
     }
-}
-
-// what the transaction of this number fills its sectors with
-fn byte_of(transaction: usize) -> u8 {
-    u8::try_from(transaction).unwrap_or(255)
-}
-
-pub(super) fn updates(alloc: Global, targets: &[u32], byte: u8) -> Result<Vec<Update>, AllocError> {
-    let mut updates = Vec::new(alloc);
-    for target in targets {
-        updates.push(Update {
-            target: *target,
-            content: filled(byte),
-        })?;
-    }
-    Ok(updates)
 }
 
 /// Mounts and takes the steps, up to the device's stop; any other refusal is the test's.
 pub(super) fn run(
     alloc: Global,
     device: &mut CrashDevice,
-    steps: &[Step],
+    steps: &[Step<'_>],
 ) -> Result<Reached, JournalFault> {
-    let mut reached = Reached::new();
+    let mut reached = Reached {
+        flushed: 0,
+        applied: 0,
+        superblock: 0,
+        next_superblock: 0,
+    };
     match run_on(alloc, device, steps, &mut reached) {
         Ok(()) | Err(JournalFault::Fault) => Ok(reached),
         Err(fault) => Err(fault),
@@ -149,7 +91,7 @@ pub(super) fn run(
 fn run_on(
     alloc: Global,
     device: &mut CrashDevice,
-    steps: &[Step],
+    steps: &[Step<'_>],
     reached: &mut Reached,
 ) -> Result<(), JournalFault> {
     let mut held = Held::mount(alloc, device)?;
@@ -159,18 +101,19 @@ fn run_on(
     Ok(())
 }
 
-/// The contents after each front of the steps' transactions, the shortest first.
-pub(super) fn fronts(alloc: Global, steps: &[Step]) -> Result<Vec<Contents>, AllocError> {
+/// The contents after each front of the steps' transactions, the shortest first, none of them found so far.
+pub(super) fn fronts(
+    alloc: Global,
+    steps: &[Step<'_>],
+) -> Result<Vec<(Contents, u64)>, AllocError> {
     let mut fronts = Vec::new(alloc);
-    let mut last = Contents::zeros(alloc)?;
+    let mut last = ZEROS;
+    fronts.push((last, 0))?;
     for step in steps {
-        if let Step::Apply(targets) = step {
-            let byte = byte_of(fronts.len().saturating_add(1));
-            let next = last.with(alloc, targets, byte)?;
-            fronts.push(last)?;
-            last = next;
+        if let Step::Apply(targets, byte) = step {
+            put(&mut last, targets, *byte);
+            fronts.push((last, 0))?;
         }
     }
-    fronts.push(last)?;
     Ok(fronts)
 }

@@ -1,4 +1,4 @@
-use Rattle.std.proofs.Common.{◌≡◌, ◌<◌, ℕ, Option, Some, None, length, get_or}
+use Rattle.std.proofs.Common.{◌≡◌, ◌<◌, ℕ, Some, None, length, get_or}
 use Rattle.storage_tests.proofs.tests.readings.are_within.Given as goal
 
 -- the sectors of the blocks so far are there
