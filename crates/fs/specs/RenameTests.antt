@@ -28,6 +28,7 @@ use Rattle.fs.specs.declared.renaming.Renaming.{Renaming}
 
 -- Those before the caller's rights, after that of a current filehandle
 
+-- of both directories
 abbrev pub directory_refusals : Tree → (from to : ℕ) → Refusals
 directory_refusals tree from to =
     (not (is_key to tree), status.Stale)
@@ -36,6 +37,7 @@ directory_refusals tree from to =
     ∷ (not (is_directory_at tree to), status.NotDir)
     ∷ []
 
+-- and of both names
 abbrev pub moving_refusals : Limits → Tree → (from to : ℕ) → RenameArguments → Refusals
 moving_refusals limits tree from to arguments =
     (not (is_key to tree), status.Stale)

@@ -13,6 +13,13 @@ use Rattle.fs.proofs.CardViews.{entry_at}
 use Rattle.fs.proofs.RenameSteps as steps
 use Rattle.fs.proofs.fs.Fs.find_moved.Goals as goal
 
+pub returns-in_err-from-clause-tests : goal.returns-in_err-from-clause-tests
+returns-in_err-from-clause-tests g c =
+    let held = (fs_of c.args.self.now).volume in
+    let asked = c.args.asked in
+    let p = err_from_is_err_and c.from_residual.result c.from_residual.ensures.1 in
+    rw (p.1, p.2) (steps.bad_directories held.limits held.tree asked.from asked.to (arguments_of asked) c.in_err-from.field-0.0 c.in_err-from.ensures.tests)
+
 pub returns-in_err-check_name-clause-tests : goal.returns-in_err-check_name-clause-tests
 unfolding fs_of
 returns-in_err-check_name-clause-tests g c =
@@ -59,3 +66,18 @@ returns-clause-tests g c =
     (ap (λ (l : Limits). first_refusal (name_refusals l asked.old_name.now)) (sym c.limits-limits.ensures.limits) ∙ c.in_ok-check_name.ensures.allowed)
     (ap (λ (l : Limits). first_refusal (name_refusals l asked.new_name.now)) (sym c.limits-limits.ensures.limits) ∙ c.in_ok-check_name-2.ensures.allowed)
     true (ap is_some found)
+
+pub returns-clause-moved : goal.returns-clause-moved
+returns-clause-moved g c =
+    let asked = c.args.asked in
+    let from = c.in_ok-from.ensures.from in
+    let to = c.in_ok-from.ensures.to in
+    let one = record_from c.in-Some.stamp asked.old_name.now c.in-Some.number in
+    record {
+      from = from.node;
+      to = to.node;
+      from_fits = from.fit;
+      to_fits = to.fit;
+      entry = entry_at (fs_of c.args.self.now).volume.tree asked.from c.in_ok-from.from.now from.node from.fit from.directory asked.old_name.now
+          c.from.inside.names (ap (λ (it : Card). it.names) c.from.view_is) (Some one) c.in-Some.ensures.by_stamp;
+    }
