@@ -52,10 +52,14 @@ answers_up old new before after r no_fault no_down up stays same = record {
   stays_up = λ q n. stays;
 }
 
+-- the error is the one that was handed on
+pub is_told : {T : Type 0} (r : Result T JournalFault) (reason : JournalFault) → IsErrAnd r (λ told. told ≡ reason) → r ≡ Err reason
+is_told (Ok x) reason e = absurd e
+is_told (Err _) reason e = ap (λ f. Err f) e
+
 -- what a fault of the device became
 pub is_fault : {T : Type 0} (r : Result T JournalFault) → IsErrAnd r (λ fault. fault ≡ faults.Fault) → r ≡ Err faults.Fault
-is_fault (Ok x) e = absurd e
-is_fault (Err _) e = ap (λ f. Err f) e
+is_fault r = is_told r faults.Fault
 
 -- a failure after what counted none
 pub fails_after : {T U E F : Type 0} (before mid after : ℕ) (e : E) (f : F) → mid ≡ before → FailsCounted {T = U} mid after (Err e) → FailsCounted {T = T} before after (Err f)

@@ -1,7 +1,8 @@
 -- Recovery: an image settles to one image, and a mount keeps what it settles to.
-use Rattle.std.proofs.Common.{◌≡◌, ◌≤◌, ◌<◌, ◌^◌, ℕ, Bool, true, false, eqb, eq-eqb, List, [], ◌∷◌, length, refl, sym, ap, ◌∙◌, subst, inl, inr, arith, Ok, Err}
+use Rattle.std.proofs.Common.{◌≡◌, ◌≤◌, ◌<◌, ◌^◌, ℕ, Bool, true, false, eqb, eq-eqb, List, [], ◌∷◌, length, refl, sym, ap, ◌∙◌, subst, inl, inr, arith, Result, Ok, Err}
 use Rattle.disk.specs.Moments.{Image, History, AddsOnly, seen, synced, moment}
 use Rattle.disk.specs.Cause.{IsCounted}
+use Rattle.journal.specs.declared.fault.JournalFault.{JournalFault}
 use Rattle.journal.specs.declared.fault.JournalFault.TheVariants as faults
 use Rattle.journal.specs.Layout.{AreTargets, NamesTargets, gate, through}
 use Rattle.journal.specs.Settled.{AreSame, Settles, SettlesAs}
@@ -65,10 +66,10 @@ copied_home_at old new xs ys h h1 e q f gated =
     let Q : ℕ → Type 0 = λ size. IsCopiedHome size ys h h1 in
     subst Q e (subst P q f gated)
 
-pub gated_after : (h h1 h2 : History) (sector to : List ℕ) → h2 ≡ h1 → h1 ≡ synced h → sector ≡ seen h1.now 1 → sector ≡ gate to → IsGated to h2
-gated_after h h1 h2 sector to q e read names = record {
+pub gated_after : (h h1 h2 : History) (to : List ℕ) → h2 ≡ h1 → h1 ≡ synced h → seen h1.now 1 ≡ gate to → IsGated to h2
+gated_after h h1 h2 to q e names = record {
   rests = ap (λ (k : History). k.now.unsynced) (q ∙ e);
-  gate_is = ap (λ (k : History). seen k.now 1) q ∙ sym read ∙ names;
+  gate_is = ap (λ (k : History). seen k.now 1) q ∙ names;
 }
 
 -- a closed gate names no targets
@@ -97,6 +98,10 @@ fault_counted before mid after e counted =
       none = λ n. absurd (n refl);
       only = inl refl;
     }
+
+-- what counted after what counted none
+pub counted_after : {T : Type 0} (before mid after : ℕ) (r : Result T JournalFault) → mid ≡ before → FaultsCounted mid after r → FaultsCounted before after r
+counted_after before mid after r e w = let P : ℕ → Type 0 = λ n. FaultsCounted n after r in subst P e w
 
 pub none_counted : {T : Type 0} (before after : ℕ) (x : T) → after ≡ before → FaultsCounted before after (Ok x)
 none_counted before after x e = record { later = omega arith; counted = λ q. absurd (cc); none = λ n. e; only = tt }

@@ -1,6 +1,6 @@
 //! What a mount does to a device before anything else.
 
-ghost use Rattle.std.specs.Prelude.{◌≡◌, ◌≤◌, ℕ, List, [], OnOk, IsErrOf, length, vec_capacity};
+ghost use Rattle.std.specs.Prelude.{◌≡◌, ◌≤◌, ◌<◌, ◌^◌, ℕ, List, [], OnOk, IsErrOf, length, vec_capacity};
 ghost use Rattle.disk.specs.Moments.{AddsOnly, seen};
 ghost use Rattle.journal.specs.Layout.{AreTargets, NamesTargets, gate};
 ghost use Rattle.journal.specs.Settled.{SettlesAs};
@@ -30,12 +30,7 @@ pub(crate) fn recover<D: Device>(device: &mut D, named: &mut Vec<u32>) -> Result
     ensures failures { FaultsCounted (D.failed device.old) (D.failed device.new) result }
 {
     device.sync()?;
-    let sectors = device.sectors();
-    let mut sector = [0; SECTOR];
-    device.read(layout::GATE, &mut sector)?;
-    if !gate::decode(&sector, sectors, named) {
-        return Err(JournalFault::Damaged);
-    }
+    read_gate(device, named)?;
     if named.is_empty() {
         return Ok(());
     }
@@ -48,13 +43,15 @@ pub(crate) fn recover<D: Device>(device: &mut D, named: &mut Vec<u32>) -> Result
 pub(crate) fn read_gate<D: Device>(device: &mut D, named: &mut Vec<u32>) -> Result<(), JournalFault>
     requires large { MIN_SECTORS ≤ D.size device.old }
     requires room { PAYLOAD_SECTORS ≤ vec_capacity named.old }
-    ensures few { OnOk result (length named.new.items ≤ PAYLOAD_SECTORS) }
-    ensures fit { OnOk result (AreTargets (D.size device.old) named.new.items) }
+    ensures named { OnOk result ((length named.new.items ≤ PAYLOAD_SECTORS)
+        × AreTargets (D.size device.old) named.new.items) }
     ensures gate_is { D.keeps_word
         → OnOk result (seen (D.history device.old).now 1 ≡ gate named.new.items) }
     ensures capacity { vec_capacity named.new ≡ vec_capacity named.old }
+    // The device is read, and its sectors can be counted
     ensures reads { (D.history device.new ≡ D.history device.old)
         × (D.size device.new ≡ D.size device.old) }
+    ensures small { D.size device.old < 2 ^ 32 }
     // Refused
     ensures damaged { D.keeps_word → IsErrOf result JournalFault.Damaged → (to : List ℕ)
         → NamesTargets (D.size device.old) (seen (D.history device.old).now 1) to → ⊥ }

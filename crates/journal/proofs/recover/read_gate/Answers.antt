@@ -6,22 +6,22 @@ use Rattle.journal.proofs.recover.read_gate.Goals as goal
 
 pub returns-in_err-read : goal.returns-in_err-read
 returns-in_err-read g c = rw (is_fault _ c.from_residual.ensures.1) (record {
-  few = tt;
-  fit = tt;
+  named = tt;
   gate_is = λ k. tt;
   capacity = refl;
   reads = (c.in_err-read.ensures.history, c.in_err-read.ensures.size);
+  small = omega (arith, c.sectors-sectors.ensures);
   damaged = λ k e. absurd (cc);
   failures = fault_counted _ _ _ refl (counted_of _ _ _ refl c.in_err-read.ensures.cause (λ past. omega (arith, c.in_err-read.ensures.range.0 past, c.requires.large)));
 })
 
 pub returns-then-not-decode : goal.returns-then-not-decode
 returns-then-not-decode g c = record {
-  few = tt;
-  fit = tt;
+  named = tt;
   gate_is = λ k. tt;
   capacity = c.decode.ensures.capacity;
   reads = (c.in_ok-read.ensures.history, c.in_ok-read.ensures.size);
+  small = omega (arith, c.sectors-sectors.ensures);
   damaged = λ k e to names. c.if-not-decode.ensures.missing refl to (record {
     few = names.few;
     fit = same_fit _ _ to c.sectors-sectors.ensures names.fit;
@@ -34,11 +34,11 @@ pub returns : goal.returns
 returns g c =
     let found = c.if-not-decode.ensures.found refl in
     record {
-      few = found.few;
-      fit = same_fit _ _ _ (sym c.sectors-sectors.ensures) found.fit;
+      named = (found.few, same_fit _ _ _ (sym c.sectors-sectors.ensures) found.fit);
       gate_is = λ k. sym (c.in_ok-read.ensures.ok k) ∙ found.gate_is;
       capacity = c.decode.ensures.capacity;
       reads = (c.in_ok-read.ensures.history, c.in_ok-read.ensures.size);
+      small = omega (arith, c.sectors-sectors.ensures);
       damaged = λ k e. absurd (cc);
       failures = none_counted _ _ _ c.in_ok-read.ensures.cause.ok;
     }

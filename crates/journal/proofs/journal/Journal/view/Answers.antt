@@ -9,7 +9,7 @@ returns-clause-viewed g c = λ k.
     let size = D.size c.args.device.now in
     let h = D.history c.args.device.now in
     let to = c.read_gate.new.named.items in
-    through_gate size h to (omega arith) c.in_default.ensures.few c.in_default.ensures.fit (c.in_default.ensures.gate_is k)
+    through_gate size h to (omega arith) c.in_default.ensures.named.0 c.in_default.ensures.named.1 (c.in_default.ensures.gate_is k)
     (λ n within. g.met.D.Device.holds_sectors k c.args.device.now n within) _
     (c.new.ensures.view ∙ (ap (λ (ts : List ℕ). viewed ts (D.size c.read_gate.new.device) (D.history c.read_gate.new.device)) c.deref.ensures.value
     ∙ (ap (λ (n : ℕ). viewed to n (D.history c.read_gate.new.device)) c.read_gate.ensures.reads.1 ∙ ap (viewed to size) c.read_gate.ensures.reads.0)))
