@@ -101,9 +101,9 @@ abbrev pub joined : Option Session → (id : List ℕ) → Session
 joined None id = record { id = id; number = 1 }
 joined (Some session) id = if bytes_eq session.id id then session else record { id = id; number = 1 }
 
-abbrev pub session_behind : Option Session → Outcome → Option Session
-session_behind session (Done (Answer.CreateSession answer)) = Some (joined session answer.session)
-session_behind session _ = session
+abbrev pub session_after : Option Session → Outcome → Option Session
+session_after session (Done (Answer.CreateSession answer)) = Some (joined session answer.session)
+session_after session _ = session
 
 -- the record's own SEQUENCE ended well
 abbrev pub is_run : List Outcome → Bool
@@ -127,7 +127,7 @@ abbrev pub counted : Sent → List Outcome → Option Session → Option Session
 counted sent results session = if is_run results && not sent.is_counted then option_map next_request session else session
 
 abbrev pub session_known : Sent → List Outcome → Option Session → Option Session
-session_known sent results session = fold session_behind (counted sent results session) results
+session_known sent results session = fold session_after (counted sent results session) results
 
 abbrev pub sent_known : Sent → List Outcome → Sent
 sent_known sent results = record sent { is_answered = true; is_counted = sent.is_counted || is_run results }

@@ -3,7 +3,7 @@
 ghost use Rattle.std.specs.Prelude.{◌≡◌, Some, None, map, fold};
 ghost use Rattle.std.specs.Option.{option_map};
 ghost use Rattle.wire.specs.OutcomeView.{outcome_view};
-ghost use Rattle.client.specs.Replies.{session_behind, is_run, is_delayed, joined, next_request, session_learnt, sent_learnt, answered_sent};
+ghost use Rattle.client.specs.Replies.{session_after, is_run, is_delayed, joined, next_request, session_learnt, sent_learnt, answered_sent};
 ghost use Rattle.client.specs.Views.{session_of, sent_of};
 
 use crate::sent::{Sent, Session};
@@ -33,9 +33,9 @@ pub(crate) fn is_delayed(results: &[Outcome<'_>]) -> bool
 }
 
 /// The session after one result.
-fn session_behind(session: Option<Session>, one: &Outcome<'_>) -> Option<Session>
+fn session_after(session: Option<Session>, one: &Outcome<'_>) -> Option<Session>
     ensures { option_map session_of result
-        ≡ session_behind (option_map session_of session) (outcome_view one.now) }
+        ≡ session_after (option_map session_of session) (outcome_view one.now) }
 {
     match one {
         Outcome::Done(Answer::CreateSession(answer)) => {
@@ -57,13 +57,13 @@ fn joined(session: Option<Session>, id: [u8; 16]) -> Session
     Session { id, number: 1 }
 }
 
-fn session_behind_all(session: Option<Session>, results: &[Outcome<'_>]) -> Option<Session>
+fn session_after_all(session: Option<Session>, results: &[Outcome<'_>]) -> Option<Session>
     ensures { option_map session_of result
-        ≡ fold session_behind (option_map session_of session) (map outcome_view results.now) }
+        ≡ fold session_after (option_map session_of session) (map outcome_view results.now) }
 {
     let mut session = session;
     for one in results {
-        session = session_behind(session, one);
+        session = session_after(session, one);
     }
     session
 }
@@ -90,7 +90,7 @@ pub(crate) fn learn(
     }
     sent.is_answered = true;
     sent.is_counted = sent.is_counted || is_run;
-    (session_behind_all(session, results), Some(sent))
+    (session_after_all(session, results), Some(sent))
 }
 
 fn next_request(session: Option<Session>) -> Option<Session>

@@ -3,7 +3,7 @@ use Rattle.std.proofs.Common.{◌≡◌, ℕ, Bool, true, false, not, List, leng
 use Rattle.xdr.proofs.Sizes.{int_length, hyper_length}
 use Rattle.fs.specs.FileSystem.{FileSystem}
 use Rattle.fs.specs.Operations.{IsNotDone, does_on, current_refusal}
-use Rattle.fs.specs.Renaming.{IsOnBoth, RenamesTree, is_itself, renamed, opens_behind}
+use Rattle.fs.specs.Renaming.{IsOnBoth, RenamesTree, is_itself, renamed, opens_after}
 use Rattle.fs.specs.declared.fault.FsFault.{FsFault}
 use Rattle.fs.specs.declared.renaming.Change.{Change}
 use Rattle.fs.specs.declared.renaming.Renamed.{Renamed}
@@ -106,13 +106,13 @@ module _ (now : ℕ) (fs : FileSystem) (request : InProgress) (arguments : Renam
       → is_same_name state.context arguments ≡ same
       → does_on fs state now (Argument.Rename arguments) ≡ renamed new.volume.tree new.changes state arguments made
       → does fs.volume.limits state now (Argument.Rename arguments)
-      ≡ answered (record { tree = new.volume.tree; changes = new.changes; opens = opens_behind same made.replaced before; context = request.context }) (renamed_answer made.source made.target)
+      ≡ answered (record { tree = new.volume.tree; changes = new.changes; opens = opens_after same made.replaced before; context = request.context }) (renamed_answer made.source made.target)
   does_rename new made before same state there known same_is is =
       is
       ∙ (ap (λ (opens : Opens). answered (record { tree = new.volume.tree; changes = new.changes; opens = opens; context = state.context })
       (renamed_answer made.source made.target))
-      (ap (opens_behind (is_same_name state.context arguments) made.replaced) known ∙ ap (λ (b : Bool). opens_behind b made.replaced before) same_is)
-      ∙ ap (λ (context : Context). answered (record { tree = new.volume.tree; changes = new.changes; opens = opens_behind same made.replaced before; context = context })
+      (ap (opens_after (is_same_name state.context arguments) made.replaced) known ∙ ap (λ (b : Bool). opens_after b made.replaced before) same_is)
+      ∙ ap (λ (context : Context). answered (record { tree = new.volume.tree; changes = new.changes; opens = opens_after same made.replaced before; context = context })
       (renamed_answer made.source made.target)) there.context_is)
 
   pub same_name : (numbers : ℕ × ℕ) → AreBoth request.context numbers → (state : State) → IsHere fs request state

@@ -1,6 +1,6 @@
 -- A COMPOUND between its turns.
 use Rattle.std.proofs.Common.{◌≡◌, ℕ, ◌+◌, ◌≤◌, ◌<◌, true, false, [], None, length, refl, ap, le-leb, lt-ltb, ltb-true, nat_lt, Bool, ◌&&◌, arith}
-use Rattle.compound.specs.Turns.{StandsBehind}
+use Rattle.compound.specs.Turns.{StandsAfter}
 use Rattle.compound.specs.Views.{Asked, IsBegin, resumed, fits}
 use Rattle.compound.proofs.Replies.{tag_brief}
 use Rattle.compound.specs.declared.progress.Progress.{Progress}
@@ -29,7 +29,7 @@ fits_more asked progress fit = ltb-true progress.answered asked.compound.count (
 
 -- after an OK result that is not the last one the COMPOUND goes on
 pub goes_on : (table : Table) (asked : Asked) (request : InProgress) (answer : Answer) (progress : Progress) → is_last request ≡ false
-    → resumed asked progress ≡ with_result request (Done answer) → StandsBehind table table asked request (Done answer) (stepped.Ran progress)
+    → resumed asked progress ≡ with_result request (Done answer) → StandsAfter table table asked request (Done answer) (stepped.Ran progress)
 goes_on table asked request answer progress more pushed = λ world number executed here. rw (more, ← pushed, ← here) (refl, refl)
 
 module _ (run : ℕ) (progress : Progress) (position : progress.position ≡ 0) (answered : progress.answered ≡ 0) (results : progress.results.bytes ≡ [])

@@ -8,7 +8,7 @@ use Rattle.compound.specs.Runs.{with_rest}
 use Rattle.compound.specs.Views.{Asked}
 use Rattle.compound.specs.States.{SharedState, with_state}
 use Rattle.compound.specs.Steps.{Steps, GoesFurther}
-use Rattle.compound.specs.Turns.{TurnsTo, StandsBehind}
+use Rattle.compound.specs.Turns.{TurnsTo, StandsAfter}
 use Rattle.compound.specs.declared.operated.Effect.{Effect}
 use Rattle.compound.specs.declared.operated.Effect.TheVariants as effect
 use Rattle.compound.specs.declared.step.Stepped.{Stepped}
@@ -39,11 +39,11 @@ further_from before request (stepped.Ran progress) same further = further ∙ ap
 further_from before request (stepped.Answered reply) same further = tt
 
 pub steps_to : (now : ℕ) (old middle : SharedState) (new : Table) (asked before : Asked) (request left after : InProgress) (outcome : model.Outcome) (done : Stepped)
-    → TurnsTo now old middle request left outcome → before ≡ asked → after ≡ left → StandsBehind middle.table new before after outcome done
+    → TurnsTo now old middle request left outcome → before ≡ asked → after ≡ left → StandsAfter middle.table new before after outcome done
     → Steps now old (record middle { table = new }) asked request done
 steps_to now old middle new asked before request left after outcome done turn same is stands = λ world number served.
     let gave = turn world number served in
-    let stood = subst (λ (one : Asked). StandsBehind middle.table new one left outcome done) same (subst (λ (one : InProgress). StandsBehind middle.table new before one outcome done) is stands) in
+    let stood = subst (λ (one : Asked). StandsAfter middle.table new one left outcome done) same (subst (λ (one : InProgress). StandsAfter middle.table new before one outcome done) is stands) in
     let made = stood (with_state world middle) number gave.0 refl in (
       ap (λ (one : Turned). one.turn) gave.1 ∙ made.0,
       ap (λ (one : Turned). one.world) gave.1 ∙ made.1,

@@ -16,7 +16,7 @@ use Rattle.model.specs.World.{InProgress, is_last, kept_by, outcome_text, reply_
 use Rattle.wire.specs.OutcomeView.{outcome_view}
 use Rattle.compound.specs.Operates.{HasRoom, HasRoomFor, Spells, spelled_text}
 use Rattle.compound.specs.Told.{CanBeSpelled, CanBeTold, Tells, is_ok, last_told, reply_told, told_status, told_text, with_told}
-use Rattle.compound.specs.Turns.{StandsBehind}
+use Rattle.compound.specs.Turns.{StandsAfter}
 use Rattle.compound.specs.Views.{Asked, resumed}
 use Rattle.compound.specs.declared.progress.Progress.{Progress}
 use Rattle.compound.specs.declared.step.Stepped.TheVariants as stepped
@@ -111,12 +111,12 @@ can_spell request (told.Spelled operation values) can = tt
 -- After an OK result that is not the last one the COMPOUND goes on
 
 goes_on_by : (table : Table) (asked : Asked) (request : InProgress) (outcome : Outcome) (progress : Progress) → is_done outcome ≡ true → is_last request ≡ false
-    → resumed asked progress ≡ with_result request outcome → StandsBehind table table asked request outcome (stepped.Ran progress)
+    → resumed asked progress ≡ with_result request outcome → StandsAfter table table asked request outcome (stepped.Ran progress)
 goes_on_by table asked request (Done answer) progress done more pushed = goes_on table asked request answer progress more pushed
 goes_on_by table asked request (Refused n reason) progress done more pushed = let never : ⊥ = cc in absurd never
 
 pub goes_on_told : (table : Table) (asked : Asked) (request : InProgress) (result : Told) (outcome : Outcome) (progress : Progress) → is_ok result ≡ true → is_last request ≡ false
-    → resumed asked progress ≡ with_told request result → Tells result outcome → StandsBehind table table asked request outcome (stepped.Ran progress)
+    → resumed asked progress ≡ with_told request result → Tells result outcome → StandsAfter table table asked request outcome (stepped.Ran progress)
 goes_on_told table asked request result outcome progress ok more pushed is =
     goes_on_by table asked request outcome progress (sym (ok_is result outcome is) ∙ ok) more (pushed ∙ request_is request result outcome is)
 
@@ -125,7 +125,7 @@ goes_on_told table asked request result outcome progress ok more pushed is =
 ends_by : (old new : Table) (asked : Asked) (request : InProgress) (outcome : Outcome) (reply : Vec ℕ) → (is_done outcome && not (is_last request)) ≡ false
     → reply.items ≡ framed (reply_text request.xid (Success (result_of (with_result request outcome) (status_of outcome))))
     → new ≡ kept_by request.slot (result_of (with_result request outcome) (status_of outcome)) old
-    → StandsBehind old new asked request outcome (stepped.Answered reply)
+    → StandsAfter old new asked request outcome (stepped.Answered reply)
 ends_by old new asked request (Refused n reason) reply ends reply_is kept = λ world number executed here. rw (reply_is, kept, ← here) (refl, refl)
 ends_by old new asked request (Done answer) reply ends reply_is kept = λ world number executed here. rw (is_end (is_last request) ends, reply_is, kept, ← here) (refl, refl)
   where
@@ -135,7 +135,7 @@ ends_by old new asked request (Done answer) reply ends reply_is kept = λ world 
 
 pub ends_told : (old new : Table) (asked : Asked) (request : InProgress) (result : Told) (outcome : Outcome) (reply : Vec ℕ) → (is_ok result && not (is_last request)) ≡ false
     → reply.items ≡ framed (reply_told request result) → new ≡ kept_by request.slot (last_told request result) old → Tells result outcome
-    → StandsBehind old new asked request outcome (stepped.Answered reply)
+    → StandsAfter old new asked request outcome (stepped.Answered reply)
 ends_told old new asked request result outcome reply ends reply_is kept is =
     let last = last_is request result outcome is in
     ends_by old new asked request outcome reply (ap (λ (b : Bool). b && not (is_last request)) (sym (ok_is result outcome is)) ∙ ends)

@@ -47,8 +47,8 @@ Turns now old new request rest (operated.Replays slot) =
     → stepped_on world number now request ≡ repeated world number request reply slot.session slot.slot)
 
 -- on each connection of each world with this table, this is what a result makes of the request
-abbrev pub StandsBehind : (old new : Table) → Asked → InProgress → model.Outcome → Stepped → Type 0
-StandsBehind old new asked request outcome done =
+abbrev pub StandsAfter : (old new : Table) → Asked → InProgress → model.Outcome → Stepped → Type 0
+StandsAfter old new asked request outcome done =
     (world : World) (number : ℕ) (executed : Option Entry) → world.table ≡ old
     → ((behind world number request outcome executed).turn ≡ turn_by done)
     × ((behind world number request outcome executed).world ≡ with_connection (with_table world new) number (connection_by asked done))

@@ -5,7 +5,7 @@ ghost use Rattle.model.specs.Answer.{Done};
 ghost use Rattle.model.specs.World.{outcome_text};
 ghost use Rattle.model.specs.WireAnswers as answers;
 ghost use Rattle.wire.specs.OutcomeView.{outcome_view};
-ghost use Rattle.fs.specs.Renaming.{arguments_of, is_itself, opens_behind};
+ghost use Rattle.fs.specs.Renaming.{arguments_of, is_itself, opens_after};
 ghost use Rattle.opens.specs.Views.{opens_of};
 ghost use Rattle.compound.specs.Trees.{renamed_answer};
 
@@ -114,7 +114,7 @@ impl Running<'_> {
 /// The node that stood under the new name is gone, and its opens with it. A name that is given to itself leaves them.
 fn end_replaced(opens: &mut Opens, asked: Renaming<'_>, replaced: Option<u64>)
     ensures { opens_of opens.new
-        ≡ opens_behind (is_itself asked.entry.from asked.entry.to
+        ≡ opens_after (is_itself asked.entry.from asked.entry.to
         (arguments_of asked.entry)) replaced
         (opens_of opens.old) }
 {

@@ -45,7 +45,7 @@ impl Running<'_> {
     ghost use Rattle.compound.specs.States.{shared_of};
     ghost use Rattle.compound.specs.Steps.{Steps, StaysInRun, GoesFurther, still_fits, stepped_on};
     ghost use Rattle.compound.specs.Told.{CanBeTold, Tells};
-    ghost use Rattle.compound.specs.Turns.{Turns, StandsBehind};
+    ghost use Rattle.compound.specs.Turns.{Turns, StandsAfter};
     ghost use Rattle.compound.specs.Views.{in_progress_of, asked_of};
     ghost use Rattle.compound.specs.Volumes.{TurnGives, ending, undone_ending};
 
@@ -187,7 +187,7 @@ impl Running<'_> {
     fn answer(self, table: &mut Table, told: Told<'_>) -> Stepped
         requires { CanBeTold (in_progress_of self) told }
         ensures stands { (outcome : model.Outcome) → Tells told.entry outcome
-            → StandsBehind (table_of table.old) (table_of table.new)
+            → StandsAfter (table_of table.old) (table_of table.new)
             (asked_of self.entry) (in_progress_of self.entry) outcome result }
         ensures stays { StaysInRun (in_progress_of self.entry).context.run result }
         ensures further { GoesFurther (in_progress_of self.entry) result }

@@ -109,7 +109,7 @@ fn resized(size: Option<Size>, edit: &Edit<'_>) -> Option<Size>
 }
 
 /// What a node has in the tree after edits: each of them that changes it is gone through.
-fn size_behind(table: &Table, edits: &[Edit<'_>], number: u64) -> Option<Size>
+fn size_after(table: &Table, edits: &[Edit<'_>], number: u64) -> Option<Size>
     requires cards { (nodes : ℕ) × (mark : ℕ → ℕ) × AreCards nodes mark table.now }
     requires can { AreDoable (outline_of table.now) edits.now }
     ensures size { result ≡ size_at (edited (edits_of edits.now) (outline_of table.now)) number }
@@ -165,7 +165,7 @@ fn names_in(size: Option<Size>) -> u128
 }
 
 /// What the nodes of the tree after edits take: each edit changes what one of them does.
-fn taken_behind(table: &Table, edits: &[Edit<'_>]) -> Taken
+fn taken_after(table: &Table, edits: &[Edit<'_>]) -> Taken
     requires cards { (nodes : ℕ) × (mark : ℕ → ℕ) × AreCards nodes mark table.now }
     requires can { AreDoable (outline_of table.now) edits.now }
     ensures charge { result.charge
@@ -175,7 +175,7 @@ fn taken_behind(table: &Table, edits: &[Edit<'_>]) -> Taken
     let mut charge = u128::from(table.charge());
     let mut nodes = u128::from(table.count());
     for (i, edit) in edits.iter().enumerate() {
-        let before = size_behind(table, &edits[..i], number_of(edit));
+        let before = size_after(table, &edits[..i], number_of(edit));
         let after = resized(before, edit);
         charge = charge + charge_of(after) - charge_of(before);
         nodes = nodes + nodes_in(after) - nodes_in(before);
@@ -193,7 +193,7 @@ fn have_few_names(table: &Table, edits: &[Edit<'_>], most: usize) -> bool
         ≡ few_names most (edited (edits_of edits.now) (outline_of table.now)) }
 {
     for edit in edits {
-        if names_in(size_behind(table, edits, number_of(edit))) > most as u128 {
+        if names_in(size_after(table, edits, number_of(edit))) > most as u128 {
             return false;
         }
     }
@@ -210,7 +210,7 @@ pub fn fits(table: &Table, limits: &Limits, edits: &[Edit<'_>]) -> bool
     requires names { Names.MAX_NAMES ≤ limits.now.names }
     ensures { result ≡ fits limits.now (edited (edits_of edits.now) (outline_of table.now)) }
 {
-    let taken = taken_behind(table, edits);
+    let taken = taken_after(table, edits);
     if taken.charge > limits.data_sectors as u128 {
         return false;
     }

@@ -36,7 +36,7 @@ use Rattle.volume.proofs.EditLaws.{fits_alike}
 use Rattle.fs.specs.declared.renaming.Renaming.{Renaming}
 use Rattle.fs.specs.FileSystem.{FileSystem}
 use Rattle.fs.specs.Ready.{MayStand}
-use Rattle.fs.specs.Renaming.{IsOnBoth, arguments_of, is_itself, opens_behind, without_replaced, renamed}
+use Rattle.fs.specs.Renaming.{IsOnBoth, arguments_of, is_itself, opens_after, without_replaced, renamed}
 use Rattle.fs.specs.RenameTests.{moving_refusals, placing_refusals, target_in, record_under, IsTarget}
 use Rattle.fs.proofs.FlatLaws.{touched-blanked, flat_shown, flat_name_dropped, flat_name_put, flat_node_dropped}
 use Rattle.fs.proofs.KeptLaws.{formed_by}
@@ -109,7 +109,7 @@ module _ (fs : FileSystem) (cred : Cred) (from to now : ℕ) (arguments : Rename
       ∙ ap₂ (λ (a b : ℕ). shape state.tree state.changes state.opens a a b b) from_same to_same
       ∙ ap₂ (λ (t : Tree) (c : ℕ). shape t c state.opens from_before from_before to_before to_before) in_it.on.is_state.tree_is in_it.on.changes
       ∙ ap (λ (o : Opens). shape fs.volume.tree fs.changes o from_before from_before to_before to_before)
-      (sym (ap (λ (b : Bool). opens_behind b None state.opens) (state_same ∙ same)))
+      (sym (ap (λ (b : Bool). opens_after b None state.opens) (state_same ∙ same)))
 
 -- the opens of what is gone
 replaced_opens : (name : List ℕ) (target : Option (ℕ × ℕ)) (opens : Opens) → without_number (number_of_entry (record_under name target)) opens ≡ without_replaced (option_map (λ (f : ℕ × ℕ). f.1) target) opens
@@ -394,4 +394,4 @@ module _ (fs : FileSystem) (formed : MayStand fs.volume fs.changes) (counted : f
           ∙ ap (λ (s : ℕ). out after (fs.changes + 1) gone from_before s to_before s) state_stamp
           ∙ ap (λ (n : ℕ). out after (fs.changes + 1) (without_number n state.opens) from_before own to_before own) number_is
           ∙ ap (λ (o : Opens). out after (fs.changes + 1) o from_before own to_before own)
-          (replaced_opens asked.new_name.now target state.opens ∙ sym (ap (λ (b : Bool). opens_behind b (option_map (λ (f : ℕ × ℕ). f.1) target) state.opens) own_other))
+          (replaced_opens asked.new_name.now target state.opens ∙ sym (ap (λ (b : Bool). opens_after b (option_map (λ (f : ℕ × ℕ). f.1) target) state.opens) own_other))

@@ -53,9 +53,9 @@ without_replaced None opens = without_number 0 opens
 without_replaced (Some number) opens = without_number number opens
 
 -- a name that is given to itself leaves all opens
-abbrev pub opens_behind : Bool → Option ℕ → Opens → Opens
-opens_behind true replaced opens = opens
-opens_behind false replaced opens = without_replaced replaced opens
+abbrev pub opens_after : Bool → Option ℕ → Opens → Opens
+opens_after true replaced opens = opens
+opens_after false replaced opens = without_replaced replaced opens
 
 -- the tree and the count of changes after it
 abbrev pub renamed : Tree → (changes : ℕ) → State → RenameArguments → Renamed → Stepped
@@ -63,7 +63,7 @@ renamed tree changes state arguments made = answered
     (record {
       tree = tree;
       changes = changes;
-      opens = opens_behind (is_same_name state.context arguments) made.replaced state.opens;
+      opens = opens_after (is_same_name state.context arguments) made.replaced state.opens;
       context = state.context;
     })
     (Answer.Rename (record { source = info_of made.source; target = info_of made.target }))

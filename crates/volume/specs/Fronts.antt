@@ -12,21 +12,21 @@ pub record IsOver (held : Held) (log : Log) : Type 0 where
   pub fronts : held.fronts ≡ fronts_from log.base log.list
 
 -- with these updates after its list the journal gives sectors that stand for the tree
-abbrev pub StandsBehind : Held → Log → List Update → (after : Tree) → Type 0
-StandsBehind held log updates after = ∥ Stands held.sectors held.limits.nodes
+abbrev pub StandsAfter : Held → Log → List Update → (after : Tree) → Type 0
+StandsAfter held log updates after = ∥ Stands held.sectors held.limits.nodes
     (applied updates (applied_all log.list log.base)) held.run after ∥₁
 
 abbrev pub KeepsFronts : Type 0
 KeepsFronts = (held : Held) (log : Log) (updates : List Update) (after : Tree) (new : History)
     → IsOver held log
-    → StandsBehind held log updates after
+    → StandsAfter held log updates after
     → AddsOnly (StandsForFront log.size log.base (log.list ++ updates ∷ [])) log.history new
     → AddsTrees held after new
 
 abbrev pub AppliedRecent : Type 0
 AppliedRecent = (held : Held) (log : Log) (updates : List Update) (after : Tree)
     (recent : List Tree) → IsOver held log
-    → StandsBehind held log updates after
+    → StandsAfter held log updates after
     → IsRecent held recent
     → IsRecent (record held {
       tree = after;

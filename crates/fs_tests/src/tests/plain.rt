@@ -361,7 +361,7 @@ impl<'a> Plain<'a> {
     }
 
     /// What an OPEN did to its file, where there were so many nodes and changes before.
-    fn effect_behind(&self, nodes: usize, changes: u32) -> OpenEffect {
+    fn effect_after(&self, nodes: usize, changes: u32) -> OpenEffect {
         if nodes < self.state.tree.len() {
             return OpenEffect::Made;
         }
@@ -385,7 +385,7 @@ impl<'a> Plain<'a> {
         let done = Done {
             current: short(self.state.current()),
             gone,
-            effect: self.effect_behind(nodes, changes),
+            effect: self.effect_after(nodes, changes),
         };
         asked_of(self.alloc, &outcome, done)
     }

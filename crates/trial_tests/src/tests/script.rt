@@ -186,7 +186,7 @@ impl Fronts {
         };
         let cred = caller(change.uid);
         let made = self.trees.len().saturating_sub(1);
-        let status = match tree_behind(alloc, tree, &cred, made, change)? {
+        let status = match next_tree(alloc, tree, &cred, made, change)? {
             Ok(next) => {
                 self.trees.push(next)?;
                 Status::Ok
@@ -270,7 +270,7 @@ fn state_in<'a>(
 }
 
 /// The tree after a change, which comes after so many others, or why it is refused.
-fn tree_behind(
+fn next_tree(
     alloc: Global,
     tree: &Tree,
     cred: &Cred,

@@ -13,7 +13,7 @@ pub returns-then-names_in-most : goal.returns-then-names_in-most
 returns-then-names_in-most c =
     let tree = edited (edits_of c.args.edits.now) (outline_of c.args.table.now) in
     sym (few_over c.args.most c.number_of.result tree
-    (omega (arith, c.if-names_in-most.true, c.names_in.ensures, ap names_in c.size_behind.ensures.size, names_there (at c.number_of.result tree))))
+    (omega (arith, c.if-names_in-most.true, c.names_in.ensures, ap names_in c.size_after.ensures.size, names_there (at c.number_of.result tree))))
 
 pub returns : goal.returns
 returns c =

@@ -15,7 +15,7 @@ use Rattle.compound.proofs.Changing.{done_runs, told_gives, told_changes, told_s
 use Rattle.compound.proofs.Rooms.{gives_in_room}
 use Rattle.wire.specs.ArgumentViews.{rename_view}
 use Rattle.compound.specs.Trees.{no_change, renamed_answer}
-use Rattle.fs.specs.Renaming.{is_itself, opens_behind}
+use Rattle.fs.specs.Renaming.{is_itself, opens_after}
 use Rattle.model.specs.Opens.{Opens}
 use Rattle.wire.specs.OutcomeView.{outcome_view}
 use Rattle.compound.proofs.RenameLaws.{same_name, on_tree, sized, does_rename, renamed_room, rename_makes, rename_up, is_on_both}
@@ -54,7 +54,7 @@ returns-in-Ok-rename-clause-gives g c = λ keeps table.
     let arguments = rename_view c.args.arguments.now in
     let made = c.in-Ok-rename.made in
     let same = is_itself c.in-Ok.numbers.0 c.in-Ok.numbers.1 arguments in
-    let left = opens_behind same made.replaced opens in
+    let left = opens_after same made.replaced opens in
     subst (λ (after : Opens). GivesIn c.args.now (shared fs table opens) (shared new table after) request request (Argument.Rename arguments) (outcome_view c.renamed.result)) (sym c.end_replaced.ensures)
     (subst (λ (outcome : Outcome). GivesIn c.args.now (shared fs table opens) (shared new table left) request request (Argument.Rename arguments) outcome) (sym c.renamed.ensures.is)
     (gives_in_room c.args.now (shared fs table opens) (shared new table left) request request (Argument.Rename arguments) (renamed_answer made.source made.target)

@@ -2,7 +2,7 @@ use Rattle.std.proofs.Common.{◌≡◌, ◌+◌, ◌^◌}
 use Rattle.edits.specs.Outlines.{outline_of}
 use Rattle.edits.specs.Sizes.{size_at, IsBelow}
 use Rattle.edits.proofs.FrontLaws.{behind_front}
-use Rattle.edits.proofs.room.size_behind.Given as goal
+use Rattle.edits.proofs.room.size_after.Given as goal
 
 abbrev pub invariant-loop-edit : goal.invariant-loop-edit
 invariant-loop-edit l = record {

@@ -2,8 +2,8 @@ use Rattle.std.proofs.Common.{◌+◌, ◌^◌, length, sym, ap, ◌∙◌, arit
 use Rattle.edits.specs.Outlines.{outline_of}
 use Rattle.edits.specs.Sizes.{size_at, IsBelow, resized_by}
 use Rattle.edits.proofs.FrontLaws.{behind_all, below_more, rising_outline, size_same, size_other}
-use Rattle.edits.proofs.room.size_behind.Goals as goal
-use Rattle.edits.proofs.room.size_behind.Goals.{then-number_of-number, else-number_of-number}
+use Rattle.edits.proofs.room.size_after.Goals as goal
+use Rattle.edits.proofs.room.size_after.Goals.{then-number_of-number, else-number_of-number}
 use Rattle.model.specs.Tree.{Tree}
 
 pub loop-edit-preserved : goal.loop-edit-preserved

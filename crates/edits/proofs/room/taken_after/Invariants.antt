@@ -1,7 +1,7 @@
 use Rattle.std.proofs.Common.{◌≡◌, ◌≤◌, ◌+◌, ◌*◌, ◌^◌, length}
 use Rattle.edits.specs.Outlines.{outline_of}
 use Rattle.edits.proofs.FrontLaws.{behind_front}
-use Rattle.edits.proofs.room.taken_behind.Given as goal
+use Rattle.edits.proofs.room.taken_after.Given as goal
 use Rattle.model.specs.Charge.{charge}
 use Rattle.model.specs.Keyed.{total}
 
