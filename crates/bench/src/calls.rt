@@ -10,7 +10,7 @@ use model::acl::{Cred, Gids};
 use std::alloc::Global;
 use wire::{
     Answer, Argument, Bitmap, Channel, CreateSessionAnswer, CreateSessionArguments,
-    ExchangeIdAnswer, ExchangeIdArguments, Outcome, StateId, WriteArguments,
+    ExchangeIdAnswer, ExchangeIdArguments, StateId, WriteArguments,
 };
 
 /// How many calls a stream has.
@@ -85,7 +85,7 @@ fn client_of(alloc: Global) -> anyhow::Result<Client> {
         major_id: b"",
         scope: b"",
     };
-    let reply = reply_of(alloc, 1, &Outcome::Done(Answer::ExchangeId(known)))?;
+    let reply = reply_of(alloc, 1, Answer::ExchangeId(known))?;
     done(client.reply(&reply))?;
     done(client.request(&[create_session(alloc)]))?;
     let session = CreateSessionAnswer {
@@ -95,7 +95,7 @@ fn client_of(alloc: Global) -> anyhow::Result<Client> {
         fore: CHANNEL,
         back: CHANNEL,
     };
-    let reply = reply_of(alloc, 2, &Outcome::Done(Answer::CreateSession(session)))?;
+    let reply = reply_of(alloc, 2, Answer::CreateSession(session))?;
     done(client.reply(&reply))?;
     Ok(client)
 }

@@ -1,8 +1,8 @@
 //! Writing replies.
 
 ghost use Rattle.std.specs.Prelude.{◌<◌, ◌≤◌, ◌^◌, length};
-ghost use Rattle.wire.specs.OutcomeView.{outcome_view};
-ghost use Rattle.wire.specs.Short.{IsShort};
+ghost use Rattle.wire.specs.OutcomeView.{answer_view};
+ghost use Rattle.wire.specs.Short.{IsShortAnswer};
 
 use crate::calls::ASKED;
 use crate::work::Work;
@@ -55,13 +55,12 @@ impl WritesReplies {
     }
 }
 
-/// The record of a reply with this result alone.
-pub fn reply_of(alloc: Global, xid: u32, outcome: &Outcome<'_>) -> Result<Vec<u8>, Refusal>
-    requires { IsShort (outcome_view outcome.now) }
+/// The record of a reply whose only operation answers so.
+pub fn reply_of(alloc: Global, xid: u32, answer: Answer<'_>) -> Result<Vec<u8>, Refusal>
+    requires { IsShortAnswer (answer_view answer) }
 {
-    outcome.tell_fits();
     let mut results = Writer::new(alloc);
-    outcome.write(&mut results)?;
+    Outcome::short(answer).write(&mut results)?;
     write_record(Writer::new(alloc), xid, &[], 1, results.as_slice())
 }
 
@@ -96,9 +95,7 @@ fn write_results(results: &mut Writer, xid: u32) -> Result<(), Refusal> {
         target_highest_slot: 3,
         flags: 0,
     };
-    let first = Outcome::Done(Answer::Sequence(sequence));
-    first.tell_fits();
-    first.write(results)?;
+    Outcome::short(Answer::Sequence(sequence)).write(results)?;
     Outcome::Done(Answer::PutFh).write(results)?;
     write_attributes(results, &[0; VALUES_BYTES])
 }

@@ -221,12 +221,10 @@ fn opened(state: StateId, change: ChangeInfo, was_set: Bitmap) -> Outcome<'stati
     ensures fits { answers.outcome.Fits (outcome_view result) }
     ensures small { length (outcome_text (outcome_view result)) < 2 ^ 63 }
 {
-    let outcome = Outcome::Done(Answer::Open(OpenAnswer {
+    Outcome::short(Answer::Open(OpenAnswer {
         state,
         change,
         flags: 0,
         was_set,
-    }));
-    outcome.tell_fits();
-    outcome
+    }))
 }

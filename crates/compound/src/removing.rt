@@ -83,9 +83,7 @@ fn removed(before: u64, after: u64) -> Outcome<'static>
     ensures fits { answers.outcome.Fits (outcome_view result) }
     ensures small { length (outcome_text (outcome_view result)) < 2 ^ 63 }
 {
-    let outcome = Outcome::Done(Answer::Remove(change_info(before, after)));
-    outcome.tell_fits();
-    outcome
+    Outcome::short(Answer::Remove(change_info(before, after)))
 }
 
 /// The change value of a directory before and after a change.

@@ -130,10 +130,8 @@ fn renamed(source: Change, target: Change) -> Outcome<'static>
     ensures fits { answers.outcome.Fits (outcome_view result) }
     ensures small { length (outcome_text (outcome_view result)) < 2 ^ 63 }
 {
-    let outcome = Outcome::Done(Answer::Rename(RenameAnswer {
+    Outcome::short(Answer::Rename(RenameAnswer {
         source: change_info(source.before, source.after),
         target: change_info(target.before, target.after),
-    }));
-    outcome.tell_fits();
-    outcome
+    }))
 }

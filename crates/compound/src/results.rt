@@ -76,8 +76,7 @@ impl Running<'_> {
         ensures answered { IsAnswered (in_progress_of self.now) result }
     {
         let operation = answer.operation();
-        let outcome = Outcome::Done(answer);
-        outcome.tell_fits();
+        let outcome = Outcome::short(answer);
         if !self.has_room(&outcome) {
             return self.refuse(operation, Status::RepTooBig);
         }
@@ -112,13 +111,8 @@ impl Running<'_> {
         ensures kept { (table : Sessions) → IsKept table result }
         ensures is { result ≡ refusal (number_of operation) status }
     {
-        let outcome = Outcome::Refused {
-            operation: operation.number(),
-            status,
-        };
-        outcome.tell_fits();
         Operated::Gives {
-            outcome,
+            outcome: Outcome::refused(operation, status),
             effect: Effect::Stays,
         }
     }
@@ -150,9 +144,10 @@ impl Running<'_> {
             → Operates now old new (in_progress_of self.now) kind result }
         ensures answered { IsAnswered (in_progress_of self.now) result }
     {
-        let outcome = Outcome::Done(answer);
-        outcome.tell_fits();
-        Operated::Gives { outcome, effect }
+        Operated::Gives {
+            outcome: Outcome::short(answer),
+            effect,
+        }
     }
 }
 

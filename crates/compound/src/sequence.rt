@@ -106,9 +106,7 @@ impl Running<'_> {
         ensures fits { answers.outcome.Fits (Done Reclaimed) }
         ensures small { length (outcome_text (Done Reclaimed)) < 2 ^ 63 }
     {
-        let outcome = Outcome::Done(Answer::ReclaimComplete);
-        outcome.tell_fits();
-        self.has_room(&outcome)
+        self.has_room(&Outcome::short(Answer::ReclaimComplete))
     }
 
     /// RECLAIM_COMPLETE for the file system of the current filehandle: it is answered each time.

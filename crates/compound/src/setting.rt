@@ -91,9 +91,7 @@ fn attributes_set(bitmap: &Bitmap) -> Outcome<'static>
     ensures fits { answers.outcome.Fits (outcome_view result) }
     ensures small { length (outcome_text (outcome_view result)) < 2 ^ 63 }
 {
-    let outcome = Outcome::Done(Answer::SetAttr(was_set(bitmap)));
-    outcome.tell_fits();
-    outcome
+    Outcome::short(Answer::SetAttr(was_set(bitmap)))
 }
 
 /// The bitmap of what was set, of one that was given: it ends in no zero word.

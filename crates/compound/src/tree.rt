@@ -177,8 +177,7 @@ impl Running<'_> {
         ensures { result ≡ nat_le (length (reply_with (in_progress_of self.now)
             (Done (made_answer 0 0 (trimmed bitmap.now))))) MAX_REPLY_BYTES }
     {
-        let outcome = created(bitmap, 0, 0);
-        self.has_room(&outcome)
+        self.has_room(&created(bitmap, 0, 0))
     }
 }
 
@@ -203,9 +202,7 @@ fn created(bitmap: &Bitmap, before: u64, after: u64) -> Outcome<'static>
         before,
         after,
     };
-    let outcome = Outcome::Done(Answer::Create(CreateAnswer::new(change, bitmap)));
-    outcome.tell_fits();
-    outcome
+    Outcome::short(Answer::Create(CreateAnswer::new(change, bitmap)))
 }
 
 /// The status of a fault that has one.

@@ -134,7 +134,7 @@ fn written(run: u32, stable: u32, count: u32) -> Outcome<'static>
     ensures fits { answers.outcome.Fits (outcome_view result) }
     ensures small { length (outcome_text (outcome_view result)) < 2 ^ 63 }
 {
-    let outcome = Outcome::Done(Answer::Write(WriteAnswer {
+    Outcome::short(Answer::Write(WriteAnswer {
         count,
         committed: if stable == UNSTABLE {
             UNSTABLE
@@ -142,9 +142,7 @@ fn written(run: u32, stable: u32, count: u32) -> Outcome<'static>
             FILE_SYNC
         },
         verifier: u64::from(run).to_be_bytes(),
-    }));
-    outcome.tell_fits();
-    outcome
+    }))
 }
 
 /// The result of a COMMIT in this run of the server.
@@ -153,7 +151,5 @@ fn committed(run: u32) -> Outcome<'static>
     ensures fits { answers.outcome.Fits (outcome_view result) }
     ensures small { length (outcome_text (outcome_view result)) < 2 ^ 63 }
 {
-    let outcome = Outcome::Done(Answer::Commit(u64::from(run).to_be_bytes()));
-    outcome.tell_fits();
-    outcome
+    Outcome::short(Answer::Commit(u64::from(run).to_be_bytes()))
 }

@@ -36,7 +36,3 @@ IsShortAnswer spec.Answer.DestroySession = Unit {0}
 IsShortAnswer (spec.Answer.Sequence a) = Unit {0}
 IsShortAnswer spec.Answer.DestroyClientId = Unit {0}
 IsShortAnswer spec.Answer.ReclaimComplete = Unit {0}
-
-abbrev pub IsShort : spec.Outcome → Type 0
-IsShort (spec.Done a) = IsShortAnswer a
-IsShort (spec.Refused operation reason) = IsRefusal reason

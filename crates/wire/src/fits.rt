@@ -1,21 +1,26 @@
-//! Short results fit their grammar: their numbers have the sizes of their types. These functions do nothing but say so.
+//! Results that are short fit their grammar: their numbers have the sizes of their types, which functions that do nothing else say.
 
 ghost use Rattle.std.specs.Prelude.{◌≡◌, ◌<◌, ◌≤◌, ◌^◌, IsTrue, length};
 ghost use Rattle.std.specs.List.{AllByRecursion};
 ghost use Rattle.xdr.specs.Forms.{is_trimmed, trimmed_bitmap};
+ghost use Rattle.model.specs.Answer.{Done, Refused};
 ghost use Rattle.model.specs.WireTypes.{channel, change_info, state_id};
 ghost use Rattle.model.specs.WireAnswers.{access_answer, create_answer, open_answer, rename_answer, write_answer, exchange_id_answer, create_session_answer, sequence_answer, answer_told, outcome};
-ghost use Rattle.wire.specs.Short.{IsShortAnswer, IsShort};
+ghost use Rattle.wire.specs.Numbers.{number_of};
+ghost use Rattle.wire.specs.Short.{IsRefusal, IsShortAnswer};
 ghost use Rattle.wire.specs.SmallViews.{channel_view, change_view, state_view};
 ghost use Rattle.wire.specs.AnswerViews.{access_view, create_view, open_view, rename_view, write_view, exchange_id_view, create_session_view, sequence_view};
-ghost use Rattle.wire.specs.OutcomeView.{answer_view, outcome_view};
+ghost use Rattle.wire.specs.OutcomeView.{answer_view};
+ghost use Rattle.wire.specs.declared.outcome.Outcome.TheVariants as outcomes;
 
 use crate::answers::{
     AccessAnswer, CreateAnswer, CreateSessionAnswer, ExchangeIdAnswer, OpenAnswer, RenameAnswer,
     SequenceAnswer, WriteAnswer,
 };
+use crate::argument::Operation;
 use crate::outcome::{Answer, Outcome};
 use crate::small::{Bitmap, ChangeInfo, Channel, StateId};
+use model::status::Status;
 
 fn tell_word(number: u32)
     ensures { number < 2 ^ 32 }
@@ -189,16 +194,28 @@ impl Answer<'_> {
     }
 }
 
-impl Outcome<'_> {
-    /// A short result fits its grammar, and takes at most 256 bytes.
-    pub fn tell_fits(&self)
-        requires { IsShort (outcome_view self.now) }
-        ensures fits { outcome.Fits (outcome_view self.now) }
-        ensures bound { length (outcome.spelling (outcome_view self.now)) ≤ 256 }
+impl<'a> Outcome<'a> {
+    /// The result OK of an operation whose answer is short: it fits its grammar, and takes at most 256 bytes.
+    pub fn short(answer: Answer<'a>) -> Outcome<'a>
+        requires { IsShortAnswer (answer_view answer) }
+        ensures is { result ≡ outcomes.Done answer.entry }
+        ensures fits { outcome.Fits (Done (answer_view answer.entry)) }
+        ensures bound { length (outcome.spelling (Done (answer_view answer.entry))) ≤ 256 }
     {
-        match self {
-            Outcome::Done(answer) => answer.tell_fits(),
-            Outcome::Refused { operation, .. } => tell_word(*operation),
+        answer.tell_fits();
+        Outcome::Done(answer)
+    }
+
+    /// The result of an operation that is refused: it fits its grammar, and takes at most 256 bytes.
+    pub fn refused(operation: Operation, status: Status) -> Outcome<'a>
+        requires { IsRefusal status }
+        ensures is { result ≡ outcomes.Refused (number_of operation) status }
+        ensures fits { outcome.Fits (Refused (number_of operation) status) }
+        ensures bound { length (outcome.spelling (Refused (number_of operation) status)) ≤ 256 }
+    {
+        Outcome::Refused {
+            operation: operation.number(),
+            status,
         }
     }
 }

@@ -4,4 +4,4 @@ use Rattle.compound.proofs.renaming.renamed.Goals as goal
 
 pub returns-clause-small : goal.returns-clause-small
 unfolding outcome_text
-returns-clause-small c = omega (arith, c.tell_fits.ensures.bound)
+returns-clause-small c = rw c.short.ensures.is (omega (arith, c.short.ensures.bound))
