@@ -1,4 +1,3 @@
-pub mod BecomeLaws
 pub mod FillingLaws
 pub mod IndexLaws
 pub mod OverlayLaws

@@ -6,6 +6,7 @@ ghost use Rattle.cards.specs.declared.fault.TableFault.TheVariants.{Memory};
 use std::alloc::AllocError;
 use thiserror::Error;
 
+/// Why cards make no table.
 #[derive(Clone, Copy, Debug, PartialEq, Eq, Error)]
 pub enum TableFault {
     /// Two nodes have one number.

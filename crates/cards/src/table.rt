@@ -42,12 +42,12 @@ impl Model for Table {
 }
 
 impl Table {
-    /// The most places of a table.
-    pub const MAX_PLACES: u32 = 16384;
+    /// The most nodes of a table, each at a place of its own.
+    pub const MAX_NODES: u32 = 16384;
 
     /// A table of so many places, all free.
     pub fn new(alloc: Global, places: u32) -> Result<Table, AllocError>
-        requires { places ≤ Table.MAX_PLACES }
+        requires { places ≤ Table.MAX_NODES }
         ensures { IfOk result (λ table. table ≡ replicate places None) }
     {
         let index = Vec::with_capacity(alloc, places as usize)?;
@@ -72,7 +72,7 @@ impl Table {
     ///
     /// [`TableFault::SameNumber`] exactly where two cards have one number; [`TableFault::Memory`].
     pub fn from_cards(alloc: Global, cards: Vec<Option<Card>>) -> Result<Table, TableFault>
-        requires few { length cards.items ≤ Table.MAX_PLACES }
+        requires few { length cards.items ≤ Table.MAX_NODES }
         requires numbered { AreNumbered cards.items }
         ensures table { IfOk result (λ table. table ≡ cards.items) }
         ensures apart { OnOk result (HaveOwnPlaces cards.items) }
@@ -96,7 +96,7 @@ impl Table {
     /// How many places there are.
     pub fn places(&self) -> u32
         ensures places { result ≡ length self.now }
-        ensures few { result ≤ Table.MAX_PLACES }
+        ensures few { result ≤ Table.MAX_NODES }
     {
         self.cards.len() as u32
     }
@@ -185,7 +185,7 @@ impl Table {
 
 /// The places without a card, with room for all places.
 fn free_places(alloc: Global, cards: &[Option<Card>]) -> Result<Vec<u32>, AllocError>
-    requires { length cards.now ≤ Table.MAX_PLACES }
+    requires { length cards.now ≤ Table.MAX_NODES }
     ensures times { IfOk result (λ free. (n : ℕ) → times n free.items ≡ vacant n cards.now) }
     ensures count { IfOk result (λ free.
         length free.items + count_of_all cards.now ≡ length cards.now) }
@@ -202,7 +202,7 @@ fn free_places(alloc: Global, cards: &[Option<Card>]) -> Result<Vec<u32>, AllocE
 
 /// What cards take of the data region.
 fn charge_of_cards(cards: &[Option<Card>]) -> u64
-    requires { length cards.now ≤ Table.MAX_PLACES }
+    requires { length cards.now ≤ Table.MAX_NODES }
     ensures charge { result ≡ charge_of_all cards.now }
     ensures few { AreFew cards.now }
 {

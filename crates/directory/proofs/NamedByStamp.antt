@@ -71,9 +71,6 @@ held xs key value d is = step (first_stamped key xs) refl (sym (at-first_stamped
 pub entry_of-by_stamp : (name : List ℕ) (xs : List Record) → ApartBy name_of xs → ApartBy stamp_of xs → entry_of name (by_stamp xs) ≡ entry_of name xs
 entry_of-by_stamp name xs names stamps = step (first_named name xs) refl ∙ sym (entry_of-first name xs)
   where
-    name_held : (key : ℕ) (value : DirEntry) (d : Record) (at : Holds xs key value d) → name_of (get_or xs at.place d) ≡ value.name
-    name_held key value d at = ap name_of at.is
-
     nameless : Record
     nameless = (0, record { name = []; number = 0 })
 

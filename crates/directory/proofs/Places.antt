@@ -1,16 +1,11 @@
 -- Where a name stands in a list of records.
-use Rattle.std.proofs.Common.{◌≡◌, ◌≢◌, ◌<◌, ◌≤◌, ◌+◌, ℕ, zero, suc, Bool, true, false, ◌&&◌, eqb, cond, List, [], ◌∷◌, ◌++◌, length, get_or, set, drop, map, bytes_eq, refl, sym, ap, ◌∙◌, arith, add-one}
+use Rattle.std.proofs.Common.{◌≡◌, ◌≢◌, ◌<◌, ◌≤◌, ◌+◌, ℕ, zero, suc, Bool, true, false, ◌&&◌, eqb, cond, List, [], ◌∷◌, ◌++◌, length, get_or, set, bytes_eq, refl, sym, ap, ◌∙◌, arith, add-one}
 use Rattle.std.specs.Prelude.{slice_get}
-use Rattle.std.proofs.lemmas.List.{drop_more}
 use Rattle.std.proofs.lemmas.Bool.{eqb-true, eq-eqb}
 use Rattle.model.specs.Tree.{entry_of, found_or}
-use Rattle.directory.specs.declared.entry.Entry.{Entry}
-use Rattle.directory.specs.Records.{Record, record_of, is_named, place_of, with_record}
+use Rattle.directory.specs.Records.{Record, is_named, place_of, with_record}
 
 -- ---- one step
-
-next_place : Bool → ℕ → ℕ
-next_place named place = cond named 0 (place + 1)
 
 named_step : (b : Bool) (p n : ℕ) → (p ≤ n) → cond b 0 (p + 1) ≤ suc n
 named_step true p n h = omega arith
@@ -86,21 +81,3 @@ absent_step name false x xs p (suc i) d e h lt ih = ih (omega arith) i (omega ar
 pub absent : (name : List ℕ) (xs : List Record) → length xs ≤ place_of name xs → (i : ℕ) (d : Record) → i < length xs → (get_or xs i d).1.name ≢ name
 absent name [] h i d lt = absurd (omega arith)
 absent name (x ∷ xs) h i d lt = absent_step name (is_named name x) x xs (place_of name xs) i d refl h lt (λ le k. absent name xs le k d)
-
--- ---- a search from the front
-
-pub search_more : (name : List ℕ) (entries : List Entry) (i : ℕ) (entry : Entry) → i < length entries → entry ≡ get_or entries i entry → is_named name (record_of entry) ≡ false
-    → place_of name (map record_of entries) ≡ i + place_of name (map record_of (drop i entries)) → place_of name (map record_of entries) ≡ i + 1 + place_of name (map record_of (drop (i + 1) entries))
-search_more name entries i entry h is other far =
-    let here : drop i entries ≡ entry ∷ drop (i + 1) entries = drop_more entries i entry h ∙ ap (λ (e : Entry). e ∷ drop (i + 1) entries) (sym is) in
-    let step : place_of name (map record_of (drop i entries)) ≡ place_of name (map record_of (drop (i + 1) entries)) + 1 =
-    ap (λ (xs : List Entry). place_of name (map record_of xs)) here ∙ ap (λ (b : Bool). cond b 0 (place_of name (map record_of (drop (i + 1) entries)) + 1)) other in
-    omega arith
-
-pub search_found : (name : List ℕ) (entries : List Entry) (i : ℕ) (entry : Entry) → i < length entries → entry ≡ get_or entries i entry → is_named name (record_of entry) ≡ true
-    → place_of name (map record_of entries) ≡ i + place_of name (map record_of (drop i entries)) → i ≡ place_of name (map record_of entries)
-search_found name entries i entry h is named far =
-    let here : drop i entries ≡ entry ∷ drop (i + 1) entries = drop_more entries i entry h ∙ ap (λ (e : Entry). e ∷ drop (i + 1) entries) (sym is) in
-    let step : place_of name (map record_of (drop i entries)) ≡ 0 =
-    ap (λ (xs : List Entry). place_of name (map record_of xs)) here ∙ ap (λ (b : Bool). cond b 0 (place_of name (map record_of (drop (i + 1) entries)) + 1)) named in
-    omega arith

@@ -55,9 +55,6 @@ slice_get-at (x ∷ xs) (suc i) d h = slice_get-at xs i d (omega arith)
 pub found_at_place : (name : List ℕ) (xs : List Record) (d : Record) → place_of name xs < length xs → entry_of name xs ≡ Some (get_or xs (place_of name xs) d)
 found_at_place name xs d within = entry_of-place name xs ∙ slice_get-at xs (place_of name xs) d within
 
-nameless : Record
-nameless = record_from 0 [] 0
-
 slice_get-behind : (xs : List Record) (i : ℕ) → length xs ≤ i → slice_get xs i ≡ None
 slice_get-behind [] i past = refl
 slice_get-behind (x ∷ xs) zero past = absurd (omega arith)

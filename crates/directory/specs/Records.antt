@@ -5,10 +5,6 @@ use Rattle.std.specs.List.{swap_remove, AllByRecursion}
 use Rattle.model.specs.Tree.{DirEntry}
 use Rattle.directory.specs.declared.entry.Entry.{Entry}
 
--- the most names of a directory
-abbrev pub most_names : ℕ
-most_names = 1024
-
 abbrev pub Record : Type 0
 Record = ℕ × DirEntry
 

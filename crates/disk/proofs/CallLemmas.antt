@@ -1,9 +1,8 @@
 -- What calls write, one call more at a time.
-use Rattle.std.proofs.Common.{suc, ◌≡◌, ℕ, ◌+◌, ◌<◌, ◌≤◌, List, [], ◌∷◌, ◌++◌, length, get_or, set, take, drop, refl, sym, ◌∙◌, ap, arith, Bool, true, false, cond, eqb, append_assoc, add-one, length-append, drop-cons, Some, None}
+use Rattle.std.proofs.Common.{suc, ◌≡◌, ℕ, ◌+◌, ◌<◌, ◌≤◌, List, [], ◌∷◌, ◌++◌, length, get_or, take, drop, refl, sym, ◌∙◌, ap, arith, Bool, true, false, cond, eqb, append_assoc, add-one, length-append, drop-cons, Some, None}
 use Rattle.std.specs.Prelude.{option_to_list, reverse}
 use Rattle.std.proofs.Math.Seq.{take-length, drop-length, take-suc, get_or-append_seam}
 use Rattle.std.proofs.lemmas.List.{take_all, get_or_past, append-nil, take-append-drop, take-append-le, drop-append-le, reverse-append}
-use Rattle.std.proofs.lemmas.Grind.{common_steps}
 use Rattle.disk.specs.declared.update.Update.{Update}
 use Rattle.disk.specs.declared.call.Call.{Call}
 use Rattle.disk.specs.declared.call.Call.TheVariants.{Write, Sync}
@@ -52,10 +51,6 @@ pub no_such_number : (n : ℕ) (calls : List Call) (i left : ℕ) (fixed : List 
 no_such_number n calls i left fixed number past some_left is_number =
     let at_end : number ≡ left + length (written_by n calls) = rw (take_all i calls past) at is_number in
     sym (get_or_past (fixed ∷ written_by n calls) number fixed (omega arith))
-
-pub put_row_below : (rows : List (List ℕ)) (update : Update) (n : ℕ) → update.target < length rows
-    → image_of (set rows update.target update.content) n ≡ put (image_of rows) update n
-put_row_below rows update n inside = grind (arith, common_steps)
 
 pub replayed-take : (first : List (List ℕ)) (calls : List Call) (i : ℕ) (d : Call) → i < length calls
     → history_of_calls first (take (i + 1) calls) ≡ called (get_or calls i d) (history_of_calls first (take i calls))

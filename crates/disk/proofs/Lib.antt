@@ -3,3 +3,4 @@ pub mod CallLemmas
 pub mod LandingLemmas
 pub mod TrialLemmas
 pub mod SectorLemmas
+pub mod MomentLemmas

@@ -8,7 +8,7 @@ ghost use Rattle.disk.specs.Landing.{landed_image, number_for, unsynced_below};
 
 use crate::call::{count_written, numbered_content};
 use crate::landing::number_for_sector;
-use crate::{Call, Device, DiskFault, Landed, MemDevice, SECTOR, Unsynced, Update};
+use crate::{Call, Device, DiskFault, Landed, MemDevice, SECTOR, Unsynced};
 use std::alloc::{AllocError, Global};
 
 /// Where a device stops for good. Its steps are its writes and syncs, numbered from 0; a write to a

@@ -31,9 +31,6 @@ use Rattle.draft.proofs.RunLaws.{enough}
 
 -- ---- the last block that stays
 
-pub clears_none : (image : Image) (blocks : List (Option ℕ)) (size : ℕ) → size % 4096 ≡ 0 → ClearsTail image image blocks size
-clears_none image blocks size none = record { kept = λ i either. refl; tail = λ j h some. absurd (omega arith) }
-
 pub clears_hole : (image : Image) (blocks : List (Option ℕ)) (size : ℕ) → get_or blocks (size / 4096) None ≡ None → ClearsTail image image blocks size
 clears_hole image blocks size hole = record {
   kept = λ i either. refl;

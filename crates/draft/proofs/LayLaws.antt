@@ -34,9 +34,6 @@ lays-next old now new numbers runs i to content once h front to_is content_is ne
       ∙ front.others n none;
 }
 
-pub lays-none : (image : Image) (numbers : List ℕ) (runs : List Run) → LaysFront image image numbers runs 0
-lays-none image numbers runs = record { spelled = λ i h. absurd (omega arith); others = λ n none. refl }
-
 pub lays-node : (old now new : Image) (sector : ℕ) (card : Card) (content : List ℕ) → times sector card.fields.run_sectors ≡ 0 → LaysFront old now card.fields.run_sectors card.runs (length card.fields.run_sectors)
     → content ≡ inode_sector card.form card.fields → new ≡ put now (record { target = sector; content = content }) → LaysNode old new sector card
 lays-node old now new sector card content apart front content_is new_is = record {

@@ -1,15 +1,13 @@
 -- What a card's runs and run sectors are, put anew.
-use Rattle.std.proofs.Common.{◌≡◌, ◌≤◌, ◌<◌, ◌+◌, ◌/◌, ◌^◌, ℕ, Bool, List, [], ◌∷◌, length, ap, ◌∙◌, arith, inl, inr}
+use Rattle.std.proofs.Common.{◌≡◌, ◌≤◌, ◌<◌, ◌+◌, ◌/◌, ◌^◌, ℕ, Bool, List, [], ◌∷◌, length, arith, inl, inr}
 use Rattle.std.proofs.lemmas.Bool.{cases_lt}
 use Rattle.std.specs.List.{AllByRecursion}
 use Rattle.inode.specs.Fields.{Fields, IsInode, IsRunSector}
-use Rattle.disk.specs.declared.update.Update.{Update}
-use Rattle.layout.specs.Cards.{Card}
 use Rattle.layout.specs.Marks.{times}
 use Rattle.layout.specs.Marks.{mark_by}
 use Rattle.layout.proofs.Frame.{once_same}
 use Rattle.layout.proofs.MarkProofs.{each_mark, mark-front}
-use Rattle.draft.specs.Laying.{Follow, AreMarked, AreOnce, LaysCard, fields_with}
+use Rattle.draft.specs.Laying.{Follow, AreMarked, AreOnce, fields_with}
 use Rattle.draft.proofs.NumberLaws.{are_once}
 
 pub fields-fit : (fields : Fields) (runs : ℕ) (numbers : List ℕ) → IsInode fields → runs ≤ 4500 → length numbers ≡ (runs + 499) / 500 → AllByRecursion IsRunSector numbers → IsInode (fields_with fields runs numbers)
@@ -38,32 +36,8 @@ numbers-fit first places (x ∷ numbers) some small marked =
 pub follow-marked : (first : ℕ) (was is : List Bool) (named numbers : List ℕ) → Follow first was is named numbers → AreMarked first was named → AreMarked first is numbers
 follow-marked first was is named numbers follow marked n = omega (arith, follow n, marked n)
 
-pub follow-on : (first : ℕ) (a b c : List Bool) (x y z : List ℕ) → Follow first a b x y → Follow first b c y z → Follow first a c x z
-follow-on first a b c x y z one other n = omega (arith, one n, other n)
-
 pub marked-once : (first : ℕ) (places : List Bool) (numbers : List ℕ) → AreMarked first places numbers → AreOnce numbers
 marked-once first places numbers marked = are_once numbers (λ n. let each = each_mark first places 0 in omega (arith, marked n, each.once n))
 
 pub marked-apart : (first : ℕ) (places : List Bool) (numbers : List ℕ) (sector : ℕ) → AreMarked first places numbers → sector < first → times sector numbers ≡ 0
 marked-apart first places numbers sector marked h = omega (arith, marked sector, mark-front first places sector h)
-
-pub lays_on : (nodes place : ℕ) (places mid_places is_places : List Bool) (old new : List Update) (was mid_card is : Card) → mid_card.form ≡ was.form → mid_card.blocks ≡ was.blocks → mid_card.names ≡ was.names
-    → fields_with mid_card.fields 0 [] ≡ fields_with was.fields 0 [] → Follow (148 + nodes) places mid_places was.fields.run_sectors mid_card.fields.run_sectors → length mid_places ≡ length places
-    → LaysCard nodes place mid_places is_places old new mid_card is → LaysCard nodes place places is_places old new was is
-lays_on nodes place places mid_places is_places old new was mid_card is form blocks names fields follow len lays =
-    let rerun = lays.rerun in
-    record {
-      rerun = record {
-        form = rerun.form ∙ form;
-        blocks = rerun.blocks ∙ blocks;
-        names = rerun.names ∙ names;
-        fields = rerun.fields ∙ ap (λ (f : Fields). fields_with f is.fields.runs is.fields.run_sectors) fields;
-        runs = rerun.runs;
-        each_run = rerun.each_run;
-        run_count = rerun.run_count;
-        fits = rerun.fits;
-      };
-      follow = follow-on (148 + nodes) places mid_places is_places was.fields.run_sectors mid_card.fields.run_sectors is.fields.run_sectors follow lays.follow;
-      len = lays.len ∙ len;
-      lays = lays.lays;
-    }

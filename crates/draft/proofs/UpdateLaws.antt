@@ -1,6 +1,5 @@
 -- Updates of different sectors: what they give, and one more.
-use Rattle.std.proofs.Common.{◌≡◌, ◌≢◌, ◌≤◌, ◌<◌, ◌+◌, ℕ, zero, suc, Bool, true, false, List, [], ◌∷◌, ◌++◌, ◌⊎◌, length, get_or, set, refl, sym, ap, ◌∙◌, arith, subst, eq-eqb, ne_eqb, inl, inr}
-use Rattle.std.specs.Prelude.{if◌then◌else◌}
+use Rattle.std.proofs.Common.{◌≡◌, ◌≢◌, ◌≤◌, ◌<◌, ℕ, zero, suc, List, [], ◌∷◌, ◌++◌, ◌⊎◌, length, get_or, set, refl, sym, ap, ◌∙◌, arith, subst, eq-eqb, ne_eqb, inl, inr}
 use Rattle.std.proofs.lemmas.Bool.{cases_eq, cases_lt}
 use Rattle.disk.specs.declared.update.Update.{Update}
 use Rattle.std.proofs.Math.Path.{fun_ext}
@@ -39,12 +38,6 @@ applied-first (update ∷ updates) image n zero other apart first =
 applied-first (update ∷ updates) image n (suc place) other apart first =
     applied-first updates (put image update) n place other apart.1 (record { within = let h = first.within in omega arith; there = first.there; before = λ i h. first.before (suc i) (omega arith) })
 
-if_true : {A : Type 0} (b : Bool) (x y : A) → b ≡ true → (if b then x else y) ≡ x
-if_true b x y e = rw e refl
-
-if_false : {A : Type 0} (b : Bool) (x y : A) → b ≡ false → (if b then x else y) ≡ y
-if_false b x y e = rw e refl
-
 -- one more update, whether in place of another or not
 pub applied-updated : (updates : List Update) (update : Update) (image : Image) (n : ℕ) → AreApart updates → applied (updated updates update) image n ≡ put (applied updates image) update n
 applied-updated [] update image n apart = refl
@@ -81,13 +74,6 @@ apart-updated [] update apart = (λ i h. absurd (omega arith), tt)
 apart-updated (x ∷ updates) update apart = elim (cases_eq x.target update.target) [
   | inl e ↦ rw (eq-eqb x.target update.target e) (subst (λ (t : ℕ). HasNot t updates) e apart.0, apart.1)
   | inr off ↦ rw (ne_eqb x.target update.target off) (has_not-updated updates update x.target apart.0 (λ e. off (sym e)), apart-updated updates update apart.1)
-]
-
-pub length-updated : (updates : List Update) (update : Update) → length (updated updates update) ≤ length updates + 1
-length-updated [] update = omega arith
-length-updated (x ∷ updates) update = elim (cases_eq x.target update.target) [
-  | inl e ↦ rw (eq-eqb x.target update.target e) (omega arith)
-  | inr off ↦ rw (ne_eqb x.target update.target off) (let more = length-updated updates update in omega arith)
 ]
 
 pub image-updated : (updates : List Update) (update : Update) (image : Image) → AreApart updates → applied (updated updates update) image ≡ put (applied updates image) update
@@ -128,6 +114,3 @@ between-one first end old new sector low high alone between = between-still firs
 
 pub between-wider : (first more end : ℕ) (updates : List Update) → more ≤ first → AreBetween first end updates → AreBetween more end updates
 between-wider first more end updates h between i l = let b = between i l in (omega (arith, b.0), b.1)
-
-pub put-alone : (old new : List Update) (sector : ℕ) (content : List ℕ) → ((image : Image) → applied new image ≡ put (applied old image) (record { target = sector; content = content })) → ChangeOne old new sector
-put-alone old new sector content is image n off = ap (λ (i : Image). i n) (is image) ∙ put-elsewhere (applied old image) (record { target = sector; content = content }) n (λ e. off (sym e))

@@ -13,7 +13,7 @@ use crate::numbers::{give_numbers, take_numbers};
 use crate::updates::Updates;
 use cards::Card;
 use disk::SECTOR;
-use extents::{MAX_RUNS, Run, write_run_sector};
+use extents::{MAX_SECTOR_RUNS, Run, write_run_sector};
 use freemap::Bitmap;
 use inode::to_sector;
 use layout::places::NODES;
@@ -23,15 +23,15 @@ use std::alloc::{AllocError, Global};
 fn lay_runs(updates: &mut Updates, numbers: &[u32], runs: &[Run]) -> Result<(), AllocError>
     requires once { AreOnce numbers.now }
     requires few { length numbers.now ≤ 9 }
-    requires room { length runs.now ≤ MAX_RUNS * length numbers.now }
-    requires last { MAX_RUNS * length numbers.now < length runs.now + MAX_RUNS }
+    requires room { length runs.now ≤ MAX_SECTOR_RUNS * length numbers.now }
+    requires last { MAX_SECTOR_RUNS * length numbers.now < length runs.now + MAX_SECTOR_RUNS }
     ensures lays { OnOk result ((image : Image) → LaysFront (applied updates.old image)
         (applied updates.new image) numbers.now runs.now (length numbers.now)) }
     ensures count { length updates.new ≤ length updates.old + length numbers.now }
 {
     for i in 0..numbers.len() {
-        let from = MAX_RUNS * i;
-        let to = runs.len().min(from + MAX_RUNS);
+        let from = MAX_SECTOR_RUNS * i;
+        let to = runs.len().min(from + MAX_SECTOR_RUNS);
         let mut content = [0; SECTOR];
         write_run_sector(&runs[from..to], &mut content);
         updates.put(numbers[i], &content)?;
@@ -75,7 +75,7 @@ fn lay_card(
     ensures count { length updates.new
         ≤ length updates.old + 1 + sectors_for (length runs.items) }
 {
-    let wanted = (runs.len() + 499) / MAX_RUNS;
+    let wanted = (runs.len() + 499) / MAX_SECTOR_RUNS;
     give_numbers(places, NODES + nodes, &mut card.inode.run_sectors, wanted);
     card.inode.runs = runs.len() as u16;
     card.runs = runs;
@@ -102,7 +102,7 @@ pub(crate) fn rerun(
         < sectors_for (set_blocks card.old.blocks) }
 {
     let runs = card.blocks.to_runs(alloc)?;
-    let wanted = (runs.len() + 499) / MAX_RUNS;
+    let wanted = (runs.len() + 499) / MAX_SECTOR_RUNS;
     take_numbers(places, NODES + nodes, &mut card.inode.run_sectors, wanted)?;
     lay_card(updates, places, nodes, place, card, runs)?;
     Ok(())

@@ -254,7 +254,7 @@ fn edit_one<S: Sectors>(
 /// The draft is to be dropped then. [`DraftFault::Device`] where the device failed,
 /// [`DraftFault::Memory`], and [`DraftFault::Full`], only where the tree after one of the edits
 /// has no room.
-pub fn edit_all<S: Sectors>(
+pub(crate) fn edit_all<S: Sectors>(
     draft: &mut Draft<'_>,
     base: &mut S,
     edits: Vec<Edit<'_>>,

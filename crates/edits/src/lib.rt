@@ -7,7 +7,6 @@ mod laws;
 mod outcome;
 mod room;
 
-pub use doing::edit_all;
 pub use edit::Edit;
 pub use laws::outlines;
 pub use outcome::outcome_of;

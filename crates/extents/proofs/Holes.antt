@@ -1,6 +1,6 @@
 -- Lists with holes at their end.
-use Rattle.std.proofs.Common.{◌≡◌, ◌≤◌, ◌-◌, ℕ, zero, suc, List, [], ◌∷◌, ◌++◌, Option, None, length, get_or, take, replicate, refl, ap, arith}
-use Rattle.std.proofs.lemmas.List.{append-nil, take_all}
+use Rattle.std.proofs.Common.{◌≡◌, ◌≤◌, ◌-◌, ℕ, zero, suc, List, [], ◌∷◌, ◌++◌, Option, None, length, get_or, take, replicate, refl, ap}
+use Rattle.std.proofs.lemmas.List.{take_all}
 use Rattle.extents.specs.Runs.{with_holes}
 
 -- a hole at the end reads as what is past the end
@@ -13,11 +13,6 @@ pub get_or-holes : (blocks : List (Option ℕ)) (n k : ℕ) → get_or (blocks +
 get_or-holes [] n k = get_or-replicate_None n k
 get_or-holes (b ∷ blocks) n zero = refl
 get_or-holes (b ∷ blocks) n (suc k) = get_or-holes blocks n k
-
-pub with_holes-few : (blocks : List (Option ℕ)) (len : ℕ) → len ≤ length blocks → with_holes blocks len ≡ blocks
-with_holes-few blocks len h =
-    let none : len - length blocks ≡ 0 = omega arith in
-    rw none (append-nil blocks)
 
 -- what `resize` makes where it does not cut
 pub resized : (blocks : List (Option ℕ)) (len : ℕ) → length blocks ≤ len → take len blocks ++ replicate (len - length blocks) None ≡ with_holes blocks len

@@ -31,17 +31,6 @@ undecided_front old x y k e lt = let test : ltb k (length old) ≡ true = lt-ltb
 undecided_back : (old : List (Option ℕ)) (x y : Option ℕ) (k : ℕ) → x ≡ cond (ltb k (length old)) (get_or old k None) y → length old ≤ k → x ≡ y
 undecided_back old x y k e le = let test : ltb k (length old) ≡ false = le-ltb k (length old) le in rw test at e
 
-none_yet : (run : Run) (k : ℕ) → sector_by (front_of run 0 ∷ []) k ≡ None
-none_yet run k = elim (cases_lt k run.block) [ inl lt ↦ one-before (front_of run 0) k lt | inr past ↦ one-behind (front_of run 0) k (omega arith) ]
-
-pub IsLaidTo-none : (old : List (Option ℕ)) (run : Run) → length old ≤ run.block → (new : List (Option ℕ)) → new ≡ with_holes old run.block → length new ≡ run.block → IsLaidTo old run 0 new
-IsLaidTo-none old run le new is len = record {
-  len = omega (arith, len);
-  blocks = λ k.
-      let here : get_or new k None ≡ get_or old k None = ap (λ (xs : List (Option ℕ)). get_or xs k None) is ∙ get_or-holes old (run.block - length old) k in
-      decided old (get_or new k None) k (λ lt. here) (sector_by (front_of run 0 ∷ []) k) (λ past. here ∙ get_or_past old k None past ∙ sym (none_yet run k));
-}
-
 module _ (old : List (Option ℕ)) (run : Run) (i : ℕ) (new : List (Option ℕ)) (laid : IsLaidTo old run i new) (behind : length old ≤ run.block) where
   more_at : (k : ℕ) → length old ≤ k → get_or (new ++ Some (run.sector + i) ∷ []) k None ≡ sector_by (front_of run (i + 1) ∷ []) k
   more_at k past =

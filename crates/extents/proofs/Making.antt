@@ -2,7 +2,7 @@
 use Rattle.std.proofs.Common.{◌≡◌, ◌≢◌, ◌<◌, ◌≤◌, ◌+◌, ◌-◌, ◌^◌, ℕ, true, cond, List, [], ◌∷◌, ◌++◌, Option, Some, None, length, get_or, take, count_by, is_some, sym, ap, ◌∙◌, arith, inl, inr, below_more}
 use Rattle.std.specs.List.{AllByRecursion}
 use Rattle.std.proofs.lemmas.Bool.{cases_lt}
-use Rattle.std.proofs.lemmas.List.{length_push, take_all, take-take, get_or_past}
+use Rattle.std.proofs.lemmas.List.{length_push, take-take, get_or_past}
 use Rattle.std.proofs.lemmas.List.Sums.{sum_by-take-le, count_by_more_yes}
 use Rattle.extents.specs.declared.run.Run.{Run}
 use Rattle.extents.specs.Runs.{sector_by, AreApart, CanJoin, AreRising, AreRunsOf, IsRunAt}
@@ -22,10 +22,6 @@ pub record AreRunsSoFar (blocks : List (Option ℕ)) (n : ℕ) (runs : List Run)
   pub few : length runs ≤ count_by is_some (take n blocks)
   pub ended : AllByRecursion (IsEnded blocks) runs
   pub apart : AreApart runs
-
--- a hole or a set block, as it counts
-one_if_set : Option ℕ → ℕ
-one_if_set block = cond (is_some block) 1 0
 
 count-take : (blocks : List (Option ℕ)) (n m : ℕ) → n ≤ m → count_by is_some (take n blocks) ≤ count_by is_some (take m blocks)
 count-take blocks n m le =
@@ -96,9 +92,6 @@ module _ (blocks : List (Option ℕ)) (n : ℕ) (runs : List Run) (far : AreRuns
 
   pub AreRunsOf-all : AreRunsOf runs blocks
   AreRunsOf-all = record { rising = AreRising-widen 0 n (length blocks) runs far.within far.rising; same = same_all }
-
-  pub few_all : length runs ≤ count_by is_some blocks
-  few_all = let whole : take n blocks ≡ blocks = take_all n blocks all in rw (← whole) far.few
 
 -- runs of so few blocks have a spelling
 pub each_is_run : (from count : ℕ) (runs : List Run) → count ≤ 4096 → AreRising from count runs → AllByRecursion IsRun runs

@@ -2,8 +2,7 @@
 use Rattle.std.proofs.Common.{◌≡◌, ◌<◌, ◌≤◌, ◌+◌, ◌-◌, ◌*◌, ℕ, zero, suc, List, [], ◌∷◌, ◌++◌, length, get_or, take, drop, replicate, refl, sym, ap, ◌∙◌, arith, append_assoc, inl, inr}
 use Rattle.std.specs.List.{flat_map, AllByRecursion}
 use Rattle.std.proofs.lemmas.Bool.{cases_lt}
-use Rattle.std.proofs.lemmas.List.{append-nil, length_push, take_all, take_more, drop-drop, length-replicate, replicate-append-replicate}
-use Rattle.std.proofs.lemmas.List.Concat.{flat_map-append}
+use Rattle.std.proofs.lemmas.List.{length_push, take_all, take_more, drop-drop, length-replicate, replicate-append-replicate}
 use Rattle.sector.specs.Records.{AreWide, drop-record, drop-records_all}
 use Rattle.extents.specs.declared.run.Run.{Run}
 use Rattle.extents.specs.Sector.{run_bytes, header, run_sector, IsRun, FillSector}
@@ -20,21 +19,6 @@ written runs n = header ++ flat_map run_bytes (take n runs)
 pub record IsWritten (sector : List ℕ) (runs : List Run) (n : ℕ) : Type 0 where
   pub front : take (96 + 8 * n) sector ≡ written runs n
   pub len : length sector ≡ 4096
-
-pub written-more : (runs : List Run) (n : ℕ) (run : Run) → n < length runs → run ≡ get_or runs n run → written runs n ++ run_bytes run ≡ written runs (n + 1)
-written-more runs n run h is =
-    let more : take (n + 1) runs ≡ take n runs ++ run ∷ [] = take_more runs n run h ∙ ap (λ (r : Run). take n runs ++ r ∷ []) (sym is) in
-    append_assoc header (flat_map run_bytes (take n runs)) (run_bytes run)
-    ∙ ap (λ (bytes : List ℕ). header ++ bytes) (sym (ap (flat_map run_bytes) more ∙ flat_map-append run_bytes (take n runs) (run ∷ []) ∙ ap (λ (bytes : List ℕ). flat_map run_bytes (take n runs) ++ bytes) (append-nil (run_bytes run))))
-
-pub IsWritten-more : (old new : List ℕ) (runs : List Run) (n at : ℕ) (run : Run) → IsWritten old runs n → n < length runs → run ≡ get_or runs n run → at ≡ 96 + 8 * n → take (at + 8) new ≡ take at old ++ run_bytes run → length new ≡ 4096
-    → IsWritten new runs (n + 1)
-IsWritten-more old new runs n at run far h is place front len =
-    let end : 96 + 8 * (n + 1) ≡ at + 8 = omega arith in
-    record {
-      front = ap (λ (i : ℕ). take i new) end ∙ front ∙ ap (λ (i : ℕ). take i old ++ run_bytes run) place ∙ ap (λ (bytes : List ℕ). bytes ++ run_bytes run) far.front ∙ written-more runs n run h is;
-      len = len;
-    }
 
 -- the zeros after the last run end the sector
 pub run_sector-written : (old new : List ℕ) (runs : List Run) (end count : ℕ) → IsWritten old runs (length runs) → length runs ≤ 500 → end ≡ 96 + 8 * length runs → count ≡ 4096 - end → take (end + length (replicate {A = ℕ} count 0)) new ≡ take end old ++ replicate count 0
@@ -125,9 +109,3 @@ module _ (sector : List ℕ) (i at : ℕ) (runs : List Run) (run : Run) (far : A
             absurd (omega arith)
         | inr le ↦ before.1 ∙ take_all i others le
       ]
-
-pub only_all : (sector : List ℕ) (i : ℕ) (runs : List Run) → AreReadTo sector i runs → 500 ≤ i → (others : List Run) → FillSector others → sector ≡ run_sector others → runs ≡ others
-only_all sector i runs far full others fill e = (far.only others fill e).1 ∙ take_all i others (omega (arith, fill.few))
-
-pub AreReadTo-none : (sector : List ℕ) → AreReadTo sector 0 []
-AreReadTo-none sector = record { len = refl; each = tt; only = λ others fill e. (omega arith, refl) }

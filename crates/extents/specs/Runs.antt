@@ -3,10 +3,6 @@
 use Rattle.std.specs.Prelude.{◌≡◌, ◌<◌, ◌≤◌, ◌+◌, ◌-◌, ◌^◌, ◌&&◌, ◌++◌, ℕ, Bool, List, [], ◌∷◌, Option, Some, None, nat_lt, nat_le, if◌then◌else◌, length, replicate, slice_index_or}
 use Rattle.extents.specs.declared.run.Run.{Run}
 
--- the most blocks of a node: 16,777,216 bytes in blocks of 4,096
-abbrev pub most_blocks : ℕ
-most_blocks = 4096
-
 -- the list with holes at its end, so that it has at least so many places
 abbrev pub with_holes : List (Option ℕ) → ℕ → List (Option ℕ)
 with_holes blocks len = blocks ++ replicate (len - length blocks) None

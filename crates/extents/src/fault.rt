@@ -6,6 +6,7 @@ ghost use Rattle.extents.specs.declared.fault.ExtentsFault.TheVariants.{Memory};
 use std::alloc::{AllocError, AllocFailed};
 use thiserror::Error;
 
+/// Why runs could not be read.
 #[derive(Clone, Copy, Debug, PartialEq, Eq, Error)]
 pub enum ExtentsFault {
     /// The bytes spell no runs, or the runs are none of a node of this size.

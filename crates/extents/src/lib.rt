@@ -11,4 +11,4 @@ pub use fault::ExtentsFault;
 pub use laws::reads_back;
 pub use list::BlockList;
 pub use run::Run;
-pub use sector_runs::{MAX_RUNS, read_run_sector, write_run_sector};
+pub use sector_runs::{MAX_SECTOR_RUNS, read_run_sector, write_run_sector};

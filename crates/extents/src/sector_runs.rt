@@ -11,7 +11,7 @@ use sector::{SIZE, put_bytes, put_u16, put_u32, put_zeros, u16_at, u32_at};
 use std::alloc::{AllocError, Global};
 
 /// The most runs of a sector.
-pub const MAX_RUNS: usize = 500;
+pub const MAX_SECTOR_RUNS: usize = 500;
 
 /// Where the runs begin in a sector, and how long each is.
 const FIRST: usize = 96;
@@ -44,7 +44,7 @@ fn run_at(sector: &[u8; SIZE], at: usize) -> Run
 
 /// Writes a run sector.
 pub fn write_run_sector(runs: &[Run], sector: &mut [u8; SIZE])
-    requires { length runs.now ≤ MAX_RUNS }
+    requires { length runs.now ≤ MAX_SECTOR_RUNS }
     ensures { sector.new ≡ run_sector runs.now }
 {
     put_bytes(sector, 0, b"RUNS");
@@ -58,13 +58,13 @@ pub fn write_run_sector(runs: &[Run], sector: &mut [u8; SIZE])
 
 /// The runs that would stand in a sector, whatever else stands there.
 fn runs_in(alloc: Global, sector: &[u8; SIZE]) -> Result<Vec<Run>, AllocError>
-    ensures few { IfOk result (λ runs. vec_len runs ≤ MAX_RUNS) }
+    ensures few { IfOk result (λ runs. vec_len runs ≤ MAX_SECTOR_RUNS) }
     ensures each { IfOk result (λ runs. AllByRecursion IsRun runs.items) }
     ensures only { IfOk result (λ runs. (others : List Run) → FillSector others
         → sector.now ≡ run_sector others → runs.items ≡ others) }
 {
     let mut runs = Vec::new(alloc);
-    for i in 0..MAX_RUNS {
+    for i in 0..MAX_SECTOR_RUNS {
         let run = run_at(sector, FIRST + WIDTH * i);
         if run.length == 0 {
             return Ok(runs);

@@ -7,9 +7,10 @@ ghost use Rattle.freemap.specs.Kept.{free_places, IsClearFrom, IsSetBelow, HaveS
 use byteorder::{BigEndian, ByteOrder};
 use std::alloc::{AllocError, Global};
 
-/// The bytes of a sector, and the places that it shows.
+/// The bytes of a sector.
 pub(crate) const SECTOR_BYTES: usize = 4096;
 
+/// The places that a sector shows, one for each bit.
 pub const SECTOR_PLACES: u32 = 32768;
 
 /// The bytes of the two sectors, and the places that they show.

@@ -62,7 +62,7 @@ fn who_from(byte: u8, id: u32) -> Option<Who>
 }
 
 /// Writes the 16 bytes of an entry from place `at` on.
-pub fn put_ace(sector: &mut [u8; SIZE], at: usize, ace: Ace)
+pub(crate) fn put_ace(sector: &mut [u8; SIZE], at: usize, ace: Ace)
     requires within { at + WIDTH ≤ SIZE }
     requires ace { IsAce ace }
     ensures front { take (at + WIDTH) sector.new ≡ take at sector.old ++ ace_bytes ace }
@@ -77,7 +77,7 @@ pub fn put_ace(sector: &mut [u8; SIZE], at: usize, ace: Ace)
 }
 
 /// The entry that would stand at place `at`, whatever stands in the bytes that an entry has zero; none where no entry does.
-pub fn ace_at(sector: &[u8; SIZE], at: usize) -> Option<Ace>
+pub(crate) fn ace_at(sector: &[u8; SIZE], at: usize) -> Option<Ace>
     requires { at + WIDTH ≤ SIZE }
     ensures fits { IfSome result IsAce }
     ensures only { (ace : Ace) (rest : List ℕ) → IsAce ace

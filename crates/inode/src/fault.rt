@@ -6,6 +6,7 @@ ghost use Rattle.inode.specs.declared.fault.InodeFault.TheVariants.{Memory};
 use std::alloc::{AllocError, AllocFailed};
 use thiserror::Error;
 
+/// Why a sector could not be read as a node's.
 #[derive(Clone, Copy, Debug, PartialEq, Eq, Error)]
 pub enum InodeFault {
     /// No inode has these bytes.

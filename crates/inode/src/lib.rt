@@ -8,7 +8,6 @@ mod node;
 mod reading;
 mod writing;
 
-pub use entries::{ace_at, put_ace};
 pub use fault::InodeFault;
 pub use laws::reads_back;
 pub use node::{Form, Inode};

@@ -11,7 +11,7 @@ ghost use Rattle.inode.specs.Spelling.{inode_sector, ace_bytes, number_bytes, ki
 use crate::entries::{WIDTH, ace_at};
 use crate::fault::InodeFault;
 use crate::node::{Form, Inode};
-use crate::writing::{ENTRIES, RUN_SECTORS, to_sector};
+use crate::writing::{ENTRIES, RUN_NUMBERS, to_sector};
 use model::acl::Acl;
 use model::node::NodeKind;
 use sector::{SIZE, u16_at, u32_at, u64_at};
@@ -48,16 +48,16 @@ fn run_sectors_in(alloc: Global, sector: &[u8; SIZE], count: usize) -> Result<Ve
         × AllByRecursion IsRunSector numbers.items) }
     ensures only { (numbers : List ℕ) (rest : List ℕ) → AllByRecursion IsRunSector numbers
         → length numbers ≡ count
-        → drop RUN_SECTORS sector.now ≡ flat_map number_bytes numbers ++ rest
+        → drop RUN_NUMBERS sector.now ≡ flat_map number_bytes numbers ++ rest
         → IfOk result (λ found. found.items ≡ numbers) }
     ensures err { IsErrOf result InodeFault.NotInode → (numbers : List ℕ) (rest : List ℕ)
         → AllByRecursion IsRunSector numbers
         → length numbers ≡ count
-        → drop RUN_SECTORS sector.now ≡ flat_map number_bytes numbers ++ rest → ⊥ }
+        → drop RUN_NUMBERS sector.now ≡ flat_map number_bytes numbers ++ rest → ⊥ }
 {
     let mut numbers = Vec::new(alloc);
     for i in 0..count {
-        let Some(number) = run_sector_at(sector, RUN_SECTORS + 4 * i) else {
+        let Some(number) = run_sector_at(sector, RUN_NUMBERS + 4 * i) else {
             return Err(InodeFault::NotInode);
         };
         numbers.push(number)?;

@@ -12,8 +12,8 @@ use model::acl::{Ace, Acl};
 use model::node::NodeKind;
 use sector::{SIZE, put_bytes, put_u16, put_u32, put_u64, put_zeros};
 
-/// Where the run sectors, the zeros after them and the entries begin.
-pub(crate) const RUN_SECTORS: usize = 48;
+/// Where the numbers of the run sectors, the zeros after them and the entries begin.
+pub(crate) const RUN_NUMBERS: usize = 48;
 
 const ZEROS: usize = 84;
 
@@ -38,7 +38,7 @@ fn magic_of(form: Form) -> [u8; 4]
 
 fn put_head(inode: &Inode, form: Form, sector: &mut [u8; SIZE])
     requires { length inode.now.acl ≤ Acl.MAX_STORED }
-    ensures front { take RUN_SECTORS sector.new ≡ head form (fields_of inode.now) }
+    ensures front { take RUN_NUMBERS sector.new ≡ head form (fields_of inode.now) }
     ensures len { length sector.new ≡ SIZE }
 {
     let count = inode.acl.as_slice().len() as u8;
@@ -55,13 +55,13 @@ fn put_head(inode: &Inode, form: Form, sector: &mut [u8; SIZE])
 
 fn put_run_sectors(numbers: &[u32], sector: &mut [u8; SIZE])
     requires { length numbers.now ≤ Inode.MAX_RUN_SECTORS }
-    ensures front { take ZEROS sector.new ≡ take RUN_SECTORS sector.old ++ nine numbers.now }
+    ensures front { take ZEROS sector.new ≡ take RUN_NUMBERS sector.old ++ nine numbers.now }
     ensures len { length sector.new ≡ SIZE }
 {
     for (i, number) in numbers.iter().enumerate() {
-        put_u32(sector, RUN_SECTORS + 4 * i, *number);
+        put_u32(sector, RUN_NUMBERS + 4 * i, *number);
     }
-    let end = RUN_SECTORS + 4 * numbers.len();
+    let end = RUN_NUMBERS + 4 * numbers.len();
     put_zeros(sector, end, ZEROS - end);
 }
 

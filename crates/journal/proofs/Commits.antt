@@ -2,6 +2,7 @@
 use Rattle.std.proofs.Common.{◌≡◌, ◌≤◌, ◌⊎◌, ℕ, List, [], ◌∷◌, length, refl, sym, ap, ◌∙◌, subst, inl, inr, arith}
 use Rattle.disk.specs.declared.update.Update.{Update}
 use Rattle.disk.specs.Moments.{Image, History, seen, applied, put, newest}
+use Rattle.disk.proofs.MomentLemmas.{AddsOnly-weaken, AddsOnly-join}
 use Rattle.journal.specs.Layout.{AreTargets, gate, through, targets, placed, copies}
 use Rattle.journal.specs.Settled.{AreSame, Settles}
 use Rattle.journal.specs.Phase.{LeftWith, AddsUpdates, IsFixedAs, IsGated}
@@ -9,7 +10,7 @@ use Rattle.journal.specs.Commit.{AddsEither, Records, IsShown, IsRecorded, Keeps
 use Rattle.journal.proofs.Images.{Between, HoldsFrom, put_same, put_other, applied_placed, copies_held, holds_put, holds_at, length-targets}
 use Rattle.journal.proofs.Phases.{length-placed, length-copies}
 use Rattle.journal.proofs.Stages.{gate_update, payload_stage, gate_stage, through_payload, homes_stage, homes_done, closing_stage, kept_not_1}
-use Rattle.journal.proofs.Moments.{AddsOnly-weaken, AddsOnly-join, between_of}
+use Rattle.journal.proofs.Moments.{between_of}
 
 settles_as : (size : ℕ) (image a b : Image) → AreSame size a b → Settles size image a → Settles size image b
 settles_as size image a b e s = record {

@@ -6,13 +6,14 @@ use Rattle.std.proofs.lemmas.List.FromFn.{get_or-map-range_with_len, length-map-
 use Rattle.disk.specs.declared.update.Update.{Update}
 use Rattle.disk.specs.Moments.{Image, History, LeftSince, MayHold, Among, seen, put, applied}
 use Rattle.disk.specs.Calls.{zero_sector}
+use Rattle.disk.proofs.MomentLemmas.{AddsOnly-weaken, AddsOnly-join}
 use Rattle.journal.specs.Layout.{AreTargets, gate, targets}
 use Rattle.journal.specs.Settled.{Settles}
 use Rattle.journal.specs.Phase.{LeftWith, AddsUpdates, IsFixedAs}
 use Rattle.journal.specs.Format.{formatted, fresh, fresh_at, AddsFormats, IsFormatted}
 use Rattle.journal.proofs.Images.{Out, put_same, put_other, low_out, applied_out, between_out, if_same, if_other}
 use Rattle.journal.proofs.Stages.{Fit-of, no_targets, between_one}
-use Rattle.journal.proofs.Moments.{AddsOnly-weaken, AddsOnly-join, between_of}
+use Rattle.journal.proofs.Moments.{between_of}
 use Rattle.journal.proofs.Commits.{seen_fixed, between_after}
 
 pub length-fresh : (size : ℕ) (updates : List Update) → length (fresh size updates) ≡ size - 1
@@ -115,9 +116,6 @@ module _ (size : ℕ) (sector0 : List ℕ) (updates : List Update) (h : History)
       (λ (q : image 0 ≡ sector0). inr (settles_formatted size sector0 updates image large fit q
       (λ n l u. one.1 n (λ z. omega arith) ∙ fresh_seen h1 h2 f n l u)))
       one.0) w
-
-  pub format_erased : (h1 : History) → AddsUpdates (zero_update ∷ []) h h1 → AddsFormats size sector0 updates h h1
-  format_erased h1 w = erased_moments h1 w
 
   pub format_fresh : (h1 h2 : History) → AddsUpdates (zero_update ∷ []) h h1 → IsFixedAs (zero_update ∷ []) h h1 → AddsUpdates (fresh size updates) h1 h2
       → AddsFormats size sector0 updates h h2

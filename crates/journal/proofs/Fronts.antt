@@ -1,19 +1,19 @@
 -- Fronts of a list of transactions, and what a flush adds one after the other.
-use Rattle.std.proofs.Common.{◌≡◌, ◌≤◌, ◌⊎◌, ◌+◌, ◌*◌, ℕ, List, [], ◌∷◌, ◌++◌, length, take, drop, refl, sym, ap, ◌∙◌, subst, ⊎_elim, arith}
+use Rattle.std.proofs.Common.{◌≡◌, ◌≤◌, ◌⊎◌, ℕ, List, [], ◌∷◌, ◌++◌, length, take, drop, refl, sym, ap, ◌∙◌, subst, ⊎_elim, arith}
 use Rattle.std.proofs.lemmas.List.{append-nil, length-append}
 use Rattle.std.proofs.lemmas.Bool.{cases_eq}
 use Rattle.disk.specs.declared.update.Update.{Update}
 use Rattle.disk.specs.Moments.{Image, History, AddsOnly, Left, Among, applied, put, seen, newest}
+use Rattle.disk.proofs.MomentLemmas.{AddsOnly-weaken}
 use Rattle.journal.specs.Layout.{AreTargets, through, targets}
 use Rattle.journal.specs.Settled.{AreSame, Settles}
 use Rattle.journal.specs.Phase.{IsGated}
 use Rattle.journal.specs.Commit.{AddsEither}
-use Rattle.journal.specs.Log.{Log, applied_all, contents, flush_cost, DoesAs, IsJoined, StandsForFront, Moved, Takes}
+use Rattle.journal.specs.Log.{Log, applied_all, contents, DoesAs, IsJoined, StandsForFront, Moved, Takes}
 use Rattle.journal.specs.Journal.{listed}
 use Rattle.journal.specs.Transactions.{gathered, sectors_of}
 use Rattle.journal.proofs.Images.{length-targets, put_same, put_other}
 use Rattle.journal.proofs.Lists.{Apart, gathered-append, gathered_apart}
-use Rattle.journal.proofs.Moments.{AddsOnly-weaken}
 use Rattle.journal.proofs.Stages.{gated_stage}
 
 pub settles_same : (size : ℕ) (image a b : Image) → AreSame size a b → Settles size image a → Settles size image b
@@ -35,12 +35,6 @@ pub applied_keeps : (size : ℕ) (us : List Update) (a b : Image) → AreSame si
 applied_keeps size [] a b e = e
 applied_keeps size (u ∷ us) a b e = applied_keeps size us (put a u) (put b u) (put_keeps size u a b e)
 
-pub same_back : (size : ℕ) (a b : Image) → AreSame size a b → AreSame size b a
-same_back size a b e n k = sym (e n k)
-
-pub same_join : (size : ℕ) (a b c : Image) → AreSame size a b → AreSame size b c → AreSame size a c
-same_join size a b c e f n k = e n k ∙ f n k
-
 pub applied_all-push : (list : List (List Update)) (us : List Update) (base : Image) → applied_all (list ++ us ∷ []) base ≡ applied us (applied_all list base)
 applied_all-push [] us base = refl
 applied_all-push (vs ∷ list) us base = applied_all-push list us (applied vs base)
@@ -61,14 +55,6 @@ settled_of size to h few fit gated image left =
 pub listed_applied : (us : List Update) (image : Image) → applied_all (listed us) image ≡ applied us image
 listed_applied [] image = refl
 listed_applied (u ∷ us) image = refl
-
-pub listed_cost : (us : List Update) → (us ≡ [] → ⊥) → flush_cost (listed us) ≡ 2 * length us + 6
-listed_cost [] some = absurd (some refl)
-listed_cost (u ∷ us) some = omega arith
-
-pub listed_none : (us : List Update) → listed us ≡ [] → us ≡ []
-listed_none [] e = refl
-listed_none (u ∷ us) e = absurd (cc)
 
 pub fronts_either : (size : ℕ) (us : List Update) (base : Image) (h h1 : History) → AddsEither size us base h h1
     → AddsOnly (StandsForFront size base (listed us)) h h1

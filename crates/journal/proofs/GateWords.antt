@@ -8,40 +8,9 @@ use Rattle.byteorder.specs.Endian.{big_bytes, big_number}
 use Rattle.byteorder.specs.Numbers.{big_number-reads_back}
 use Rattle.disk.specs.Calls.{zero_sector}
 use Rattle.journal.specs.Layout.{AreTargets, NamesTargets, gate, gate_words, words, words_in}
-use Rattle.journal.proofs.Images.{Out, Fit}
+use Rattle.journal.proofs.Images.{Out}
+use Rattle.journal.proofs.Lists.{Fit-push, targets_of-Fit}
 use Rattle.journal.proofs.Stages.{Fit-of}
-
-Out-at : (ts : List ℕ) (n j d : ℕ) → Out ts n → j < length ts → get_or ts j d ≡ n → ⊥
-Out-at [] n j d o l e = absurd (omega arith)
-Out-at (t ∷ ts) n zero d o l e = o.0 e
-Out-at (t ∷ ts) n (suc j) d o l e = Out-at ts n j d o.1 (omega arith) e
-
-from_98_of : (size : ℕ) (to : List ℕ) → Fit size to → (k d : ℕ) → k < length to → 98 ≤ get_or to k d
-from_98_of size [] f k d l = absurd (omega arith)
-from_98_of size (t ∷ ts) f zero d l = f.0
-from_98_of size (t ∷ ts) f (suc k) d l = from_98_of size ts f.3 k d (omega arith)
-
-on_device_of : (size : ℕ) (to : List ℕ) → Fit size to → (k d : ℕ) → k < length to → get_or to k d < size
-on_device_of size [] f k d l = absurd (omega arith)
-on_device_of size (t ∷ ts) f zero d l = f.1
-on_device_of size (t ∷ ts) f (suc k) d l = on_device_of size ts f.3 k d (omega arith)
-
-apart_of : (size : ℕ) (to : List ℕ) → Fit size to → (i j d : ℕ) → i < j → j < length to → get_or to i d ≡ get_or to j d → ⊥
-apart_of size [] f i j d l h e = omega arith
-apart_of size (t ∷ ts) f i zero d l h e = omega arith
-apart_of size (t ∷ ts) f zero (suc j) d l h e = Out-at ts t j d f.2 (omega arith) (sym e)
-apart_of size (t ∷ ts) f (suc i) (suc j) d l h e = apart_of size ts f.3 i j d (omega arith) (omega arith) e
-
-AreTargets-of : (size : ℕ) (to : List ℕ) → Fit size to → AreTargets size to
-AreTargets-of size to f = record { from_98 = from_98_of size to f; on_device = on_device_of size to f; apart = apart_of size to f }
-
-Out-push : (ts : List ℕ) (t n : ℕ) → Out ts n → (t ≡ n → ⊥) → Out (ts ++ t ∷ []) n
-Out-push [] t n o e = (e, tt)
-Out-push (s ∷ ts) t n o e = (o.0, Out-push ts t n o.1 e)
-
-Fit-push : (size : ℕ) (ts : List ℕ) (t : ℕ) → Fit size ts → 98 ≤ t → t < size → Out ts t → Fit size (ts ++ t ∷ [])
-Fit-push size [] t f l h o = (l, h, tt, tt)
-Fit-push size (s ∷ ts) t f l h o = (f.0, f.1, Out-push ts t s f.2 (λ e. o.0 (sym e)), Fit-push size ts t f.3 l h o.1)
 
 or_none : (a b : Bool) → (a || b) ≡ false → (a ≡ false) × (b ≡ false)
 or_none false b e = (refl, e)
@@ -59,7 +28,7 @@ pub AreTargets-more : (size : ℕ) (to : List ℕ) (i t : ℕ) → i < length to
 AreTargets-more size to i t l at a from below none =
     let more : take (i + 1) to ≡ take i to ++ t ∷ [] = take_more to i 0 l ∙ ap (λ (s : ℕ). take i to ++ s ∷ []) at in
     let P : List ℕ → Type 0 = λ xs. AreTargets size xs in
-    subst P (sym more) (AreTargets-of size (take i to ++ t ∷ []) (Fit-push size (take i to) t (Fit-of size (take i to) a) from below (Out-any (take i to) t none)))
+    subst P (sym more) (targets_of-Fit size (take i to ++ t ∷ []) (Fit-push size (take i to) t (Fit-of size (take i to) a) from below (Out-any (take i to) t none)))
 
 range_push : (a n : ℕ) → range_with_len a (suc n) ≡ range_with_len a n ++ (a + n) ∷ []
 range_push a zero = ap (λ (x : ℕ). x ∷ []) (omega arith)

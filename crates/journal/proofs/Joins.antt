@@ -1,29 +1,12 @@
--- For the layer above: calls one after the other, and every map that a stop leaves since a call's start.
-use Rattle.std.proofs.Common.{◌≡◌, ◌≤◌, ◌+◌, ℕ, suc, zero, List, [], ◌∷◌, ◌++◌, length, take, drop, refl, sym, ap, ◌∙◌, subst, ⊎_elim, arith}
-use Rattle.std.proofs.lemmas.List.{length-drop, length-append, take-append-le, take-append-drop}
+-- For the layer above: a list of transactions that were joined, and what reads give after a call.
+use Rattle.std.proofs.Common.{◌≡◌, ◌≤◌, ◌+◌, ℕ, suc, zero, List, [], ◌∷◌, ◌++◌, length, take, drop, refl, sym, ap, ◌∙◌, arith}
+use Rattle.std.proofs.lemmas.List.{length-drop, take-append-drop}
 use Rattle.disk.specs.declared.update.Update.{Update}
-use Rattle.disk.specs.Moments.{Image, Moment, AddsOnly, Left, LeftWithin, LeftSince, moment, applied}
-use Rattle.journal.specs.Settled.{AreSame, Settles}
-use Rattle.journal.specs.Log.{Log, applied_all, contents, IsJoined, StandsForFront, AddsFronts, IsSettled, Moved}
-use Rattle.journal.proofs.Moments.{AddsOnly-weaken, AddsOnly-join}
-use Rattle.journal.proofs.Fronts.{applied_keeps, applied_all-push, settles_same}
+use Rattle.disk.specs.Moments.{Image, applied}
+use Rattle.journal.specs.Settled.{AreSame}
+use Rattle.journal.specs.Log.{Log, applied_all, contents, IsJoined, Moved}
+use Rattle.journal.proofs.Fronts.{applied_keeps, applied_all-push}
 use Rattle.journal.proofs.Lists.{applied_at}
-
-none_within : (ms : List Moment) (t : ℕ) (image : Image) → length ms ≤ t → LeftWithin ms t image → ⊥
-none_within [] t image l w = w
-none_within (m ∷ ms) t image l w = ⊎_elim
-    (λ (q : (t ≤ length ms) × Left m image). omega (arith, q.0))
-    (λ (q : LeftWithin ms t image). none_within ms t image (omega arith) q) w
-
--- every map left since a call's start is the base with a front of the list, as they were then
-pub since_start : (old new : Log) → IsSettled old → AddsFronts old new → (image : Image) → LeftSince new.history (moment old.history) image
-    → StandsForFront old.size old.base old.list image
-since_start old new settled adds image left = ⊎_elim
-    (λ (w : LeftSince old.history (moment old.history) image). ⊎_elim
-    (λ (q : Left old.history.now image). record { count = 0; within = omega arith; settles = settled image q })
-    (λ (q : LeftWithin old.history.past (moment old.history) image). absurd (none_within old.history.past (moment old.history) image (omega arith) q)) w)
-    (λ (w : StandsForFront old.size old.base old.list image). w)
-    (adds.added (moment old.history) image (omega arith) left)
 
 all_keeps : (size : ℕ) (list : List (List Update)) (a b : Image) → AreSame size a b → AreSame size (applied_all list a) (applied_all list b)
 all_keeps size [] a b e = e
@@ -86,40 +69,6 @@ front_moved all old mid moved count few =
           ∙ sym (there.2 mid.base n)),
     )
 
--- a front after a call is a front from before it
-pub fronts_from : (all : List (List Update)) (old mid : Log) (image : Image) → mid.size ≡ old.size → Moved all old mid → StandsForFront mid.size mid.base mid.list image
-    → StandsForFront old.size old.base all image
-fronts_from all old mid image e moved front =
-    let there = front_moved all old mid moved front.count front.within in
-    let P : ℕ → Type 0 = λ size. Settles size image (applied_all (take front.count mid.list) mid.base) in
-    record {
-      count = there.0;
-      within = there.1;
-      settles = settles_same old.size image (applied_all (take front.count mid.list) mid.base) (applied_all (take there.0 all) old.base)
-          (λ n k. sym (there.2 n k))
-          (subst P e front.settles);
-    }
-
--- a list's fronts, with more transactions after it
-pub fronts_longer : (size : ℕ) (base : Image) (list more : List (List Update)) (image : Image) → StandsForFront size base list image
-    → StandsForFront size base (list ++ more) image
-fronts_longer size base list more image front =
-    let P : List (List Update) → Type 0 = λ xs. Settles size image (applied_all xs base) in
-    record {
-      count = front.count;
-      within = omega (arith, front.within, length-append list more);
-      settles = subst P (sym (take-append-le front.count list more front.within)) front.settles;
-    }
-
--- one call after the other
-pub calls_join : (all : List (List Update)) (old mid new : Log) → mid.size ≡ old.size → Moved all old mid
-    → AddsOnly (StandsForFront old.size old.base all) old.history mid.history → AddsFronts mid new
-    → AddsOnly (StandsForFront old.size old.base all) old.history new.history
-calls_join all old mid new e moved first next =
-    AddsOnly-join (StandsForFront old.size old.base all) old.history mid.history new.history first
-    (AddsOnly-weaken (StandsForFront mid.size mid.base mid.list) (StandsForFront old.size old.base all) mid.history new.history
-    (λ image front. fronts_from all old mid image e moved front) next)
-
 -- what reads give after a call that moved the list's first transactions into the base
 pub moved_contents : (all : List (List Update)) (old mid : Log) → Moved all old mid → AreSame old.size (applied_all all old.base) (contents mid)
 moved_contents all old mid moved n k =
@@ -127,13 +76,6 @@ moved_contents all old mid moved n k =
     ∙ ap (λ (f : Image). f n) (applied_all-append (take moved.count all) (drop moved.count all) old.base)
     ∙ all_keeps old.size (drop moved.count all) (applied_all (take moved.count all) old.base) mid.base moved.base n k
     ∙ sym (whole_of_joined (drop moved.count all) mid.list moved.list mid.base n)
-
--- moments with fronts of a list are moments with fronts of a longer one
-pub fronts_of_longer : (old new : Log) (more : List (List Update)) → AddsFronts old new
-    → AddsOnly (StandsForFront old.size old.base (old.list ++ more)) old.history new.history
-fronts_of_longer old new more adds =
-    AddsOnly-weaken (StandsForFront old.size old.base old.list) (StandsForFront old.size old.base (old.list ++ more)) old.history new.history
-    (λ image front. fronts_longer old.size old.base old.list more image front) adds
 
 -- what reads give after one more transaction
 pub pushed_contents : (us : List Update) (old new : Log) → Moved (old.list ++ us ∷ []) old new → AreSame old.size (applied us (contents old)) (contents new)

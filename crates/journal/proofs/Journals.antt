@@ -32,12 +32,6 @@ pub targets_more : (us : List Update) (i : ℕ) (d : Update) → i < length us
     → targets (take (i + 1) us) ≡ targets (take i us) ++ (get_or us i d).target ∷ []
 targets_more us i d l = ap (λ xs. targets xs) (take_more us i d l) ∙ targets-push (take i us) (get_or us i d)
 
-pub fit_at : (old new : ℕ) (xs ys : List ℕ) → new ≡ old → ys ≡ xs → AreTargets old xs → AreTargets new ys
-fit_at old new xs ys e q a = let P : List ℕ → Type 0 = λ to. AreTargets new to in subst P (sym q) (same_fit old new xs e a)
-
-pub gated_at : (xs ys : List ℕ) (h : History) → xs ≡ ys → IsGated xs h → IsGated ys h
-gated_at xs ys h e w = let P : List ℕ → Type 0 = λ to. IsGated to h in subst P e w
-
 -- a commit that went well
 pub committed_at : {T E : Type 0} (r : Result T E) (size : ℕ) (xs ys : List Update) (h h1 : History) → is_err r ≡ false → xs ≡ ys
     → (IsGated [] h → OnOk r (IsCommitted size xs h h1)) → IsGated [] h → IsCommitted size ys h h1

@@ -92,10 +92,6 @@ pub targets-push : (us : List Update) (u : Update) → targets (us ++ u ∷ []) 
 targets-push [] u = refl
 targets-push (v ∷ us) u = ap (λ ts. v.target ∷ ts) (targets-push us u)
 
-pub targets-append : (us vs : List Update) → targets (us ++ vs) ≡ targets us ++ targets vs
-targets-append [] vs = refl
-targets-append (u ∷ us) vs = ap (λ ts. u.target ∷ ts) (targets-append us vs)
-
 pub get_or-targets : (us : List Update) (i : ℕ) → get_or (targets us) i 0 ≡ (get_or us i no_update).target
 get_or-targets [] i = refl
 get_or-targets (u ∷ us) zero = refl
@@ -202,7 +198,7 @@ fresh_few seen [] = omega arith
 fresh_few seen (t ∷ ts) = omega (arith, fresh_few seen ts, one_at_most (has seen t))
 
 -- what is gathered of targets are targets
-Fit-push : (size : ℕ) (ts : List ℕ) (x : ℕ) → Fit size ts → (98 ≤ x) → (x < size) → Out ts x → Fit size (ts ++ x ∷ [])
+pub Fit-push : (size : ℕ) (ts : List ℕ) (x : ℕ) → Fit size ts → (98 ≤ x) → (x < size) → Out ts x → Fit size (ts ++ x ∷ [])
 Fit-push size [] x fit far near o = (far, near, tt, tt)
 Fit-push size (t ∷ ts) x fit far near o = (fit.0, fit.1, Out-push ts x t fit.2 (λ e. o.0 (sym e)), Fit-push size ts x fit.3 far near o.1)
 
@@ -245,10 +241,6 @@ pub targets_of-Fit : (size : ℕ) (to : List ℕ) → Fit size to → AreTargets
 targets_of-Fit size to fit = record { from_98 = Fit-far size to fit; on_device = Fit-near size to fit; apart = Fit-apart size to fit }
 
 -- looking for the last place of a number, from the end on
-pub drop_none : (xs : List ℕ) → drop (length xs) xs ≡ []
-drop_none [] = refl
-drop_none (x ∷ xs) = drop_none xs
-
 pub has-drop : (xs : List ℕ) (i n : ℕ) → i < length xs → has (drop i xs) n ≡ (if get_or xs i 0 == n then true else has (drop (i + 1) xs) n)
 has-drop [] i n l = absurd (omega arith)
 has-drop (x ∷ xs) zero n l = has_cons x n xs
@@ -264,9 +256,6 @@ searched_more xs back place n l at e other =
     ∙ ap (λ (b : Bool). if b then true else has (drop (place + 1) xs) n) (ne_eqb (get_or xs place 0) n other)
     ∙ ap (λ (k : ℕ). has (drop k xs) n) (let q : place + 1 ≡ length xs - back = omega arith in q) ∙ e
 
-pub searched_all : (xs : List ℕ) (back n : ℕ) → length xs ≤ back → has (drop (length xs - back) xs) n ≡ false → has xs n ≡ false
-searched_all xs back n l e = ap (λ (k : ℕ). has (drop k xs) n) (let q : 0 ≡ length xs - back = omega arith in q) ∙ e
-
 pub searched_found : (xs : List ℕ) (back place n : ℕ) → back < length xs → place + 1 + back ≡ length xs → has (drop (length xs - back) xs) n ≡ false
     → get_or xs place 0 ≡ n → IsLastPlace xs n place
 searched_found xs back place n l at e is = record {
@@ -274,9 +263,6 @@ searched_found xs back place n l at e is = record {
   is = is;
   last = ap (λ (k : ℕ). has (drop k xs) n) (let q : place + 1 ≡ length xs - back = omega arith in q) ∙ e;
 }
-
-pub has-found : (xs : List ℕ) (n place : ℕ) → IsLastPlace xs n place → has xs n ≡ true
-has-found xs n place last = list_any_at (λ other. other == n) xs place 0 last.there (eq-eqb (get_or xs place 0) n last.is)
 
 -- the last update of a sector, by the sectors that are named
 pub record IsLastUpdate (us : List Update) (n place : ℕ) : Type 0 where

@@ -2,7 +2,8 @@
 use Rattle.std.proofs.Common.{◌≡◌, ◌≤◌, ◌⊎◌, ◌+◌, ℕ, List, [], ◌∷◌, ◌++◌, length, refl, sym, subst, inl, inr, ⊎_elim, arith}
 use Rattle.std.proofs.lemmas.Bool.{cases_eq}
 use Rattle.disk.specs.declared.update.Update.{Update}
-use Rattle.disk.specs.Moments.{Image, Moment, History, MayHold, Among, Left, LeftWithin, LeftSince, AddsOnly, moment, wrote, synced, seen, newest, applied}
+use Rattle.disk.specs.Moments.{Image, Moment, History, MayHold, Among, Left, LeftWithin, AddsOnly, moment, wrote, synced, seen, newest, applied}
+use Rattle.disk.proofs.MomentLemmas.{AddsOnly-same, AddsOnly-weaken, AddsOnly-join}
 use Rattle.journal.specs.Phase.{LeftWith}
 use Rattle.journal.proofs.Images.{put_same, put_other, Between}
 
@@ -10,24 +11,6 @@ use Rattle.journal.proofs.Images.{put_same, put_other, Between}
 abbrev pub wrote_all : List Update → History → History
 wrote_all [] h = h
 wrote_all (u ∷ us) h = wrote_all us (wrote u h)
-
-pub AddsOnly-same : (P : Image → Type 0) (h : History) → AddsOnly P h h
-AddsOnly-same P h = record { later = omega arith; added = λ t image l left. inl left }
-
-pub AddsOnly-weaken : (P Q : Image → Type 0) (old new : History) → ((image : Image) → P image → Q image) → AddsOnly P old new → AddsOnly Q old new
-AddsOnly-weaken P Q old new f a = record {
-  later = a.later;
-  added = λ t image l left. ⊎_elim
-      (λ (w : LeftSince old t image). inl w) (λ (p : P image). inr (f image p)) (a.added t image l left);
-}
-
-pub AddsOnly-join : (P : Image → Type 0) (a b c : History) → AddsOnly P a b → AddsOnly P b c → AddsOnly P a c
-AddsOnly-join P a b c first second = record {
-  later = omega (arith, first.later, second.later);
-  added = λ t image l left. ⊎_elim
-      (λ (w : LeftSince b t image). first.added t image l w) (λ (p : P image). inr p)
-      (second.added t image (omega (arith, first.later)) left);
-}
 
 -- one more write
 pub AddsOnly-wrote : (u : Update) (h : History) → AddsOnly (LeftWith (u ∷ []) h.now) h (wrote u h)

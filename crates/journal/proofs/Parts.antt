@@ -2,6 +2,7 @@
 use Rattle.std.proofs.Common.{◌≡◌, ℕ, [], length, false, refl, arith, Result, Err}
 use Rattle.disk.specs.Moments.{Image, History, Left, seen}
 use Rattle.disk.specs.declared.fault.DiskFault.{DiskFault}
+use Rattle.disk.proofs.MomentLemmas.{AddsOnly-same}
 use Rattle.journal.specs.declared.fault.JournalFault.TheVariants as faults
 use Rattle.journal.specs.declared.journal.Journal.{Journal}
 use Rattle.journal.specs.Calls.{IsPart, IsSafe}
@@ -12,7 +13,6 @@ use Rattle.journal.specs.Settled.{Settles}
 use Rattle.journal.proofs.Answerings.{answers_fault}
 use Rattle.journal.proofs.Fronts.{settled_of}
 use Rattle.journal.proofs.Journals.{gated_of}
-use Rattle.journal.proofs.Moments.{AddsOnly-same}
 use Rattle.journal.proofs.Stages.{no_targets}
 
 settled_closed : (size : ℕ) (h : History) → length h.now.unsynced ≡ 0 → seen h.now 1 ≡ gate [] → (image : Image) → Left h.now image → Settles size image (seen h.now)

@@ -1,15 +1,14 @@
 -- Phases: how one ends, and what a failure within it leaves.
-use Rattle.std.proofs.Common.{◌≡◌, ◌≤◌, ◌<◌, ◌⊎◌, ◌+◌, ◌-◌, ◌^◌, ℕ, suc, zero, List, [], ◌∷◌, ◌++◌, length, get_or, take, drop, refl, sym, ap, ◌∙◌, subst, inl, inr, ⊎_elim, arith}
+use Rattle.std.proofs.Common.{◌≡◌, ◌≤◌, ◌<◌, ◌⊎◌, ◌+◌, ℕ, suc, zero, List, [], ◌∷◌, ◌++◌, length, get_or, take, drop, refl, sym, ap, ◌∙◌, subst, inl, inr, ⊎_elim, arith}
 use Rattle.std.proofs.lemmas.List.{get_or_default, take_more, take-append-drop}
-use Rattle.std.proofs.lemmas.Bool.{cases_lt}
 use Rattle.disk.specs.declared.update.Update.{Update}
 use Rattle.disk.specs.Moments.{Image, History, MayHold, Among, AddsOnly, moment, wrote, synced, seen}
-use Rattle.disk.specs.Cause.{IsCounted}
+use Rattle.disk.proofs.MomentLemmas.{AddsOnly-weaken, AddsOnly-join}
 use Rattle.journal.specs.Layout.{AreTargets, placed, copies, targets}
 use Rattle.journal.specs.Phase.{LeftWith, AddsUpdates, IsFixedAs}
 use Rattle.journal.proofs.Images.{Out, low_out, applied_out, targets_copies}
 use Rattle.journal.proofs.Stages.{Fit-of}
-use Rattle.journal.proofs.Moments.{wrote_all, AddsOnly-weaken, AddsOnly-join, AddsOnly-wrote_all, AddsOnly-synced, seen-wrote_all, moment-wrote_all, wrote_all-push}
+use Rattle.journal.proofs.Moments.{wrote_all, AddsOnly-wrote_all, AddsOnly-synced, seen-wrote_all, moment-wrote_all, wrote_all-push}
 
 Among-front : (a b : List Update) (n : ℕ) (content : List ℕ) → Among a n content → Among (a ++ b) n content
 Among-front [] b n content w = absurd w
@@ -93,14 +92,6 @@ get_or-copies image place (t ∷ ts) zero d l =
 get_or-copies image place (t ∷ ts) (suc i) d l =
     get_or-copies image (place + 1) ts i d (omega arith)
     ∙ ap (λ (p : ℕ). let r : Update = record { target = get_or ts i 0; content = image p } in r) (omega arith)
-
-pub counted_since : (before mid after : ℕ) → before ≤ mid → IsCounted mid after → IsCounted before after
-counted_since before mid after l c = ⊎_elim
-    (λ (q : mid < after). inl (omega arith))
-    (λ (q : (mid ≡ 2 ^ 64 - 1) × (after ≡ mid)). ⊎_elim
-    (λ (s : before < mid). inl (omega (arith, q.1)))
-    (λ (s : mid ≤ before). let same : before ≡ mid = omega (arith, l, s) in inr (same ∙ q.0, q.1 ∙ sym same))
-    (cases_lt before mid)) c
 
 -- what stands at an index past a list's end
 abbrev pub no_update : Update

@@ -2,6 +2,7 @@
 use Rattle.std.proofs.Common.{◌≡◌, ◌≤◌, ◌<◌, ◌^◌, ℕ, Bool, true, false, eqb, eq-eqb, List, [], ◌∷◌, length, refl, sym, ap, ◌∙◌, subst, inl, inr, arith, Result, Ok, Err}
 use Rattle.disk.specs.Moments.{Image, History, AddsOnly, seen, synced, moment}
 use Rattle.disk.specs.Cause.{IsCounted}
+use Rattle.disk.proofs.MomentLemmas.{AddsOnly-same, AddsOnly-weaken, AddsOnly-join}
 use Rattle.journal.specs.declared.fault.JournalFault.{JournalFault}
 use Rattle.journal.specs.declared.fault.JournalFault.TheVariants as faults
 use Rattle.journal.specs.Layout.{AreTargets, NamesTargets, gate, through}
@@ -11,7 +12,7 @@ use Rattle.journal.specs.Commit.{IsCopiedHome, KeepsShown}
 use Rattle.journal.specs.Recover.{FaultsCounted, Recovers}
 use Rattle.journal.proofs.GateWords.{names_one}
 use Rattle.journal.proofs.Stages.{gated_stage, no_targets}
-use Rattle.journal.proofs.Moments.{AddsOnly-same, AddsOnly-weaken, AddsOnly-join, AddsOnly-synced}
+use Rattle.journal.proofs.Moments.{AddsOnly-synced}
 use Rattle.journal.proofs.Fronts.{settles_same}
 
 -- an image settles to one image

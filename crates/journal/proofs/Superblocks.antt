@@ -3,13 +3,14 @@ use Rattle.std.proofs.Common.{◌≡◌, ◌≤◌, ◌<◌, ◌⊎◌, ◌+◌,
 use Rattle.std.proofs.lemmas.Bool.{cases_eq}
 use Rattle.disk.specs.declared.update.Update.{Update}
 use Rattle.disk.specs.Moments.{Image, History, seen, put, applied}
+use Rattle.disk.proofs.MomentLemmas.{AddsOnly-weaken}
 use Rattle.journal.specs.Layout.{AreTargets, gate, home, through, targets}
 use Rattle.journal.specs.Settled.{AreSame, Settles}
 use Rattle.journal.specs.Phase.{LeftWith, AddsUpdates, IsFixedAs, IsGated}
 use Rattle.journal.specs.Commit.{AddsEither}
 use Rattle.journal.proofs.Images.{Out, Fit, applied_out, Between, put_same, put_other, home_cases, home_other, low_out}
 use Rattle.journal.proofs.Stages.{Fit-of, between_one}
-use Rattle.journal.proofs.Moments.{AddsOnly-weaken, between_of}
+use Rattle.journal.proofs.Moments.{between_of}
 use Rattle.journal.proofs.Commits.{seen_fixed}
 use Rattle.journal.proofs.Lists.{applied_at}
 
@@ -87,14 +88,6 @@ module _ (size : ℕ) (to : List ℕ) (content : List ℕ) (h h1 : History) (few
       let u : Update = record { target = 0; content = content } in
       AddsOnly-weaken (LeftWith (u ∷ []) h.now) (λ image. Settles size image (through to (seen h.now)) ⊎ Settles size image (applied (u ∷ []) (through to (seen h.now)))) h h1
       (λ image l. superblock_stage size to (seen h.now) content few fit image gated.gate_is (between_of (u ∷ []) h.now image gated.rests l)) w
-
-  pub superblock_gated : (let u : Update = record { target = 0; content = content } in IsFixedAs (u ∷ []) h h1 → IsGated to h1)
-  superblock_gated f =
-      let u : Update = record { target = 0; content = content } in
-      record {
-        rests = f.unsynced;
-        gate_is = ap (λ (image : Image). image 1) (seen_fixed (u ∷ []) h h1 f) ∙ put_other (seen h.now) u 1 (λ e. omega arith) ∙ gated.gate_is;
-      }
 
   pub superblock_base : (let u : Update = record { target = 0; content = content } in
       IsFixedAs (u ∷ []) h h1 → AreSame size (put (through to (seen h.now)) u) (through to (seen h1.now)))

@@ -8,7 +8,7 @@ ghost use Rattle.journal.specs.Recover.{Recovers, LeavesOnlySynced, IsClosed, Wr
 
 use crate::layout::{MIN_SECTORS, PAYLOAD_SECTORS};
 use crate::{JournalFault, commit, gate, layout};
-use disk::{Device, DiskFault, SECTOR};
+use disk::{Device, SECTOR};
 
 /// Syncs, since contents of an earlier run may still be unsynced, and then copies an open gate's
 /// payload home. Where that went well, `named` is left empty, with the room that it had.

@@ -12,5 +12,6 @@ pub mod Knowing
 pub mod Linking
 pub mod MarkProofs
 pub mod NodeEditLaws
+pub mod NumberLaws
 pub mod StepLaws
 pub mod Summing

@@ -21,9 +21,6 @@ use Rattle.layout.proofs.Summing.{links-sum}
 abbrev owed_if : Bool → ℕ → ℕ
 owed_if is n = one_if (is && not (eqb n root))
 
-owed_none : (n : ℕ) → owed_if false n ≡ 0
-owed_none n = refl
-
 owed_root : (is : Bool) (n : ℕ) → n ≡ root → owed_if is n ≡ 0
 owed_root true n e = ap (λ (b : Bool). one_if (not b)) (eq-eqb n root e)
 owed_root false n e = refl

@@ -32,6 +32,3 @@ module _ (count step : ℕ) (low : step < count) (tree : Tree) (upper number : �
 
   pub further : (next : ℕ) → number ≢ upper → number ≢ root → next ≡ parent_of tree number → is_met (count - step) tree upper number ≡ is_met (count - (step + 1)) tree upper next
   further next off other is = left ∙ met-more (count - (step + 1)) tree upper number off other ∙ ap (is_met (count - (step + 1)) tree upper) (sym is)
-
-pub at-end : (count step : ℕ) (tree : Tree) (upper number : ℕ) → count - step ≡ 0 → is_met (count - step) tree upper number ≡ false
-at-end count step tree upper number none = ap (λ n. is_met n tree upper number) none

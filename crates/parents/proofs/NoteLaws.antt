@@ -1,7 +1,7 @@
 -- Names are noted one after the other.
-use Rattle.std.proofs.Common.{◌≡◌, ◌≢◌, ◌<◌, ◌+◌, ◌++◌, ℕ, zero, suc, List, [], ◌∷◌, Option, Some, length, get_or, map, replicate, set, take, refl, sym, ap, subst, ◌∙◌, arith, inl, inr, eqb, eq-eqb, ne_eqb}
+use Rattle.std.proofs.Common.{◌≡◌, ◌≢◌, ◌<◌, ◌+◌, ◌++◌, ℕ, suc, List, [], ◌∷◌, Option, Some, length, get_or, map, set, take, refl, sym, ap, subst, ◌∙◌, arith, inl, inr, eqb, eq-eqb, ne_eqb}
 use Rattle.std.proofs.lemmas.Bool.{cases_eq}
-use Rattle.std.proofs.lemmas.List.{length-set, get_or-set_same, get_or-set_other, get_or-map, length-map, length-replicate}
+use Rattle.std.proofs.lemmas.List.{length-set, get_or-set_same, get_or-set_other, get_or-map, length-map}
 use Rattle.directory.specs.declared.entry.Entry.{Entry}
 use Rattle.directory.specs.Records.{Record, record_of}
 use Rattle.cards.specs.Tables.{number_at, HasNot, HaveOwnPlaces}
@@ -58,9 +58,6 @@ module _ (cards : List (Option Card)) (old now numbers : List ℕ) (directory nu
     others = λ p n there none. noted.others p n there (omega (arith, none, times-one n));
   }
 
-pub begins : (cards : List (Option Card)) (old : List ℕ) (directory : ℕ) → IsNoted cards old old [] directory
-begins cards old directory = record { count = refl; led = λ p n there some. absurd (omega arith); others = λ p n there none. refl }
-
 module _ (cards : List (Option Card)) (old now : List ℕ) (directory i : ℕ) (entries : List Entry) (entry : Entry) (inside : i < length entries) (is : entry ≡ get_or entries i entry)
     (noted : IsNoted cards old now (take i (numbers_of (map record_of entries))) directory) where
   number-is : get_or (numbers_of (map record_of entries)) i 0 ≡ entry.number
@@ -98,18 +95,6 @@ pub record AreNoted (cards : List (Option Card)) (parents : List ℕ) (front : �
       → number_at cards of ≡ Some directory → LeadsTo cards of number → get_or parents place 0 ≡ directory
   pub nameless : (place number : ℕ) → number_at cards place ≡ Some number
       → ((of : ℕ) → of < front → times number (led_at cards of) ≡ 0) → get_or parents place 0 ≡ 0
-
-zeros : (n p none : ℕ) → get_or (replicate n none) p none ≡ none
-zeros zero p none = refl
-zeros (suc n) zero none = refl
-zeros (suc n) (suc p) none = zeros n p none
-
-pub none-noted : (cards : List (Option Card)) (parents : List ℕ) → parents ≡ replicate (length cards) 0 → AreNoted cards parents 0
-none-noted cards parents are = record {
-  count = ap length are ∙ length-replicate (length cards) 0;
-  named = λ p n of directory low. absurd (omega arith);
-  nameless = λ p n there none. ap (λ list. get_or list p 0) are ∙ zeros (length cards) p 0;
-}
 
 module _ (cards : List (Option Card)) (tree : IsOneTree cards) (own : HaveOwnPlaces cards) (front : ℕ) (now : List ℕ) (noted : AreNoted cards now front) where
   pub free-place : led_at cards front ≡ [] → AreNoted cards now (front + 1)

@@ -1,7 +1,7 @@
 -- Bytes that are appended part by part.
-use Rattle.std.proofs.Common.{◌≡◌, ◌≤◌, ◌+◌, ◌-◌, ◌*◌, ◌/◌, ◌%◌, ◌++◌, ℕ, List, [], Option, Some, None, length, get_or, take, drop, replicate, min, Result, Ok, Err, OnOk, refl, sym, ap, subst, ◌∙◌, arith, append_assoc, inl, inr}
+use Rattle.std.proofs.Common.{◌≡◌, ◌≤◌, ◌+◌, ◌-◌, ◌*◌, ◌/◌, ◌%◌, ◌++◌, ℕ, List, Option, Some, None, length, get_or, take, drop, replicate, min, Result, Ok, Err, OnOk, sym, ap, subst, ◌∙◌, arith, append_assoc, inl, inr}
 use Rattle.std.proofs.lemmas.Bool.{cases_lt}
-use Rattle.std.proofs.lemmas.List.{append-nil, ext_get_or, take_all, take-append-le, length-append, length-take, length-drop, length-replicate, get_or-take, get_or-drop, get_or_append_left, get_or-append_right}
+use Rattle.std.proofs.lemmas.List.{ext_get_or, take_all, take-append-le, length-append, length-take, length-drop, length-replicate, get_or-take, get_or-drop, get_or_append_left, get_or-append_right}
 use Rattle.std.proofs.lemmas.List.FromFn.{length-map-range_with_len, get_or-map-range_with_len}
 use Rattle.disk.specs.Moments.{Image}
 use Rattle.layout.specs.Cards.{Card, content_at, byte_at, bytes_in}
@@ -45,10 +45,7 @@ filled old new n len count len_is n_is is =
     let more : n - len ≡ count = omega arith in
     is ∙ ap (λ (s : List ℕ). s ++ replicate {A = ℕ} (n - len) 0) (take_all n old (omega arith)) ∙ ap (λ (m : ℕ). old ++ replicate {A = ℕ} m 0) more
 
--- no part, and a part after a part
-
-pub no_part : (word : Type 0) (image : Image) (blocks : List (Option ℕ)) (offset : ℕ) (old : List ℕ) → Appends word image blocks offset 0 old old
-no_part word image blocks offset old = record { part = []; is = sym (append-nil old); many = refl; bytes = λ w k less. absurd (omega arith) }
+-- a part after a part
 
 pub part_on : (word : Type 0) (image : Image) (blocks : List (Option ℕ)) (offset done at more : ℕ) (old mid new : List ℕ) → at ≡ offset + done → Appends word image blocks offset done old mid
     → Appends word image blocks at more mid new → Appends word image blocks offset (done + more) old new

@@ -21,7 +21,7 @@ use Rattle.scan.specs.Marking.{max_marks, CanMark, AreMarked}
 use Rattle.scan.specs.Names.{AreSetWithin, FindsContent}
 use Rattle.scan.specs.Places.{FindsNode, FindsFields}
 use Rattle.scan.specs.Runs.{AreWithin, FindsRuns}
-use Rattle.scan.proofs.MarkingLaws.{most-some, marked_more, can_more, can_marked}
+use Rattle.scan.proofs.MarkingLaws.{most-some, can_more, can_marked}
 use Rattle.scan.proofs.NameLaws.{same_at}
 use Rattle.scan.proofs.RunLaws.{all-take, all-drop}
 use Rattle.scan.proofs.SectorLaws.{zero-at}
@@ -65,12 +65,6 @@ sectors_within first old new sectors size marked long i h =
 pub blocks_within : (first : ℕ) (old new : List Bool) (blocks : List (Option ℕ)) (size : ℕ) → AreMarked first old new (λ n. times_set n blocks) → first + length old ≡ size → AreSetWithin size blocks
 blocks_within first old new blocks size marked long i sector is =
     marked_within first old new (λ n. times_set n blocks) size sector (can_marked first new) marked long (times_set-at blocks i sector is)
-
-pub both_marked : (first : ℕ) (old mid new : List Bool) (fields : Fields) (blocks : List (Option ℕ)) → AreMarked first old mid (λ n. times n fields.run_sectors) → AreMarked first mid new (λ n. times_set n blocks) → AreMarked first old new (uses fields blocks)
-both_marked first old mid new fields blocks a b = marked_more first old mid new (λ n. times n fields.run_sectors) (λ n. times_set n blocks) (uses fields blocks) (λ n. refl) a b
-
-pub can_sectors : (first : ℕ) (places : List Bool) (fields : Fields) (blocks : List (Option ℕ)) → CanMark first places (uses fields blocks) → CanMark first places (λ n. times n fields.run_sectors)
-can_sectors first places fields blocks can n = omega (arith, can n)
 
 pub can_blocks : (first : ℕ) (places mid : List Bool) (fields : Fields) (blocks : List (Option ℕ)) → AreMarked first places mid (λ n. times n fields.run_sectors) → CanMark first places (uses fields blocks) → CanMark first mid (λ n. times_set n blocks)
 can_blocks first places mid fields blocks marked can = can_more first places mid (λ n. times n fields.run_sectors) (λ n. times_set n blocks) (uses fields blocks) (λ n. omega arith) marked can

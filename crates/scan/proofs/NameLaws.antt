@@ -19,9 +19,6 @@ pub record AreReadTo (word : Type 0) (image : Image) (blocks : List (Option ℕ)
   pub long : length names ≡ min (15 * i) count
   pub spelled : word → (k : ℕ) → k < i → content_at image (get_or blocks k None) ≡ directory_sector (names_of_block k names)
 
-pub read_none : (word : Type 0) (image : Image) (blocks : List (Option ℕ)) (count : ℕ) → AreReadTo word image blocks count 0 []
-read_none word image blocks count = record { each = tt; long = omega arith; spelled = λ w k h. absurd (omega arith) }
-
 module _ (word : Type 0) (image : Image) (blocks : List (Option ℕ)) (count : ℕ) (i : ℕ) (names part : List Record) (far : AreReadTo word image blocks count i names) (within : 15 * i < count) where
   front_same : (k : ℕ) → k < i → names_of_block k (names ++ part) ≡ names_of_block k names
   front_same k h = ap (take 15) (drop-append-le (15 * k) names part (omega (arith, far.long))) ∙ take-append-le 15 (drop (15 * k) names) part (omega (arith, length-drop (15 * k) names, far.long))
@@ -42,14 +39,6 @@ module _ (word : Type 0) (image : Image) (blocks : List (Option ℕ)) (count : �
     ];
   }
 
-pub part_of : (word : Type 0) (image : Image) (blocks : List (Option ℕ)) (count : ℕ) (i w sector : ℕ) (names : List Record) → FindsRecords word image blocks count names → i < length blocks → get_or blocks i None ≡ Some sector
-    → w ≡ min (count - 15 * i) 15 → FindsPart word (image sector) w (names_of_block i names)
-part_of word image blocks count i w sector names found h there is = record {
-  each = all-take IsRecord 15 (drop (15 * i) names) (all-drop IsRecord (15 * i) names found.each);
-  count_is = omega (arith, length-take 15 (drop (15 * i) names), length-drop (15 * i) names, found.count_is);
-  spelled = λ u. ap (content_at image) (sym there) ∙ found.spelled u i h;
-}
-
 -- a hole is no block of names
 not_empty : (names : List Record) → length names ≤ 15 → [] ≡ directory_sector names → ⊥
 unfolding directory_sector
@@ -63,14 +52,6 @@ not_empty names few is =
 pub no_hole : (word : Type 0) (image : Image) (blocks : List (Option ℕ)) (count i : ℕ) (names : List Record) → word → FindsRecords word image blocks count names → i < length blocks → get_or blocks i None ≡ None → ⊥
 no_hole word image blocks count i names w found h none =
     not_empty (names_of_block i names) (omega (arith, length-take 15 (drop (15 * i) names))) (ap (content_at image) (sym none) ∙ found.spelled w i h)
-
-pub read_all : (word : Type 0) (image : Image) (blocks : List (Option ℕ)) (count : ℕ) (i : ℕ) (names : List Record) → AreReadTo word image blocks count i names → i ≡ length blocks → length blocks ≡ (count + 14) / 15
-    → FindsRecords word image blocks count names
-read_all word image blocks count i names far end enough = record {
-  each = far.each;
-  count_is = omega (arith, far.long);
-  spelled = λ u k h. far.spelled u k (omega arith);
-}
 
 -- One list of names at most is found
 

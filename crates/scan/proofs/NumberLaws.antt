@@ -1,19 +1,10 @@
 -- Sorted numbers are apart exactly where no two neighbours are the same.
-use Rattle.std.proofs.Common.{◌≡◌, ◌≢◌, ◌≤◌, ◌<◌, ◌+◌, ℕ, zero, suc, List, [], ◌∷◌, length, get_or, refl, sym, ap, ◌∙◌, arith, inl, inr, eqb, eq-eqb, ne_eqb}
+use Rattle.std.proofs.Common.{◌≡◌, ◌≢◌, ◌≤◌, ◌<◌, ◌+◌, ℕ, zero, suc, List, [], ◌∷◌, length, get_or, refl, sym, ◌∙◌, arith, inl, inr, eqb, eq-eqb, ne_eqb}
 use Rattle.std.proofs.lemmas.Bool.{cases_eq}
-use Rattle.std.proofs.lemmas.List.Sorted.{sum_by-IsPermutation}
-use Rattle.std.proofs.lemmas.List.Sums.{sum_by-cons}
-use Rattle.std.specs.List.{sum_by}
 use Rattle.std.specs.List.Sorted.{IsPermutation, IsNonDecreasing}
 use Rattle.layout.specs.Marks.{once_if, times}
+use Rattle.layout.proofs.NumberLaws.{times-moved, place-of, rising, once-each}
 use Rattle.scan.specs.Numbers.{AreDifferent}
-
-times-sum : (n : ℕ) (xs : List ℕ) → times n xs ≡ sum_by (λ x. once_if (eqb n x)) xs
-times-sum n [] = refl
-times-sum n (x ∷ xs) = ap (λ k. once_if (eqb n x) + k) (times-sum n xs) ∙ sym (sum_by-cons (λ y. once_if (eqb n y)) x xs)
-
-times-moved : (n : ℕ) (xs ys : List ℕ) → IsPermutation xs ys → times n ys ≡ times n xs
-times-moved n xs ys moved = times-sum n ys ∙ sum_by-IsPermutation (λ x. once_if (eqb n x)) xs ys moved ∙ sym (times-sum n xs)
 
 -- a number that two places have stands twice
 
@@ -27,45 +18,6 @@ times-twice n [] i j before h a b = absurd (omega arith)
 times-twice n (x ∷ xs) i zero before h a b = absurd (omega arith)
 times-twice n (x ∷ xs) zero (suc j) before h a b = let one : once_if (eqb n x) ≡ 1 = rw (eq-eqb n x (sym a)) refl in omega (arith, times-at n xs j (omega arith) b)
 times-twice n (x ∷ xs) (suc i) (suc j) before h a b = omega (arith, times-twice n xs i j (omega arith) (omega arith) a b)
-
--- and one that stands there has a place
-pub place-of : (n : ℕ) (xs : List ℕ) → 0 < times n xs → (i : ℕ) × ((i < length xs) × (get_or xs i 0 ≡ n))
-place-of n [] some = absurd (omega arith)
-place-of n (x ∷ xs) some = elim (cases_eq n x) [
-  | inl same ↦ (0, (omega arith, sym same))
-  | inr off ↦
-      let none : once_if (eqb n x) ≡ 0 = rw (ne_eqb n x off) refl in
-      let found = place-of n xs (omega arith) in
-      (suc found.0, (omega (arith, found.1.0), found.1.1))
-]
-
--- from the first on they rise
-rising : (xs : List ℕ) → IsNonDecreasing xs → AreDifferent xs → (i j : ℕ) → i < j → j < length xs → get_or xs i 0 < get_or xs j 0
-rising xs up differ i zero before h = absurd (omega arith)
-rising xs up differ i (suc j) before h =
-    let low = up i j 0 (omega arith) (omega arith) in
-    let step = up j (suc j) 0 (omega arith) h in
-    let e : j + 1 ≡ suc j = omega arith in
-    let apart : get_or xs j 0 ≢ get_or xs (suc j) 0 = λ same. differ j (omega arith) (same ∙ ap (λ n. get_or xs n 0) (sym e)) in
-    omega (arith, ne-lt _ _ step apart)
-  where
-    ne-lt : (a b : ℕ) → a ≤ b → a ≢ b → a < b
-    ne-lt a b le ne = omega arith
-
-once-each : (n : ℕ) (xs : List ℕ) → ((i j : ℕ) → i < j → j < length xs → get_or xs i 0 < get_or xs j 0) → times n xs ≤ 1
-once-each n [] rises = omega arith
-once-each n (x ∷ xs) rises = elim (cases_eq n x) [
-  | inl same ↦ elim (cases_eq (times n xs) 0) [
-    | inl none ↦ let one : once_if (eqb n x) ≡ 1 = rw (eq-eqb n x same) refl in omega arith
-    | inr some ↦
-        let found = place-of n xs (omega arith) in
-        let above : x < get_or xs found.0 0 = rises 0 (suc found.0) (omega arith) (omega (arith, found.1.0)) in
-        absurd (omega (arith, found.1.1))
-  ]
-  | inr off ↦
-      let none : once_if (eqb n x) ≡ 0 = rw (ne_eqb n x off) refl in
-      omega (arith, once-each n xs (λ i j before h. rises (suc i) (suc j) (omega arith) (omega arith)))
-]
 
 pub apart_sorted : (numbers sorted : List ℕ) → IsPermutation numbers sorted → IsNonDecreasing sorted → AreDifferent sorted → (n : ℕ) → times n numbers ≤ 1
 apart_sorted numbers sorted moved up differ n = omega (arith, times-moved n numbers sorted moved, once-each n sorted (rising sorted up differ))

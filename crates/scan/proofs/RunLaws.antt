@@ -1,5 +1,5 @@
 -- Runs in their sectors.
-use Rattle.std.proofs.Common.{◌≡◌, ◌≤◌, ◌<◌, ◌+◌, ◌-◌, ◌*◌, ◌/◌, ℕ, zero, suc, min, List, [], ◌∷◌, ◌++◌, length, get_or, take, drop, replicate, sym, ap, ◌∙◌, arith, inl, inr}
+use Rattle.std.proofs.Common.{◌≡◌, ◌≤◌, ◌<◌, ◌+◌, ◌-◌, ◌*◌, ℕ, zero, suc, min, List, [], ◌∷◌, ◌++◌, length, get_or, take, drop, replicate, sym, ap, ◌∙◌, arith, inl, inr}
 use Rattle.std.specs.Int.{w16, from_be_bytes}
 use Rattle.std.specs.List.{flat_map, AllByRecursion}
 use Rattle.std.proofs.lemmas.Bool.{cases_lt}
@@ -45,9 +45,6 @@ pub record AreReadTo (word : Type 0) (image : Image) (sectors : List ℕ) (count
   pub long : length runs ≡ min (500 * i) count
   pub spelled : word → (k : ℕ) → k < i → image (get_or sectors k 0) ≡ run_sector (runs_of_sector k runs)
 
-pub read_none : (word : Type 0) (image : Image) (sectors : List ℕ) (count : ℕ) → AreReadTo word image sectors count 0 []
-read_none word image sectors count = record { each = tt; long = omega arith; spelled = λ w k h. absurd (omega arith) }
-
 pub all-append : {A : Type 0} (P : A → Type 0) (xs ys : List A) → AllByRecursion P xs → AllByRecursion P ys → AllByRecursion P (xs ++ ys)
 all-append P [] ys all more = more
 all-append P (x ∷ xs) ys all more = (all.0, all-append P xs ys all.1 more)
@@ -89,12 +86,4 @@ part_of word image sectors count i w runs found h is = record {
   each = all-take IsRun 500 (drop (500 * i) runs) (all-drop IsRun (500 * i) runs found.each);
   count_is = omega (arith, length-take 500 (drop (500 * i) runs), length-drop (500 * i) runs, found.count_is);
   spelled = λ u. found.spelled u i h;
-}
-
-pub read_all : (word : Type 0) (image : Image) (sectors : List ℕ) (count : ℕ) (i : ℕ) (runs : List Run) → AreReadTo word image sectors count i runs → i ≡ length sectors → length sectors ≡ (count + 499) / 500
-    → FindsRuns word image sectors count runs
-read_all word image sectors count i runs far end enough = record {
-  each = far.each;
-  count_is = omega (arith, far.long);
-  spelled = λ u k h. far.spelled u k (omega arith);
 }

@@ -6,13 +6,9 @@ use Rattle.std.specs.Prelude.{Result, Err, IsErrAnd}
 use Rattle.std.proofs.lemmas.Result.{err_from_is_err_and}
 use Rattle.inode.specs.declared.fault.InodeFault.{InodeFault}
 use Rattle.inode.specs.declared.fault.InodeFault.TheVariants as inode
-use Rattle.extents.specs.declared.fault.ExtentsFault.{ExtentsFault}
-use Rattle.extents.specs.declared.fault.ExtentsFault.TheVariants as extents
-use Rattle.directory.specs.declared.fault.RecordsFault.{RecordsFault}
-use Rattle.directory.specs.declared.fault.RecordsFault.TheVariants as records
 use Rattle.scan.specs.declared.fault.ScanFault.{ScanFault}
 use Rattle.scan.specs.declared.fault.ScanFault.TheVariants.{Damaged}
-use Rattle.scan.specs.Faults.{of_inode, of_extents, of_records}
+use Rattle.scan.specs.Faults.{of_inode}
 use Rattle.disk.specs.Calls.{zero_sector}
 use Rattle.inode.specs.Fields.{Fields}
 use Rattle.scan.specs.Places.{FindsFields}
@@ -35,11 +31,7 @@ zero-is content long zeros = ext_get_or 0 content zero_sector (long ∙ sym leng
 pub zero-all : (content : List ℕ) (from : ℕ) → content ≡ zero_sector → AreZeroFrom content from
 zero-all content from is at h = ap (λ (bytes : List ℕ). get_or bytes at 0) is ∙ zero-at at
 
--- what is found in a content is found in the same one of an image
-pub finds-there : (word : Type 0) (content there : List ℕ) (fields : Option Fields) → (word → content ≡ there) → FindsFields (Unit {0}) content fields → FindsFields word there fields
-finds-there word content there None same found = λ w. sym (same w) ∙ found tt
-finds-there word content there (Some fields) same found = record { fits = found.fits; number = found.number; spelled = λ w. sym (same w) ∙ found.spelled tt }
-
+-- what is found in an image's sector is found in the same content
 pub finds-here : (word : Type 0) (content there : List ℕ) (fields : Option Fields) → word → content ≡ there → FindsFields word there fields → FindsFields (Unit {0}) content fields
 finds-here word content there None w same found = λ u. same ∙ found w
 finds-here word content there (Some fields) w same found = record { fits = found.fits; number = found.number; spelled = λ u. same ∙ found.spelled w }
@@ -53,22 +45,8 @@ inode_damaged : (fault : InodeFault) → of_inode fault ≡ Damaged → fault �
 inode_damaged inode.NotInode e = refl
 inode_damaged inode.Memory e = cc
 
-extents_damaged : (fault : ExtentsFault) → of_extents fault ≡ Damaged → fault ≡ extents.NotRuns
-extents_damaged extents.NotRuns e = refl
-extents_damaged extents.Memory e = cc
-
-records_damaged : (fault : RecordsFault) → of_records fault ≡ Damaged → fault ≡ records.NotRecords
-records_damaged records.NotRecords e = refl
-records_damaged records.Memory e = cc
-
 pub not_inode : {T : Type 0} (result : Result T ScanFault) (fault : InodeFault) → IsErrAnd result (λ e. e ≡ of_inode fault) → result ≡ Err Damaged → fault ≡ inode.NotInode
 not_inode result fault and is = let p = err_from_is_err_and result and in inode_damaged fault (refused_by result (of_inode fault) p.0 p.1 p.2 is)
-
-pub not_runs : {T : Type 0} (result : Result T ScanFault) (fault : ExtentsFault) → IsErrAnd result (λ e. e ≡ of_extents fault) → result ≡ Err Damaged → fault ≡ extents.NotRuns
-not_runs result fault and is = let p = err_from_is_err_and result and in extents_damaged fault (refused_by result (of_extents fault) p.0 p.1 p.2 is)
-
-pub not_records : {T : Type 0} (result : Result T ScanFault) (fault : RecordsFault) → IsErrAnd result (λ e. e ≡ of_records fault) → result ≡ Err Damaged → fault ≡ records.NotRecords
-not_records result fault and is = let p = err_from_is_err_and result and in records_damaged fault (refused_by result (of_records fault) p.0 p.1 p.2 is)
 
 pub same_fault : {T : Type 0} (result : Result T ScanFault) (fault : ScanFault) → IsErrAnd result (λ e. e ≡ fault) → result ≡ Err Damaged → fault ≡ Damaged
 same_fault result fault and is = let p = err_from_is_err_and result and in refused_by result fault p.0 p.1 p.2 is

@@ -11,7 +11,7 @@ ghost use Rattle.layout.specs.Health.{Reads};
 use crate::fault::ScanFault;
 use crate::sectors::fetch;
 use disk::SECTOR;
-use extents::{BlockList, MAX_RUNS, Run, read_run_sector};
+use extents::{BlockList, MAX_SECTOR_RUNS, Run, read_run_sector};
 use layout::sectors::Sectors;
 use model::node::NodeKind;
 use std::alloc::Global;
@@ -19,7 +19,7 @@ use std::alloc::Global;
 /// The runs of a run sector that is to have so many.
 fn runs_in(alloc: Global, content: &[u8; SECTOR], count: usize) -> Result<Vec<Run>, ScanFault>
     requires some { 0 < count }
-    requires few { count ≤ MAX_RUNS }
+    requires few { count ≤ MAX_SECTOR_RUNS }
     ensures found { IfOk result (λ runs. FindsPart (Unit {0}) content.now count runs.items) }
     ensures damaged { IsErrOf result ScanFault.Damaged
         → (runs : List Run) → ¬ FindsPart (Unit {0}) content.now count runs }
@@ -41,7 +41,7 @@ fn read_part<S: Sectors>(
 ) -> Result<Vec<Run>, ScanFault>
     requires within { sector < S.size (S.kept sectors.old) }
     requires some { 0 < count }
-    requires few { count ≤ MAX_RUNS }
+    requires few { count ≤ MAX_SECTOR_RUNS }
     ensures found { IfOk result (λ runs. FindsPart S.keeps_word
         (S.image (S.kept sectors.old) sector) count runs.items) }
     ensures damaged { S.keeps_word → IsErrOf result ScanFault.Damaged → (runs : List Run)
@@ -74,7 +74,7 @@ pub(crate) fn read_runs<S: Sectors>(
     let mut runs = Vec::new(alloc);
     for number in numbers {
         let left = count - runs.len();
-        let mut part = read_part(alloc, sectors, *number, left.min(MAX_RUNS))?;
+        let mut part = read_part(alloc, sectors, *number, left.min(MAX_SECTOR_RUNS))?;
         runs.append(&mut part)?;
     }
     Ok(runs)

@@ -1,7 +1,7 @@
 -- Records of one width that are written one after the other from a place on, and read there.
 use Rattle.std.specs.Prelude.{◌≡◌, ◌≤◌, ◌<◌, ◌+◌, ◌*◌, ℕ, zero, suc, List, [], ◌∷◌, ◌++◌, length, take, drop, replicate}
 use Rattle.std.specs.List.{flat_map, AllByRecursion}
-use Rattle.std.proofs.Common.{refl, sym, ap, ◌∙◌, arith, append_assoc, get_or}
+use Rattle.std.proofs.Common.{sym, ap, ◌∙◌, arith, append_assoc, get_or}
 use Rattle.std.proofs.lemmas.List.{append-nil, length-replicate, length_push, drop-drop, take_more, take_all}
 use Rattle.std.proofs.lemmas.List.Concat.{flat_map-append}
 use Rattle.sector.specs.Records.{AreWide, drop-record}
@@ -22,12 +22,6 @@ each_push P [] x all is = (is, tt)
 each_push P (y ∷ xs) x all is = (all.0, each_push P xs x all.1 is)
 
 module _ {A : Type 0} (spelling : A → List ℕ) (width base : ℕ) where
-  pub AreWritten-none : (old : List ℕ) (xs : List A) → length old ≡ 4096 → AreWritten spelling width base old old xs 0
-  AreWritten-none old xs len = record {
-    front = let place : base + width * 0 ≡ base = omega arith in ap (λ (n : ℕ). take n old) place ∙ sym (append-nil (take base old));
-    len = len;
-  }
-
   pub AreWritten-more : (old mid new : List ℕ) (xs : List A) (n at : ℕ) (x : A) → AreWritten spelling width base old mid xs n → n < length xs → x ≡ get_or xs n x → at ≡ base + width * n
       → take (at + width) new ≡ take at mid ++ spelling x → length new ≡ 4096 → AreWritten spelling width base old new xs (n + 1)
   AreWritten-more old mid new xs n at x far h is place front len =
@@ -81,6 +75,3 @@ module _ {A : Type 0} (spelling : A → List ℕ) (P : A → Type 0) (width : �
 
   pub AreRead-all : count ≤ n → (others : List A) (rest : List ℕ) → AllByRecursion P others → length others ≡ count → drop base sector ≡ flat_map spelling others ++ rest → xs ≡ others
   AreRead-all le others rest all many e = far.only others rest all many e ∙ take_all n others (omega arith)
-
-pub AreRead-none : {A : Type 0} (spelling : A → List ℕ) (P : A → Type 0) (base count : ℕ) (sector : List ℕ) → AreRead spelling P base count sector [] 0
-AreRead-none spelling P base count sector = record { len = refl; each = tt; only = λ others rest all many e. refl }

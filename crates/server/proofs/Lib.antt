@@ -1,5 +1,4 @@
 pub mod HangUps
-pub mod Moments
 pub mod Moves
 pub mod Openings
 pub mod Refusals

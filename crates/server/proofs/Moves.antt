@@ -2,7 +2,7 @@
 use Rattle.std.proofs.Common.{◌≡◌, ◌≤◌, ℕ, List, [], ◌∷◌, length, Bool, false, None, refl, sym, ap, ap₂, ◌∙◌, subst, inl, ⊎_elim, arith}
 use Rattle.std.specs.List.{IsAmong}
 use Rattle.disk.specs.Moments as moments
-use Rattle.disk.specs.Moments.{Image, Moment, Left, LeftWithin, LeftSince, AddsOnly, moment}
+use Rattle.disk.specs.Moments.{Image, Moment, Left, LeftWithin, LeftSince, moment}
 use Rattle.compound.specs.States.{shared}
 use Rattle.compound.proofs.QuietLaws.{same_volume}
 use Rattle.fs.specs.FileSystem.{FileSystem}
@@ -18,7 +18,7 @@ use Rattle.server.specs.Headline.{IsMounted}
 use Rattle.server.specs.Servers.{world_by, server_limits}
 use Rattle.server.specs.Seen.{Seen, LeavesNow, Moves, Said, told, Does}
 use Rattle.server.proofs.Worlds.{happened_quietly, among_rest}
-use Rattle.server.proofs.Moments.{adds_none}
+use Rattle.disk.proofs.MomentLemmas.{AddsOnly-same}
 
 -- no past moment is as late as the present
 none_within : (past : List Moment) (t : ℕ) (image : Image) → length past ≤ t → LeftWithin past t image → ⊥
@@ -39,7 +39,7 @@ left_now h image left = ⊎_elim
 pub moves_none : (old new : Serving) (event : Event) (held : Held) → LeavesNow (record { serving = new; volume = held })
     → Moves (record { serving = old; volume = held }) event (record { serving = new; volume = held })
 moves_none old new event held leaves = record {
-  moments = adds_none (StandsForOne held (MayLeave old event)) held.history;
+  moments = AddsOnly-same (StandsForOne held (MayLeave old event)) held.history;
   leaves = leaves;
   same = same_volume held held refl;
 }

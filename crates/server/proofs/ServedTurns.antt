@@ -1,7 +1,7 @@
 -- A turn of a connection, as the turn of its server.
 use Rattle.std.proofs.Common.{◌≡◌, ℕ, List, subst, false, Option, Some, refl, sym, ap, ◌∙◌, inl, inr}
 use Rattle.disk.specs.Moments.{History, AddsOnly}
-use Rattle.server.proofs.Moments.{adds_weaker}
+use Rattle.disk.proofs.MomentLemmas.{AddsOnly-weaken}
 use Rattle.compound.specs.States.{SharedState, HasState, with_state}
 use Rattle.compound.specs.Volumes.{TurnGives, lasts}
 use Rattle.fs.specs.FileSystem.{FileSystem}
@@ -87,7 +87,7 @@ pub turning_moments : (state : SharedState) (old : Keyed world.Connection) (numb
     → AddsTrees state.files.volume (one (world_by state old) number now).world.tree new
     → AddsOnly (StandsForOne state.files.volume (MayLeave (record { world = world_by state old; recent = recent; is_down = state.files.volume.is_down }) (runs.Turns number now))) state.files.volume.history new
 turning_moments state old number now recent new is up moments =
-    adds_weaker _ (StandsForOne state.files.volume (MayLeave (record { world = world_by state old; recent = recent; is_down = state.files.volume.is_down }) (runs.Turns number now))) state.files.volume.history new
+    AddsOnly-weaken _ (StandsForOne state.files.volume (MayLeave (record { world = world_by state old; recent = recent; is_down = state.files.volume.is_down }) (runs.Turns number now))) state.files.volume.history new
     (λ image found. (found.0, either found.0 found.1, found.2)) (moments recent is)
   where
     either : (tree : Tree) → MayAdd recent (one (world_by state old) number now).world.tree tree

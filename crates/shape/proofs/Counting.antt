@@ -7,10 +7,11 @@ use Rattle.cards.proofs.TableLaws.{within-numbered}
 use Rattle.layout.specs.Cards.{Card}
 use Rattle.layout.specs.Marks.{once_if, times}
 use Rattle.layout.specs.SumLaws.{entry_numbers, other_numbers, numbers_of}
+use Rattle.layout.proofs.NumberLaws.{place-of}
 use Rattle.model.specs.Tree.{root}
 use Rattle.shape.specs.Trees.{led_at, led_by, IsReached, Root, Named, IsOneTree}
 use Rattle.shape.specs.Walks.{number_or, number_in, numbers_at, led_from, IsWalk, IsStuck}
-use Rattle.shape.proofs.Sums.{sum_below, sum_of, many, sum-same, sum-zero, sum-ones, sum-each, AreBelow, sum_of-below, sum_of-le, sum_of-all, length-sum, times-append, times-split, times-at, place-of, sum_of-at}
+use Rattle.shape.proofs.Sums.{sum_below, sum_of, many, sum-same, sum-zero, sum-ones, sum-each, AreBelow, sum_of-below, sum_of-le, sum_of-all, length-sum, times-append, times-split, times-at, sum_of-at}
 
 once-le : (b : Bool) → once_if b ≤ 1
 once-le true = omega arith

@@ -1,56 +1,17 @@
 -- Sorted stamps are apart exactly where no two neighbours are the same.
-use Rattle.std.proofs.Common.{◌≡◌, ◌≢◌, ◌≤◌, ◌<◌, ◌+◌, ◌++◌, ℕ, zero, suc, List, [], ◌∷◌, Option, None, length, map, take, get_or, refl, sym, ap, ◌∙◌, arith, inl, inr, eqb, eq-eqb, ne_eqb}
-use Rattle.std.proofs.lemmas.Bool.{cases_eq}
+use Rattle.std.proofs.Common.{◌≡◌, ◌<◌, ◌+◌, ◌++◌, ℕ, zero, suc, List, [], ◌∷◌, Option, None, length, map, take, get_or, refl, sym, ap, ◌∙◌, arith, eqb, eq-eqb}
 use Rattle.std.proofs.lemmas.List.{append_assoc, append-nil}
-use Rattle.std.proofs.lemmas.List.Sorted.{sum_by-IsPermutation}
-use Rattle.std.proofs.lemmas.List.Sums.{sum_by-cons}
-use Rattle.std.specs.List.{sum_by}
 use Rattle.std.specs.List.Sorted.{IsPermutation, IsNonDecreasing}
 use Rattle.directory.specs.declared.entry.Entry.{Entry}
 use Rattle.directory.specs.Records.{record_of}
 use Rattle.layout.specs.Cards.{Card}
 use Rattle.layout.specs.Marks.{once_if, times}
+use Rattle.layout.proofs.NumberLaws.{times-moved, rising, once-each}
 use Rattle.shape.specs.Stamps.{stamps_of, stamped_by, entry_stamps, AreDifferent, AreStampsApart}
-use Rattle.shape.proofs.Sums.{times-append, times-split, place-of, take-one}
-
-times-sum : (n : ℕ) (xs : List ℕ) → times n xs ≡ sum_by (λ x. once_if (eqb n x)) xs
-times-sum n [] = refl
-times-sum n (x ∷ xs) =
-    ap (λ k. once_if (eqb n x) + k) (times-sum n xs) ∙ sym (sum_by-cons (λ y. once_if (eqb n y)) x xs)
-
-times-moved : (n : ℕ) (xs ys : List ℕ) → IsPermutation xs ys → times n ys ≡ times n xs
-times-moved n xs ys moved = times-sum n ys ∙ sum_by-IsPermutation (λ x. once_if (eqb n x)) xs ys moved ∙ sym (times-sum n xs)
+use Rattle.shape.proofs.Sums.{times-append, times-split, take-one}
 
 once-here : (x : ℕ) → once_if (eqb x x) ≡ 1
 once-here x = rw (eq-eqb x x refl) refl
-
--- from the first on they rise
-rising : (xs : List ℕ) → IsNonDecreasing xs → AreDifferent xs → (i j : ℕ) → i < j → j < length xs → get_or xs i 0 < get_or xs j 0
-rising xs up differ i zero before h = absurd (omega arith)
-rising xs up differ i (suc j) before h =
-    let low = up i j 0 (omega arith) (omega arith) in
-    let step = up j (suc j) 0 (omega arith) h in
-    let e : j + 1 ≡ suc j = omega arith in
-    let apart : get_or xs j 0 ≢ get_or xs (suc j) 0 = λ same. differ j (omega arith) (same ∙ ap (λ n. get_or xs n 0) (sym e)) in
-    omega (arith, ne-lt _ _ step apart)
-  where
-    ne-lt : (a b : ℕ) → a ≤ b → a ≢ b → a < b
-    ne-lt a b le ne = omega arith
-
-once-each : (n : ℕ) (xs : List ℕ) → ((i j : ℕ) → i < j → j < length xs → get_or xs i 0 < get_or xs j 0) → times n xs ≤ 1
-once-each n [] rises = omega arith
-once-each n (x ∷ xs) rises = elim (cases_eq n x) [
-  | inl same ↦ elim (cases_eq (times n xs) 0) [
-    | inl none ↦ let one : once_if (eqb n x) ≡ 1 = rw (eq-eqb n x same) refl in omega arith
-    | inr some ↦
-        let found = place-of n xs (omega arith) in
-        let above : x < get_or xs found.0 0 = rises 0 (suc found.0) (omega arith) (omega (arith, found.1.0)) in
-        absurd (omega (arith, found.1.1))
-  ]
-  | inr off ↦
-      let none : once_if (eqb n x) ≡ 0 = rw (ne_eqb n x off) refl in
-      omega (arith, once-each n xs (λ i j before h. rises (suc i) (suc j) (omega arith) (omega arith)))
-]
 
 pub apart_sorted : (cards : List (Option Card)) (sorted : List ℕ) → IsPermutation (entry_stamps cards) sorted → IsNonDecreasing sorted → AreDifferent sorted → AreStampsApart cards
 apart_sorted cards sorted moved up differ stamp =

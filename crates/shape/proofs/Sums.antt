@@ -140,14 +140,6 @@ times-split n (x ∷ xs) (suc i) d h = omega (arith, times-split n xs i d (omega
 pub times-at : (xs : List ℕ) (i d : ℕ) → i < length xs → 0 < times (get_or xs i d) xs
 times-at xs i d h = omega (arith, times-split (get_or xs i d) xs i d h, once-here (get_or xs i d))
 
--- where a list has a number
-pub place-of : (n : ℕ) (xs : List ℕ) → 0 < times n xs → (i : ℕ) × ((i < length xs) × (get_or xs i 0 ≡ n))
-place-of n [] h = absurd (omega arith)
-place-of n (x ∷ xs) h = elim (cases_eq n x) [
-  | inl same ↦ (0, (omega arith, sym same))
-  | inr off ↦ let found = place-of n xs (let none : once_if (eqb n x) ≡ 0 = rw (ne_eqb n x off) refl in omega arith) in (suc found.0, (omega (arith, found.1.0), found.1.1))
-]
-
 pub sum_of-at : (f : ℕ → ℕ) (ps : List ℕ) (i : ℕ) → i < length ps → f (get_or ps i 0) ≤ sum_of f ps
 sum_of-at f [] i h = absurd (omega arith)
 sum_of-at f (p ∷ ps) zero h = omega arith

@@ -22,11 +22,12 @@ use Rattle.layout.proofs.ChargeLaws.{stamped-rest}
 use Rattle.layout.proofs.Knowing.{AreEach, each_card, laid_are_cards}
 use Rattle.layout.proofs.Linking.{known_link}
 use Rattle.layout.proofs.Summing.{known_sum}
+use Rattle.layout.proofs.NumberLaws.{place-of}
 use Rattle.shape.specs.ShapeLaws.{IsLinked, EachWalk, EachStamp}
 use Rattle.shape.specs.Stamps.{stamps_of, entry_stamps, AreStampsApart}
 use Rattle.shape.specs.Trees.{led_at, led_by, IsOneTree, IsReached}
 use Rattle.shape.specs.Trees as shape
-use Rattle.shape.proofs.Sums.{times-append, place-of}
+use Rattle.shape.proofs.Sums.{times-append}
 
 -- Names of one directory by their stamps
 
@@ -56,13 +57,6 @@ at-stamp (x ∷ names) stamped zero d h = ap (λ b. here_or b x.1 (at x.0 names)
 at-stamp (x ∷ names) stamped (suc i) d h =
     ap (λ b. here_or b x.1 (at (get_or names i d).0 names)) (ne_eqb (get_or names i d).0 x.0 (λ same. stamped.apart 0 (suc i) d (omega arith) h (sym same)))
     ∙ at-stamp names (stamped-rest x names stamped) i d (omega arith)
-
-absent : (key : ℕ) (names : List Record) → times key (stamps_of names) ≡ 0 → at key names ≡ None
-absent key [] none = refl
-absent key (x ∷ names) none = elim (cases_eq key x.0) [
-  | inl same ↦ absurd (let one : once_if (eqb key x.0) ≡ 1 = rw (eq-eqb key x.0 same) refl in omega arith)
-  | inr off ↦ ap (λ b. here_or b x.1 (at key names)) (ne_eqb key x.0 off) ∙ absent key names (omega arith)
-]
 
 key-times : (key : ℕ) (names : List Record) → AreStamped names → one_if (is_some (at key names)) ≡ times key (stamps_of names)
 key-times key [] stamped = refl

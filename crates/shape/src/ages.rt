@@ -28,7 +28,7 @@ fn is_card_before(card: &Card, last: u64) -> bool
 }
 
 /// Whether nothing that a volume's nodes have of stamps is past this last one: numbers, change values and stamps of names.
-pub fn are_before(table: &Table, last: u64) -> bool
+pub(crate) fn are_before(table: &Table, last: u64) -> bool
     ensures { IsTrue result ↔ AreBefore (last + 1) table.now }
 {
     for place in 0..table.places() {

@@ -67,7 +67,7 @@ fn has_root_directory(table: &Table) -> bool
 
 /// Whether each of a volume's nodes is one that the limits allow, and the root is a directory: each node may have its list, a
 /// file has no more bytes than the limits allow, and each name passes the tests of names.
-pub fn are_nodes_allowed(table: &Table, limits: &Limits) -> bool
+pub(crate) fn are_nodes_allowed(table: &Table, limits: &Limits) -> bool
     ensures { IsTrue result ↔ AreNodesAllowed limits.now table.now }
 {
     for place in 0..table.places() {

@@ -47,7 +47,7 @@ fn are_different(stamps: &[u64]) -> bool
 /// # Errors
 ///
 /// `AllocError` where there is no memory for a stamp a name.
-pub fn are_stamps_apart(alloc: Global, table: &Table) -> Result<bool, AllocError>
+pub(crate) fn are_stamps_apart(alloc: Global, table: &Table) -> Result<bool, AllocError>
     ensures { IfOk result (λ are. IsTrue are ↔ AreStampsApart table.now) }
 {
     let mut stamps = stamps_of(alloc, table)?;

@@ -4,12 +4,12 @@ use Rattle.std.proofs.lemmas.Bool.{ne_eqb}
 use Rattle.std.specs.Prelude.{IsTrue, Result, Ok, Err, OnOk, is_err}
 use Rattle.disk.specs.Calls.{zero_sector}
 use Rattle.disk.specs.Moments.{Image, History, Left, AddsOnly}
+use Rattle.disk.proofs.MomentLemmas.{AddsOnly-weaken}
 use Rattle.journal.specs.Format.{AddsFormats, IsFormatted, formatted}
 use Rattle.journal.specs.Layout.{AreTargets, targets}
 use Rattle.journal.specs.Settled.{Settles}
 use Rattle.journal.proofs.Images.{put_other}
 use Rattle.journal.proofs.Lists.{targets_of-Fit}
-use Rattle.journal.proofs.Moments.{AddsOnly-weaken}
 use Rattle.layout.specs.FreshLaws.{IsFresh}
 use Rattle.layout.specs.Stands.{version_1}
 use Rattle.layout.specs.Superblock.{is_size}

@@ -5,10 +5,10 @@ use Rattle.std.proofs.lemmas.Bool.{eqb-true}
 use Rattle.std.specs.Prelude.{Result, Ok, Err, IfOk, IfErr, bytes_eq}
 use Rattle.std.specs.Cmp.Lexicographic.{bytes_decides}
 use Rattle.disk.specs.Moments.{Image, History, AddsOnly}
+use Rattle.disk.proofs.MomentLemmas.{AddsOnly-weaken, AddsOnly-join}
 use Rattle.journal.specs.Settled.{Settles, SettlesAs}
 use Rattle.journal.specs.declared.fault.JournalFault.{JournalFault}
 use Rattle.journal.specs.declared.fault.JournalFault.TheVariants as journals
-use Rattle.journal.proofs.Moments.{AddsOnly-weaken, AddsOnly-join}
 use Rattle.journal.proofs.Recovers.{settles_once}
 use Rattle.model.specs.Tree.{Tree}
 use Rattle.volume.specs.declared.fault.MountFault.TheVariants as mounts

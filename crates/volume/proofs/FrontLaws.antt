@@ -8,10 +8,10 @@ use Rattle.std.specs.List.{IsAmong}
 use Rattle.std.specs.Prelude.{get_or}
 use Rattle.disk.specs.declared.update.Update.{Update}
 use Rattle.disk.specs.Moments.{Image, History, AddsOnly, applied}
+use Rattle.disk.proofs.MomentLemmas.{AddsOnly-weaken}
 use Rattle.journal.specs.Log.{Log, StandsForFront, applied_all}
 use Rattle.journal.specs.Settled.{Settles}
 use Rattle.journal.proofs.Fronts.{applied_all-push}
-use Rattle.journal.proofs.Moments.{AddsOnly-weaken}
 use Rattle.model.specs.Tree.{Tree}
 use Rattle.volume.specs.Held.{Held, StandsForOne, IsRecent, MayAdd, AddsTrees, fronts_from}
 use Rattle.volume.specs.Stands.{Stands}

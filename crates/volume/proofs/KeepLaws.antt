@@ -5,7 +5,7 @@ use Rattle.std.specs.List.{IsAmong}
 use Rattle.std.specs.Prelude.{Result, Ok, Err, IfErr, IsErrOf}
 use Rattle.disk.specs.Cause.{IsCounted}
 use Rattle.disk.specs.Moments.{Image}
-use Rattle.journal.proofs.Moments.{AddsOnly-join, AddsOnly-weaken}
+use Rattle.disk.proofs.MomentLemmas.{AddsOnly-join, AddsOnly-weaken}
 use Rattle.model.specs.Tree.{Tree}
 use Rattle.volume.specs.Changes.{Ending, Done, Nothing, Broken, IsTree, Changes, ending_of}
 use Rattle.volume.specs.Held.{Held, IsSameVolume, StandsForOne, MayAdd, AddsTrees}

@@ -2,10 +2,10 @@
 use Rattle.std.proofs.Common.{ℕ, [], ◌∷◌, ◌≡◌, ◌≤◌, ◌+◌, ◌<◌, ◌⊎◌, ◌^◌, inl, inr, refl, sym, ap, ◌∙◌, subst, arith}
 use Rattle.disk.specs.declared.update.Update.{Update}
 use Rattle.disk.specs.Moments.{Image, History, AddsOnly, put, applied}
+use Rattle.disk.proofs.MomentLemmas.{AddsOnly-weaken}
 use Rattle.journal.specs.Commit.{AddsEither}
 use Rattle.journal.specs.Settled.{Settles, AreSame}
 use Rattle.journal.proofs.Images.{put_same, put_other}
-use Rattle.journal.proofs.Moments.{AddsOnly-weaken}
 use Rattle.layout.specs.Cards.{tree_of, cards_in}
 use Rattle.layout.specs.Stands.{version_1, IsLaid}
 use Rattle.layout.proofs.MarkProofs.{kept_alone}

@@ -1,5 +1,5 @@
 -- How a mount answers, by what its parts find.
-use Rattle.std.proofs.Common.{◌≡◌, ◌<◌, ◌⊎◌, ◌^◌, ℕ, inl, inr, ⊎_elim, refl, sym, subst, arith}
+use Rattle.std.proofs.Common.{◌≡◌, ◌<◌, ◌⊎◌, ◌^◌, ℕ, inl, inr, ⊎_elim, refl, sym, subst}
 use Rattle.disk.specs.Moments.{Image, History, AddsOnly, seen, synced}
 use Rattle.journal.specs.declared.fault.JournalFault.{JournalFault}
 use Rattle.journal.specs.declared.fault.JournalFault.TheVariants as journals
@@ -15,19 +15,17 @@ use Rattle.volume.specs.Mounts.{HasBegun, IsNotBegun}
 use Rattle.volume.specs.Refusals.{gate_fault}
 use Rattle.volume.specs.Remounts.{AddsMount}
 use Rattle.volume.specs.Superblock.{superblock}
+use Rattle.disk.proofs.MomentLemmas.{AddsOnly-same}
 use Rattle.volume.proofs.FoundLaws.{not_damaged, is_volume_there, count_full, settled_moments, found_stands, found_moments, seen_stands}
-
-adds_none : (P : Image → Type 0) (h : History) → AddsOnly P h h
-adds_none P h = record { later = omega arith; added = λ t image l left. inl left }
 
 untouched_replays : (sectors : ℕ) (old new : History) → new ≡ old → OnlyReplays sectors old new
 untouched_replays sectors old new same = record {
-  moments = subst (λ (h : History). AddsOnly (SettlesAs sectors (seen old.now)) old h) (sym same) (adds_none (SettlesAs sectors (seen old.now)) old);
+  moments = subst (λ (h : History). AddsOnly (SettlesAs sectors (seen old.now)) old h) (sym same) (AddsOnly-same (SettlesAs sectors (seen old.now)) old);
   formless = λ none. inl same;
 }
 
 untouched_mount : (sectors : ℕ) (old new : History) → new ≡ old → AddsMount sectors old new
-untouched_mount sectors old new same nodes run tree base = subst (AddsOnly _ old) (sym same) (adds_none _ old)
+untouched_mount sectors old new same nodes run tree base = subst (AddsOnly _ old) (sym same) (AddsOnly-same _ old)
 
 -- nothing was asked of the device
 pub refused_untouched : (sectors : ℕ) (old new : History) (fault : MountFault) → new ≡ old → HasReason sectors old new fault → IsRefused sectors old new fault

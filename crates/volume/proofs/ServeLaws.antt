@@ -6,10 +6,10 @@ use Rattle.std.specs.Result.{IsErrAnd}
 use Rattle.std.specs.Prelude.{IfSome, IfErr, OnOk, Result, Ok, Err, get_or}
 use Rattle.disk.specs.Cause.{IsCounted}
 use Rattle.disk.specs.Moments.{Image}
+use Rattle.disk.proofs.MomentLemmas.{AddsOnly-weaken}
 use Rattle.journal.specs.Calls.{IsSafe, HasFlushed}
 use Rattle.journal.specs.Log.{Log, IsSettled, StandsForFront, contents, applied_all, AddsFronts, Answers}
 use Rattle.journal.specs.Settled.{AreSame}
-use Rattle.journal.proofs.Moments.{AddsOnly-weaken}
 use Rattle.layout.specs.Cards.{Card, tree_of, cards_in}
 use Rattle.layout.specs.MarkLaws.{SeesSame}
 use Rattle.layout.specs.Stands.{version_1}

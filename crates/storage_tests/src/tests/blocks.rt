@@ -1,7 +1,7 @@
 ghost use Rattle.std.specs.Prelude.{◌≤◌, ◌<◌};
 
 use super::drivers::{filled, put};
-use extents::{BlockList, ExtentsFault, MAX_RUNS, Run, read_run_sector, write_run_sector};
+use extents::{BlockList, ExtentsFault, MAX_SECTOR_RUNS, Run, read_run_sector, write_run_sector};
 use std::alloc::{AllocError, Global};
 use std::test::Fail;
 
@@ -22,7 +22,7 @@ fn runs_in(alloc: Global, sector: &[u8; 4096]) -> Result<Vec<Run>, ExtentsFault>
 /// More runs than a sector has are not written.
 fn sector_of(runs: &[Run]) -> [u8; 4096] {
     let mut sector = filled(0xff);
-    if runs.len() <= MAX_RUNS {
+    if runs.len() <= MAX_SECTOR_RUNS {
         write_run_sector(runs, &mut sector);
     }
     sector
@@ -184,7 +184,7 @@ fn a_scattered_file(rt: HostRuntime) -> Result<(), Fail> {
     assert_eq!(rt; runs.len(), 4096);
     let again = list_of(rt.alloc(), BlockList::MAX_BLOCKS, &runs)?;
     assert_eq!(rt; at(&again, 4095), Some(51_810));
-    let front = runs.get(..MAX_RUNS).ok_or("too few runs")?;
+    let front = runs.get(..MAX_SECTOR_RUNS).ok_or("too few runs")?;
     assert!(rt; is_read_back(rt.alloc(), front)?);
     Ok(())
 }
