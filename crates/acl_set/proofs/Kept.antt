@@ -1,7 +1,7 @@
--- Lists that a loop builds by going through another one.
-use Rattle.std.proofs.Common.{⊎_elim, ◌≤◌, arith, min, nat_lt, unwrap_or, Some, None, ◌≡◌, ◌∙◌, sym, ap, refl, ℕ, ◌+◌, ◌<◌, Bool, true, false, cond, not, ◌&&◌, List, [], ◌∷◌, ◌++◌, filter, map, take, length, get_or}
-use Rattle.std.proofs.lemmas.List.{append-nil, append_assoc, map-append}
-use Rattle.std.proofs.lemmas.List.Elements.{filter-append, filter_more}
+-- Lists cut to a class, put together, and searched up to a limit.
+use Rattle.std.proofs.Common.{⊎_elim, ◌≤◌, arith, min, nat_lt, unwrap_or, Some, None, ◌≡◌, ◌∙◌, sym, ap, refl, ℕ, ◌<◌, Bool, true, false, cond, not, ◌&&◌, List, ◌∷◌, ◌++◌, filter, length}
+use Rattle.std.proofs.lemmas.List.{append_assoc}
+use Rattle.std.proofs.lemmas.List.Elements.{filter-append}
 use Rattle.std.proofs.lemmas.List.Sums.{prefix_len-le-length}
 use Rattle.std.proofs.Math.Nat.{min_comm}
 use Rattle.std.proofs.lemmas.Bool.{and_parts, cases_lt, false≢true, le-ltb, lt-ltb}
@@ -10,21 +10,6 @@ use Rattle.model.specs.Acl.{counts, first_of, is_allow, meets}
 use Rattle.model.specs.Mode.{allows_right}
 use Rattle.model.specs.declared.acl.Ace.{Ace}
 use Rattle.model.specs.declared.acl.Who.{Who}
-
--- one more element that passes, and one that does not
-pub mapped_more : {X Y : Type 0} (f : X → Y) (q : X → Bool) (xs : List X) (i : ℕ) (d : X) → i < length xs → q (get_or xs i d) ≡ true → map f (filter q (take (i + 1) xs)) ≡ map f (filter q (take i xs)) ++ f (get_or xs i d) ∷ []
-mapped_more f q xs i d h e =
-    ap (map f) (filter_more q xs i d h ∙ ap (λ b. filter q (take i xs) ++ cond b (get_or xs i d ∷ []) []) e) ∙ map-append f (filter q (take i xs)) (get_or xs i d ∷ [])
-
-pub mapped_skip : {X Y : Type 0} (f : X → Y) (q : X → Bool) (xs : List X) (i : ℕ) (d : X) → i < length xs → q (get_or xs i d) ≡ false → map f (filter q (take (i + 1) xs)) ≡ map f (filter q (take i xs))
-mapped_skip f q xs i d h e =
-    ap (map f) (filter_more q xs i d h ∙ ap (λ b. filter q (take i xs) ++ cond b (get_or xs i d ∷ []) []) e ∙ append-nil (filter q (take i xs)))
-
-pub kept_more : {X Y : Type 0} (p : Y → Bool) (f : X → Y) (q : X → Bool) (xs : List X) (i : ℕ) (d : X) → i < length xs → q (get_or xs i d) ≡ true → filter p (map f (filter q (take (i + 1) xs))) ≡ filter p (map f (filter q (take i xs))) ++ filter p (f (get_or xs i d) ∷ [])
-kept_more p f q xs i d h e = ap (filter p) (mapped_more f q xs i d h e) ∙ filter-append p (map f (filter q (take i xs))) (f (get_or xs i d) ∷ [])
-
-pub kept_skip : {X Y : Type 0} (p : Y → Bool) (f : X → Y) (q : X → Bool) (xs : List X) (i : ℕ) (d : X) → i < length xs → q (get_or xs i d) ≡ false → filter p (map f (filter q (take (i + 1) xs))) ≡ filter p (map f (filter q (take i xs)))
-kept_skip p f q xs i d h e = ap (filter p) (mapped_skip f q xs i d h e)
 
 -- the first entry of the list cut to a class decides a right, or is passed over
 pub allows_right-decided : (named : Who → Bool) (ace : Ace) (rest : List Ace) (right : ℕ) → ((counts ace && named ace.who) && meets ace.mask.0 right) ≡ true → allows_right (filter (λ (a : Ace). counts a && named a.who) (ace ∷ rest)) right ≡ is_allow ace.kind

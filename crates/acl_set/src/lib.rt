@@ -3,7 +3,7 @@
 //! Each call answers exactly what `model`'s definitions give.
 #![tactic(auto)]
 
-pub use acl_eval::{Ace, AceFlags, AceKind, Acl, Cred, Gids, Mask, NodeKind, Who, granted};
+pub use acl_eval::{Ace, AceFlags, AceKind, Acl, Mask, NodeKind, Who};
 pub use fault::AclFault;
 pub use inheritance::{Given, are_flags_for, at_creation, first_refused, inherit};
 pub use lists::is_list_for;

@@ -134,7 +134,7 @@ fn create_session(alloc: Global) -> Argument<'static>
 }
 
 fn argument_of(kind: Kind, bytes: &[u8]) -> Argument<'_>
-    requires { length bytes.now ≤ 8192 }
+    requires { length bytes.now ≤ DATA_BYTES }
     ensures { ArgumentFits result }
 {
     match kind {

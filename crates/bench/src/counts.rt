@@ -2,7 +2,7 @@
 
 use crate::calls::{Kind, stream_of};
 use crate::copying::Copies;
-use crate::journals::{FIRST_TARGET, Flushes, Held, ReadsListed};
+use crate::journals::{Flushes, Held, ReadsListed};
 use crate::listing::{ListsNames, full_directory};
 use crate::places::{FillsPlaces, PLACES, TakesFarPlaces, WritesSectors, fill};
 use crate::records::{ReadsCalls, ReadsRecord, Tally};
@@ -12,6 +12,7 @@ use crate::volumes::{Makes, Measured, SMALL, Tree};
 use crate::work::{Undone, Work};
 use disk::{Device, SECTOR};
 use freemap::Bitmap;
+use journal::FIRST_TARGET;
 use rpc::Assembler;
 use std::alloc::Global;
 

@@ -2,7 +2,7 @@
 
 use crate::calls::{Kind, Stream, stream_of};
 use crate::copying::Copies;
-use crate::journals::{FIRST_TARGET, Flushes, Held, ReadsListed};
+use crate::journals::{Flushes, Held, ReadsListed};
 use crate::listing::{ListsNames, NAMES, full_directory};
 use crate::places::{FillsPlaces, PLACES, TakesFarPlaces, WritesSectors, fill};
 use crate::records::{ReadsCalls, ReadsRecord, Tally};
@@ -10,6 +10,7 @@ use crate::replies::{REPLIES, WritesReplies};
 use crate::work::{Work, best_rate};
 use disk::SECTOR;
 use freemap::Bitmap;
+use journal::FIRST_TARGET;
 use rpc::Assembler;
 use std::alloc::Global;
 use std::time::Clock;

@@ -7,13 +7,11 @@ ghost use Rattle.journal.specs.Layout.{AreTargets, targets};
 use crate::rows::Rows;
 use crate::work::Work;
 use disk::{SECTOR, Update};
-use journal::{Journal, JournalFault};
+use journal::{FIRST_TARGET, Journal, JournalFault};
 use std::alloc::{AllocError, Global};
 
 /// The sectors of the device.
 const SECTORS: u32 = 256;
-/// The first sector that a transaction may write.
-pub const FIRST_TARGET: u32 = 98;
 
 /// Puts the updates' targets in place of what `named` held.
 fn name_targets(named: &mut Vec<u32>, updates: &[Update])
@@ -29,7 +27,7 @@ fn name_targets(named: &mut Vec<u32>, updates: &[Update])
 
 /// Whether a transaction may write these sectors: all from 98 on, below 256, and different.
 fn are_targets(to: &[u32]) -> bool
-    ensures { IsTrue result → AreTargets 256 to.now }
+    ensures { IsTrue result → AreTargets SECTORS to.now }
 {
     for (i, target) in to.iter().enumerate() {
         if *target < FIRST_TARGET || *target >= SECTORS || to[..i].contains(target) {

@@ -16,7 +16,10 @@ ghost use Rattle.client.specs.Requests.{credential_text, compound_call, head_tex
 ghost use Rattle.client.specs.Rests.{ids_text, procedure_text, auths_text};
 
 use model::acl::{Cred, Gids};
-use rpc::{MAX_AUTH_BYTES, MAX_TAG_BYTES, write_frame_header};
+use rpc::{
+    AUTH_NONE, AUTH_SYS, COMPOUND, MAX_AUTH_BYTES, MAX_TAG_BYTES, MINOR_VERSION, NFS_VERSION,
+    PROGRAM, write_frame_header,
+};
 use std::alloc::Global;
 use wire::Argument;
 use wire_client::write_argument;
@@ -28,18 +31,6 @@ pub(crate) const RECORD_LIMIT: usize = 1 << 31;
 const CALL: u32 = 0;
 
 const RPC_VERSION: u32 = 2;
-/// The program NFS, its version, and the procedure that runs operations.
-const PROGRAM: u32 = 100003;
-
-const NFS_VERSION: u32 = 4;
-
-const COMPOUND: u32 = 1;
-/// The flavours of the verifier and of the credential.
-const AUTH_NONE: u32 = 0;
-
-const AUTH_SYS: u32 = 1;
-/// The minor version of a COMPOUND.
-const MINOR_VERSION: u32 = 1;
 
 /// The body of the credential of this caller: AUTH_SYS, with the stamp 0 and no machine name.
 pub(crate) fn credential_body(alloc: Global, cred: &Cred) -> Result<Vec<u8>, Refusal>

@@ -3,9 +3,8 @@
 ghost use Rattle.std.specs.Prelude.{◌≡◌};
 
 use model::status::Status;
-use std::alloc::{AllocError, AllocFailed};
+use std::alloc::AllocError;
 use wire::Outcome;
-use xdr::Refusal;
 
 /// Why a call of the client is refused.
 #[derive(Drop)]

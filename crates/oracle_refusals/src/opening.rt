@@ -203,7 +203,7 @@ pub fn cuts_file(
 }
 
 /// The file that is opened: a new one's number is the change's stamp.
-pub fn file_opened(state: &State<'_>, opening: &Opening<'_>) -> u128
+fn file_opened(state: &State<'_>, opening: &Opening<'_>) -> u128
     ensures { result ≡ file_opened (state_of state.now) (opening_view opening.now) }
 {
     match opening {

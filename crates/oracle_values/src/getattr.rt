@@ -228,7 +228,7 @@ fn answered_bitmap(alloc: Global, asked: &[u32]) -> Result<Vec<u32>, AllocError>
 
 /// What a node answers of the attributes that are asked: those that are not supported are left out.
 #[tactic(auto, unfolding(model::specs::NodeAttributes::node_attributes))]
-pub fn node_attributes(
+fn node_attributes(
     alloc: Global,
     limits: &Limits,
     asked: &Bitmap,

@@ -3,6 +3,7 @@
 ghost use Rattle.std.specs.Prelude.{◌≤◌, length, All, IfOk};
 ghost use Rattle.wire_client.specs.ArgumentFits.{ArgumentFits, SecurityFits};
 
+use crate::arguments::MAX_OWNER_BYTES;
 use crate::caller::{Caller, Results};
 use crate::loopback::connect;
 use crate::operation::{Operation, arguments_of};
@@ -18,9 +19,6 @@ use wire::{
     Answer, Argument, CallbackSecurity, Channel, CreateSessionArguments, ExchangeIdArguments,
     Outcome,
 };
-
-/// The longest owner id.
-const MAX_OWNER_BYTES: usize = 1024;
 
 /// What a user asks of both channels of its session.
 const CHANNEL: Channel = Channel {
@@ -74,7 +72,7 @@ fn exchange_ids<S, D>(
 where
     S: Read + Write + Drop,
     D: Device,
-    requires { length owner.now ≤ 1024 }
+    requires { length owner.now ≤ MAX_OWNER_BYTES }
 {
     caller.call(server, &[exchange_id(owner)])
 }
@@ -274,7 +272,7 @@ fn words(alloc: Global, word: &'static str) -> Result<Vec<&'static str>, Refused
 
 /// The owner id of a user of this name.
 fn owner_of(name: &str) -> Result<&[u8], Refused>
-    ensures { IfOk result (λ owner. length owner.now ≤ 1024) }
+    ensures { IfOk result (λ owner. length owner.now ≤ MAX_OWNER_BYTES) }
 {
     let owner = name.as_bytes();
     if owner.len() > MAX_OWNER_BYTES {
@@ -285,7 +283,7 @@ fn owner_of(name: &str) -> Result<&[u8], Refused>
 
 /// EXCHANGE_ID of this owner id: a zero verifier, no flags (RFC 8881, section 18.35).
 fn exchange_id(owner: &[u8]) -> Argument<'_>
-    requires { length owner.now ≤ 1024 }
+    requires { length owner.now ≤ MAX_OWNER_BYTES }
     ensures { ArgumentFits result }
 {
     Argument::ExchangeId(ExchangeIdArguments {

@@ -24,8 +24,8 @@ const CURRENT: StateId = StateId {
 /// `OPEN4_SHARE_ACCESS_BOTH`: to read and to write.
 const BOTH: u32 = 3;
 
-/// The longest name of an owner.
-const MAX_OWNER_BYTES: usize = 1024;
+/// The most bytes of an owner id, of a client or of an open.
+pub(crate) const MAX_OWNER_BYTES: usize = 1024;
 
 /// The most bytes of a name, or that a script writes at once: more than a record has room for.
 const MAX_BYTES: usize = 65_536;
@@ -48,6 +48,7 @@ pub struct Mode {
 }
 
 impl Mode {
+    /// The value of this mode.
     pub fn new(mode: u32) -> Mode {
         Mode {
             value: mode.to_be_bytes(),
@@ -75,6 +76,7 @@ pub struct Size {
 }
 
 impl Size {
+    /// The value of this size.
     pub fn new(size: u64) -> Size {
         Size {
             value: size.to_be_bytes(),
@@ -214,7 +216,7 @@ pub fn committing() -> CommitArguments {
 
 /// The bytes of a name.
 pub fn name_bytes(name: &str) -> Result<&[u8], Refused>
-    ensures { IfOk result (λ bytes. length bytes.now ≤ 65536) }
+    ensures { IfOk result (λ bytes. length bytes.now ≤ MAX_BYTES) }
 {
     let bytes = name.as_bytes();
     if bytes.len() > MAX_BYTES {
@@ -225,7 +227,7 @@ pub fn name_bytes(name: &str) -> Result<&[u8], Refused>
 
 /// The bytes of a filehandle.
 pub fn handle_bytes(handle: &[u8]) -> Result<&[u8], Refused>
-    ensures { IfOk result (λ bytes. length bytes.now ≤ 128) }
+    ensures { IfOk result (λ bytes. length bytes.now ≤ MAX_HANDLE_BYTES) }
 {
     if handle.len() > MAX_HANDLE_BYTES {
         return Err(Refused::Script);

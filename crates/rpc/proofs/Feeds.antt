@@ -29,9 +29,6 @@ partial_in (Whole request rest) is = absurd cc
 pub partial : (bytes : List ℕ) → is_partial (front record_limits bytes) ≡ true → front record_limits bytes ≡ Partial
 partial bytes is = partial_in (front record_limits bytes) is
 
-pub is_still_partial : (bytes : List ℕ) → front record_limits bytes ≡ Partial → is_partial (front record_limits bytes) ≡ true
-is_still_partial bytes is = ap is_partial is
-
 -- The bytes that are taken
 
 pub more_taken : (old : Assembly) (bytes piece new : List ℕ) → old ≡ Gathers bytes → Receives bytes piece progress.More new → taken_at record_limits piece (connection_of old) ≡ Some (length piece)

@@ -9,7 +9,7 @@ ghost use Rattle.rpc.specs.Assembly.{Finds};
 /// Bytes of a header.
 pub const HEADER_BYTES: usize = 4;
 /// The mark of a record's last fragment.
-const LAST_FRAGMENT: u32 = 1 << 31;
+pub(crate) const LAST_FRAGMENT: u32 = 1 << 31;
 /// The most bytes of a record.
 pub const MAX_RECORD_BYTES: usize = 16384;
 /// The most fragments of a record.

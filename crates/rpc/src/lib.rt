@@ -8,6 +8,7 @@ mod compound;
 mod fault;
 mod fragment;
 mod join;
+mod numbers;
 mod receive;
 mod reply;
 mod request;
@@ -16,15 +17,11 @@ mod state;
 mod tag;
 
 pub use assembler::Assembler;
-pub use auth::read_auth_sys;
 pub use call::{Call, CallRead, MAX_AUTH_BYTES, read_call};
 pub use compound::Compound;
 pub use fault::RecordFault;
 pub use fragment::{HEADER_BYTES, MAX_FRAGMENTS, MAX_RECORD_BYTES};
-pub use reply::{
-    AuthStat, CompoundResult, Reply, write_compound_head, write_frame_header, write_reply,
-    write_success,
-};
+pub use numbers::{AUTH_NONE, AUTH_SYS, COMPOUND, MINOR_VERSION, NFS_VERSION, PROGRAM};
+pub use reply::{AuthStat, CompoundResult, Reply, write_frame_header, write_reply};
 pub use request::Request;
 pub use tag::{MAX_TAG_BYTES, Tag};
-pub use wire::SystemCredential as AuthSys;

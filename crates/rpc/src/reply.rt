@@ -9,14 +9,13 @@ ghost use Rattle.model.specs.Record.{framed};
 ghost use Rattle.model.specs.Rpc.{words, reply_text};
 ghost use Rattle.rpc.specs.Views.{reply_view, result_text, success_head, compound_front, frame_header, front_of, tail_of};
 
+use crate::fragment::LAST_FRAGMENT;
 use crate::tag::Tag;
 use model::status::Status;
 use xdr::{Refusal, Writer, opaque_size};
 
 /// The message type of a reply.
 const REPLY: u32 = 1;
-/// The mark of a record's last fragment.
-const LAST_FRAGMENT: u32 = 1 << 31;
 
 /// Why a caller's authentication is refused.
 #[derive(Clone, Copy, Debug, PartialEq, Eq)]
@@ -174,7 +173,7 @@ fn write_body(w: &mut Writer, xid: u32, reply: &Reply<'_>) -> Result<(), Refusal
 }
 
 /// Writes a successful reply up to its result.
-pub fn write_success(w: &mut Writer, xid: u32) -> Result<(), Refusal>
+fn write_success(w: &mut Writer, xid: u32) -> Result<(), Refusal>
     ensures { Wrote w.old w.new result (success_head xid) }
 {
     write_accepted(w, xid, SUCCESS)
@@ -182,7 +181,7 @@ pub fn write_success(w: &mut Writer, xid: u32) -> Result<(), Refusal>
 
 /// Writes a COMPOUND's result up to the results of its operations: status, tag, and their number.
 #[tactic(auto, using(xdr::proofs::Writing::wrote_on, xdr::proofs::Writing::wrote_exit, xdr::proofs::Writing::wrote_end))]
-pub fn write_compound_head(
+fn write_compound_head(
     w: &mut Writer,
     status: Status,
     tag: Tag<'_>,

@@ -8,26 +8,12 @@ ghost use Rattle.rpc.specs.Views.{head_view, call_view, reply_view, request_view
 use crate::auth::{cred_from, read_auth_sys};
 use crate::call::Call;
 use crate::compound::Compound;
+use crate::numbers::{AUTH_NONE, AUTH_SYS, COMPOUND, MINOR_VERSION, NFS_VERSION, NULL, PROGRAM};
 use crate::reply::{AuthStat, CompoundResult, Reply};
 use crate::tag::{MAX_TAG_BYTES, Tag};
 use model::acl::Cred;
 use model::status::Status;
 use xdr::{Reader, Refusal};
-
-/// The program NFS and its version.
-const PROGRAM: u32 = 100003;
-
-const NFS_VERSION: u32 = 4;
-/// Its procedures.
-const NULL: u32 = 0;
-
-const COMPOUND: u32 = 1;
-/// The flavours of credentials that are told apart.
-const AUTH_NONE: u32 = 0;
-
-const AUTH_SYS: u32 = 1;
-/// The minor version that is served.
-const MINOR_VERSION: u32 = 1;
 
 /// What a call asks for.
 #[derive(Drop)]

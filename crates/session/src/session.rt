@@ -3,8 +3,9 @@
 ghost use Rattle.std.specs.Prelude.{◌≡◌, ◌≤◌};
 ghost use Rattle.std.specs.Vec.{vec_len};
 ghost use Rattle.model.specs.Session.{session_id};
+ghost use Rattle.session.specs.declared.limits.TheConstants.{SLOTS};
 
-use crate::limits::RECORD_BYTES;
+use crate::limits::{RECORD_BYTES, SLOTS};
 use crate::slot::{Next, Slot, SlotState, free_slots};
 use model::status::Status;
 use std::alloc::{AllocError, Global};
@@ -17,7 +18,7 @@ pub struct Session {
     pub serial: u64,
     pub max_operations: u32,
     pub slots: Vec<Slot>,
-    ghost few: { vec_len slots ≤ 8 },
+    ghost few: { vec_len slots ≤ SLOTS },
 }
 
 /// The id of a session (RFC 8881, section 2.10.3): its client's id and its serial, 8 bytes each.
@@ -47,7 +48,7 @@ impl Session {
         serial: u64,
         fore: &Channel,
     ) -> Result<Session, AllocError>
-        requires { fore.now.max_requests ≤ 8 }
+        requires { fore.now.max_requests ≤ SLOTS }
         ensures { IfOk result (λ session. session_of session ≡ record {
           client = client;
           serial = serial;

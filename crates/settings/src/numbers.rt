@@ -3,14 +3,19 @@
 ghost use Rattle.std.specs.Prelude.{◌≡◌};
 ghost use Rattle.model.specs.Attribute.{has_one_outside, is_among};
 
+/// `size`: the bytes of a file.
 pub const SIZE: u32 = 4;
 
+/// `acl`: the access control list.
 pub const ACL: u32 = 12;
 
+/// `mode`: the permissions of the owner, the group and everyone.
 pub const MODE: u32 = 33;
 
+/// `owner`: the owner, as a text.
 pub const OWNER: u32 = 36;
 
+/// `owner_group`: the owner's group, as a text.
 pub const OWNER_GROUP: u32 = 37;
 
 /// What this server supports.

@@ -36,10 +36,6 @@ by_last (suc n) [] = let some : suc n ≢ 0 = omega arith in ap not (sym (ne_eqb
 by_last zero (m ∷ words) = by_last m words
 by_last (suc n) (m ∷ words) = by_last m words
 
-pub trimmed_empty : (words : List ℕ) → length words ≡ 0 → is_trimmed words ≡ true
-trimmed_empty [] none = refl
-trimmed_empty (n ∷ words) none = absurd (omega arith)
-
 pub trimmed_by_last : (words : List ℕ) (last : ℕ) → 0 < length words → last ≡ get_or words (length words - 1) 0 → is_trimmed words ≡ not (eqb last 0)
 trimmed_by_last [] last some is = absurd (omega arith)
 trimmed_by_last (n ∷ words) last some is =

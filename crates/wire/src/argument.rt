@@ -19,8 +19,8 @@ use crate::small::{ANY_LENGTH, Bitmap};
 use std::alloc::Global;
 use xdr::{Reader, Refusal, Words};
 
-/// NFS4_FHSIZE: the most bytes of a filehandle.
-const MAX_HANDLE: u32 = 128;
+/// The most bytes of a filehandle (NFS4_FHSIZE, RFC 8881, section 3.1).
+pub const MAX_HANDLE_BYTES: u32 = 128;
 
 /// The operations that have arguments and results on the wire, with their numbers (`nfs_opnum4`).
 #[derive(Clone, Copy, Debug, PartialEq, Eq)]
@@ -194,7 +194,7 @@ impl<'a> Argument<'a> {
             Operation::Lookup => Argument::Lookup(at.read_opaque(ANY_LENGTH)?),
             Operation::LookupParent => Argument::LookupParent,
             Operation::Open => Argument::Open(OpenArguments::read(&mut at)?),
-            Operation::PutFh => Argument::PutFh(at.read_opaque(MAX_HANDLE)?),
+            Operation::PutFh => Argument::PutFh(at.read_opaque(MAX_HANDLE_BYTES)?),
             Operation::PutRootFh => Argument::PutRootFh,
             Operation::Read => Argument::Read(ReadArguments::read(&mut at)?),
             Operation::ReadDir => Argument::ReadDir(ReadDirArguments::read(&mut at)?),

@@ -20,7 +20,7 @@ pub use answers::{
     AccessAnswer, CreateAnswer, CreateSessionAnswer, Entry, ExchangeIdAnswer, OpenAnswer,
     ReadAnswer, ReadDirAnswer, RenameAnswer, SequenceAnswer, WriteAnswer,
 };
-pub use argument::{Argument, Operation};
+pub use argument::{Argument, MAX_HANDLE_BYTES, Operation};
 pub use directory::{CreateArguments, ReadDirArguments, RenameArguments};
 pub use file::{CloseArguments, CommitArguments, ReadArguments, SetAttrArguments, WriteArguments};
 pub use laws::{arguments_are_exact, outcomes_are_exact};
@@ -28,6 +28,6 @@ pub use open::{Claim, OpenArguments, OpenType, Opening};
 pub use outcome::{Answer, Outcome};
 pub use session::{CreateSessionArguments, ExchangeIdArguments, SequenceArguments};
 pub use small::{
-    Attributes, Bitmap, CallbackSecurity, ChangeInfo, Channel, Implementation, StateId,
+    ANY_LENGTH, Attributes, Bitmap, CallbackSecurity, ChangeInfo, Channel, Implementation, StateId,
     SystemCredential, read_trimmed, trimmed,
 };

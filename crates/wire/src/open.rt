@@ -4,7 +4,7 @@ ghost use Rattle.xdr.specs.Clauses.{Scans};
 ghost use Rattle.model.specs.WireArguments.{claim, create_how, opening, open_arguments};
 ghost use Rattle.wire.specs.ArgumentViews.{claim_view, opening_view, open_view};
 
-use crate::small::{ANY_LENGTH, Attributes};
+use crate::small::{ANY_LENGTH, Attributes, MAX_OWNER_BYTES};
 use xdr::{Reader, Refusal};
 
 /// `openflag4`, with `createhow4` where a file may be made.
@@ -112,7 +112,7 @@ impl<'a> OpenArguments<'a> {
         let access = at.read_u32()?;
         let deny = at.read_u32()?;
         let client = at.read_u64()?;
-        let owner = at.read_opaque(1024)?;
+        let owner = at.read_opaque(MAX_OWNER_BYTES)?;
         let opening = Opening::read(&mut at)?;
         *r = at;
         Ok(OpenArguments {

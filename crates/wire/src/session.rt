@@ -9,9 +9,12 @@ ghost use Rattle.model.specs.WireArguments.{exchange_id_arguments, create_sessio
 ghost use Rattle.wire.specs.SmallViews.{implementation_view, security_view};
 ghost use Rattle.wire.specs.ArgumentViews.{exchange_id_view, create_session_view, sequence_view, ReadsSecurities};
 
-use crate::small::{CallbackSecurity, Channel, Implementation};
+use crate::small::{CallbackSecurity, Channel, Implementation, MAX_OWNER_BYTES};
 use std::alloc::Global;
 use xdr::{Reader, Refusal};
+
+/// The most security parameters for callbacks that are read.
+const MAX_SECURITIES: u32 = 4;
 
 /// `EXCHANGE_ID4args`, with the state protection SP4_NONE.
 #[derive(Drop)]
@@ -29,7 +32,7 @@ impl<'a> ExchangeIdArguments<'a> {
     {
         let mut at = r.fork();
         let verifier = at.read_array()?;
-        let owner = at.read_opaque(1024)?;
+        let owner = at.read_opaque(MAX_OWNER_BYTES)?;
         let flags = at.read_u32()?;
         at.read_always(0)?;
         let implementation = read_implementation(&mut at)?;
@@ -105,7 +108,7 @@ fn read_securities<'a>(
 {
     let mut at = r.fork();
     let count = at.read_u32()?;
-    if count > 4 {
+    if count > MAX_SECURITIES {
         return Err(Refusal::Long);
     }
     let (list, at) = each_security(alloc, count, at)?;

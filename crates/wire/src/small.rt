@@ -9,6 +9,7 @@ ghost use Rattle.model.specs.Attribute.{trimmed};
 ghost use Rattle.model.specs.WireTypes.{state_id, attributes, change_info, channel, implementation, system_credential, callback_security};
 ghost use Rattle.wire.specs.SmallViews.{channel_rest, state_view, attributes_view, change_view, channel_view, implementation_view, credential_view, security_view};
 
+use model::acl::Gids;
 use xdr::{Reader, Refusal, Words, Writer};
 
 /// Attribute n is bit n % 32 of word n / 32.
@@ -46,7 +47,13 @@ fn ends_in_a_bit(words: &[u32]) -> bool
 }
 
 /// The length of a name, of data or of attribute values has no limit of its own.
-pub(crate) const ANY_LENGTH: u32 = u32::MAX;
+pub const ANY_LENGTH: u32 = u32::MAX;
+
+/// The most bytes of the owner id of a client or of an open (NFS4_OPAQUE_LIMIT, RFC 8881, section 3.1).
+pub(crate) const MAX_OWNER_BYTES: u32 = 1024;
+
+/// The most bytes of a machine's name (RFC 5531, appendix A).
+const MAX_MACHINE_NAME_BYTES: u32 = 255;
 
 /// `stateid4`.
 #[derive(Clone, Copy, Debug, PartialEq, Eq)]
@@ -244,7 +251,7 @@ pub struct SystemCredential<'a> {
     pub machine_name: &'a [u8],
     pub uid: u32,
     pub gid: u32,
-    pub gids: Words<16>,
+    pub gids: Words<{ Gids::MAX_GIDS }>,
 }
 
 impl<'a> SystemCredential<'a> {
@@ -254,7 +261,7 @@ impl<'a> SystemCredential<'a> {
     {
         let mut at = r.fork();
         let stamp = at.read_u32()?;
-        let machine_name = at.read_opaque(255)?;
+        let machine_name = at.read_opaque(MAX_MACHINE_NAME_BYTES)?;
         let uid = at.read_u32()?;
         let gid = at.read_u32()?;
         let gids = Words::read(&mut at)?;

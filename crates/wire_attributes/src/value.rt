@@ -9,14 +9,8 @@ ghost use Rattle.wire_attributes.specs.Views.{ValueFits, file_system_view, time_
 use crate::entry::{AclEntry, read_entries, write_entries};
 use model::node::NodeKind;
 use std::alloc::Global;
-use wire::{Bitmap, read_trimmed};
+use wire::{ANY_LENGTH, Bitmap, MAX_HANDLE_BYTES, read_trimmed};
 use xdr::{Reader, Refusal, Writer};
-
-/// NFS4_FHSIZE: the most bytes of a filehandle.
-const MAX_HANDLE: u32 = 128;
-
-/// The length of a text has no limit of its own.
-const ANY_LENGTH: u32 = u32::MAX;
 
 /// `fsid4`.
 #[derive(Clone, Copy, Debug, PartialEq, Eq)]
@@ -190,7 +184,7 @@ impl<'a> Value<'a> {
             11 => Value::RdattrError(at.read_u32()?),
             12 => Value::Acl(read_entries(alloc, &mut at)?),
             13 => Value::AclSupport(at.read_u32()?),
-            19 => Value::FileHandle(at.read_opaque(MAX_HANDLE)?),
+            19 => Value::FileHandle(at.read_opaque(MAX_HANDLE_BYTES)?),
             20 => Value::FileId(at.read_u64()?),
             27 => Value::MaxFileSize(at.read_u64()?),
             29 => Value::MaxName(at.read_u32()?),

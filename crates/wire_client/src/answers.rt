@@ -7,11 +7,12 @@ ghost use Rattle.model.specs.WireAnswers.{access_answer, create_answer, open_ans
 ghost use Rattle.wire.specs.AnswerViews.{access_view, create_view, open_view, read_view, entry_view, read_dir_view, rename_view, write_view, exchange_id_view, create_session_view, sequence_view};
 ghost use Rattle.wire_client.specs.Reading.{ReadsEntries};
 
-use crate::small::{ANY_LENGTH, read_answered, read_change};
+use crate::small::{read_answered, read_change};
 use std::alloc::Global;
 use wire::{
-    AccessAnswer, Channel, CreateAnswer, CreateSessionAnswer, Entry, ExchangeIdAnswer, OpenAnswer,
-    ReadAnswer, ReadDirAnswer, RenameAnswer, SequenceAnswer, StateId, WriteAnswer, read_trimmed,
+    ANY_LENGTH, AccessAnswer, Channel, CreateAnswer, CreateSessionAnswer, Entry, ExchangeIdAnswer,
+    OpenAnswer, ReadAnswer, ReadDirAnswer, RenameAnswer, SequenceAnswer, StateId, WriteAnswer,
+    read_trimmed,
 };
 use xdr::{Reader, Refusal};
 

@@ -14,11 +14,8 @@ use crate::answers::{
 use crate::small::{read_answered, read_change};
 use crate::status::refusal_of_number;
 use std::alloc::Global;
-use wire::{Answer, Operation, Outcome, StateId, read_trimmed};
+use wire::{Answer, MAX_HANDLE_BYTES, Operation, Outcome, StateId, read_trimmed};
 use xdr::{Reader, Refusal};
-
-/// NFS4_FHSIZE: the most bytes of a filehandle.
-const MAX_HANDLE: u32 = 128;
 
 /// Reads a result: an operation's number, its status, and the values after it (`nfs_resop4`).
 ///
@@ -88,7 +85,7 @@ fn read_values<'a>(
         Operation::Commit => Answer::Commit(at.read_array()?),
         Operation::Create => Answer::Create(read_create(&mut at)?),
         Operation::GetAttr => Answer::GetAttr(read_answered(&mut at)?),
-        Operation::GetFh => Answer::GetFh(at.read_opaque(MAX_HANDLE)?),
+        Operation::GetFh => Answer::GetFh(at.read_opaque(MAX_HANDLE_BYTES)?),
         Operation::Lookup => Answer::Lookup,
         Operation::LookupParent => Answer::LookupParent,
         Operation::Open => Answer::Open(read_open(&mut at)?),

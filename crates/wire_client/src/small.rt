@@ -10,13 +10,10 @@ ghost use Rattle.wire_client.specs.Rests.{credential_rest};
 ghost use Rattle.wire_client.specs.ArgumentFits.{ImplementationFits, MaybeImplementationFits, CredentialFits, SecurityFits};
 
 use wire::{
-    Attributes, Bitmap, CallbackSecurity, ChangeInfo, Implementation, SystemCredential,
+    ANY_LENGTH, Attributes, Bitmap, CallbackSecurity, ChangeInfo, Implementation, SystemCredential,
     read_trimmed,
 };
 use xdr::{Reader, Refusal, Writer};
-
-/// The length of a name, of data or of attribute values has no limit of its own.
-pub(crate) const ANY_LENGTH: u32 = u32::MAX;
 
 /// Reads a `change_info4`.
 pub(crate) fn read_change(r: &mut Reader<'_>) -> Result<ChangeInfo, Refusal>
