@@ -21,13 +21,12 @@ pub struct Fs<D: Device> {
 
 #[tactic(auto, unfolding(crate::specs::FileSystems::fs_of, crate::specs::FileSystems::fs_failures))]
 impl<D: Device> Fs<D> {
-    ghost use Rattle.std.specs.Prelude.{◌≡◌, ◌≤◌, ◌⊎◌, ◌↔◌, false, OnOk, IfOk, IfErr, IsErrOf};
+    ghost use Rattle.std.specs.Prelude.{◌≡◌, ◌≤◌, IfOk, IfErr, IsErrOf};
     ghost use Rattle.disk.specs.Cause.{IsCounted};
     ghost use Rattle.fs.specs.FileSystem.{IsNew};
     ghost use Rattle.fs.specs.FileSystems.{fs_of, fs_failures};
-    ghost use Rattle.layout.specs.Superblock.{is_size};
+    ghost use Rattle.fs.specs.Formatting.{Formats};
     ghost use Rattle.volume.specs.Checks.{FailsCheck, HasChecked};
-    ghost use Rattle.volume.specs.Formats.{AddsFresh, LeavesFresh};
     ghost use Rattle.volume.specs.MountAnswers.{HasMounted, IsRefused, ComesBack};
 
     /// Makes the device a new volume of this many nodes, with an empty root: `volume::format`.
@@ -37,19 +36,8 @@ impl<D: Device> Fs<D> {
     /// Size where no volume has this many sectors and nodes, and Memory: nothing was written. Device
     /// where the device failed.
     pub fn format(alloc: Global, device: &mut D, nodes: u32) -> Result<(), FormatFault>
-        ensures any_moment { D.keeps_word → AddsFresh (D.size device.old) nodes
-            (D.history device.old) (D.history device.new) }
-        ensures ok { D.keeps_word → OnOk result
-            (LeavesFresh (D.size device.old) nodes (D.history device.new)) }
-        // Refused
-        ensures size { IsErrOf result FormatFault.Size
-            ↔ (is_size (D.size device.old) nodes ≡ false) }
-        ensures untouched { (IsErrOf result FormatFault.Size ⊎ IsErrOf result FormatFault.Memory)
-            → D.history device.new ≡ D.history device.old }
-        ensures cause { IsErrOf result FormatFault.Device
-            → IsCounted (D.failed device.old) (D.failed device.new) }
-        ensures later { D.failed device.old ≤ D.failed device.new }
-        ensures same_size { D.size device.new ≡ D.size device.old }
+        ensures { Formats D.keeps_word D.size D.failed D.history nodes
+            device.old device.new result }
     {
         volume::format(alloc, device, nodes)
     }

@@ -82,6 +82,7 @@ impl<D: Device> Fs<D> {
             (MakesTree (fs_of self.old) cred.now asked.entry.parent now
             (new_directory asked.entry.name.now (given_of asked.entry.attributes)))
             (fs_ending result) }
+        // Refused
         ensures room { OnOk result (has_room ≡ true) }
         ensures no_room { IsErrOf result FsFault.NoRoom → has_room ≡ false }
         ensures down { (fs_of self.old).volume.is_down ≡ true → IsErrOf result FsFault.Down }

@@ -183,6 +183,7 @@ impl<D: Device> Fs<D> {
         ensures volume { Alters self.old self.new
             (RenamesTree (fs_of self.old) cred.now asked.entry.from asked.entry.to now
             (arguments_of asked.entry)) (fs_ending result) }
+        // Refused
         ensures room { OnOk result (has_room ≡ true) }
         ensures no_room { IsErrOf result FsFault.NoRoom → has_room ≡ false }
         ensures down { (fs_of self.old).volume.is_down ≡ true → IsErrOf result FsFault.Down }

@@ -10,30 +10,17 @@ use std::alloc::Global;
 
 #[tactic(auto, unfolding(crate::specs::Servers::world_of, crate::specs::Servers::files_of, crate::specs::Servers::volume_of, crate::specs::Servers::failures_of, crate::specs::Connections::connections_of))]
 impl<D: Device> Server<D> {
-    ghost use Rattle.std.specs.Prelude.{◌≡◌, ◌≤◌, ◌⊎◌, ◌↔◌, false, OnOk, IfOk, IfErr, IsErrOf};
-    ghost use Rattle.disk.specs.Cause.{IsCounted};
+    ghost use Rattle.std.specs.Prelude.{◌≤◌, IfOk, IfErr};
     ghost use Rattle.fs.specs.FileSystem.{IsNew};
-    ghost use Rattle.layout.specs.Superblock.{is_size};
-    ghost use Rattle.volume.specs.Formats.{AddsFresh, LeavesFresh};
+    ghost use Rattle.fs.specs.Formatting.{Formats};
     ghost use Rattle.volume.specs.MountAnswers.{HasMounted, IsRefused, ComesBack};
     ghost use Rattle.server.specs.Headline.{Begins};
     ghost use Rattle.server.specs.Servers.{BeginsEmpty, files_of, volume_of, failures_of};
 
     /// Makes the device a new volume of this many nodes, with an empty root: `Fs::format`.
     pub fn format(alloc: Global, device: &mut D, nodes: u32) -> Result<(), FormatFault>
-        ensures any_moment { D.keeps_word → AddsFresh (D.size device.old) nodes
-            (D.history device.old) (D.history device.new) }
-        ensures ok { D.keeps_word → OnOk result
-            (LeavesFresh (D.size device.old) nodes (D.history device.new)) }
-        // Refused
-        ensures size { IsErrOf result FormatFault.Size
-            ↔ (is_size (D.size device.old) nodes ≡ false) }
-        ensures untouched { (IsErrOf result FormatFault.Size ⊎ IsErrOf result FormatFault.Memory)
-            → D.history device.new ≡ D.history device.old }
-        ensures cause { IsErrOf result FormatFault.Device
-            → IsCounted (D.failed device.old) (D.failed device.new) }
-        ensures later { D.failed device.old ≤ D.failed device.new }
-        ensures same_size { D.size device.new ≡ D.size device.old }
+        ensures { Formats D.keeps_word D.size D.failed D.history nodes
+            device.old device.new result }
     {
         Fs::format(alloc, device, nodes)
     }

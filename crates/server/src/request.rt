@@ -55,8 +55,10 @@ pub fn first_turn<D: Device>(
         (left_by (asked_in request.now) done) (turn_by done)) }
     ensures stays { IfOk result (StaysInRun (fs_of fs.old).volume.run) }
     ensures follows { IfOk result (λ done. can_follow (asked_in request.now) done ≡ true) }
+    // Refused
     ensures table { OnErr result (table_of table.new ≡ table_of table.old) }
     ensures opens { OnErr result (opens_of opens.new ≡ opens_of opens.old) }
+    // In every answer
     ensures volume { Alters fs.old fs.new (TurnGives (shared_of fs.old table.old opens.old)
         (λ world number. called world number now (rpc.read_call request.now))) (ending result) }
 {

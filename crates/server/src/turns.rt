@@ -43,9 +43,11 @@ impl Connection {
         ensures further { OnOk result
             (HasGoneOn (Some (connection_view self.old)) (Some (connection_view self.new))) }
         ensures run { IsOfRun (fs_of fs.old).volume.run (connection_view self.new) }
+        // Refused
         ensures back { OnErr result ((connection_view self.new ≡ connection_view self.old)
             × (table_of table.new ≡ table_of table.old)
             × (opens_of opens.new ≡ opens_of opens.old)) }
+        // In every answer
         ensures volume { Alters fs.old fs.new (TurnGives (shared_of fs.old table.old opens.old)
             (λ world number. turned world number now (Some (connection_view self.old))))
             (ending result) }

@@ -1,0 +1,23 @@
+-- What a format of a device says by its answer.
+use Rattle.std.specs.Prelude.{ℕ, ◌≡◌, ◌≤◌, ◌⊎◌, ◌↔◌, false, Result, OnOk, IsErrOf}
+use Rattle.disk.specs.Cause.{IsCounted}
+use Rattle.disk.specs.Moments.{History}
+use Rattle.layout.specs.Superblock.{is_size}
+use Rattle.volume.specs.Formats.{AddsFresh, LeavesFresh}
+use Rattle.volume.specs.declared.fault.FormatFault.{FormatFault}
+use Rattle.volume.specs.declared.fault.FormatFault.TheVariants as faults
+
+-- A stop within it leaves what was there, no volume, or the new one, and after Ok the new one alone.
+-- Size comes exactly where no volume has such numbers; after it, as without memory, nothing was
+-- written. Device comes only where a failure was counted.
+pub record Formats {D : Type 0} (keeps_word : Type 0) (sectors failed : D → ℕ)
+    (history : D → History) (nodes : ℕ) (old new : D) (result : Result (Unit {0}) FormatFault)
+    : Type 0 where
+  pub moments : keeps_word → AddsFresh (sectors old) nodes (history old) (history new)
+  pub ok : keeps_word → OnOk result (LeavesFresh (sectors old) nodes (history new))
+  pub size : IsErrOf result faults.Size ↔ (is_size (sectors old) nodes ≡ false)
+  pub untouched : IsErrOf result faults.Size ⊎ IsErrOf result faults.Memory
+      → history new ≡ history old
+  pub cause : IsErrOf result faults.Device → IsCounted (failed old) (failed new)
+  pub later : failed old ≤ failed new
+  pub same_size : sectors new ≡ sectors old
