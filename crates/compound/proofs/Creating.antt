@@ -64,12 +64,6 @@ made_short request before after was_set room = below _ 16368 (made_room request 
 pub up_or_down : (is_down : Bool) → is_down ≡ false → is_down ≡ true → ⊥
 up_or_down is_down up down = cc
 
-pub status≢device : (reason : Status) → fault.Status reason ≡ fault.Device → ⊥
-status≢device reason is = cc
-
-pub room≢device : fault.NoRoom ≡ fault.Device → ⊥
-room≢device is = cc
-
 -- Where it is made
 
 module _ (now : ℕ) (fs : FileSystem) (table : Table) (opens : Opens) (request : InProgress) (name : List ℕ) (given : Attributes) where

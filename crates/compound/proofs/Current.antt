@@ -1,18 +1,33 @@
 -- The current filehandle in each world.
-use Rattle.std.proofs.Common.{◌≡◌, ℕ, Bool, true, false, refl}
+use Rattle.std.proofs.Common.{◌≡◌, ℕ, Bool, true, false, Option, Some, None, refl}
 use Rattle.model.specs.Answer.{Answer, Outcome}
 use Rattle.model.specs.Context.{has_current, at_node}
 use Rattle.model.specs.Need.{permitted}
 use Rattle.model.specs.Operation.{Argument, NewDirectory, OtherType, operation_of}
+use Rattle.model.specs.Refusal.{refused_or}
 use Rattle.model.specs.Step.{does, refusals, effect}
 use Rattle.model.specs.Tree.{root}
 use Rattle.model.specs.World.{World, InProgress, Gives, run}
+use Rattle.model.specs.declared.status.Status.{Status}
 use Rattle.model.specs.declared.status.Status.TheVariants as status
 
 pub ran_root : (world : World) (request : InProgress) (now : ℕ)
     → run world request now Argument.PutRootFh ≡ Gives (Outcome.Done Answer.PutRootFh) world (record request { context = at_node request.context root })
 unfolding run does refusals permitted effect
 ran_root world request now = refl
+
+-- the tests of the current filehandle come before all others
+pub after_some : (none gone : Bool) (reason : Status) (others : Option Status) → refused_or none status.NoFileHandle (refused_or gone status.Stale None) ≡ Some reason
+    → refused_or none status.NoFileHandle (refused_or gone status.Stale others) ≡ Some reason
+after_some true gone reason others is = is
+after_some false true reason others is = is
+after_some false false reason others is = absurd cc
+
+pub after_none : (none gone : Bool) (others : Option Status) → refused_or none status.NoFileHandle (refused_or gone status.Stale None) ≡ None
+    → refused_or none status.NoFileHandle (refused_or gone status.Stale others) ≡ others
+after_none true gone others is = absurd cc
+after_none false true others is = absurd cc
+after_none false false others is = refl
 
 -- the operations served that take the current filehandle
 abbrev pub takes_current : Argument → Bool

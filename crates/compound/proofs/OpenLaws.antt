@@ -1,34 +1,23 @@
 -- OPEN on a world is that on its file system and what is open.
-use Rattle.std.proofs.Common.{◌≡◌, ℕ, List, Bool, true, false, not, Option, Some, None, refl, ap}
+use Rattle.std.proofs.Common.{◌≡◌, ℕ, List, not, Option, Some, None, refl, ap}
 use Rattle.fs.specs.Operations.{current_refusal}
 use Rattle.model.specs.Context.{has_current}
 use Rattle.model.specs.Keyed.{is_key}
 use Rattle.model.specs.Open.{opening_refusals}
 use Rattle.model.specs.Operation.{Argument, OpenArguments, Opening, Opens, Exclusive, ByName, ByHandle, OtherClaim}
-use Rattle.model.specs.Refusal.{first_refusal, refused_or}
+use Rattle.model.specs.Refusal.{first_refusal}
 use Rattle.model.specs.Step.{State, does, effect, refused, refusals, unless_refused, current}
 use Rattle.model.specs.World.{World, InProgress, run, stepped, state_of}
 use Rattle.model.specs.declared.limits.Limits.{Limits}
 use Rattle.model.specs.declared.status.Status.{Status}
 use Rattle.model.specs.declared.status.Status.TheVariants as status
 use Rattle.compound.specs.Runs.{with_rest}
+use Rattle.compound.proofs.Current.{after_some, after_none}
 
 pub on_tree : (now : ℕ) (request : InProgress) (arguments : OpenArguments) (world : World) (rest : List ℕ) → run world (with_rest request rest) now (Argument.Open arguments)
     ≡ stepped world (with_rest request rest) (does world.limits.volume (state_of world (with_rest request rest)) now (Argument.Open arguments))
 unfolding run
 on_tree now request arguments world rest = refl
-
-behind_some : (none gone : Bool) (reason : Status) (others : Option Status) → refused_or none status.NoFileHandle (refused_or gone status.Stale None) ≡ Some reason
-    → refused_or none status.NoFileHandle (refused_or gone status.Stale others) ≡ Some reason
-behind_some true gone reason others is = is
-behind_some false true reason others is = is
-behind_some false false reason others is = absurd cc
-
-behind_none : (none gone : Bool) (others : Option Status) → refused_or none status.NoFileHandle (refused_or gone status.Stale None) ≡ None
-    → refused_or none status.NoFileHandle (refused_or gone status.Stale others) ≡ others
-behind_none true gone others is = absurd cc
-behind_none false true others is = absurd cc
-behind_none false false others is = refl
 
 module _ (limits : Limits) (state : State) (now : ℕ) where
   -- the tests of the current filehandle refuse it
@@ -37,7 +26,7 @@ module _ (limits : Limits) (state : State) (now : ℕ) where
   unfolding does refusals
   refused_current arguments reason is =
       ap (λ (first : Option Status). unless_refused state (Argument.Open arguments) first (effect limits state now (Argument.Open arguments)))
-      (behind_some (not (has_current state.context)) (not (is_key (current state) state.tree)) reason _ is)
+      (after_some (not (has_current state.context)) (not (is_key (current state) state.tree)) reason _ is)
 
   -- after them, it is not served
   pub refused_opening : (seqid access deny client : ℕ) (owner : List ℕ) (opening : Opening) → current_refusal state ≡ None
@@ -48,10 +37,10 @@ module _ (limits : Limits) (state : State) (now : ℕ) where
   refused_opening seqid access deny client owner (Exclusive mode) passed is =
       let kind = Argument.Open (record { seqid = seqid; access = access; deny = deny; client = client; owner = owner; opening = Exclusive mode }) in
       ap (λ (first : Option Status). unless_refused state kind first (effect limits state now kind))
-      (behind_none (not (has_current state.context)) (not (is_key (current state) state.tree)) (Some status.NotSupp) passed)
+      (after_none (not (has_current state.context)) (not (is_key (current state) state.tree)) (Some status.NotSupp) passed)
   refused_opening seqid access deny client owner (Opens how (OtherClaim claim)) passed is =
       let kind = Argument.Open (record { seqid = seqid; access = access; deny = deny; client = client; owner = owner; opening = Opens how (OtherClaim claim) }) in
       ap (λ (first : Option Status). unless_refused state kind first (effect limits state now kind))
-      (behind_none (not (has_current state.context)) (not (is_key (current state) state.tree)) (Some status.NotSupp) passed)
+      (after_none (not (has_current state.context)) (not (is_key (current state) state.tree)) (Some status.NotSupp) passed)
   refused_opening seqid access deny client owner (Opens how (ByName name)) passed is = absurd cc
   refused_opening seqid access deny client owner (Opens how ByHandle) passed is = absurd cc

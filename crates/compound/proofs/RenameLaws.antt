@@ -26,6 +26,7 @@ use Rattle.compound.specs.Runs.{with_rest}
 use Rattle.compound.specs.States.{shared}
 use Rattle.compound.specs.Trees.{IsHere, IsUp, AreBoth, no_change, renamed_answer}
 use Rattle.compound.specs.Volumes.{OperationGives, lasts, executed_by}
+use Rattle.compound.proofs.Current.{after_some, after_none}
 use Rattle.compound.proofs.Changing.{HasThisRoom, is_up, same_room, tree_given}
 use Rattle.compound.proofs.Trees.{here, is_on, is_there, of_request, rename_bad}
 
@@ -52,26 +53,12 @@ rename_sized false state now arguments request room is =
 
 -- Its first tests
 
-behind_some : (a b : Bool) (reason : Status) (others : Option Status)
-    → refused_or a status.NoFileHandle (refused_or b status.Stale None) ≡ Some reason
-    → refused_or a status.NoFileHandle (refused_or b status.Stale others) ≡ Some reason
-behind_some true b reason others is = is
-behind_some false true reason others is = is
-behind_some false false reason others is = absurd (cc)
-
-behind_none : (a b : Bool) (others : Option Status)
-    → refused_or a status.NoFileHandle (refused_or b status.Stale None) ≡ None
-    → refused_or a status.NoFileHandle (refused_or b status.Stale others) ≡ others
-behind_none true b others is = absurd (cc)
-behind_none false true others is = absurd (cc)
-behind_none false false others is = refl
-
 pub refused_current : (limits : Limits) (state : State) (now : ℕ) (arguments : RenameArguments) (reason : Status) → current_refusal state ≡ Some reason
     → does limits state now (Argument.Rename arguments) ≡ refused state (Argument.Rename arguments) reason
 unfolding does refusals
 refused_current limits state now arguments reason is =
     ap (λ (first : Option Status). unless_refused state (Argument.Rename arguments) first (effect limits state now (Argument.Rename arguments)))
-    (behind_some (not (has_current state.context)) (not (is_key (current state) state.tree)) reason _ is)
+    (after_some (not (has_current state.context)) (not (is_key (current state) state.tree)) reason _ is)
 
 saved_first : (saved : Bool) (others : Option Status) → saved ≡ false → refused_or (not saved) status.NoFileHandle others ≡ Some status.NoFileHandle
 saved_first saved others none = ap (λ (b : Bool). refused_or (not b) status.NoFileHandle others) none
@@ -81,7 +68,7 @@ pub refused_saved : (limits : Limits) (state : State) (now : ℕ) (arguments : R
 unfolding does refusals
 refused_saved limits state now arguments is none =
     ap (λ (first : Option Status). unless_refused state (Argument.Rename arguments) first (effect limits state now (Argument.Rename arguments)))
-    (behind_none (not (has_current state.context)) (not (is_key (current state) state.tree)) _ is ∙ saved_first (has_saved state.context) _ none)
+    (after_none (not (has_current state.context)) (not (is_key (current state) state.tree)) _ is ∙ saved_first (has_saved state.context) _ none)
 
 -- What it leaves
 

@@ -15,7 +15,7 @@ use Rattle.model.specs.WireAnswers as answers
 use Rattle.model.specs.World.{InProgress, is_last, kept_by, outcome_text, reply_with, result_of, status_of, with_result}
 use Rattle.wire.specs.OutcomeView.{outcome_view}
 use Rattle.compound.specs.Operates.{HasRoom, HasRoomFor, Spells, spelled_text}
-use Rattle.compound.specs.Told.{CanBeSpelled, CanBeTold, Tells, is_ok, last_told, reply_told, told_status, told_text, with_told}
+use Rattle.compound.specs.Told.{CanBeTold, Tells, is_ok, last_told, reply_told, told_status, told_text, with_told}
 use Rattle.compound.specs.Turns.{StandsAfter}
 use Rattle.compound.specs.Views.{Asked, resumed}
 use Rattle.compound.specs.declared.progress.Progress.{Progress}
@@ -103,10 +103,6 @@ ok_room request (told.Whole outcome) can ok = by_outcome (outcome_view outcome.n
         room = subst (λ (o : Outcome). length (reply_with request o) ≤ 16368) (sym is) (subst (HasRoom request) is can.room)
     by_outcome (Refused n reason) is = let never : ⊥ = cc in absurd never
 ok_room request (told.Spelled operation values) can ok = can
-
-pub can_spell : (request : InProgress) (result : Told) → CanBeTold request result → CanBeSpelled result
-can_spell request (told.Whole outcome) can = can.fits
-can_spell request (told.Spelled operation values) can = tt
 
 -- After an OK result that is not the last one the COMPOUND goes on
 

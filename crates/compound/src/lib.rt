@@ -32,7 +32,6 @@ mod tree;
 mod writing;
 
 pub use fault::Fault;
-pub use next::Next;
 pub use progress::{Progress, RECORD_BUFFER, RESULT_BUFFER, SlotId};
 pub use results::MAX_REPLY_BYTES;
 pub use running::Running;

@@ -53,7 +53,7 @@ const SERVED: [Operation; 25] = [
 
 /// What comes next of a COMPOUND.
 #[derive(Drop)]
-pub enum Next<'a> {
+pub(crate) enum Next<'a> {
     /// It is refused before it is run, under this number.
     Refuses {
         operation: u32,
@@ -85,7 +85,7 @@ impl Running<'_> {
     /// under result number 10044; as the first operation OP_NOT_IN_SESSION and NOT_ONLY_OP, as a later one NOTSUPP and
     /// SEQUENCE_POS; arguments that cannot be read, and bytes after the last operation, BADXDR.
     #[tactic(auto, unfolding(crate::specs::Views::in_progress_of, model::specs::World::next_operation))]
-    pub fn next_operation(&self, alloc: Global) -> Result<Next<'_>, Fault>
+    pub(crate) fn next_operation(&self, alloc: Global) -> Result<Next<'_>, Fault>
         ensures ok { IfOk result (λ next.
             next_operation (in_progress_of self.now)
             ≡ next_view self.now.compound.operations.now next) }
@@ -152,7 +152,7 @@ impl Running<'_> {
 
     /// Goes on after an operation, to the bytes from this position on.
     #[tactic(auto, unfolding(crate::specs::Views::in_progress_of))]
-    pub fn advance(&mut self, position: usize)
+    pub(crate) fn advance(&mut self, position: usize)
         requires { position ≤ length self.old.compound.operations.now }
         ensures asked { asked_of self.new ≡ asked_of self.old }
         ensures request { in_progress_of self.new

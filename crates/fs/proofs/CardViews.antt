@@ -1,7 +1,7 @@
 -- What the card of a node tells of it.
-use Rattle.std.proofs.Common.{◌≡◌, ◌∙◌, ℕ, Bool, true, false, List, [], ◌∷◌, Option, Some, None, length, eqb, ltb, refl, sym, ap, subst, is_some, arith}
+use Rattle.std.proofs.Common.{◌≡◌, ◌∙◌, ℕ, Bool, true, false, List, [], ◌∷◌, Option, Some, length, eqb, ltb, refl, sym, ap, subst, arith}
 use Rattle.std.proofs.lemmas.Bool.{lt-ltb}
-use Rattle.std.specs.Prelude.{IfSome, IfNone, nat_lt, ◌||◌}
+use Rattle.std.specs.Prelude.{nat_lt, ◌||◌}
 use Rattle.directory.specs.Listing.{by_stamp}
 use Rattle.directory.specs.Records.{Record, AreStamped}
 use Rattle.layout.specs.Cards.{Card}
@@ -10,19 +10,13 @@ use Rattle.model.specs.declared.acl.Cred.{Cred}
 use Rattle.model.specs.declared.node.NodeKind.{NodeKind}
 use Rattle.model.specs.declared.node.NodeKind.TheVariants as kind
 use Rattle.model.specs.Acl.{granted, delete, delete_child}
-use Rattle.model.specs.Keyed.{Keyed, at, is_key, with, in_place_of, before_or_behind}
+use Rattle.model.specs.Keyed.{Keyed, at, with, in_place_of, before_or_behind}
 use Rattle.model.specs.Directory.{number_named}
 use Rattle.model.specs.Need.{granted_on}
 use Rattle.model.specs.Rename.{has_names}
 use Rattle.model.specs.Tree.{Tree, Node, Content, File, Directory, is_directory, is_directory_node, is_directory_at, names_of, names_at, names_of_node, entry_of}
 use Rattle.fs.specs.Removing.{may_remove}
 use Rattle.volume.specs.Nodes.{IsNodeOf, ShowsContent}
-
--- whether a node is found tells whether one is there
-pub found_key : {T : Type 0} (found : Option T) (view : T → Card) (tree : Tree) (number : ℕ)
-    → IfSome found (λ card. IsNodeOf tree number (view card)) → IfNone found (at number tree ≡ None) → is_some found ≡ is_key number tree
-found_key (Some card) view tree number is none = sym (ap is_some is.there)
-found_key None view tree number is none = sym (ap is_some none)
 
 -- the names of a directory have stamps of their own
 pub stamped : (card : Card) → IsCard card → card.fields.kind ≡ kind.Directory → AreStamped card.names
@@ -78,13 +72,6 @@ module _ (tree : Tree) (number : ℕ) (card : Card) (is : IsNodeOf tree number c
   pub has_names_told : card.fields.kind ≡ kind.Directory → (names : List Record) → names ≡ card.names → nat_lt 0 (length names) ≡ has_names tree number
   has_names_told directory names same = ap (λ (l : List Record). nat_lt 0 (length l)) same ∙ sym (any_by_stamp card.names)
       ∙ sym (ap (λ (o : Option Node). nat_lt 0 (length (names_of_node o))) is.there ∙ ap (λ (content : Content). nat_lt 0 (length (names_of content))) (names_are directory))
-
-  pub no_names_told : (card.fields.kind ≡ kind.Directory → ⊥) → false ≡ has_names tree number
-  no_names_told other = sym (ap (λ (o : Option Node). nat_lt 0 (length (names_of_node o))) is.there ∙ none is.node.content (no_directory other))
-    where
-      none : (content : Content) → is_directory content ≡ false → nat_lt 0 (length (names_of content)) ≡ false
-      none (File bytes) told = refl
-      none (Directory names) told = absurd (cc)
 
   -- whether an entry may be taken away, by the number that it leads to
   pub may_remove_told : (name : List ℕ) (cred : Cred) (target : ℕ) → number_named tree number name ≡ target

@@ -107,9 +107,6 @@ module _ (fs : FileSystem) (formed : MayStand fs.volume fs.changes) (now number 
   pub fresh : at own tree ≡ None
   fresh = none_unless (at own tree) (λ node is. (let less = formed.before.number own (blank_node node) (flat_at own node is) in omega (arith, less)))
 
-  fresh_flat : at own flat ≡ None
-  fresh_flat = at-blanked tree own ∙ ap (option_map blank_node) fresh
-
   pub new_stamp : at own (names_of parent.content) ≡ None
   new_stamp = none_unless (at own (names_of parent.content)) (λ one is. (let less = formed.before.entry number parent own one flat_there is in omega (arith, less)))
 
@@ -130,9 +127,6 @@ module _ (fs : FileSystem) (formed : MayStand fs.volume fs.changes) (now number 
 
     pub after_wanted : tree_with fs number name child now ≡ after
     after_wanted = ap (λ (o : Option Node). edited (made_by own number child entry (touched o own now)) tree) there
-
-    after_flat : tree_with fs number name child now ≡ after → blanked (edited wanted flat) ≡ blanked after
-    after_flat is = edits_blanked wanted tree
 
     flat_child : blank_node child ≡ child
     flat_child = ap (with_content child) (blank_first of size)

@@ -130,10 +130,6 @@ may_leave old down event up = subst (λ (b : Bool). MayLeave (with_tree old b) e
 pub may_stay : (old : World) (down : Bool) (event : Event) → MayLeave (with_tree old down) event old.tree
 may_stay old down event = inl (0, (omega arith, refl))
 
--- the device fails in a turn
-abbrev failing : World → (after : Tree) → Serving
-failing world after = record { world = world; recent = world.tree ∷ after ∷ []; is_down = true }
-
 among_two : (first second tree : Tree) → IsAmong (first ∷ second ∷ []) tree → (tree ≡ first) ⊎ (tree ≡ second)
 among_two first second tree among = by_place among.0 among.1.0 among.1.1
   where
@@ -282,7 +278,3 @@ pub inserted_count : {E : Type 0} (old new : Slab Connection) (result : Result �
     → OnOk result (slab_len new ≡ slab_len old + 1) → OnErr result (new ≡ record old { capacity = new.capacity }) → slab_len new ≤ slab_len old + 1
 inserted_count old new (Ok key) count failed = omega (arith, count)
 inserted_count old new (Err fault) count failed = omega (arith, grew_count old new failed)
-
--- A server of which only the world and whether it is down are seen
-pub same_serving : (old new : World) (old_down new_down : Bool) → new ≡ old → new_down ≡ old_down → with_tree new new_down ≡ with_tree old old_down
-same_serving old new old_down new_down world down = ap (λ (w : World). with_tree w new_down) world ∙ ap (with_tree old) down

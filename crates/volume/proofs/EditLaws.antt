@@ -6,10 +6,8 @@ use Rattle.std.proofs.lemmas.Bool.{and_parts, leb-true}
 use Rattle.cards.specs.Overlays.{IsMade, CanBecome}
 use Rattle.cards.specs.Tables.{number_at, HaveOwnPlaces}
 use Rattle.disk.specs.Moments.{Image}
-use Rattle.draft.specs.declared.draft.Draft.{Draft}
-use Rattle.draft.specs.Drafts.{cards_of}
 use Rattle.edits.specs.declared.edit.Edit.{Edit}
-use Rattle.edits.specs.Doing.{made_by, AreMade, Overfills}
+use Rattle.edits.specs.Doing.{made_by, AreMade}
 use Rattle.edits.specs.Edits.{edit_of, edits_of, AreDoable, StayFew}
 use Rattle.edits.specs.Outlines.{blanked, outline_of}
 use Rattle.edits.proofs.BlankLaws.{each_outline, edits_blanked}
@@ -109,15 +107,6 @@ module _ (held : Held) (edits : List Edit) (change : IsChange held edits) (image
         let is = front_fits count in
         let few = is.charge in
         (omega (arith, few, whole), is.nodes)
-
-    -- so a draft of these cards is overfilled by none
-    pub never_overfills : (draft : Draft) → cards_of draft ≡ cards → draft.nodes ≡ nodes → length draft.places ≡ places → Overfills draft edits → ⊥
-    never_overfills draft cards_are nodes_are places_are over =
-        let room = front_room over.count in
-        over.full (record {
-          charge = subst (λ (now : List (Option Card)). total charge (edited (take over.count (edits_of edits)) (outline_of now)) ≤ length draft.places) (sym cards_are) (omega (arith, room.0, places_are));
-          nodes = subst (λ (now : List (Option Card)). length (edited (take over.count (edits_of edits)) (outline_of now)) ≤ draft.nodes) (sym cards_are) (omega (arith, room.1, nodes_are));
-        })
 
 -- What the table may become
 

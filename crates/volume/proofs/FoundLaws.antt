@@ -26,10 +26,6 @@ pub if_ok_so : {T E : Type 0} (r : Result T E) (P Q : T → Type 0) → ((x : T)
 if_ok_so (Ok x) P Q so is = so x is
 if_ok_so (Err e) P Q so is = tt
 
-pub if_ok_and : {T E : Type 0} (r : Result T E) (P Q R S : T → Type 0) → ((x : T) → P x → Q x → R x → S x) → IfOk r P → IfOk r Q → IfOk r R → IfOk r S
-if_ok_and (Ok x) P Q R S so p q r = so x p q r
-if_ok_and (Err e) P Q R S so p q r = tt
-
 pub if_err_so : {T E : Type 0} (r : Result T E) (P Q : E → Type 0) → ((x : E) → P x → Q x) → IfErr r P → IfErr r Q
 if_err_so (Ok x) P Q so is = tt
 if_err_so (Err e) P Q so is = so e is

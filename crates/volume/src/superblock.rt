@@ -48,7 +48,7 @@ fn put_fields(sector: &mut [u8; SECTOR], sectors: u32, nodes: u32, run: u32)
 
 /// The first sector of a volume.
 #[tactic(auto, unfolding(layout::specs::Superblock::superblock))]
-pub fn superblock_of(sectors: u32, nodes: u32, run: u32) -> [u8; SECTOR]
+pub(crate) fn superblock_of(sectors: u32, nodes: u32, run: u32) -> [u8; SECTOR]
     ensures { result ≡ superblock sectors nodes run }
 {
     let mut sector = [0; SECTOR];
@@ -85,7 +85,7 @@ fn has_header(sectors: u32, sector: &[u8; SECTOR]) -> bool
 
 /// The number of nodes in the first sector of a volume.
 #[tactic(auto, unfolding(crate::specs::Superblock::word))]
-pub fn nodes_of(sector: &[u8; SECTOR]) -> u32
+pub(crate) fn nodes_of(sector: &[u8; SECTOR]) -> u32
     ensures { result ≡ word 16 sector.now }
 {
     u32_at(sector, 16)
