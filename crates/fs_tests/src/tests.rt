@@ -1,10 +1,10 @@
-//! What no contract says: that calls succeed, what stands after mounts, and that the plain program answers the same.
+//! What no contract says: that calls succeed, what stands after mounts, and that the oracle answers the same.
 
 mod choices;
 mod files;
 mod naming;
 mod pages;
-mod plain;
+mod reference;
 mod rows;
 mod seed;
 mod setting;

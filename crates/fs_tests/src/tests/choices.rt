@@ -1,6 +1,6 @@
 //! Which call comes next, as a seed chooses: mostly of what is there.
 
-use super::plain::short;
+use super::reference::short;
 use super::seed::Seed;
 use fs_drivers::{Call, Caller, Given, Make};
 use model::status::Status;

@@ -1,7 +1,7 @@
-//! Long lists of calls, of a file system and of the plain program: each answer is the same, and at intervals the whole tree.
+//! Long lists of calls, of a file system and of the oracle: each answer is the same, and at intervals the whole tree.
 
 use super::choices::USERS;
-use super::plain::{Plain, short};
+use super::reference::{Reference, short};
 use super::seed::Seed;
 use acl_eval::{Ace, AceFlags, AceKind, Acl, Cred, Gids, Mask, Who};
 use bitflags::Flags;
@@ -60,8 +60,8 @@ fn creds() -> [Cred; 4] {
     })
 }
 
-/// The plain program on a new volume, in its first run.
-fn fresh<'a>(alloc: Global, cred: &'a Cred) -> Result<Plain<'a>, Fail> {
+/// The oracle on a new volume, in its first run.
+fn fresh<'a>(alloc: Global, cred: &'a Cred) -> Result<Reference<'a>, Fail> {
     let everyone = Ace {
         kind: AceKind::Allow,
         flags: AceFlags::empty(),
@@ -78,7 +78,7 @@ fn fresh<'a>(alloc: Global, cred: &'a Cred) -> Result<Plain<'a>, Fail> {
     };
     let mut tree = Vec::new(alloc);
     tree.push((1, root))?;
-    Ok(Plain {
+    Ok(Reference {
         alloc,
         limits: Limits::of_volume(SECTORS as usize, NODES as usize),
         state: State {
@@ -112,7 +112,7 @@ fn as_user(uid: u32) -> Caller {
 struct Twin<'a> {
     alloc: Global,
     fs: Tree,
-    plain: Plain<'a>,
+    reference: Reference<'a>,
     creds: &'a [Cred],
     seen: Vec<Status>,
 }
@@ -130,7 +130,7 @@ impl<'a> Twin<'a> {
             .iter()
             .find(|cred| cred.uid == caller.uid)
             .ok_or("no user")?;
-        let (want, bytes) = self.plain.ask(cred, caller, call)?;
+        let (want, bytes) = self.reference.ask(cred, caller, call)?;
         let mut out = Vec::new(self.alloc);
         let found = ask(self.alloc, &mut self.fs, caller, call, &mut out);
         assert!(rt;
@@ -168,7 +168,7 @@ impl<'a> Twin<'a> {
     /// The numbers of all nodes, with who may read each.
     fn nodes(&self) -> Result<Vec<(u64, bool, Option<u32>)>, Fail> {
         let mut nodes = Vec::new(self.alloc);
-        for (number, node) in self.plain.state.tree.iter() {
+        for (number, node) in self.reference.state.tree.iter() {
             nodes.push((short(*number), node.is_directory(), self.reader(node)))?;
         }
         Ok(nodes)
@@ -176,7 +176,7 @@ impl<'a> Twin<'a> {
 
     /// What each node shows of itself.
     fn compare_nodes(&self, rt: &impl Abort) -> Result<(), Fail> {
-        for (number, node) in self.plain.state.tree.iter() {
+        for (number, node) in self.reference.state.tree.iter() {
             let shown = shown(&self.fs, short(*number))?;
             let size = node.bytes().len().saturating_add(node.names().len());
             assert_eq!(rt;
@@ -239,7 +239,7 @@ impl<'a> Twin<'a> {
     ) -> Result<(), Fail> {
         for i in 0..CALLS {
             let caller = seed.caller(first.saturating_add(i));
-            let call = seed.call(&self.plain.state.tree, data);
+            let call = seed.call(&self.reference.state.tree, data);
             let found = self.ask(rt, caller, call)?;
             self.note(found)?;
         }
@@ -256,17 +256,17 @@ impl<'a> Twin<'a> {
         let Twin {
             alloc,
             fs,
-            mut plain,
+            mut reference,
             creds,
             seen,
         } = self;
         let fs = remount(alloc, fs)?;
-        plain.state.changes = 0;
-        plain.state.context.run = fs.restart_count();
+        reference.state.changes = 0;
+        reference.state.context.run = fs.restart_count();
         Ok(Twin {
             alloc,
             fs,
-            plain,
+            reference,
             creds,
             seen,
         })
@@ -291,7 +291,7 @@ fn try_list(rt: &impl Abort, alloc: Global, number: u64) -> Result<Vec<Status>, 
     let mut twin = Twin {
         alloc,
         fs: mounted(alloc, SECTORS, NODES)?,
-        plain: fresh(alloc, &creds[0])?,
+        reference: fresh(alloc, &creds[0])?,
         creds: &creds,
         seen: Vec::new(alloc),
     };

@@ -1,4 +1,4 @@
-//! The plain program, asked one thing of a small tree; what is asked is a value.
+//! The oracle, asked one thing of a small tree; what is asked is a value.
 
 ghost use Rattle.std.specs.Prelude.{◌≡◌};
 ghost use Rattle.wire.specs.ArgumentView.{argument_view};
@@ -145,7 +145,7 @@ fn is_computed(operation: &Argument<'_>) -> bool
     )
 }
 
-/// The operation, done. The call of the plain program stands here once, since it brings all that it promises to its caller;
+/// The operation, done. The call of the oracle stands here once, since it brings all that it promises to its caller;
 /// what it asks for is tested, so that nobody has to show it.
 pub(super) fn run(world: &mut World<'_>, call: Call<'_>) -> Result<Outcome, Fail> {
     let operation = operation_of(call).ok_or("no operation")?;

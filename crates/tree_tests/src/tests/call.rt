@@ -1,4 +1,4 @@
-//! What tests ask of the plain program, and what it answers.
+//! What tests ask of the oracle, and what it answers.
 
 use acl_eval::{AceKind, NodeKind, Who};
 use model::status::Status;

@@ -17,7 +17,7 @@ pub(super) const FIRST: u128 = 0x1_0000_0001;
 /// A list by which everyone has each right.
 const OPEN_LIST: [Entry; 1] = [(AceKind::Allow, Who::Everyone, 0, 0x1F_01E7)];
 
-/// What the plain program works on, and what was kept of it.
+/// What the oracle works on, and what was kept of it.
 #[derive(Drop)]
 pub(super) struct World<'a> {
     pub(super) alloc: Global,

@@ -65,7 +65,7 @@ impl Left {
             },
         };
         for (place, tree) in self.trees.iter().enumerate() {
-            if mounted.is_of_run_behind(tree) && mounted.has(tree, &self.numbers)? {
+            if mounted.is_of_run_after(tree) && mounted.has(tree, &self.numbers)? {
                 return Ok(place);
             }
         }
@@ -153,7 +153,7 @@ struct Mounted {
 
 impl Mounted {
     /// Whether it is the run after that of the tree.
-    fn is_of_run_behind(&self, tree: &Tree) -> bool {
+    fn is_of_run_after(&self, tree: &Tree) -> bool {
         self.fs.restart_count() == tree.run.saturating_add(1)
     }
 

@@ -559,7 +559,7 @@ fn two_lives(alloc: Global, device: CrashDevice, records: &[Vec<u8>]) -> Result<
 }
 
 /// The restart count of the next mount, which has to find this tree.
-fn count_behind(rt: &impl Abort, alloc: Global, left: MemDevice, told: &Told) -> Result<u32, Fail> {
+fn count_after(rt: &impl Abort, alloc: Global, left: MemDevice, told: &Told) -> Result<u32, Fail> {
     let Ok(fs) = Fs::mount(alloc, left) else {
         return Err("not mounted".into());
     };
@@ -587,7 +587,7 @@ fn stops_of_a_second_mount(rt: HostRuntime) -> Result<(), Fail> {
             assert!(rt; stopped.is_stopped());
             for landing in landings(alloc, &stopped.unsynced(alloc)?)?.iter() {
                 let left = stopped.landed(alloc, landing)?;
-                match count_behind(&rt, alloc, left, told)? {
+                match count_after(&rt, alloc, left, told)? {
                     2 => found[0] = found[0].saturating_add(1),
                     3 => found[1] = found[1].saturating_add(1),
                     _ => return Err("another restart count".into()),

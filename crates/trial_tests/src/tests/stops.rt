@@ -436,8 +436,8 @@ impl<'a> Trial<'a> {
     }
 
     /// Stops before and within each step after the mount and the first so many rounds. How many trees were found.
-    fn run(&mut self, rt: &impl Abort, behind: usize) -> Result<usize, Fail> {
-        let front = self.rounds.get(..behind).ok_or("too few rounds")?;
+    fn run(&mut self, rt: &impl Abort, after: usize) -> Result<usize, Fail> {
+        let front = self.rounds.get(..after).ok_or("too few rounds")?;
         let (first, _) = self.measure(rt, front)?;
         let (end, changes) = self.measure(rt, self.rounds)?;
         self.found.resize((changes as usize).saturating_add(1), 0)?;
@@ -464,10 +464,10 @@ fn stops_of_unstable_writes(rt: HostRuntime) -> Result<(), Fail> {
 fn stops_of_files_that_end(rt: HostRuntime) -> Result<(), Fail> {
     let mut rounds = Vec::new(rt.alloc());
     rounds.extend_from_slice(&unstable_rounds())?;
-    let behind = rounds.len();
+    let after = rounds.len();
     rounds.extend_from_slice(&ending_rounds())?;
     let mut trial = Trial::new(rt.alloc(), &rounds)?;
-    assert_eq!(rt; trial.run(&rt, behind)?, 6);
+    assert_eq!(rt; trial.run(&rt, after)?, 6);
     assert!(rt; trial.tally.is_full(), "{:?}", trial.tally);
     Ok(())
 }

@@ -1,4 +1,4 @@
-//! The plain program, asked what a file system is asked: one step of its state, and its answer in the same words.
+//! The oracle, asked what a file system is asked: one step of its state, and its answer in the same words.
 
 ghost use Rattle.std.specs.Prelude.{IsTrue};
 ghost use Rattle.wire.specs.ArgumentView.{argument_view};
@@ -315,15 +315,15 @@ fn asked_of(alloc: Global, outcome: &Outcome, done: Done) -> Result<Asked, Fail>
     }
 }
 
-/// The plain program's tree, and its run.
+/// The oracle's tree, and its run.
 #[derive(Drop)]
-pub(super) struct Plain<'a> {
+pub(super) struct Reference<'a> {
     pub(super) alloc: Global,
     pub(super) limits: Limits,
     pub(super) state: State<'a>,
 }
 
-impl<'a> Plain<'a> {
+impl<'a> Reference<'a> {
     /// The node that a call takes from under a name, 0 where there is none.
     fn gone(&self, call: Call<'_>) -> u64 {
         let tree = &self.state.tree;
