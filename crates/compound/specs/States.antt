@@ -1,7 +1,7 @@
 -- What all COMPOUNDs of a server work on: the file system, the clients and sessions, and what these have open.
 use Rattle.std.specs.Prelude.{◌≡◌}
 use Rattle.fs.specs.FileSystem.{FileSystem}
-use Rattle.fs.specs.FileSystems.{fs_of}
+use Rattle.fs.specs.Views.{fs_of}
 use Rattle.fs.specs.declared.fs.Fs.{Fs}
 use Rattle.model.specs.Opens.{Opens}
 use Rattle.model.specs.Session.{Table}

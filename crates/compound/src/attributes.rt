@@ -13,7 +13,7 @@ use xdr::Writer;
 
 impl Running<'_> {
     ghost use Rattle.std.specs.Prelude.{◌≡◌, false, IfOk, IfErr};
-    ghost use Rattle.fs.specs.FileSystems.{fs_of};
+    ghost use Rattle.fs.specs.Views.{fs_of};
     ghost use Rattle.model.specs.Operation as operations;
     ghost use Rattle.compound.specs.Operates.{OnlyReads, IsAnswered};
     ghost use Rattle.compound.specs.Views.{in_progress_of};

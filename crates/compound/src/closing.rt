@@ -24,7 +24,7 @@ pub(crate) const CLOSED: StateId = StateId {
 
 impl Running<'_> {
     ghost use Rattle.std.specs.Prelude.{◌≡◌, ℕ, false, nat_le, length, IfErr};
-    ghost use Rattle.fs.specs.FileSystems.{fs_of};
+    ghost use Rattle.fs.specs.Views.{fs_of};
     ghost use Rattle.model.specs.Answer.{Done};
     ghost use Rattle.model.specs.Operation as operations;
     ghost use Rattle.model.specs.StateIds.{found};

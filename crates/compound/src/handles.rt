@@ -20,7 +20,7 @@ const ROOT: u64 = 1;
 impl Running<'_> {
     ghost use Rattle.std.specs.Prelude.{◌≡◌, ◌<◌, ◌^◌, ℕ, true, false, nat_le, length, IfOk, IfErr};
     ghost use Rattle.fs.specs.FileSystem.{FileSystem};
-    ghost use Rattle.fs.specs.FileSystems.{fs_of};
+    ghost use Rattle.fs.specs.Views.{fs_of};
     ghost use Rattle.model.specs.Answer.{Done, GetFh};
     ghost use Rattle.model.specs.Context.{has_current, current_number, has_saved, saved_number};
     ghost use Rattle.model.specs.Operation as operations;

@@ -24,7 +24,7 @@ const PAGE_BYTES: usize = 8_192;
 
 impl Running<'_> {
     ghost use Rattle.std.specs.Prelude.{◌≡◌, false, IfOk, IfErr};
-    ghost use Rattle.fs.specs.FileSystems.{fs_of};
+    ghost use Rattle.fs.specs.Views.{fs_of};
     ghost use Rattle.model.specs.Operation as operations;
     ghost use Rattle.wire.specs.ArgumentViews.{read_dir_view};
     ghost use Rattle.compound.specs.Operates.{OnlyReads, IsAnswered};

@@ -25,7 +25,7 @@ const SIZE: u32 = 0x10;
 
 impl Running<'_> {
     ghost use Rattle.std.specs.Prelude.{◌≡◌, false, IfOk, OnErr};
-    ghost use Rattle.fs.specs.FileSystems.{fs_of, Alters};
+    ghost use Rattle.fs.specs.Views.{fs_of, Alters};
     ghost use Rattle.model.specs.Operation as operations;
     ghost use Rattle.model.specs.Session.{Table};
     ghost use Rattle.opens.specs.Views.{opens_of};

@@ -29,7 +29,7 @@ use wire::{
 
 impl Running<'_> {
     ghost use Rattle.std.specs.Prelude.{◌≡◌, Some, true, false, IsTrue, IfOk, IfErr, OnErr};
-    ghost use Rattle.fs.specs.FileSystems.{fs_of, Alters};
+    ghost use Rattle.fs.specs.Views.{fs_of, Alters};
     ghost use Rattle.model.specs.Open.{opening_refusals};
     ghost use Rattle.model.specs.Operation as operations;
     ghost use Rattle.model.specs.Refusal.{first_refusal};

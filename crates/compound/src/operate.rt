@@ -11,7 +11,7 @@ use wire::Argument;
 
 impl Running<'_> {
     ghost use Rattle.std.specs.Prelude.{◌≡◌, true, false, IfOk, OnErr};
-    ghost use Rattle.fs.specs.FileSystems.{fs_of, Alters};
+    ghost use Rattle.fs.specs.Views.{fs_of, Alters};
     ghost use Rattle.opens.specs.Views.{opens_of};
     ghost use Rattle.session.specs.Views.{table_of};
     ghost use Rattle.wire.specs.ArgumentView.{argument_view};

@@ -15,7 +15,7 @@ use wire::{Answer, Operation, Outcome, SequenceArguments};
 #[tactic(auto, unfolding(crate::specs::Views::in_progress_of, model::specs::World::outcome_text))]
 impl Running<'_> {
     ghost use Rattle.std.specs.Prelude.{◌≡◌, ◌<◌, ◌^◌, ℕ, true, false, nat_le, length, None};
-    ghost use Rattle.fs.specs.FileSystems.{fs_of};
+    ghost use Rattle.fs.specs.Views.{fs_of};
     ghost use Rattle.model.specs.Opens.{Opens};
     ghost use Rattle.model.specs.Operation as operations;
     ghost use Rattle.model.specs.Answer.{Done, ReclaimComplete as Reclaimed};

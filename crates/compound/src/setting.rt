@@ -21,7 +21,7 @@ use wire::{Answer, Bitmap, CreateAnswer, Operation, Outcome, SetAttrArguments};
 
 impl Running<'_> {
     ghost use Rattle.std.specs.Prelude.{◌≡◌, false, nat_le, length, IfOk};
-    ghost use Rattle.fs.specs.FileSystems.{fs_of, Alters};
+    ghost use Rattle.fs.specs.Views.{fs_of, Alters};
     ghost use Rattle.model.specs.Answer.{Answer as Answered, Done};
     ghost use Rattle.model.specs.Attribute.{trimmed};
     ghost use Rattle.model.specs.Operation as operations;

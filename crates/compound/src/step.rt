@@ -37,7 +37,7 @@ pub struct Undone {
 
 impl Running<'_> {
     ghost use Rattle.std.specs.Prelude.{◌≡◌, ◌≤◌, true, false, length, drop, IfOk, IfErr, OnErr};
-    ghost use Rattle.fs.specs.FileSystems.{fs_of, Alters};
+    ghost use Rattle.fs.specs.Views.{fs_of, Alters};
     ghost use Rattle.opens.specs.Views.{opens_of};
     ghost use Rattle.session.specs.Views.{table_of};
     ghost use Rattle.model.specs.Answer as model;

@@ -16,7 +16,7 @@ use wire::{
 
 impl Running<'_> {
     ghost use Rattle.std.specs.Prelude.{◌≡◌, ℕ, true, false, nat_le, length, IfOk, IfErr};
-    ghost use Rattle.fs.specs.FileSystems.{fs_of, Alters};
+    ghost use Rattle.fs.specs.Views.{fs_of, Alters};
     ghost use Rattle.fs.specs.Operations.{new_directory};
     ghost use Rattle.model.specs.Opens.{Opens};
     ghost use Rattle.model.specs.Operation as operations;

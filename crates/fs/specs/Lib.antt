@@ -2,7 +2,6 @@ pub mod AccessRights
 pub mod Attributes
 pub mod Changes
 pub mod FileSystem
-pub mod FileSystems
 pub mod Files
 pub mod Formatting
 pub mod Listing
@@ -20,4 +19,5 @@ pub mod Removing
 pub mod RenameTests
 pub mod Renaming
 pub mod Setting
+pub mod Views
 pub mod Writing

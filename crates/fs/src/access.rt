@@ -110,12 +110,12 @@ fn access_on(card: &Card, cred: &Cred, asked: u32) -> Access
     }
 }
 
-#[tactic(auto, unfolding(crate::specs::FileSystems::fs_of))]
+#[tactic(auto, unfolding(crate::specs::Views::fs_of))]
 impl<D: Device> Fs<D> {
     ghost use Rattle.std.specs.Prelude.{◌≡◌, true, ℕ, IsErrOf};
     ghost use Rattle.model.specs.Step.{State};
     ghost use Rattle.fs.specs.AccessRights.{TellsAccess};
-    ghost use Rattle.fs.specs.FileSystems.{fs_of};
+    ghost use Rattle.fs.specs.Views.{fs_of};
     ghost use Rattle.fs.specs.Operations.{IsOn};
 
     /// ACCESS (RFC 8881, section 18.1) of these bits, on the node of this number. STALE where it is

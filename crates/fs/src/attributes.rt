@@ -10,13 +10,13 @@ use disk::Device;
 use model::status::Status;
 use wire_attributes::{Attribute, AttributesAnswer, NodeAttributes, is_asked};
 
-#[tactic(auto, unfolding(crate::specs::FileSystems::fs_of))]
+#[tactic(auto, unfolding(crate::specs::Views::fs_of))]
 impl<D: Device> Fs<D> {
     ghost use Rattle.std.specs.Prelude.{◌≡◌, true, ℕ, IfOk, IsErrOf};
     ghost use Rattle.layout.specs.Known.{IsCard};
     ghost use Rattle.model.specs.Step.{State};
     ghost use Rattle.fs.specs.Attributes.{AreAttributes, GetsAttributes, ShowsCard};
-    ghost use Rattle.fs.specs.FileSystems.{fs_of};
+    ghost use Rattle.fs.specs.Views.{fs_of};
     ghost use Rattle.fs.specs.Operations.{IsOn};
     ghost use Rattle.wire_attributes.specs.NodeValues.{HasFewEntries};
 

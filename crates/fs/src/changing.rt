@@ -144,10 +144,10 @@ pub(crate) fn set_edits<'a>(
     }
 }
 
-#[tactic(auto, unfolding(crate::specs::FileSystems::fs_of, crate::specs::FileSystems::fs_failures))]
+#[tactic(auto, unfolding(crate::specs::Views::fs_of, crate::specs::Views::fs_failures))]
 impl<D: Device> Fs<D> {
     ghost use Rattle.fs.specs.Changes.{fs_ending};
-    ghost use Rattle.fs.specs.FileSystems.{fs_of, Alters};
+    ghost use Rattle.fs.specs.Views.{fs_of, Alters};
     ghost use Rattle.fs.specs.Planned.{IsPlanned};
     ghost use Rattle.model.specs.Stamp.{next_stamp};
     ghost use Rattle.volume.specs.Changes.{IsTree};

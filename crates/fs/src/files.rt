@@ -8,14 +8,14 @@ use cards::Card;
 use disk::Device;
 use model::status::Status;
 
-#[tactic(auto, unfolding(crate::specs::FileSystems::fs_of))]
+#[tactic(auto, unfolding(crate::specs::Views::fs_of))]
 impl<D: Device> Fs<D> {
     ghost use Rattle.std.specs.Prelude.{◌≡◌, IfOk};
     ghost use Rattle.layout.specs.Known.{IsCard};
     ghost use Rattle.model.specs.declared.node.NodeKind.TheVariants as kind;
     ghost use Rattle.settings.specs.Given.{IsChecked};
     ghost use Rattle.fs.specs.Files.{file_refusals, permit_refusals};
-    ghost use Rattle.fs.specs.FileSystems.{fs_of};
+    ghost use Rattle.fs.specs.Views.{fs_of};
     ghost use Rattle.volume.specs.Nodes.{IsNodeOf};
 
     /// The file of this number. STALE where no node has it, ISDIR where it is a directory's.

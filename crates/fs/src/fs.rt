@@ -19,12 +19,12 @@ pub struct Fs<D: Device> {
     ghost ready: { IsReady (held_of volume) changes } by { IsReady-prop (held_of volume) changes },
 }
 
-#[tactic(auto, unfolding(crate::specs::FileSystems::fs_of, crate::specs::FileSystems::fs_failures))]
+#[tactic(auto, unfolding(crate::specs::Views::fs_of, crate::specs::Views::fs_failures))]
 impl<D: Device> Fs<D> {
     ghost use Rattle.std.specs.Prelude.{◌≡◌, ◌≤◌, IfOk, IfErr, IsErrOf};
     ghost use Rattle.disk.specs.Cause.{IsCounted};
     ghost use Rattle.fs.specs.FileSystem.{IsNew};
-    ghost use Rattle.fs.specs.FileSystems.{fs_of, fs_failures};
+    ghost use Rattle.fs.specs.Views.{fs_of, fs_failures};
     ghost use Rattle.fs.specs.Formatting.{Formats};
     ghost use Rattle.volume.specs.Checks.{FailsCheck, HasChecked};
     ghost use Rattle.volume.specs.MountAnswers.{HasMounted, IsRefused, ComesBack};

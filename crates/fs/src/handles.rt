@@ -27,12 +27,12 @@ fn number_of(handle: &[u8]) -> Result<u64, Status>
     Ok(u64::from_be_bytes(bytes))
 }
 
-#[tactic(auto, unfolding(crate::specs::FileSystems::fs_of))]
+#[tactic(auto, unfolding(crate::specs::Views::fs_of))]
 impl<D: Device> Fs<D> {
     ghost use Rattle.std.specs.Prelude.{◌≡◌, true, ℕ, IsErrOf};
     ghost use Rattle.model.specs.declared.acl.Cred.{Cred};
     ghost use Rattle.model.specs.Step.{State};
-    ghost use Rattle.fs.specs.FileSystems.{fs_of};
+    ghost use Rattle.fs.specs.Views.{fs_of};
     ghost use Rattle.fs.specs.Operations.{IsOn, PutsHandle, GetsHandle, TestsCurrent};
 
     /// PUTFH (RFC 8881, section 18.19): the number of the node that a filehandle names. BADHANDLE

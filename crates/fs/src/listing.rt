@@ -66,14 +66,14 @@ impl Listing<'_> {
     }
 }
 
-#[tactic(auto, unfolding(crate::specs::FileSystems::fs_of))]
+#[tactic(auto, unfolding(crate::specs::Views::fs_of))]
 impl<D: Device> Fs<D> {
     ghost use Rattle.std.specs.Prelude.{true, ℕ, map, IfOk, IsErrOf};
     ghost use Rattle.std.specs.List.{AllByRecursion, list_all};
     ghost use Rattle.directory.specs.Listing.{after, by_stamp};
     ghost use Rattle.directory.specs.Records.{IsRecord};
     ghost use Rattle.directory.specs.Rest.{record_at, rest_of};
-    ghost use Rattle.fs.specs.FileSystems.{fs_of};
+    ghost use Rattle.fs.specs.Views.{fs_of};
     ghost use Rattle.fs.specs.Listing.{Lists, PageFits, list_arguments, list_refusals, page_of, page_view};
     ghost use Rattle.fs.specs.Operations.{IsOn};
     ghost use Rattle.model.specs.Keyed.{at};

@@ -9,12 +9,12 @@ use disk::Device;
 use model::status::Status;
 use names::check_name;
 
-#[tactic(auto, unfolding(crate::specs::FileSystems::fs_of))]
+#[tactic(auto, unfolding(crate::specs::Views::fs_of))]
 impl<D: Device> Fs<D> {
     ghost use Rattle.std.specs.Prelude.{◌≡◌, true, ℕ, IsErrOf};
     ghost use Rattle.model.specs.Step.{State};
     ghost use Rattle.fs.specs.OnTree.{LooksUpIn};
-    ghost use Rattle.fs.specs.FileSystems.{fs_of};
+    ghost use Rattle.fs.specs.Views.{fs_of};
     ghost use Rattle.fs.specs.Operations.{IsOn, LooksUp};
 
     /// LOOKUP (RFC 8881, section 18.13) in the directory of this number: the number of the node that

@@ -11,11 +11,11 @@ use model::status::Status;
 /// The root's number.
 const ROOT: u64 = 1;
 
-#[tactic(auto, unfolding(crate::specs::FileSystems::fs_of))]
+#[tactic(auto, unfolding(crate::specs::Views::fs_of))]
 impl<D: Device> Fs<D> {
     ghost use Rattle.std.specs.Prelude.{◌≡◌, true, ℕ, IsErrOf};
     ghost use Rattle.model.specs.Step.{State};
-    ghost use Rattle.fs.specs.FileSystems.{fs_of};
+    ghost use Rattle.fs.specs.Views.{fs_of};
     ghost use Rattle.fs.specs.Operations.{IsOn};
     ghost use Rattle.fs.specs.Parents.{IsParent, LooksUpParent};
 

@@ -36,7 +36,7 @@ struct Planned<'a> {
     created: Created,
 }
 
-#[tactic(auto, unfolding(crate::specs::FileSystems::fs_of, crate::specs::FileSystems::fs_failures))]
+#[tactic(auto, unfolding(crate::specs::Views::fs_of, crate::specs::Views::fs_failures))]
 impl<D: Device> Fs<D> {
     ghost use Rattle.std.specs.Prelude.{◌≡◌, ◌≤◌, ◌+◌, ◌<◌, true, false, length, OnOk, IfOk, IfErr, IsErrOf};
     ghost use Rattle.std.specs.Option.{ForSome};
@@ -48,7 +48,7 @@ impl<D: Device> Fs<D> {
     ghost use Rattle.settings.specs.Given.{given_of, AreSettings, AreWithin, IsCheckedInMemory};
     ghost use Rattle.fs.specs.OnTree.{new_directory_refusals};
     ghost use Rattle.fs.specs.Changes.{fs_ending};
-    ghost use Rattle.fs.specs.FileSystems.{fs_of, Alters};
+    ghost use Rattle.fs.specs.Views.{fs_of, Alters};
     ghost use Rattle.fs.specs.Operations.{IsOn, MakesDir, MakesTree, IsNotDone, created, does_on, new_directory};
     ghost use Rattle.fs.specs.Making.{IsDirectoryOf, IsSizeOf, MayBeMade, first_node, room_tests};
     ghost use Rattle.fs.specs.Making.{tree_with};

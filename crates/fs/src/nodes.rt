@@ -6,7 +6,7 @@ ghost use Rattle.model.specs.declared.node.NodeKind.TheVariants as kind;
 ghost use Rattle.model.specs.Keyed.{is_key};
 ghost use Rattle.model.specs.Rename.{has_names};
 ghost use Rattle.model.specs.Tree.{entry_of, is_directory_at, names_at};
-ghost use Rattle.fs.specs.FileSystems.{fs_of};
+ghost use Rattle.fs.specs.Views.{fs_of};
 
 use crate::fs::Fs;
 use acl_eval::NodeKind;
@@ -20,7 +20,7 @@ pub(crate) fn is_directory(card: &Card) -> bool
     matches!(card.inode.kind, NodeKind::Directory)
 }
 
-#[tactic(auto, unfolding(crate::specs::FileSystems::fs_of))]
+#[tactic(auto, unfolding(crate::specs::Views::fs_of))]
 impl<D: Device> Fs<D> {
     /// Whether there is a node of this number.
     pub(crate) fn has(&self, number: u64) -> bool

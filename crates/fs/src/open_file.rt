@@ -24,7 +24,7 @@ struct Planned<'a> {
     opened: Opened,
 }
 
-#[tactic(auto, unfolding(crate::specs::FileSystems::fs_of, crate::specs::FileSystems::fs_failures))]
+#[tactic(auto, unfolding(crate::specs::Views::fs_of, crate::specs::Views::fs_failures))]
 impl<D: Device> Fs<D> {
     ghost use Rattle.std.specs.Prelude.{◌≡◌, ◌≤◌, true, false, None, length, OnOk, IfOk, IfErr, IsErrOf};
     ghost use Rattle.std.specs.Prelude.{MatchOption, ⊤};
@@ -39,7 +39,7 @@ impl<D: Device> Fs<D> {
     ghost use Rattle.model.specs.Step.{State};
     ghost use Rattle.settings.specs.Given.{given_of, AreSettings, AreWithin, IsChecked, IsCheckedInMemory};
     ghost use Rattle.fs.specs.Changes.{fs_ending};
-    ghost use Rattle.fs.specs.FileSystems.{fs_of, Alters};
+    ghost use Rattle.fs.specs.Views.{fs_of, Alters};
     ghost use Rattle.fs.specs.Making.{IsDirectoryOf, room_tests};
     ghost use Rattle.fs.specs.OnTree.{IsState};
     ghost use Rattle.fs.specs.Opening.{IsOpened, IsOpening, IsPlaced, LeadsTo, OpensBy, OpensFile, OpensTree, StaysOpen};

@@ -125,7 +125,7 @@ pub(crate) fn may_open(card: &Card, cred: &Cred, access: u32, is_cut: bool) -> b
         && (!writes || grants(card, cred, Mask::WRITE_DATA))
 }
 
-#[tactic(auto, unfolding(crate::specs::FileSystems::fs_of))]
+#[tactic(auto, unfolding(crate::specs::Views::fs_of))]
 impl<D: Device> Fs<D> {
     ghost use Rattle.std.specs.Prelude.{◌≡◌, ℕ, true, false, MatchOption, IsErrOf, OnOk, ◌≤◌, ◌^◌};
     ghost use Rattle.model.specs.Open.{creates, file_opened};
@@ -134,7 +134,7 @@ impl<D: Device> Fs<D> {
     ghost use Rattle.model.specs.Stamp.{next_stamp};
     ghost use Rattle.model.specs.Step.{State};
     ghost use Rattle.fs.specs.OnTree.{IsState};
-    ghost use Rattle.fs.specs.FileSystems.{fs_of};
+    ghost use Rattle.fs.specs.Views.{fs_of};
     ghost use Rattle.fs.specs.Opening.{IsOpeningCurrent, OpensCurrent, handle_tests, type_of};
     ghost use Rattle.fs.specs.Operations.{IsOn};
 

@@ -15,7 +15,7 @@ struct Part {
     is_end: bool,
 }
 
-#[tactic(auto, unfolding(crate::specs::FileSystems::fs_of, crate::specs::FileSystems::fs_failures))]
+#[tactic(auto, unfolding(crate::specs::Views::fs_of, crate::specs::Views::fs_failures))]
 impl<D: Device> Fs<D> {
     ghost use Rattle.std.specs.Prelude.{◌≡◌, ◌+◌, ◌<◌, ◌++◌, ◌⊎◌, true, ℕ, nat_le, length, OnOk, OnErr, IfOk, IsErrOf};
     ghost use Rattle.model.specs.Acl.{read_data};
@@ -25,7 +25,7 @@ impl<D: Device> Fs<D> {
     ghost use Rattle.model.specs.Step.{State};
     ghost use Rattle.settings.specs.Given.{IsChecked};
     ghost use Rattle.fs.specs.Files.{IsVerdict, permit_refusals};
-    ghost use Rattle.fs.specs.FileSystems.{fs_of, Alters};
+    ghost use Rattle.fs.specs.Views.{fs_of, Alters};
     ghost use Rattle.fs.specs.Operations.{IsOn};
     ghost use Rattle.fs.specs.Reading.{Reads, part_at, read_operation, reading_ending};
     ghost use Rattle.volume.specs.Changes.{IsTree};

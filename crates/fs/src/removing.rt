@@ -41,7 +41,7 @@ struct Planned<'a> {
     removed: Removed,
 }
 
-#[tactic(auto, unfolding(crate::specs::FileSystems::fs_of, crate::specs::FileSystems::fs_failures))]
+#[tactic(auto, unfolding(crate::specs::Views::fs_of, crate::specs::Views::fs_failures))]
 impl<D: Device> Fs<D> {
     ghost use Rattle.std.specs.Prelude.{◌≡◌, ◌+◌, true, false, Some, OnOk, IfOk, IfErr, IsErrOf};
     ghost use Rattle.directory.specs.Records.{record_from};
@@ -52,7 +52,7 @@ impl<D: Device> Fs<D> {
     ghost use Rattle.model.specs.Tree.{entry_of, names_at};
     ghost use Rattle.settings.specs.Given.{IsChecked};
     ghost use Rattle.fs.specs.Changes.{fs_ending};
-    ghost use Rattle.fs.specs.FileSystems.{fs_of, Alters};
+    ghost use Rattle.fs.specs.Views.{fs_of, Alters};
     ghost use Rattle.fs.specs.Operations.{IsOn, MakesTree, IsNotDone, does_on};
     ghost use Rattle.fs.specs.Planned.{IsPlanned};
     ghost use Rattle.fs.specs.Refusals.{fault_of};

@@ -130,7 +130,7 @@ fn renamed_edits<'a>(
     Ok(vec![in alloc; target_gone, node_gone, old_gone, new, from_shows, to_shows]?)
 }
 
-#[tactic(auto, unfolding(crate::specs::FileSystems::fs_of, crate::specs::FileSystems::fs_failures))]
+#[tactic(auto, unfolding(crate::specs::Views::fs_of, crate::specs::Views::fs_failures))]
 impl<D: Device> Fs<D> {
     ghost use Rattle.std.specs.Prelude.{◌≡◌, true, false, None, OnOk, IfOk, IfErr, IsErrOf};
     ghost use Rattle.std.specs.Prelude.{MatchOption};
@@ -140,7 +140,7 @@ impl<D: Device> Fs<D> {
     ghost use Rattle.model.specs.Tree.{is_directory_at};
     ghost use Rattle.settings.specs.Given.{IsChecked};
     ghost use Rattle.fs.specs.Changes.{fs_ending};
-    ghost use Rattle.fs.specs.FileSystems.{fs_of, Alters};
+    ghost use Rattle.fs.specs.Views.{fs_of, Alters};
     ghost use Rattle.fs.specs.Making.{IsDirectoryOf};
     ghost use Rattle.fs.specs.Operations.{IsNotDone};
     ghost use Rattle.fs.specs.Planned.{IsPlanned};

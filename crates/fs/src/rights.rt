@@ -4,7 +4,7 @@ ghost use Rattle.std.specs.Prelude.{◌≡◌, ◌||◌};
 ghost use Rattle.model.specs.Acl.{granted, delete, delete_child};
 ghost use Rattle.model.specs.Keyed.{at};
 ghost use Rattle.model.specs.Need.{granted_on};
-ghost use Rattle.fs.specs.FileSystems.{fs_of};
+ghost use Rattle.fs.specs.Views.{fs_of};
 
 use crate::fs::Fs;
 use acl_eval::{Cred, Mask};
@@ -20,7 +20,7 @@ pub(crate) fn grants(card: &Card, cred: &Cred, mask: Mask) -> bool
     acl_eval::granted(inode.acl.as_slice(), inode.owner, inode.group, cred, mask)
 }
 
-#[tactic(auto, unfolding(crate::specs::FileSystems::fs_of))]
+#[tactic(auto, unfolding(crate::specs::Views::fs_of))]
 impl<D: Device> Fs<D> {
     /// Whether a caller may take away a name that leads to a node: where he may delete the node, or
     /// any child of its directory.

@@ -65,7 +65,7 @@ fn check_sized(
     verdict
 }
 
-#[tactic(auto, unfolding(crate::specs::FileSystems::fs_of, crate::specs::FileSystems::fs_failures))]
+#[tactic(auto, unfolding(crate::specs::Views::fs_of, crate::specs::Views::fs_failures))]
 impl<D: Device> Fs<D> {
     ghost use Rattle.std.specs.Prelude.{◌≡◌, ◌≤◌, true, false, length, OnOk, IfOk, IfErr, IsErrOf};
     ghost use Rattle.std.specs.Prelude.{MatchOption};
@@ -77,7 +77,7 @@ impl<D: Device> Fs<D> {
     ghost use Rattle.model.specs.Step.{State};
     ghost use Rattle.settings.specs.Given.{given_of, AreSettings, AreWithin, IsCheckedInMemory};
     ghost use Rattle.fs.specs.Changes.{fs_ending};
-    ghost use Rattle.fs.specs.FileSystems.{fs_of, Alters};
+    ghost use Rattle.fs.specs.Views.{fs_of, Alters};
     ghost use Rattle.fs.specs.Operations.{IsOn, IsNotDone};
     ghost use Rattle.fs.specs.Planned.{IsList, IsPlanned};
     ghost use Rattle.fs.specs.Refusals.{fault_of};

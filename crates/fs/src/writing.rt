@@ -19,14 +19,14 @@ pub struct Writing<'a> {
     pub is_stable: bool,
 }
 
-#[tactic(auto, unfolding(crate::specs::FileSystems::fs_of, crate::specs::FileSystems::fs_failures))]
+#[tactic(auto, unfolding(crate::specs::Views::fs_of, crate::specs::Views::fs_failures))]
 impl<D: Device> Fs<D> {
     ghost use Rattle.std.specs.Prelude.{◌≡◌, ◌+◌, ◌<◌, ◌≤◌, ◌⊎◌, true, false, ℕ, length, take, OnOk, IfOk, IfErr, IfSome, IfNone, IsErrOf, IsTrue};
     ghost use Rattle.model.specs.Files.{are_bytes};
     ghost use Rattle.model.specs.Operation.{Argument, CommitArguments, WriteArguments};
     ghost use Rattle.model.specs.Step.{State};
     ghost use Rattle.fs.specs.Changes.{fs_ending};
-    ghost use Rattle.fs.specs.FileSystems.{fs_of, Alters};
+    ghost use Rattle.fs.specs.Views.{fs_of, Alters};
     ghost use Rattle.fs.specs.Operations.{IsOn, IsNotDone, does_on};
     ghost use Rattle.fs.specs.Planned.{IsPlanned};
     ghost use Rattle.fs.specs.Refusals.{fault_of};

@@ -15,7 +15,7 @@ use Rattle.model.specs.Keyed.{Keyed}
 use Rattle.model.specs.Session.{Table, empty_table}
 use Rattle.model.specs.World.{World, Connection, mounted_world}
 use Rattle.server.specs.Headline.{IsMounted}
-use Rattle.server.specs.Servers.{world_by, server_limits}
+use Rattle.server.specs.Views.{world_by, server_limits}
 use Rattle.server.specs.Seen.{Seen, LeavesNow, Moves, Said, told, Does}
 use Rattle.server.proofs.Worlds.{happened_quietly, among_rest}
 use Rattle.disk.proofs.MomentLemmas.{AddsOnly-same}

@@ -16,7 +16,7 @@ use Rattle.model.specs.World as world
 use Rattle.model.specs.World.{one, with_connection}
 use Rattle.server.specs.declared.turn.Turn.{Turn}
 use Rattle.server.specs.Connections.{Turns, IsRising, HasGoneOn, turn_view}
-use Rattle.server.specs.Servers.{world_by, server_limits}
+use Rattle.server.specs.Views.{world_by, server_limits}
 use Rattle.server.proofs.Turning.{one_is}
 use Rattle.server.proofs.Worlds.{may_leave_from}
 

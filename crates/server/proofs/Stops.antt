@@ -13,7 +13,7 @@ use Rattle.volume.proofs.RemountLaws.{every_remount}
 use Rattle.server.specs.Headline.{IsGoodTree, EveryStop, EveryRun, EveryTrace, Stopped, executed_in, Follows, IsLater, Next, Then, EveryLife, EveryStamping}
 use Rattle.volume.specs.Held.{StandsForOne}
 use Rattle.server.specs.Seen.{Seen, LeavesNow, Moves, Call, IsServed, Begins, Goes_on, Fails_at, Stays_down, world_after, history_of, AreTold, told}
-use Rattle.server.specs.Servers.{server_limits}
+use Rattle.server.specs.Views.{server_limits}
 use Rattle.server.proofs.Moves.{left_now}
 
 -- a stop within a call

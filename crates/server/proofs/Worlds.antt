@@ -21,7 +21,7 @@ use Rattle.slab.specs.Slab.{Slab, slab_len, Updates}
 use Rattle.server.specs.declared.connection.Connection.{Connection}
 use Rattle.server.specs.Connections.{IsOfRun, connections_of, connection_view}
 use Rattle.server.proofs.SlabLaws.{with_slot, grew, grew_count}
-use Rattle.server.specs.Servers.{world_by}
+use Rattle.server.specs.Views.{world_by}
 
 -- Events
 

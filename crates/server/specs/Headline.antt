@@ -8,7 +8,7 @@ use Rattle.volume.specs.Held.{Held, IsRecent}
 use Rattle.volume.specs.Remounts.{Remounts, IsFound}
 use Rattle.volume.specs.Stands.{StandsFor}
 use Rattle.server.specs.Seen.{Seen, Call, Moves, IsServed, world_after, history_of, AreTold}
-use Rattle.server.specs.Servers.{server_limits, volume_of, seen_with}
+use Rattle.server.specs.Views.{server_limits, volume_of, seen_with}
 use Rattle.server.specs.declared.server.Server.{Server}
 use Rattle.disk.specs.declared.device.Device.{Ghosts}
 

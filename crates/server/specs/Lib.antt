@@ -4,5 +4,5 @@ pub mod Headline
 pub mod Refused
 pub mod RunLaws
 pub mod Seen
-pub mod Servers
 pub mod Stages
+pub mod Views

@@ -9,7 +9,7 @@ use Rattle.server.specs.Connections.{HasGoneOn}
 use Rattle.server.specs.declared.fault.ServerFault.{ServerFault}
 use Rattle.server.specs.declared.fault.ServerFault.TheVariants as faults
 use Rattle.server.specs.declared.server.Server.{Server}
-use Rattle.server.specs.Servers.{world_of, volume_of, failures_of}
+use Rattle.server.specs.Views.{world_of, volume_of, failures_of}
 
 -- what a caller can tell of a server between two calls
 pub record View : Type 0 where

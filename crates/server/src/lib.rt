@@ -7,10 +7,10 @@ pub mod laws;
 mod mounting;
 mod receiving;
 mod request;
+mod running;
 mod server;
 mod stage;
 mod turn;
-mod turns;
 
 pub use fault::ServerFault;
 pub use fs::{FormatFault, MountFault, Unmounted, is_volume_size};

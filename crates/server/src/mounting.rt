@@ -8,14 +8,14 @@ use session::Table;
 use slab::Slab;
 use std::alloc::Global;
 
-#[tactic(auto, unfolding(crate::specs::Servers::world_of, crate::specs::Servers::files_of, crate::specs::Servers::volume_of, crate::specs::Servers::failures_of, crate::specs::Connections::connections_of))]
+#[tactic(auto, unfolding(crate::specs::Views::world_of, crate::specs::Views::files_of, crate::specs::Views::volume_of, crate::specs::Views::failures_of, crate::specs::Connections::connections_of))]
 impl<D: Device> Server<D> {
     ghost use Rattle.std.specs.Prelude.{◌≤◌, IfOk, IfErr};
     ghost use Rattle.fs.specs.FileSystem.{IsNew};
     ghost use Rattle.fs.specs.Formatting.{Formats};
     ghost use Rattle.volume.specs.MountAnswers.{HasMounted, IsRefused, ComesBack};
     ghost use Rattle.server.specs.Headline.{Begins};
-    ghost use Rattle.server.specs.Servers.{BeginsEmpty, files_of, volume_of, failures_of};
+    ghost use Rattle.server.specs.Views.{BeginsEmpty, files_of, volume_of, failures_of};
 
     /// Makes the device a new volume of this many nodes, with an empty root: `Fs::format`.
     pub fn format(alloc: Global, device: &mut D, nodes: u32) -> Result<(), FormatFault>

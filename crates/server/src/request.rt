@@ -1,7 +1,7 @@
 //! A whole record: its call is answered at once, or its COMPOUND begins.
 
 ghost use Rattle.std.specs.Prelude.{◌≡◌, Some, [], true, false, IfOk, IfErr, OnErr};
-ghost use Rattle.fs.specs.FileSystems.{fs_of, Alters};
+ghost use Rattle.fs.specs.Views.{fs_of, Alters};
 ghost use Rattle.model.specs.Record.{framed};
 ghost use Rattle.model.specs.Rpc as rpc;
 ghost use Rattle.model.specs.Rpc.{is_call_read, reply_text};

@@ -2,7 +2,7 @@
 
 ghost use Rattle.std.specs.Prelude.{◌≡◌, ◌≤◌, ℕ, Some};
 ghost use Rattle.slab.specs.Slab.{slab_len};
-ghost use Rattle.fs.specs.FileSystems.{fs_of};
+ghost use Rattle.fs.specs.Views.{fs_of};
 ghost use Rattle.model.specs.Keyed.{at};
 ghost use Rattle.model.specs.World as world;
 ghost use Rattle.server.specs.Connections.{connections_of, IsOfRun};
@@ -35,7 +35,7 @@ pub struct Server<D: Device> {
         → IsOfRun (fs_of fs).volume.run connection },
 }
 
-#[tactic(auto, unfolding(crate::specs::Servers::world_of, crate::specs::Servers::files_of, crate::specs::Servers::volume_of, crate::specs::Servers::failures_of))]
+#[tactic(auto, unfolding(crate::specs::Views::world_of, crate::specs::Views::files_of, crate::specs::Views::volume_of, crate::specs::Views::failures_of))]
 impl<D: Device> Server<D> {
     ghost use Rattle.std.specs.Prelude.{◌≡◌, ◌≤◌, ◌↔◌, List, true, false, Some, None, length, OnOk, OnErr, IfOk, IfErr, IsErrOf};
     ghost use Rattle.model.specs.Runs as runs;
@@ -44,7 +44,7 @@ impl<D: Device> Server<D> {
     ghost use Rattle.server.specs.Connections.{turn_view};
     ghost use Rattle.server.specs.Refused.{view, IsUntouched, connection_at, HasTurned, RefusesTurn, RefusesHangUp};
     ghost use Rattle.server.specs.Seen.{Does, Breaks, Took, Turned, Done};
-    ghost use Rattle.server.specs.Servers.{world_of, files_of, volume_of, failures_of, seen_with, seen_down, gave, Serves, Fails, Gives, Turning};
+    ghost use Rattle.server.specs.Views.{world_of, files_of, volume_of, failures_of, seen_with, seen_down, gave, Serves, Fails, Gives, Turning};
 
     /// The run of this mount: the restart count that it wrote.
     pub fn restart_count(&self) -> u32

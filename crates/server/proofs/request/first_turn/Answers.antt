@@ -5,7 +5,7 @@ use Rattle.compound.specs.Views.{in_progress_of}
 use Rattle.compound.specs.Volumes.{ending_of}
 use Rattle.compound.specs.declared.fault.Fault.TheVariants as fault
 use Rattle.volume.specs.Changes.{Done}
-use Rattle.fs.specs.FileSystems.{fs_of, fs_failures}
+use Rattle.fs.specs.Views.{fs_of, fs_failures}
 use Rattle.volume.proofs.ServeLaws.{told_err}
 use Rattle.compound.proofs.QuietLaws.{leaves_all}
 use Rattle.model.specs.Rpc.{read_call}

@@ -1,6 +1,6 @@
 use Rattle.std.proofs.Common.{sym, subst, ap, refl, Err, ◌∙◌}
 use Rattle.fs.specs.AccessRights.{TellsAccess}
-use Rattle.fs.specs.FileSystems.{fs_of}
+use Rattle.fs.specs.Views.{fs_of}
 use Rattle.fs.specs.declared.fault.FsFault.{FsFault}
 use Rattle.model.specs.Answer.{Answer, Refused, AccessAnswer}
 use Rattle.model.specs.Operation.{Argument}

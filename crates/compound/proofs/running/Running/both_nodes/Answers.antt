@@ -1,5 +1,5 @@
 use Rattle.std.proofs.Common.{◌≡◌, false, sym, subst}
-use Rattle.fs.specs.FileSystems.{fs_of}
+use Rattle.fs.specs.Views.{fs_of}
 use Rattle.model.specs.Context.{Context, has_saved}
 use Rattle.volume.proofs.ServeLaws.{told_err}
 use Rattle.compound.proofs.RenameLaws.{refused_current, refused_saved}

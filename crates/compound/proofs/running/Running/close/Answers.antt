@@ -1,5 +1,5 @@
 use Rattle.std.proofs.Common.{sym, subst}
-use Rattle.fs.specs.FileSystems.{fs_of}
+use Rattle.fs.specs.Views.{fs_of}
 use Rattle.model.specs.Answer.{Outcome}
 use Rattle.model.specs.Context.{without_stateid}
 use Rattle.model.specs.Opens.{Opens}

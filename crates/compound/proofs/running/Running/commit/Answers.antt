@@ -1,7 +1,7 @@
 use Rattle.std.proofs.Common.{◌≡◌, true, Result, refl, sym, subst, ◌∙◌, arith, IfOk}
 use Rattle.fs.proofs.ChangeLaws.{changes_by}
 use Rattle.fs.specs.Changes.{Changes}
-use Rattle.fs.specs.FileSystems.{fs_of, fs_failures}
+use Rattle.fs.specs.Views.{fs_of, fs_failures}
 use Rattle.model.specs.Answer.{Outcome, Refused}
 use Rattle.model.specs.Operation.{Argument, CommitArguments}
 use Rattle.model.specs.Opens.{no_opens}

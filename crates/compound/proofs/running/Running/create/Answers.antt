@@ -1,4 +1,4 @@
-use Rattle.fs.specs.FileSystems.{fs_of, fs_failures}
+use Rattle.fs.specs.Views.{fs_of, fs_failures}
 use Rattle.compound.specs.States.{shared}
 use Rattle.compound.specs.Views.{in_progress_of}
 use Rattle.compound.proofs.VolumeLaws.{other_changes}

@@ -1,6 +1,6 @@
 use Rattle.std.proofs.Common.{◌≡◌, true, sym, subst, ◌∙◌, refl, arith}
 use Rattle.fs.specs.FileSystem.{FileSystem}
-use Rattle.fs.specs.FileSystems.{fs_of, fs_failures}
+use Rattle.fs.specs.Views.{fs_of, fs_failures}
 use Rattle.fs.specs.Operations.{new_directory}
 use Rattle.model.specs.Answer.{Outcome, Refused}
 use Rattle.model.specs.Context.{at_node}

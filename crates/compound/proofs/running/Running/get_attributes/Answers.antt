@@ -1,6 +1,6 @@
 use Rattle.std.proofs.Common.{ℕ, List, sym, subst, refl, Ok, Err}
 use Rattle.fs.specs.Attributes.{GetsAttributes}
-use Rattle.fs.specs.FileSystems.{fs_of}
+use Rattle.fs.specs.Views.{fs_of}
 use Rattle.fs.specs.declared.fault.FsFault.{FsFault}
 use Rattle.model.specs.Answer.{Answer, Refused}
 use Rattle.model.specs.Operation.{Argument}

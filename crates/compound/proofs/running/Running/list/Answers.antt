@@ -1,5 +1,5 @@
 use Rattle.std.proofs.Common.{◌≡◌, Result, Ok, Err, IfOk, IfErr, sym, subst, refl, ◌∙◌, arith}
-use Rattle.fs.specs.FileSystems.{fs_of}
+use Rattle.fs.specs.Views.{fs_of}
 use Rattle.fs.specs.Listing.{Lists, page_view}
 use Rattle.model.specs.Answer.{Answer, Refused}
 use Rattle.model.specs.Operation.{Argument, ReadDirArguments}

@@ -1,5 +1,5 @@
 use Rattle.std.proofs.Common.{refl}
-use Rattle.fs.specs.FileSystems.{fs_of, fs_failures}
+use Rattle.fs.specs.Views.{fs_of, fs_failures}
 use Rattle.opens.specs.Views.{opens_of}
 use Rattle.wire.specs.ArgumentViews.{open_view}
 use Rattle.compound.specs.States.{shared}

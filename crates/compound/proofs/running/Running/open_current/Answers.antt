@@ -1,5 +1,5 @@
 use Rattle.std.proofs.Common.{ℕ, List, [], false, refl, sym, ap, subst, ◌∙◌}
-use Rattle.fs.specs.FileSystems.{fs_of}
+use Rattle.fs.specs.Views.{fs_of}
 use Rattle.fs.specs.Opening.{current_opened}
 use Rattle.fs.specs.Operations.{IsRefused}
 use Rattle.fs.specs.Renaming.{info_of}

@@ -1,7 +1,7 @@
 use Rattle.std.proofs.Common.{◌≡◌, ℕ, List, Result, refl, sym, ap, subst, ◌∙◌, arith, IfOk}
 use Rattle.fs.proofs.ChangeLaws.{changes_by}
 use Rattle.fs.specs.Changes.{Changes}
-use Rattle.fs.specs.FileSystems.{fs_of, fs_failures}
+use Rattle.fs.specs.Views.{fs_of, fs_failures}
 use Rattle.fs.specs.Opening.{after_open, effect_of, has_room, set_by, type_of}
 use Rattle.fs.specs.Operations.{does_on}
 use Rattle.fs.specs.Renaming.{info_of}

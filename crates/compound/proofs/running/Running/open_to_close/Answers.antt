@@ -1,4 +1,4 @@
-use Rattle.fs.specs.FileSystems.{fs_of}
+use Rattle.fs.specs.Views.{fs_of}
 use Rattle.opens.specs.Views.{opens_of}
 use Rattle.volume.proofs.ServeLaws.{told_err}
 use Rattle.wire.specs.ArgumentViews.{close_view}

@@ -1,5 +1,5 @@
 use Rattle.std.proofs.Common.{ℕ, Result, Ok, Err, IfOk, refl, ap, ◌∙◌}
-use Rattle.fs.specs.FileSystems.{fs_of, fs_failures}
+use Rattle.fs.specs.Views.{fs_of, fs_failures}
 use Rattle.model.specs.Opens.{Opens}
 use Rattle.model.specs.Operation.{Argument}
 use Rattle.model.specs.Session.{Table}

@@ -1,5 +1,5 @@
 use Rattle.std.proofs.Common.{subst, refl, Err}
-use Rattle.fs.specs.FileSystems.{fs_of}
+use Rattle.fs.specs.Views.{fs_of}
 use Rattle.fs.specs.Operations.{PutsHandle}
 use Rattle.fs.specs.declared.fault.FsFault.{FsFault}
 use Rattle.model.specs.Operation.{Argument}

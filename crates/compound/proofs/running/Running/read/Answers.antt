@@ -1,7 +1,7 @@
 use Rattle.std.proofs.Common.{◌≡◌, ◌<◌, ◌^◌, Bool, length, min, drop, Result, IfOk, refl, sym, subst, arith, length-take}
 use Rattle.fs.specs.Changes.{Changes}
 use Rattle.fs.specs.FileSystem.{FileSystem}
-use Rattle.fs.specs.FileSystems.{fs_of, fs_failures}
+use Rattle.fs.specs.Views.{fs_of, fs_failures}
 use Rattle.fs.specs.Reading.{part_at}
 use Rattle.volume.specs.Changes.{IsTree}
 use Rattle.model.specs.Answer.{Answer, Refused}

@@ -1,4 +1,4 @@
-use Rattle.fs.specs.FileSystems.{fs_of}
+use Rattle.fs.specs.Views.{fs_of}
 use Rattle.session.specs.Views.{table_of}
 use Rattle.compound.proofs.running.Running.reclaim.Goals as goal
 

@@ -1,4 +1,4 @@
-use Rattle.fs.specs.FileSystems.{fs_of}
+use Rattle.fs.specs.Views.{fs_of}
 use Rattle.model.specs.Operation.{Argument}
 use Rattle.model.specs.declared.status.Status.TheVariants as status
 use Rattle.compound.specs.States.{shared}

@@ -1,6 +1,6 @@
 use Rattle.std.proofs.Common.{◌≡◌, ℕ, List, Result, refl, sym, ap, subst, ◌∙◌, arith, IfOk}
 use Rattle.fs.specs.Changes.{Changes}
-use Rattle.fs.specs.FileSystems.{fs_of, fs_failures}
+use Rattle.fs.specs.Views.{fs_of, fs_failures}
 use Rattle.fs.specs.Setting.{IsSetting}
 use Rattle.fs.proofs.ChangeLaws.{changes_by}
 use Rattle.model.specs.Answer.{Outcome, Refused}

@@ -1,7 +1,7 @@
 use Rattle.std.proofs.Common.{◌∙◌, sym, ap}
 use Rattle.model.specs.Answer.{Answer, AccessAnswer}
 use Rattle.model.specs.Step.{answered}
-use Rattle.fs.specs.FileSystems.{fs_of}
+use Rattle.fs.specs.Views.{fs_of}
 use Rattle.fs.proofs.AccessLaws.{access_is}
 use Rattle.fs.proofs.ReadingLaws.{access_gone, access_told}
 use Rattle.fs.proofs.fs.Fs.access.Goals as goal

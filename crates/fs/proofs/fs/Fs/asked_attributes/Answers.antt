@@ -6,7 +6,7 @@ use Rattle.model.specs.NodeAttributes.{node_attributes}
 use Rattle.model.specs.Operation.{Argument, Attributes}
 use Rattle.model.specs.ReadDir.{asks_lists}
 use Rattle.model.specs.Step.{answered, does}
-use Rattle.fs.specs.FileSystems.{fs_of}
+use Rattle.fs.specs.Views.{fs_of}
 use Rattle.fs.proofs.AttributeLaws.{attributes_are}
 use Rattle.fs.proofs.CardViews.{granted_by}
 use Rattle.fs.proofs.ReadingLaws.{attributes_gone, attributes_denied, attributes_unlisted, attributes_granted}

@@ -1,5 +1,5 @@
 use Rattle.std.proofs.Common.{rules}
-use Rattle.fs.specs.FileSystems.{fs_of}
+use Rattle.fs.specs.Views.{fs_of}
 use Rattle.fs.proofs.fs.Fs.check_cut.Goals as goal
 
 pub returns-clause-cut : goal.returns-clause-cut

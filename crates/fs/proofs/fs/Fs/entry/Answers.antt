@@ -9,7 +9,7 @@ use Rattle.model.specs.Name.{name_refusals}
 use Rattle.model.specs.Refusal.{first_refusal}
 use Rattle.model.specs.Tree.{is_directory}
 use Rattle.fs.proofs.LookupTests as stages
-use Rattle.fs.specs.FileSystems.{fs_of}
+use Rattle.fs.specs.Views.{fs_of}
 use Rattle.fs.proofs.CardViews.{granted_by, names_are, no_directory, entry_is}
 use Rattle.fs.proofs.fs.Fs.entry.Goals as goal
 

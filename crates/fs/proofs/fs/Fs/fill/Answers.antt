@@ -2,7 +2,7 @@ use Rattle.std.proofs.Common.{◌+◌, ℕ, List, ◌∷◌, map, ap, subst, ari
 use Rattle.std.specs.List.{AllByRecursion}
 use Rattle.directory.specs.Records.{IsRecord, Record}
 use Rattle.directory.specs.Rest.{rest_of}
-use Rattle.fs.specs.FileSystems.{fs_of}
+use Rattle.fs.specs.Views.{fs_of}
 use Rattle.model.specs.ReadDir.{entry_of}
 use Rattle.wire_attributes.specs.Listed.{entry_view}
 use Rattle.fs.proofs.FillLaws as laws

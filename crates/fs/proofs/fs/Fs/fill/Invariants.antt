@@ -2,7 +2,7 @@ use Rattle.std.proofs.Common.{map}
 use Rattle.std.specs.List.{AllByRecursion}
 use Rattle.directory.specs.Records.{IsRecord}
 use Rattle.directory.specs.Rest.{rest_of}
-use Rattle.fs.specs.FileSystems.{fs_of}
+use Rattle.fs.specs.Views.{fs_of}
 use Rattle.model.specs.ReadDir.{entry_of}
 use Rattle.fs.proofs.FillLaws.{IsFilled}
 use Rattle.fs.proofs.fs.Fs.fill.Given as goal

@@ -7,7 +7,7 @@ use Rattle.model.specs.declared.limits.Limits.{Limits}
 use Rattle.model.specs.Name.{name_refusals}
 use Rattle.model.specs.Refusal.{first_refusal}
 use Rattle.model.specs.Tree.{names_at, entry_of}
-use Rattle.fs.specs.FileSystems.{fs_of}
+use Rattle.fs.specs.Views.{fs_of}
 use Rattle.fs.specs.Renaming.{arguments_of}
 use Rattle.fs.proofs.CardViews.{entry_at}
 use Rattle.fs.proofs.RenameSteps as steps

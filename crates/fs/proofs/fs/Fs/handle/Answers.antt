@@ -3,7 +3,7 @@ use Rattle.model.specs.Answer.{Answer}
 use Rattle.model.specs.Stamp.{filehandle_of}
 use Rattle.model.specs.Step.{answered}
 use Rattle.fs.proofs.HandleLaws.{current_gone, handle_got}
-use Rattle.fs.specs.FileSystems.{fs_of}
+use Rattle.fs.specs.Views.{fs_of}
 use Rattle.fs.proofs.fs.Fs.handle.Goals as goal
 
 pub returns-then-not-has-clause-step : goal.returns-then-not-has-clause-step

@@ -1,7 +1,7 @@
 use Rattle.std.proofs.Common.{◌∙◌, ap}
 use Rattle.std.specs.Prelude.{nat_lt}
 use Rattle.layout.specs.Cards.{Card}
-use Rattle.fs.specs.FileSystems.{fs_of}
+use Rattle.fs.specs.Views.{fs_of}
 use Rattle.fs.proofs.CardViews.{has_names_told}
 use Rattle.fs.proofs.fs.Fs.has_names.Goals as goal
 

@@ -10,7 +10,7 @@ use Rattle.model.specs.declared.limits.Limits.{Limits}
 use Rattle.model.specs.Keyed.{Keyed}
 use Rattle.model.specs.ReadDir.{entry_of, names_after, page_bytes, page_room}
 use Rattle.model.specs.Tree.{DirEntry, names_at}
-use Rattle.fs.specs.FileSystems.{fs_of}
+use Rattle.fs.specs.Views.{fs_of}
 use Rattle.fs.specs.Listing.{list_arguments, page_of, page_view}
 use Rattle.fs.specs.declared.fault.FsFault.TheVariants as fault
 use Rattle.fs.proofs.ListLaws.{each_listed, all, list_refused, list_small, list_crowded, list_done}

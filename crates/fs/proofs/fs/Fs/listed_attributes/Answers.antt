@@ -2,7 +2,7 @@ use Rattle.std.proofs.Common.{◌≡◌, ◌∙◌, ◌⊎◌, true, false, inl,
 use Rattle.model.specs.Keyed.{at}
 use Rattle.model.specs.ReadDir.{asks_lists, may_read_list}
 use Rattle.model.specs.SetAttr.{attributes_at}
-use Rattle.fs.specs.FileSystems.{fs_of}
+use Rattle.fs.specs.Views.{fs_of}
 use Rattle.fs.proofs.AttributeLaws.{attributes_are}
 use Rattle.fs.proofs.ListLaws.{attributes_shown}
 use Rattle.fs.proofs.fs.Fs.listed_attributes.Goals as goal

@@ -1,7 +1,7 @@
 use Rattle.std.proofs.Common.{◌≡◌, ℕ}
 use Rattle.std.specs.List.{list_all}
 use Rattle.directory.specs.Rest.{rest_of}
-use Rattle.fs.specs.FileSystems.{fs_of}
+use Rattle.fs.specs.Views.{fs_of}
 use Rattle.model.specs.Keyed.{at}
 use Rattle.model.specs.ReadDir.{may_read_list}
 use Rattle.model.specs.Tree.{DirEntry}

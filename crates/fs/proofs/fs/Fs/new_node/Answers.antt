@@ -1,6 +1,6 @@
 use Rattle.std.proofs.Common.{◌≡◌, ap, sym, subst, arith, rules}
 use Rattle.model.specs.declared.limits.Limits.{Limits}
-use Rattle.fs.specs.FileSystems.{fs_of}
+use Rattle.fs.specs.Views.{fs_of}
 use Rattle.fs.specs.Planned.{IsList, list_by}
 use Rattle.fs.proofs.EntryLaws.{small_list, created_list}
 use Rattle.volume.specs.Volumes.{held_of}

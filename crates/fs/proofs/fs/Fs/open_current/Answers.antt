@@ -1,6 +1,6 @@
 use Rattle.volume.proofs.ServeLaws.{told_err}
 use Rattle.fs.specs.declared.fault.FsFault.TheVariants as fault
-use Rattle.fs.specs.FileSystems.{fs_of}
+use Rattle.fs.specs.Views.{fs_of}
 use Rattle.fs.proofs.CurrentOpens as laws
 use Rattle.fs.proofs.fs.Fs.open_current.Goals as goal
 

@@ -13,7 +13,7 @@ use Rattle.model.specs.Tree.{is_directory, names_of, entry_of}
 use Rattle.settings.specs.Given.{given_of}
 use Rattle.fs.specs.OnTree.{new_directory_refusals}
 use Rattle.fs.proofs.Creating as creating
-use Rattle.fs.specs.FileSystems.{fs_of}
+use Rattle.fs.specs.Views.{fs_of}
 use Rattle.fs.proofs.CardViews.{granted_by, names_are, entry_is}
 use Rattle.fs.proofs.RefusedLaws.{carried}
 use Rattle.fs.proofs.fs.Fs.permit_dir.Goals as goal

@@ -1,5 +1,5 @@
 use Rattle.std.proofs.Common.{rules}
-use Rattle.fs.specs.FileSystems.{fs_of}
+use Rattle.fs.specs.Views.{fs_of}
 use Rattle.fs.proofs.fs.Fs.permit_list.Goals as goal
 
 pub returns-then-not-grants-clause-tests : goal.returns-then-not-grants-clause-tests

@@ -4,7 +4,7 @@ use Rattle.model.specs.Acl.{write_data}
 use Rattle.model.specs.Need.{granted_on}
 use Rattle.model.specs.Open.{new_refusals}
 use Rattle.model.specs.Tree.{Node}
-use Rattle.fs.specs.FileSystems.{fs_of}
+use Rattle.fs.specs.Views.{fs_of}
 use Rattle.fs.specs.Opening.{file_tests, type_of}
 use Rattle.fs.proofs.CardViews.{granted_by}
 use Rattle.fs.proofs.OpenTests as tests

@@ -1,6 +1,6 @@
 use Rattle.std.proofs.Common.{arith, rules}
 use Rattle.std.proofs.lemmas.Grind.{common_steps}
-use Rattle.fs.specs.FileSystems.{fs_of}
+use Rattle.fs.specs.Views.{fs_of}
 use Rattle.fs.proofs.fs.Fs.permit_read.Goals as goal
 
 pub returns-in_err-size-clause-tests : goal.returns-in_err-size-clause-tests

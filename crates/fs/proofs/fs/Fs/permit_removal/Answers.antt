@@ -9,7 +9,7 @@ use Rattle.model.specs.Name.{name_refusals}
 use Rattle.model.specs.Refusal.{first_refusal}
 use Rattle.model.specs.Rename.{has_names}
 use Rattle.model.specs.Tree.{is_directory, names_at, entry_of}
-use Rattle.fs.specs.FileSystems.{fs_of}
+use Rattle.fs.specs.Views.{fs_of}
 use Rattle.fs.proofs.CardViews.{names_are, entry_at, may_remove_told}
 use Rattle.fs.proofs.RemoveTests as tests
 use Rattle.fs.proofs.fs.Fs.permit_removal.Goals as goal

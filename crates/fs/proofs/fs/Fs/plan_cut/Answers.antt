@@ -2,7 +2,7 @@ use Rattle.std.proofs.Common.{◌≡◌, ◌+◌, ◌^◌, ◌∙◌, ap, sym, s
 use Rattle.std.proofs.lemmas.Bool.{le-ltb, lt-ltb}
 use Rattle.edits.specs.Edits.{AreDoable}
 use Rattle.model.specs.Charge.{fits}
-use Rattle.fs.specs.FileSystems.{fs_of}
+use Rattle.fs.specs.Views.{fs_of}
 use Rattle.fs.specs.Opening.{tree_cut}
 use Rattle.fs.proofs.NodePlans.{no_room, no_stamp, has_room}
 use Rattle.fs.proofs.SizePlans as plans

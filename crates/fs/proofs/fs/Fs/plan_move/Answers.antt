@@ -4,7 +4,7 @@ use Rattle.std.proofs.lemmas.Result.{err_from_is_err_and}
 use Rattle.edits.specs.Edits.{AreDoable}
 use Rattle.layout.specs.Cards.{Card}
 use Rattle.model.specs.Charge.{fits}
-use Rattle.fs.specs.FileSystems.{fs_of}
+use Rattle.fs.specs.Views.{fs_of}
 use Rattle.fs.specs.Renaming.{arguments_of}
 use Rattle.fs.proofs.RenamePlans as plans
 use Rattle.fs.proofs.RenamedLaws as laws

@@ -11,7 +11,7 @@ use Rattle.model.specs.declared.not_done.NotDone.{NotDone}
 use Rattle.model.specs.declared.not_done.NotDone.TheVariants as refusal
 use Rattle.settings.specs.Given.{IsRefusedBy}
 use Rattle.fs.specs.declared.opening.OpenEffect.TheVariants as effect
-use Rattle.fs.specs.FileSystems.{fs_of}
+use Rattle.fs.specs.Views.{fs_of}
 use Rattle.fs.specs.Making.{first_node, room_tests, tree_with}
 use Rattle.fs.specs.Opening.{after_open, file_tests, type_of}
 use Rattle.fs.specs.Operations.{IsNotDone}

@@ -3,7 +3,7 @@ use Rattle.std.proofs.lemmas.Bool.{le-ltb, lt-ltb}
 use Rattle.draft.specs.Nodes.{shown_of}
 use Rattle.edits.specs.Edits.{AreDoable}
 use Rattle.model.specs.Charge.{fits}
-use Rattle.fs.specs.FileSystems.{fs_of}
+use Rattle.fs.specs.Views.{fs_of}
 use Rattle.fs.specs.Making.{first_node, tree_with}
 use Rattle.fs.proofs.NodePlans as plans
 use Rattle.volume.specs.Edits.{edited_by}

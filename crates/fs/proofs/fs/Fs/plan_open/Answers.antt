@@ -5,7 +5,7 @@ use Rattle.directory.specs.Records.{record_from}
 use Rattle.layout.specs.Cards.{Card}
 use Rattle.model.specs.Directory.{number_of_entry}
 use Rattle.model.specs.Tree.{entry_of, names_at}
-use Rattle.fs.specs.FileSystems.{fs_of}
+use Rattle.fs.specs.Views.{fs_of}
 use Rattle.fs.proofs.CardViews.{entry_at}
 use Rattle.fs.proofs.NamedOpens as laws
 use Rattle.fs.proofs.fs.Fs.plan_open.Goals as goal

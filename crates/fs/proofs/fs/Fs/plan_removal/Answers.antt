@@ -3,7 +3,7 @@ use Rattle.std.proofs.lemmas.Bool.{le-ltb, lt-ltb}
 use Rattle.std.proofs.lemmas.Result.{err_from_is_err_and}
 use Rattle.directory.specs.Records.{record_from}
 use Rattle.layout.specs.Cards.{Card}
-use Rattle.fs.specs.FileSystems.{fs_of}
+use Rattle.fs.specs.Views.{fs_of}
 use Rattle.fs.proofs.RemovalPlans as plans
 use Rattle.fs.proofs.RemovedLaws as laws
 use Rattle.volume.specs.Volumes.{held_of}

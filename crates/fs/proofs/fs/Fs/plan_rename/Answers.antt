@@ -1,7 +1,7 @@
 use Rattle.std.proofs.Common.{◌∙◌, ap, sym}
 use Rattle.std.proofs.lemmas.Result.{err_from_is_err_and}
 use Rattle.layout.specs.Cards.{Card}
-use Rattle.fs.specs.FileSystems.{fs_of}
+use Rattle.fs.specs.Views.{fs_of}
 use Rattle.fs.specs.Renaming.{arguments_of}
 use Rattle.fs.proofs.RemovalPlans.{change_shown}
 use Rattle.fs.proofs.RenamedLaws as laws

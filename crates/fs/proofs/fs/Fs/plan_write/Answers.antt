@@ -3,7 +3,7 @@ use Rattle.std.proofs.lemmas.Bool.{le-ltb, lt-ltb}
 use Rattle.std.proofs.lemmas.Result.{err_from_is_err_and}
 use Rattle.edits.specs.Edits.{AreDoable}
 use Rattle.model.specs.Charge.{fits}
-use Rattle.fs.specs.FileSystems.{fs_of}
+use Rattle.fs.specs.Views.{fs_of}
 use Rattle.fs.specs.Writing.{bytes_taken}
 use Rattle.fs.proofs.WrittenLaws.{early, too_big, doable, planned, plan_full, plan_used_up, plan_goes_on}
 use Rattle.volume.specs.Edits.{edited_by}

@@ -1,6 +1,6 @@
 use Rattle.std.proofs.Common.{◌≡◌, Bool, true, false, refl}
 use Rattle.fs.specs.Changes.{fs_ending}
-use Rattle.fs.specs.FileSystems.{fs_of}
+use Rattle.fs.specs.Views.{fs_of}
 use Rattle.fs.specs.Writing.{IsPut}
 use Rattle.fs.proofs.ChangeLaws.{changes_by}
 use Rattle.volume.specs.Changes.{IsTree}

@@ -2,7 +2,7 @@ use Rattle.std.proofs.Common.{sym, ap, ◌∙◌}
 use Rattle.model.specs.Answer.{Answer}
 use Rattle.model.specs.Step.{answered, moved_to}
 use Rattle.fs.proofs.HandleLaws.{bad_handle, stale_handle, handle_put}
-use Rattle.fs.specs.FileSystems.{fs_of}
+use Rattle.fs.specs.Views.{fs_of}
 use Rattle.fs.specs.declared.fault.FsFault.TheVariants as fault
 use Rattle.volume.proofs.ServeLaws.{told_err}
 use Rattle.fs.proofs.fs.Fs.put_handle.Goals as goal

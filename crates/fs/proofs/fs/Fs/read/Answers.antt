@@ -1,6 +1,6 @@
 use Rattle.std.proofs.Common.{ap}
 use Rattle.std.specs.Prelude.{Err}
-use Rattle.fs.specs.FileSystems.{fs_of}
+use Rattle.fs.specs.Views.{fs_of}
 use Rattle.fs.specs.Reading.{part_at, read_operation}
 use Rattle.fs.specs.Refusals.{volume_fault}
 use Rattle.fs.specs.declared.fault.FsFault.TheVariants as fault

@@ -1,5 +1,5 @@
 use Rattle.fs.specs.Changes.{fs_ending}
-use Rattle.fs.specs.FileSystems.{fs_of}
+use Rattle.fs.specs.Views.{fs_of}
 use Rattle.fs.specs.Setting.{SetsTree}
 use Rattle.fs.proofs.ChangeLaws.{changes_by}
 use Rattle.fs.proofs.SettingLaws.{sets_tree}

@@ -2,7 +2,7 @@ use Rattle.std.proofs.Common.{◌∙◌, ap}
 use Rattle.layout.specs.Cards.{Card}
 use Rattle.model.specs.declared.limits.Limits.{Limits}
 use Rattle.model.specs.Mode.{mode_of}
-use Rattle.fs.specs.FileSystems.{fs_of}
+use Rattle.fs.specs.Views.{fs_of}
 use Rattle.fs.proofs.AttributeLaws.{shows}
 use Rattle.fs.proofs.fs.Fs.shown.Goals as goal
 

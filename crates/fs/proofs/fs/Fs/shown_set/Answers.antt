@@ -1,7 +1,7 @@
 use Rattle.std.proofs.Common.{◌≡◌, ap, sym, subst, arith, rules}
 use Rattle.model.specs.declared.limits.Limits.{Limits}
 use Rattle.model.specs.SetAttr.{list_set}
-use Rattle.fs.specs.FileSystems.{fs_of}
+use Rattle.fs.specs.Views.{fs_of}
 use Rattle.fs.specs.Planned.{IsList}
 use Rattle.fs.proofs.EntryLaws.{small_list, set_list}
 use Rattle.volume.specs.Volumes.{held_of}

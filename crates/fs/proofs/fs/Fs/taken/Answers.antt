@@ -1,6 +1,6 @@
 use Rattle.std.proofs.Common.{arith, rules}
 use Rattle.std.proofs.lemmas.Grind.{common_steps}
-use Rattle.fs.specs.FileSystems.{fs_of}
+use Rattle.fs.specs.Views.{fs_of}
 use Rattle.fs.proofs.BytesLaws.{bytes_by}
 use Rattle.std.proofs.Math.Facts.{Fits-lt-pow}
 use Rattle.fs.proofs.fs.Fs.taken.Goals as goal

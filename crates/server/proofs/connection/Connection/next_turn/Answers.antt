@@ -4,7 +4,7 @@ use Rattle.compound.specs.Steps.{stepped_on}
 use Rattle.compound.specs.Views.{in_progress_of}
 use Rattle.compound.specs.Volumes.{ending_of}
 use Rattle.volume.specs.Changes.{Done}
-use Rattle.fs.specs.FileSystems.{fs_of}
+use Rattle.fs.specs.Views.{fs_of}
 use Rattle.model.specs.World.{Connection, Busy, turned}
 use Rattle.rpc.specs.Assembly.{Assembly}
 use Rattle.server.specs.Connections.{HasGoneOn, connection_view}

@@ -3,7 +3,7 @@ use Rattle.compound.specs.States.{shared_of}
 use Rattle.compound.specs.Steps.{turn_by}
 use Rattle.compound.specs.Volumes.{ending, ending_of}
 use Rattle.volume.specs.Changes.{Done}
-use Rattle.fs.specs.FileSystems.{fs_of, fs_failures}
+use Rattle.fs.specs.Views.{fs_of, fs_failures}
 use Rattle.model.specs.Rpc.{read_call}
 use Rattle.model.specs.World.{Connection, is_busy, Waiting, Replied, Turned, called, turned}
 use Rattle.rpc.specs.Assembly.{Assembly, Gathers, Holds, Refuses, connection_of}

@@ -1,10 +1,10 @@
 use Rattle.std.proofs.Common.{◌<◌, [], refl, sym, ap, subst, arith}
 use Rattle.slab.specs.Slab.{slab_len}
 use Rattle.compound.specs.States.{shared_of}
-use Rattle.fs.specs.FileSystems.{fs_of}
+use Rattle.fs.specs.Views.{fs_of}
 use Rattle.server.specs.Connections.{connections_of, connection_view, IsOfRun}
 use Rattle.server.specs.declared.fault.ServerFault.TheVariants as faults
-use Rattle.server.specs.Servers.{world_of, volume_of, world_by}
+use Rattle.server.specs.Views.{world_of, volume_of, world_by}
 use Rattle.model.specs.Runs as runs
 use Rattle.server.proofs.Moves.{does_quietly}
 use Rattle.server.proofs.Refusals.{told_by}

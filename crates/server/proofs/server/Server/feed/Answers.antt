@@ -1,10 +1,10 @@
 use Rattle.std.proofs.Common.{refl, sym, ap, ◌∙◌, subst, arith}
 use Rattle.compound.specs.States.{shared_of}
-use Rattle.fs.specs.FileSystems.{fs_of}
+use Rattle.fs.specs.Views.{fs_of}
 use Rattle.model.specs.Runs as runs
 use Rattle.server.specs.Connections.{connections_of, connection_view}
 use Rattle.server.specs.Seen.{Took, taken_on}
-use Rattle.server.specs.Servers.{world_of, volume_of, world_by}
+use Rattle.server.specs.Views.{world_of, volume_of, world_by}
 use Rattle.server.proofs.Moves.{does_quietly}
 use Rattle.server.proofs.SlabLaws.{stands, stands_none, wrote, wrote_count}
 use Rattle.server.proofs.Worlds.{AllOfRun, all_of_run_with, fed, feeds_of_run}

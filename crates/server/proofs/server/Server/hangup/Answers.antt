@@ -1,6 +1,6 @@
 use Rattle.std.proofs.Common.{◌≡◌, Err, inl, refl, sym, ap, ◌∙◌, subst, arith}
 use Rattle.compound.specs.States.{shared_of}
-use Rattle.fs.specs.FileSystems.{fs_of}
+use Rattle.fs.specs.Views.{fs_of}
 use Rattle.model.specs.Runs as runs
 use Rattle.model.specs.Keyed.{at}
 use Rattle.server.specs.Connections.{connections_of}
@@ -8,7 +8,7 @@ use Rattle.server.specs.declared.fault.ServerFault.TheVariants as faults
 use Rattle.server.specs.Refused.{view, IsUntouched, RefusesTurn}
 use Rattle.server.specs.Seen.{Stays}
 use Rattle.server.proofs.Refusals.{told_by, hang_up_refused}
-use Rattle.server.specs.Servers.{world_of, volume_of, seen_with}
+use Rattle.server.specs.Views.{world_of, volume_of, seen_with}
 use Rattle.server.proofs.HangUps.{turned_on, fewer_left}
 use Rattle.server.proofs.Moves.{does_quietly, same_seen}
 use Rattle.server.proofs.SlabLaws.{stands_none, without_slot, absent, present, removed_count}

@@ -3,7 +3,7 @@ use Rattle.volume.specs.Held.{IsRecent}
 use Rattle.model.specs.Keyed.{at}
 use Rattle.model.specs.Tree.{Tree}
 use Rattle.server.specs.Seen.{IsTurned}
-use Rattle.server.specs.Servers.{world_of, volume_of, failures_of, seen_with}
+use Rattle.server.specs.Views.{world_of, volume_of, failures_of, seen_with}
 use Rattle.server.proofs.HangUps.{turns_left}
 use Rattle.server.proofs.server.Server.hangup.Given as goal
 

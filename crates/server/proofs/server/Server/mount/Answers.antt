@@ -1,11 +1,11 @@
 use Rattle.std.proofs.Common.{refl, ap, ◌∙◌}
-use Rattle.fs.specs.FileSystems.{fs_of}
+use Rattle.fs.specs.Views.{fs_of}
 use Rattle.volume.specs.declared.fault.MountFault.TheVariants as mounts
 use Rattle.volume.proofs.MountedLaws.{refused_untouched}
 use Rattle.model.specs.Session.{empty_table}
 use Rattle.session.specs.Views.{table_of}
 use Rattle.server.specs.Connections.{connections_of}
-use Rattle.server.specs.Servers.{world_of, files_of, volume_of, failures_of}
+use Rattle.server.specs.Views.{world_of, files_of, volume_of, failures_of}
 use Rattle.opens.specs.Views.{opens_of}
 use Rattle.server.proofs.Moves.{mounted_by, world_mounted}
 use Rattle.server.proofs.Refusals.{told_err}

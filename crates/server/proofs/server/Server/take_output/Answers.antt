@@ -2,13 +2,13 @@ use Rattle.opens.specs.Views.{opens_of}
 use Rattle.std.proofs.Common.{sym, refl, ap, ◌∙◌, subst, arith}
 use Rattle.compound.specs.States.{shared, shared_of}
 use Rattle.fs.specs.FileSystem.{FileSystem}
-use Rattle.fs.specs.FileSystems.{fs_of}
+use Rattle.fs.specs.Views.{fs_of}
 use Rattle.model.specs.Runs as runs
 use Rattle.model.specs.World.{reply_in}
 use Rattle.session.specs.Views.{table_of}
 use Rattle.server.specs.Connections.{connections_of, connection_view, IsOfRun}
 use Rattle.server.specs.Seen.{Gave}
-use Rattle.server.specs.Servers.{world_of, volume_of}
+use Rattle.server.specs.Views.{world_of, volume_of}
 use Rattle.server.proofs.Moves.{moves_none, does_quietly}
 use Rattle.server.proofs.SlabLaws.{stands, stands_none, wrote, wrote_count}
 use Rattle.server.proofs.Worlds.{AllOfRun, all_of_run_with, taken_of_run, took, stays_down}

@@ -3,14 +3,14 @@ use Rattle.compound.specs.declared.fault.Fault.TheVariants as turns
 use Rattle.slab.specs.Slab.{with_value}
 use Rattle.compound.specs.States.{shared, shared_of}
 use Rattle.fs.specs.FileSystem.{FileSystem}
-use Rattle.fs.specs.FileSystems.{fs_of}
+use Rattle.fs.specs.Views.{fs_of}
 use Rattle.model.specs.Runs as runs
 use Rattle.model.specs.World.{Closed}
 use Rattle.server.specs.Connections.{connections_of, connection_view}
 use Rattle.server.specs.Faults.{turn_fault}
 use Rattle.server.specs.declared.fault.ServerFault.TheVariants as faults
 use Rattle.server.specs.Seen.{Turned}
-use Rattle.server.specs.Servers.{world_of, volume_of, failures_of, world_by}
+use Rattle.server.specs.Views.{world_of, volume_of, failures_of, world_by}
 use Rattle.compound.proofs.QuietLaws.{left_all, broken≢done}
 use Rattle.model.proofs.KeyedLaws.{at-with_other}
 use Rattle.model.specs.Keyed.{at}

@@ -5,7 +5,7 @@ use Rattle.std.specs.Option.{option_map}
 use Rattle.compound.specs.States.{SharedState, shared_of}
 use Rattle.disk.specs.declared.device.Device.{Ghosts}
 use Rattle.fs.specs.FileSystem.{FileSystem}
-use Rattle.fs.specs.FileSystems.{fs_of, fs_failures}
+use Rattle.fs.specs.Views.{fs_of, fs_failures}
 use Rattle.model.specs.declared.limits.Limits.{Limits}
 use Rattle.model.specs.Runs.{Serving, Event}
 use Rattle.model.specs.Tree.{Tree}

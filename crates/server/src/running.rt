@@ -16,7 +16,7 @@ use std::mem;
 #[tactic(auto, unfolding(crate::specs::Connections::connection_view))]
 impl Connection {
     ghost use Rattle.std.specs.Prelude.{◌≡◌, ℕ, List, Some, true, false, OnOk, IfOk, OnErr};
-    ghost use Rattle.fs.specs.FileSystems.{fs_of, Alters};
+    ghost use Rattle.fs.specs.Views.{fs_of, Alters};
     ghost use Rattle.model.specs.World.{turned};
     ghost use Rattle.opens.specs.Views.{opens_of};
     ghost use Rattle.session.specs.Views.{table_of};
