@@ -8,3 +8,4 @@ mod operations;
 mod records;
 mod replies;
 mod results;
+mod vectors;

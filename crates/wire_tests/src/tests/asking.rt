@@ -38,7 +38,7 @@ pub(super) const A_MADE: &str = "80000094 4 1 0 0 0 0 0 0 4
     35 0 1 1 0 1 1 0 7 7 0 18 0 6 0 1 0 1 1 1 2 0 2 a 0 8 1 1";
 
 /// What a client is to ask.
-#[derive(Clone, Copy, Debug)]
+#[derive(Clone, Copy)]
 pub(super) enum Ask {
     ExchangeId,
     CreateSession,
@@ -47,7 +47,7 @@ pub(super) enum Ask {
 }
 
 /// What a call of the client answered.
-#[derive(Clone, Copy, Debug, PartialEq, Eq)]
+#[derive(Clone, Copy, PartialEq, Eq)]
 pub(super) enum Told {
     /// A record was made.
     Made,
@@ -84,7 +84,8 @@ pub(super) fn new_client(alloc: Global) -> Result<Client, Fail> {
     }
 }
 
-fn exchange_id() -> Argument<'static>
+/// EXCHANGE_ID of the owner id `cl`.
+pub(super) fn exchange_id() -> Argument<'static>
     ensures { ArgumentFits result }
 {
     Argument::ExchangeId(ExchangeIdArguments {
@@ -107,8 +108,7 @@ fn create_session(alloc: Global) -> Result<Argument<'static>, AllocError>
         max_requests: 8,
         rdma_ird: None,
     };
-    let mut security = Vec::new(alloc);
-    security.push(CallbackSecurity::NoSecurity)?;
+    let security = vec![in alloc; CallbackSecurity::NoSecurity]?;
     Ok(Argument::CreateSession(CreateSessionArguments {
         client: 0x1_0000_0001,
         sequence: 1,
@@ -120,7 +120,8 @@ fn create_session(alloc: Global) -> Result<Argument<'static>, AllocError>
     }))
 }
 
-fn create_a() -> Argument<'static>
+/// CREATE of the directory `a`.
+pub(super) fn create_a() -> Argument<'static>
     ensures { ArgumentFits result }
 {
     let mut bitmap: Bitmap = Words::new();

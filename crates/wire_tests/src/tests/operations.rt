@@ -1,119 +1,187 @@
+//! What a server reads and writes: arguments of operations, and their results.
+
+ghost use Rattle.wire.specs.OutcomeView.{outcome_view};
+ghost use Rattle.model.specs.WireAnswers.{outcome};
+
+use super::vectors::{CREATE, EXCHANGE_ID, RESULTS, joined};
 use model::status::Status;
 use std::alloc::Global;
 use std::test::*;
 use wire::{
-    Answer, Argument, Bitmap, ChangeInfo, Claim, CreateAnswer, CreateArguments, ExchangeIdAnswer,
-    OpenType, Opening, Operation, Outcome, SequenceAnswer,
+    Answer, Argument, ChangeInfo, Claim, CreateAnswer, CreateArguments, ExchangeIdAnswer,
+    OpenArguments, OpenType, Opening, Operation, Outcome, SequenceAnswer,
 };
 use xdr::{Reader, Refusal, Words, Writer};
 
-/// The operation's argument. The call stands here once, since it brings all that it promises to its caller.
-fn read<'a>(
-    alloc: Global,
-    operation: Operation,
-    reader: &mut Reader<'a>,
-) -> Result<Argument<'a>, Refusal> {
-    Argument::read(alloc, operation, reader)
+/// OPEN of the name `f`, guarded.
+const OPEN: &[u8] = &[
+    0, 0, 0, 18, 0, 0, 0, 0, 0, 0, 0, 3, 0, 0, 0, 0, 0, 0, 0, 0, 0, 0, 0, 1, 0, 0, 0, 1, b'A', 0,
+    0, 0, 0, 0, 0, 1, 0, 0, 0, 1, 0, 0, 0, 0, 0, 0, 0, 0, 0, 0, 0, 0, 0, 0, 0, 1, b'f', 0, 0, 0,
+];
+
+/// An argument in plain values.
+#[derive(Clone, Copy, PartialEq, Eq)]
+enum Form<'a> {
+    ExchangeId {
+        verifier: [u8; 8],
+        owner: &'a [u8],
+        flags: u32,
+        is_named: bool,
+    },
+    NewDirectory {
+        name: &'a [u8],
+        bitmap: &'a [u32],
+        values: &'a [u8],
+    },
+    OtherType(u32),
+    Guarded {
+        access: u32,
+        client: u64,
+        owner: &'a [u8],
+        name: &'a [u8],
+    },
 }
 
-#[test]
-fn exchange_id_is_read(rt: HostRuntime) -> Result<(), Fail> {
-    let bytes = [
-        0, 0, 0, 0x2a, 1, 2, 3, 4, 5, 6, 7, 8, 0, 0, 0, 2, b'c', b'l', 0, 0, 0, 0, 0, 0, 0, 0, 0,
-        0, 0, 0, 0, 0,
-    ];
-    let mut reader = Reader::new(&bytes);
-    let operation = Operation::from_number(reader.read_u32()?).ok_or("no operation")?;
-    assert_eq!(rt; operation, Operation::ExchangeId);
-    let argument = read(rt.alloc(), operation, &mut reader)?;
-    assert!(rt; reader.is_empty());
+/// Operations, what they are read as, and how many bytes are left.
+const READ: [(&[u8], Form<'static>, usize); 4] = [
+    (
+        EXCHANGE_ID,
+        Form::ExchangeId {
+            verifier: [1, 2, 3, 4, 5, 6, 7, 8],
+            owner: b"cl",
+            flags: 0,
+            is_named: false,
+        },
+        0,
+    ),
+    (
+        CREATE,
+        Form::NewDirectory {
+            name: b"a",
+            bitmap: &[0, 2],
+            values: &[0, 0, 1, 0xed],
+        },
+        0,
+    ),
+    // nothing after another type is read
+    (&[0, 0, 0, 6, 0, 0, 0, 5, 0xff], Form::OtherType(5), 1),
+    (
+        OPEN,
+        Form::Guarded {
+            access: 3,
+            client: 1,
+            owner: b"A",
+            name: b"f",
+        },
+        0,
+    ),
+];
+
+/// The next operation. Each call stands here once, since it brings all that it promises to its caller.
+fn read<'a>(alloc: Global, r: &mut Reader<'a>) -> Result<Argument<'a>, Refusal> {
+    match Operation::from_number(r.read_u32()?) {
+        Some(operation) => Argument::read(alloc, operation, r),
+        None => Err(Refusal::Value),
+    }
+}
+
+fn guarded<'a>(open: &'a OpenArguments<'_>) -> Option<Form<'a>> {
+    match &open.opening {
+        Opening::Opens {
+            how: OpenType::Guarded(_),
+            claim: Claim::ByName(name),
+        } => Some(Form::Guarded {
+            access: open.access,
+            client: open.client,
+            owner: open.owner,
+            name,
+        }),
+        _ => None,
+    }
+}
+
+fn form_of<'a>(argument: &'a Argument<'_>) -> Option<Form<'a>> {
     match argument {
-        Argument::ExchangeId(a) => {
-            assert_eq!(rt; a.verifier, [1, 2, 3, 4, 5, 6, 7, 8]);
-            assert_eq!(rt; a.owner, b"cl".as_slice());
-            assert_eq!(rt; a.flags, 0);
-            assert!(rt; a.implementation.is_none());
-        }
-        _ => assert!(rt; false),
-    }
-    let mut cut = Reader::new(&bytes[4..31]);
-    let refused = read(rt.alloc(), Operation::ExchangeId, &mut cut).err();
-    assert_eq!(rt; refused, Some(Refusal::Short));
-    assert_eq!(rt; cut.len(), 27);
-    Ok(())
-}
-
-#[test]
-fn create_is_read(rt: HostRuntime) -> Result<(), Fail> {
-    let bytes = [
-        0, 0, 0, 2, 0, 0, 0, 1, b'a', 0, 0, 0, 0, 0, 0, 2, 0, 0, 0, 0, 0, 0, 0, 2, 0, 0, 0, 4, 0,
-        0, 1, 0xed,
-    ];
-    let mut reader = Reader::new(&bytes);
-    let argument = read(rt.alloc(), Operation::Create, &mut reader)?;
-    match &argument {
+        Argument::ExchangeId(a) => Some(Form::ExchangeId {
+            verifier: a.verifier,
+            owner: a.owner,
+            flags: a.flags,
+            is_named: a.implementation.is_some(),
+        }),
         Argument::Create(CreateArguments::NewDirectory { name, attributes }) => {
-            assert_eq!(rt; *name, b"a".as_slice());
-            assert_eq!(rt; attributes.bitmap.as_slice(), [0, 2].as_slice());
-            assert_eq!(rt; attributes.values, [0, 0, 1, 0xed].as_slice());
+            Some(Form::NewDirectory {
+                name,
+                bitmap: attributes.bitmap.as_slice(),
+                values: attributes.values,
+            })
         }
-        _ => assert!(rt; false),
+        Argument::Create(CreateArguments::OtherType(number)) => Some(Form::OtherType(*number)),
+        Argument::Open(a) => guarded(a),
+        _ => None,
     }
-    assert!(rt; reader.is_empty());
-    Ok(())
+}
+
+fn is_read(alloc: Global, r: &mut Reader<'_>, form: Form<'_>) -> Result<bool, Refusal> {
+    let argument = read(alloc, r)?;
+    Ok(form_of(&argument) == Some(form))
 }
 
 #[test]
-fn nothing_behind_another_type_is_read(rt: HostRuntime) -> Result<(), Fail> {
-    let bytes = [0, 0, 0, 5, 0xff];
-    let mut reader = Reader::new(&bytes);
-    let argument = read(rt.alloc(), Operation::Create, &mut reader)?;
-    match &argument {
-        Argument::Create(CreateArguments::OtherType(number)) => assert_eq!(rt; *number, 5),
-        _ => assert!(rt; false),
+fn operations_are_read(rt: HostRuntime) -> Result<(), Fail> {
+    for (bytes, form, left) in READ {
+        let mut r = Reader::new(bytes);
+        let is_so = is_read(rt.alloc(), &mut r, form)? && r.len() == left;
+        assert!(rt; is_so, "{bytes:?}");
     }
-    assert_eq!(rt; reader.len(), 1);
     Ok(())
 }
 
+/// After a refusal a reader stays at the arguments.
 #[test]
-fn open_is_read(rt: HostRuntime) -> Result<(), Fail> {
-    let bytes = [
-        0, 0, 0, 0, 0, 0, 0, 3, 0, 0, 0, 0, 0, 0, 0, 0, 0, 0, 0, 1, 0, 0, 0, 1, b'A', 0, 0, 0, 0,
-        0, 0, 1, 0, 0, 0, 1, 0, 0, 0, 0, 0, 0, 0, 0, 0, 0, 0, 0, 0, 0, 0, 1, b'f', 0, 0, 0,
-    ];
-    let mut reader = Reader::new(&bytes);
-    let argument = read(rt.alloc(), Operation::Open, &mut reader)?;
-    match &argument {
-        Argument::Open(a) => {
-            assert_eq!(rt; a.access, 3);
-            assert_eq!(rt; a.client, 1);
-            assert_eq!(rt; a.owner, b"A".as_slice());
-            match &a.opening {
-                Opening::Opens { how, claim } => {
-                    assert!(rt; matches!(claim, Claim::ByName(b"f")));
-                    assert!(rt; matches!(how, OpenType::Guarded(_)));
-                }
-                Opening::Exclusive(_) => assert!(rt; false),
-            }
-        }
-        _ => assert!(rt; false),
-    }
-    assert!(rt; reader.is_empty());
-    Ok(())
+fn an_operation_that_is_cut_short_is_refused(rt: HostRuntime) {
+    let mut cut = Reader::new(&EXCHANGE_ID[..31]);
+    let refused = read(rt.alloc(), &mut cut).err();
+    assert!(rt; refused == Some(Refusal::Short) && cut.len() == 27);
 }
+
+/// Numbers, and the operations that have them.
+const NUMBERS: [(u32, Option<Operation>); 4] = [
+    (53, Some(Operation::Sequence)),
+    (38, Some(Operation::Write)),
+    (7, None),
+    (10044, None),
+];
 
 #[test]
 fn operations_have_numbers(rt: HostRuntime) {
     assert_eq!(rt; Operation::Sequence.number(), 53);
-    assert_eq!(rt; Operation::from_number(38), Some(Operation::Write));
-    assert_eq!(rt; Operation::from_number(7), None);
-    assert_eq!(rt; Operation::from_number(10044), None);
+    for (number, operation) in NUMBERS {
+        assert_eq!(rt; Operation::from_number(number), operation);
+    }
 }
 
-#[test]
-fn results_are_written(rt: HostRuntime) -> Result<(), Fail> {
-    let mut writer = Writer::new(rt.alloc());
+/// Writes a result. The call stands here once.
+fn write(w: &mut Writer, told: Outcome<'_>) -> Result<(), Refusal>
+    requires { outcome.Fits (outcome_view told) }
+{
+    told.write(w)
+}
+
+fn exchanged() -> Outcome<'static>
+    ensures { outcome.Fits (outcome_view result) }
+{
+    Outcome::Done(Answer::ExchangeId(ExchangeIdAnswer {
+        client: 0x1_0000_0001,
+        sequence: 1,
+        flags: 0x0001_0000,
+        major_id: b"nfs41srv",
+        scope: b"nfs41srv",
+    }))
+}
+
+fn sequenced() -> Outcome<'static>
+    ensures { outcome.Fits (outcome_view result) }
+{
     Outcome::Done(Answer::Sequence(SequenceAnswer {
         session: [0, 0, 0, 1, 0, 0, 0, 1, 0, 0, 0, 0, 0, 0, 0, 1],
         sequence: 1,
@@ -122,9 +190,12 @@ fn results_are_written(rt: HostRuntime) -> Result<(), Fail> {
         target_highest_slot: 7,
         flags: 0,
     }))
-    .write(&mut writer)?;
-    Outcome::Done(Answer::PutRootFh).write(&mut writer)?;
-    let mut given: Bitmap = Words::new();
+}
+
+fn created() -> Outcome<'static>
+    ensures { outcome.Fits (outcome_view result) }
+{
+    let mut given = Words::new();
     given.push(0);
     given.push(2);
     given.push(0);
@@ -133,51 +204,37 @@ fn results_are_written(rt: HostRuntime) -> Result<(), Fail> {
         before: 1,
         after: 0x1_0000_0001,
     };
-    Outcome::Done(Answer::Create(CreateAnswer::new(change, &given))).write(&mut writer)?;
-    let handle = [0, 0, 0, 1, 0, 0, 0, 1];
-    Outcome::Done(Answer::GetFh(&handle)).write(&mut writer)?;
-    let expected = [
-        0, 0, 0, 0x35, 0, 0, 0, 0, 0, 0, 0, 1, 0, 0, 0, 1, 0, 0, 0, 0, 0, 0, 0, 1, 0, 0, 0, 1, 0,
-        0, 0, 0, 0, 0, 0, 7, 0, 0, 0, 7, 0, 0, 0, 0, 0, 0, 0, 0x18, 0, 0, 0, 0, 0, 0, 0, 6, 0, 0,
-        0, 0, 0, 0, 0, 1, 0, 0, 0, 0, 0, 0, 0, 1, 0, 0, 0, 1, 0, 0, 0, 1, 0, 0, 0, 2, 0, 0, 0, 0,
-        0, 0, 0, 2, 0, 0, 0, 0x0a, 0, 0, 0, 0, 0, 0, 0, 8, 0, 0, 0, 1, 0, 0, 0, 1,
-    ];
-    assert_eq!(rt; writer.as_slice(), expected.as_slice());
-    Ok(())
+    Outcome::Done(Answer::Create(CreateAnswer::new(change, &given)))
+}
+
+/// Writes the worked results, but for the listing.
+fn write_each(w: &mut Writer) -> Result<(), Refusal> {
+    write(w, exchanged())?;
+    write(w, sequenced())?;
+    write(w, Outcome::Done(Answer::PutRootFh))?;
+    write(w, created())?;
+    write(w, Outcome::Done(Answer::GetFh(&[0, 0, 0, 1, 0, 0, 0, 1])))?;
+    write(
+        w,
+        Outcome::Refused {
+            operation: Operation::Lookup.number(),
+            status: Status::NoEnt,
+        },
+    )?;
+    write(
+        w,
+        Outcome::Refused {
+            operation: Operation::SetAttr.number(),
+            status: Status::Inval,
+        },
+    )
 }
 
 #[test]
-fn exchange_id_is_answered(rt: HostRuntime) -> Result<(), Fail> {
-    let mut writer = Writer::new(rt.alloc());
-    Outcome::Done(Answer::ExchangeId(ExchangeIdAnswer {
-        client: 0x1_0000_0001,
-        sequence: 1,
-        flags: 0x0001_0000,
-        major_id: b"nfs41srv",
-        scope: b"nfs41srv",
-    }))
-    .write(&mut writer)?;
-    let expected = [
-        0, 0, 0, 0x2a, 0, 0, 0, 0, 0, 0, 0, 1, 0, 0, 0, 1, 0, 0, 0, 1, 0, 1, 0, 0, 0, 0, 0, 0, 0,
-        0, 0, 0, 0, 0, 0, 0, 0, 0, 0, 8, b'n', b'f', b's', b'4', b'1', b's', b'r', b'v', 0, 0, 0,
-        8, b'n', b'f', b's', b'4', b'1', b's', b'r', b'v', 0, 0, 0, 0,
-    ];
-    assert_eq!(rt; writer.as_slice(), expected.as_slice());
-    Ok(())
-}
-
-#[test]
-fn refusals_are_written(rt: HostRuntime) -> Result<(), Fail> {
-    let mut writer = Writer::new(rt.alloc());
-    let operation = Operation::Lookup.number();
-    let status = Status::NoEnt;
-    Outcome::Refused { operation, status }.write(&mut writer)?;
-    let operation = Operation::SetAttr.number();
-    let status = Status::Inval;
-    Outcome::Refused { operation, status }.write(&mut writer)?;
-    let expected = [
-        0, 0, 0, 15, 0, 0, 0, 2, 0, 0, 0, 34, 0, 0, 0, 22, 0, 0, 0, 0,
-    ];
-    assert_eq!(rt; writer.as_slice(), expected.as_slice());
+fn results_are_written(rt: HostRuntime) -> Result<(), Fail> {
+    let expected = joined(rt.alloc(), &RESULTS[..7])?;
+    let mut w = Writer::new(rt.alloc());
+    write_each(&mut w)?;
+    assert_eq!(rt; w.as_slice(), expected.as_slice());
     Ok(())
 }

@@ -1,4 +1,5 @@
-use rpc::{Assembler, CallRead, RecordFault, Reply, Request, read_call, write_reply};
+use model::acl::Cred;
+use rpc::{Assembler, CallRead, Compound, RecordFault, Reply, Request, read_call, write_reply};
 use std::alloc::{AllocError, Global};
 use std::test::*;
 use xdr::Writer;
@@ -106,6 +107,12 @@ fn answer_to(alloc: Global, record: &[u8]) -> Result<Vec<u8>, Fail> {
     }
 }
 
+fn is_answered(alloc: Global, record: &[u8], reply: &[u32]) -> Result<bool, Fail> {
+    let expected = bytes_of(alloc, reply)?;
+    let answer = answer_to(alloc, record)?;
+    Ok(answer.as_slice() == expected.as_slice())
+}
+
 // how many of the bytes the assembler takes
 fn feed(assembler: &mut Assembler, bytes: &[u8]) -> Result<usize, RecordFault> {
     assembler.feed(bytes)
@@ -120,117 +127,163 @@ fn feed_cut(assembler: &mut Assembler, bytes: &[u8], size: usize) -> Result<usiz
     Ok(taken)
 }
 
+fn record_len(assembler: &Assembler) -> Option<usize> {
+    Some(assembler.record()?.len())
+}
+
+// whether the record that waits is NULL, which is answered
+fn holds_null(alloc: Global, assembler: &Assembler) -> Result<bool, Fail> {
+    match assembler.record() {
+        Some(record) => Ok(record.len() == 40 && is_answered(alloc, record, &NULL_REPLY)?),
+        None => Ok(false),
+    }
+}
+
+// whether these are NULL's bytes, of which nothing more is taken before it is let go
+fn passes_null(
+    alloc: Global,
+    assembler: &mut Assembler,
+    call: &[u8],
+    size: usize,
+) -> Result<bool, Fail> {
+    let is_taken = feed_cut(assembler, call, size).is_ok() && feed(assembler, call) == Ok(0);
+    let is_held = holds_null(alloc, assembler)?;
+    assembler.release();
+    Ok(is_taken && is_held && assembler.record().is_none())
+}
+
+fn is_null_answered(alloc: Global, words: &[u32], size: usize) -> Result<bool, Fail> {
+    let call = bytes_of(alloc, words)?;
+    let mut assembler = Assembler::new(alloc)?;
+    passes_null(alloc, &mut assembler, &call, size)
+}
+
 #[test]
 fn null_is_answered(rt: HostRuntime) -> Result<(), Fail> {
-    let expected = bytes_of(rt.alloc(), &NULL_REPLY)?;
-    for words in [NULL_CALL.as_slice(), CUT_CALL.as_slice()] {
-        let call = bytes_of(rt.alloc(), words)?;
-        for size in [1, 7, 100] {
-            let mut assembler = Assembler::new(rt.alloc())?;
-            feed_cut(&mut assembler, &call, size)?;
-            assert_eq!(rt; feed(&mut assembler, &call)?, 0);
-            assert!(rt; assembler.record().is_some());
-            let record = assembler.record().ok_or("no record")?;
-            assert_eq!(rt; record.len(), 40);
-            assert_eq!(rt;
-                answer_to(rt.alloc(), record)?.as_slice(),
-                expected.as_slice()
-            );
-            assembler.release();
-            assert!(rt; assembler.record().is_none());
-        }
+    for size in [1, 7, 100] {
+        let is_so = is_null_answered(rt.alloc(), &NULL_CALL, size)?
+            && is_null_answered(rt.alloc(), &CUT_CALL, size)?;
+        assert!(rt; is_so, "pieces of {size}");
     }
     Ok(())
+}
+
+fn is_call_answered(alloc: Global, call: &[u32], reply: &[u32]) -> Result<bool, Fail> {
+    let record = bytes_of(alloc, call)?;
+    is_answered(alloc, &record, reply)
 }
 
 #[test]
 fn calls_are_tested_in_order(rt: HostRuntime) -> Result<(), Fail> {
     for (call, reply) in ANSWERED {
-        let record = bytes_of(rt.alloc(), call)?;
-        let expected = bytes_of(rt.alloc(), reply)?;
-        let answer = answer_to(rt.alloc(), &record)?;
-        assert_eq!(rt; answer.as_slice(), expected.as_slice(), "the call {call:?}");
+        let is_so = is_call_answered(rt.alloc(), call, reply)?;
+        assert!(rt; is_so, "the call {call:?}");
     }
     Ok(())
+}
+
+// whether an operation runs for uid 7 and the gids 8 and 9
+fn is_run(cred: &Cred, compound: &Compound<'_>) -> bool {
+    (cred.uid, cred.gid) == (7, 8)
+        && cred.gids.as_slice() == [9].as_slice()
+        && (compound.tag.bytes.len(), compound.count) == (0, 1)
+        && compound.operations.is_empty()
+}
+
+fn runs(record: &[u8]) -> bool {
+    match read_call(record) {
+        Ok(CallRead::Calls(call)) => match call.request() {
+            Request::Runs(cred, compound) => is_run(&cred, &compound),
+            Request::Answers(_) => false,
+        },
+        _ => false,
+    }
 }
 
 #[test]
 fn an_operation_runs_for_its_caller(rt: HostRuntime) -> Result<(), Fail> {
     let record = bytes_of(rt.alloc(), &RUNS)?;
-    let call = match read_call(&record)? {
-        CallRead::Calls(call) => call,
-        CallRead::OtherVersion { .. } => return Err("another version".into()),
-    };
-    match call.request() {
-        Request::Runs(cred, compound) => {
-            assert_eq!(rt; (cred.uid, cred.gid), (7, 8));
-            assert_eq!(rt; cred.gids.as_slice(), [9].as_slice());
-            assert_eq!(rt; (compound.tag.bytes.len(), compound.count), (0, 1));
-            assert!(rt; compound.operations.is_empty());
-        }
-        Request::Answers(_) => return Err("it is answered at once".into()),
-    }
+    assert!(rt; runs(&record));
     Ok(())
+}
+
+fn is_refused(assembler: &mut Assembler, bytes: &[u8], size: usize, fault: RecordFault) -> bool {
+    feed_cut(assembler, bytes, size) == Err(fault)
+        && assembler.is_refused()
+        && feed(assembler, &[]) == Err(fault)
+        && assembler.record().is_none()
+}
+
+fn lasts(
+    alloc: Global,
+    words: &[u32],
+    size: usize,
+    fault: RecordFault,
+) -> Result<bool, AllocError> {
+    let bytes = bytes_of(alloc, words)?;
+    let mut assembler = Assembler::new(alloc)?;
+    Ok(is_refused(&mut assembler, &bytes, size, fault))
 }
 
 #[test]
 fn refusals_last(rt: HostRuntime) -> Result<(), Fail> {
     for (words, fault) in REFUSED {
-        let bytes = bytes_of(rt.alloc(), words)?;
         for size in [1, 4, 100] {
-            let mut assembler = Assembler::new(rt.alloc())?;
-            let met = feed_cut(&mut assembler, &bytes, size);
-            assert_eq!(rt; met, Err(fault), "the bytes {words:?}");
-            assert!(rt; assembler.is_refused());
-            assert_eq!(rt; feed(&mut assembler, &[]), Err(fault));
-            assert!(rt; assembler.record().is_none());
+            let is_so = lasts(rt.alloc(), words, size, fault)?;
+            assert!(rt; is_so, "the bytes {words:?} in pieces of {size}");
         }
     }
     Ok(())
 }
 
+// whether these are the 16,384 bytes of a record; a second one follows
+fn fills_a_record(assembler: &mut Assembler, bytes: &[u8]) -> bool {
+    let front = bytes.get(..10000).unwrap_or(bytes);
+    feed(assembler, &0x8000_4000_u32.to_be_bytes()) == Ok(4)
+        && feed(assembler, front) == Ok(10000)
+        && feed(assembler, bytes) == Ok(6384)
+        && record_len(assembler) == Some(16384)
+}
+
 #[test]
 fn a_record_has_sixteen_kibibytes(rt: HostRuntime) -> Result<(), Fail> {
-    let mut bytes = bytes_of(rt.alloc(), &NULL_CALL)?;
-    bytes.resize(16388, 1)?;
-    let header = 0x8000_4000_u32.to_be_bytes();
+    let mut bytes = bytes_of(rt.alloc(), &NULL_CALL[1..])?;
+    bytes.resize(16384, 1)?;
     let mut assembler = Assembler::new(rt.alloc())?;
-    assert_eq!(rt; feed(&mut assembler, &header)?, 4);
-    let rest = bytes.get(4..).ok_or("short")?;
-    let front = rest.get(..10000).ok_or("short")?;
-    assert_eq!(rt; feed(&mut assembler, front)?, 10000);
-    // a second record follows the first
-    assert_eq!(rt; feed(&mut assembler, rest)?, 6384);
-    assert_eq!(rt; assembler.record().ok_or("no record")?.len(), 16384);
+    assert!(rt; fills_a_record(&mut assembler, &bytes));
     Ok(())
+}
+
+fn takes_empty(assembler: &mut Assembler, count: usize) -> bool {
+    for _ in 0..count {
+        if feed(assembler, &[0; 4]) != Ok(4) {
+            return false;
+        }
+    }
+    true
+}
+
+// whether a fragment after 64 empty ones is refused
+fn refuses_more(assembler: &mut Assembler, header: &[u8], fault: RecordFault) -> bool {
+    takes_empty(assembler, 64) && feed(assembler, header) == Err(fault)
 }
 
 #[test]
 fn a_record_has_sixty_four_fragments(rt: HostRuntime) -> Result<(), Fail> {
-    let empty = [0; 4];
     let call = bytes_of(rt.alloc(), &NULL_CALL)?;
     let mut assembler = Assembler::new(rt.alloc())?;
-    for _ in 0..63 {
-        assert_eq!(rt; feed(&mut assembler, &empty)?, 4);
-    }
-    assert_eq!(rt; feed(&mut assembler, &call)?, 44);
-    assert_eq!(rt; assembler.record().ok_or("no record")?.len(), 40);
+    let is_so = takes_empty(&mut assembler, 63)
+        && feed(&mut assembler, &call) == Ok(44)
+        && record_len(&assembler) == Some(40);
+    assert!(rt; is_so);
     assembler.release();
-    for _ in 0..64 {
-        assert_eq!(rt; feed(&mut assembler, &empty)?, 4);
-    }
-    // the record's size is tested first
-    let mut other = Assembler::new(rt.alloc())?;
-    for _ in 0..64 {
-        assert_eq!(rt; feed(&mut other, &empty)?, 4);
-    }
-    assert_eq!(rt;
-        feed(&mut assembler, &empty),
-        Err(RecordFault::TooManyFragments)
-    );
-    assert_eq!(rt;
-        feed(&mut other, &[0, 0, 0x40, 1]),
-        Err(RecordFault::RecordTooBig)
-    );
+    assert!(rt; refuses_more(&mut assembler, &[0; 4], RecordFault::TooManyFragments));
+    Ok(())
+}
+
+#[test]
+fn the_size_of_a_record_is_tested_first(rt: HostRuntime) -> Result<(), Fail> {
+    let mut assembler = Assembler::new(rt.alloc())?;
+    assert!(rt; refuses_more(&mut assembler, &[0, 0, 0x40, 1], RecordFault::RecordTooBig));
     Ok(())
 }

@@ -82,138 +82,137 @@ const OTHERS: [(&str, Told); 14] = [
     ("4 4 80000028 1 0 0 0 0 2724 0 1 35 2724", Told::Garbled),
 ];
 
-/// Makes a record, which is this, and takes this reply.
-fn ask(
-    alloc: Global,
-    client: &mut Client,
-    asked: Ask,
-    record: &str,
-    answer: &str,
-) -> Result<Told, Fail> {
-    if request(alloc, client, asked) != Told::Made {
-        return Err("no record is made".into());
-    }
-    if kept(client) != Some(bytes_of(alloc, record)?.as_slice()) {
-        return Err("another record".into());
-    }
-    Ok(reply(client, &bytes_of(alloc, answer)?))
+/// What is asked of a client, or replied to it, and what it tells.
+#[derive(Clone, Copy)]
+enum Step<'a> {
+    Request(Ask, Told),
+    Reply(&'a str, Told),
+    /// The record that it keeps.
+    Keeps(&'a str),
+    KeepsNothing,
 }
 
-/// A client with a session, whose record MAKE_A waits.
-fn waiting_client(alloc: Global) -> Result<Client, Fail> {
-    let mut client = new_client(alloc)?;
-    ask(alloc, &mut client, Ask::ExchangeId, EXCHANGE_ID, EXCHANGED)?;
-    ask(
-        alloc,
-        &mut client,
-        Ask::CreateSession,
-        CREATE_SESSION,
-        CREATED,
-    )?;
-    if request(alloc, &mut client, Ask::MakeA) != Told::Made {
-        return Err("no record is made".into());
+/// A client gets a session.
+const SESSION: [Step<'static>; 6] = [
+    Step::Request(Ask::ExchangeId, Told::Made),
+    Step::Keeps(EXCHANGE_ID),
+    Step::Reply(EXCHANGED, Told::Results(1)),
+    Step::Request(Ask::CreateSession, Told::Made),
+    Step::Keeps(CREATE_SESSION),
+    Step::Reply(CREATED, Told::Results(1)),
+];
+
+/// Its records are the worked ones.
+const RECORDS: [Step<'static>; 5] = [
+    Step::Request(Ask::MakeA, Told::Made),
+    Step::Keeps(MAKE_A),
+    Step::Reply(A_MADE, Told::Results(4)),
+    Step::Request(Ask::Root, Told::Made),
+    Step::Keeps(NUMBER_2),
+];
+
+/// A record whose reply comes again is counted once.
+const COUNTED_ONCE: [Step<'static>; 7] = [
+    Step::Request(Ask::MakeA, Told::Made),
+    Step::Reply(A_MADE, Told::Results(4)),
+    Step::Keeps(MAKE_A),
+    Step::Reply(A_MADE, Told::Results(4)),
+    Step::Keeps(MAKE_A),
+    Step::Request(Ask::Root, Told::Made),
+    Step::Keeps(NUMBER_2),
+];
+
+/// It makes no record before it is known and has a session, and none while one waits.
+const WAITS: [Step<'static>; 8] = [
+    Step::KeepsNothing,
+    Step::Request(Ask::MakeA, Told::Pending),
+    Step::Reply(EXCHANGED, Told::Garbled),
+    Step::Request(Ask::ExchangeId, Told::Made),
+    Step::Request(Ask::ExchangeId, Told::Pending),
+    Step::Keeps(EXCHANGE_ID),
+    Step::Reply(EXCHANGED, Told::Results(1)),
+    Step::Request(Ask::MakeA, Told::Pending),
+];
+
+fn is_told(alloc: Global, client: &mut Client, step: &Step<'_>) -> Result<bool, Fail> {
+    Ok(match step {
+        Step::Request(asked, told) => request(alloc, client, *asked) == *told,
+        Step::Reply(words, told) => reply(client, &bytes_of(alloc, words)?) == *told,
+        Step::Keeps(words) => kept(client) == Some(bytes_of(alloc, words)?.as_slice()),
+        Step::KeepsNothing => kept(client).is_none(),
+    })
+}
+
+fn are_told(
+    alloc: Global,
+    client: &mut Client,
+    front: &[Step<'_>],
+    rest: &[Step<'_>],
+) -> Result<bool, Fail> {
+    for step in front.iter().chain(rest) {
+        if !is_told(alloc, client, step)? {
+            return Ok(false);
+        }
     }
-    Ok(client)
+    Ok(true)
+}
+
+/// Whether a new client tells this.
+fn tells(alloc: Global, front: &[Step<'_>], rest: &[Step<'_>]) -> Result<bool, Fail> {
+    let mut client = new_client(alloc)?;
+    are_told(alloc, &mut client, front, rest)
 }
 
 #[test]
 fn requests_are_the_worked_records(rt: HostRuntime) -> Result<(), Fail> {
-    let alloc = rt.alloc();
-    let mut client = new_client(alloc)?;
-    let rows = [
-        (Ask::ExchangeId, EXCHANGE_ID, EXCHANGED, 1),
-        (Ask::CreateSession, CREATE_SESSION, CREATED, 1),
-        (Ask::MakeA, MAKE_A, A_MADE, 4),
-    ];
-    for (asked, record, answer, count) in rows {
-        let told = ask(alloc, &mut client, asked, record, answer)?;
-        assert_eq!(rt; told, Told::Results(count), "{asked:?}");
-    }
-    assert_eq!(rt; request(alloc, &mut client, Ask::Root), Told::Made);
-    assert_eq!(rt; kept(&client), Some(bytes_of(alloc, NUMBER_2)?.as_slice()));
+    let is_so = tells(rt.alloc(), &SESSION, &RECORDS)?
+        && tells(rt.alloc(), &SESSION, &COUNTED_ONCE)?;
+    assert!(rt; is_so);
     Ok(())
 }
 
 #[test]
 fn a_client_waits(rt: HostRuntime) -> Result<(), Fail> {
-    let alloc = rt.alloc();
-    let mut client = new_client(alloc)?;
-    assert!(rt; kept(&client).is_none());
-    assert_eq!(rt; request(alloc, &mut client, Ask::MakeA), Told::Pending);
-    assert_eq!(rt;
-        reply(&mut client, &bytes_of(alloc, EXCHANGED)?),
-        Told::Garbled
-    );
-    assert_eq!(rt; request(alloc, &mut client, Ask::ExchangeId), Told::Made);
-    assert_eq!(rt; request(alloc, &mut client, Ask::ExchangeId), Told::Pending);
-    assert_eq!(rt;
-        kept(&client),
-        Some(bytes_of(alloc, EXCHANGE_ID)?.as_slice())
-    );
-    assert_eq!(rt;
-        reply(&mut client, &bytes_of(alloc, EXCHANGED)?),
-        Told::Results(1)
-    );
-    assert_eq!(rt; request(alloc, &mut client, Ask::MakeA), Told::Pending);
+    let is_so = tells(rt.alloc(), &WAITS, &[])?;
+    assert!(rt; is_so);
     Ok(())
+}
+
+/// Whether a reply that is told so answers a record.
+fn is_answer(alloc: Global, words: &str, told: Told) -> Result<bool, Fail> {
+    let steps = [
+        Step::Request(Ask::MakeA, Told::Made),
+        Step::Reply(words, told),
+        Step::Request(Ask::Root, Told::Made),
+    ];
+    tells(alloc, &SESSION, &steps)
 }
 
 #[test]
 fn replies_answer_a_record(rt: HostRuntime) -> Result<(), Fail> {
-    let alloc = rt.alloc();
     for (words, told) in ANSWERS {
-        let mut client = waiting_client(alloc)?;
-        assert_eq!(rt;
-            reply(&mut client, &bytes_of(alloc, words)?),
-            told,
-            "{words}"
-        );
-        assert_eq!(rt;
-            request(alloc, &mut client, Ask::Root),
-            Told::Made,
-            "{words}"
-        );
+        let is_so = is_answer(rt.alloc(), words, told)?;
+        assert!(rt; is_so, "{words}");
     }
     Ok(())
+}
+
+/// Whether bytes that are told so leave a record waiting, which is answered then.
+fn leave_it_waiting(alloc: Global, words: &str, told: Told) -> Result<bool, Fail> {
+    let steps = [
+        Step::Request(Ask::MakeA, Told::Made),
+        Step::Reply(words, told),
+        Step::Request(Ask::Root, Told::Pending),
+        Step::Reply(A_MADE, Told::Results(4)),
+    ];
+    tells(alloc, &SESSION, &steps)
 }
 
 #[test]
 fn other_bytes_leave_it_waiting(rt: HostRuntime) -> Result<(), Fail> {
-    let alloc = rt.alloc();
     for (words, told) in OTHERS {
-        let mut client = waiting_client(alloc)?;
-        assert_eq!(rt;
-            reply(&mut client, &bytes_of(alloc, words)?),
-            told,
-            "{words}"
-        );
-        assert_eq!(rt;
-            request(alloc, &mut client, Ask::Root),
-            Told::Pending,
-            "{words}"
-        );
-        assert_eq!(rt;
-            reply(&mut client, &bytes_of(alloc, A_MADE)?),
-            Told::Results(4),
-            "{words}"
-        );
+        let is_so = leave_it_waiting(rt.alloc(), words, told)?;
+        assert!(rt; is_so, "{words}");
     }
-    Ok(())
-}
-
-#[test]
-fn a_record_is_counted_once(rt: HostRuntime) -> Result<(), Fail> {
-    let alloc = rt.alloc();
-    let mut client = waiting_client(alloc)?;
-    let record = bytes_of(alloc, MAKE_A)?;
-    for _ in 0..2 {
-        assert_eq!(rt;
-            reply(&mut client, &bytes_of(alloc, A_MADE)?),
-            Told::Results(4)
-        );
-        assert_eq!(rt; kept(&client), Some(record.as_slice()));
-    }
-    assert_eq!(rt; request(alloc, &mut client, Ask::Root), Told::Made);
-    assert_eq!(rt; kept(&client), Some(bytes_of(alloc, NUMBER_2)?.as_slice()));
     Ok(())
 }

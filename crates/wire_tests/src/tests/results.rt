@@ -1,133 +1,191 @@
+//! What a client writes and reads: arguments of operations, and their results.
+
+ghost use Rattle.wire_client.specs.ArgumentFits.{ArgumentFits};
+
+use super::asking::{create_a, exchange_id};
+use super::vectors::{CALLS, LISTING, RESULTS, joined};
 use model::status::Status;
 use std::alloc::Global;
 use std::test::*;
 use wire::{
-    Answer, Argument, Attributes, Bitmap, CreateArguments, ExchangeIdArguments, Outcome,
+    Answer, Argument, ChangeInfo, ExchangeIdAnswer, Outcome, ReadDirAnswer, SequenceAnswer,
     SequenceArguments,
 };
 use wire_client::{read_outcome, write_argument};
-use xdr::{Reader, Refusal, Words, Writer};
-
-/// A client that makes itself known, and what it is answered.
-const EXCHANGE_ID: [u8; 32] = [
-    0, 0, 0, 0x2a, 1, 2, 3, 4, 5, 6, 7, 8, 0, 0, 0, 2, 0x63, 0x6c, 0, 0, 0, 0, 0, 0, 0, 0, 0, 0, 0,
-    0, 0, 0,
-];
-
-const EXCHANGE_ID_ANSWER: [u8; 64] = [
-    0, 0, 0, 0x2a, 0, 0, 0, 0, 0, 0, 0, 1, 0, 0, 0, 1, 0, 0, 0, 1, 0, 1, 0, 0, 0, 0, 0, 0, 0, 0, 0,
-    0, 0, 0, 0, 0, 0, 0, 0, 8, 0x6e, 0x66, 0x73, 0x34, 0x31, 0x73, 0x72, 0x76, 0, 0, 0, 8, 0x6e,
-    0x66, 0x73, 0x34, 0x31, 0x73, 0x72, 0x76, 0, 0, 0, 0,
-];
-
-/// SEQUENCE, PUTROOTFH, CREATE of a directory, GETFH, and what they are answered.
-const ARGUMENTS: [u8; 80] = [
-    0, 0, 0, 0x35, 0, 0, 0, 1, 0, 0, 0, 1, 0, 0, 0, 0, 0, 0, 0, 1, 0, 0, 0, 1, 0, 0, 0, 0, 0, 0, 0,
-    0, 0, 0, 0, 1, 0, 0, 0, 0x18, 0, 0, 0, 6, 0, 0, 0, 2, 0, 0, 0, 1, 0x61, 0, 0, 0, 0, 0, 0, 2, 0,
-    0, 0, 0, 0, 0, 0, 2, 0, 0, 0, 4, 0, 0, 1, 0xed, 0, 0, 0, 0x0a,
-];
-
-const RESULTS: [u8; 112] = [
-    0, 0, 0, 0x35, 0, 0, 0, 0, 0, 0, 0, 1, 0, 0, 0, 1, 0, 0, 0, 0, 0, 0, 0, 1, 0, 0, 0, 1, 0, 0, 0,
-    0, 0, 0, 0, 7, 0, 0, 0, 7, 0, 0, 0, 0, 0, 0, 0, 0x18, 0, 0, 0, 0, 0, 0, 0, 6, 0, 0, 0, 0, 0, 0,
-    0, 1, 0, 0, 0, 0, 0, 0, 0, 1, 0, 0, 0, 1, 0, 0, 0, 1, 0, 0, 0, 2, 0, 0, 0, 0, 0, 0, 0, 2, 0, 0,
-    0, 0x0a, 0, 0, 0, 0, 0, 0, 0, 8, 0, 0, 0, 1, 0, 0, 0, 1,
-];
+use xdr::{Reader, Refusal, Writer};
 
 const SESSION: [u8; 16] = [0, 0, 0, 1, 0, 0, 0, 1, 0, 0, 0, 0, 0, 0, 0, 1];
 
-/// The next result. The call stands here once, since it brings all that it promises to its caller.
+// The calls stand here once, since each brings all that it promises to its caller.
+
+fn write(w: &mut Writer, call: Argument<'_>) -> Result<(), Refusal>
+    requires { ArgumentFits call }
+{
+    write_argument(w, &call)
+}
+
+/// The next result.
 fn outcome_in<'a>(alloc: Global, r: &mut Reader<'a>) -> Result<Outcome<'a>, Refusal> {
     read_outcome(alloc, r)
 }
 
-#[test]
-fn exchange_id_is_written(rt: HostRuntime) -> Result<(), Fail> {
-    let mut w = Writer::new(rt.alloc());
-    let call = Argument::ExchangeId(ExchangeIdArguments {
-        verifier: [1, 2, 3, 4, 5, 6, 7, 8],
-        owner: b"cl",
-        flags: 0,
-        implementation: None,
-    });
-    write_argument(&mut w, &call)?;
-    assert_eq!(rt; w.as_slice(), EXCHANGE_ID.as_slice());
+/// Writes so many operations again.
+#[tactic(auto, using(wire_client::proofs::Fitting::argument_fits))]
+fn rewrite_calls(
+    alloc: Global,
+    r: &mut Reader<'_>,
+    w: &mut Writer,
+    count: usize,
+) -> Result<(), Refusal> {
+    for _ in 0..count {
+        write(w, Argument::read_numbered(alloc, r)?)?;
+    }
     Ok(())
 }
 
-#[test]
-fn arguments_are_written(rt: HostRuntime) -> Result<(), Fail> {
-    let mut w = Writer::new(rt.alloc());
-    let sequence = SequenceArguments {
+/// Writes so many results again.
+fn rewrite(alloc: Global, r: &mut Reader<'_>, w: &mut Writer, count: usize) -> Result<(), Refusal> {
+    for _ in 0..count {
+        read_outcome(alloc, r)?.write(w)?;
+    }
+    Ok(())
+}
+
+fn sequence() -> Argument<'static>
+    ensures { ArgumentFits result }
+{
+    Argument::Sequence(SequenceArguments {
         session: SESSION,
         sequence: 1,
         slot: 0,
         highest_slot: 0,
         cache_this: true,
-    };
-    write_argument(&mut w, &Argument::Sequence(sequence))?;
-    write_argument(&mut w, &Argument::PutRootFh)?;
-    let mut bitmap: Bitmap = Words::new();
-    bitmap.push(0);
-    bitmap.push(2);
-    let create = Argument::Create(CreateArguments::NewDirectory {
-        name: b"a",
-        attributes: Attributes {
-            bitmap,
-            values: &[0, 0, 1, 0xed],
-        },
-    });
-    write_argument(&mut w, &create)?;
-    write_argument(&mut w, &Argument::GetFh)?;
-    assert_eq!(rt; w.as_slice(), ARGUMENTS.as_slice());
+    })
+}
+
+fn write_each(w: &mut Writer) -> Result<(), Refusal> {
+    write(w, exchange_id())?;
+    write(w, sequence())?;
+    write(w, Argument::PutRootFh)?;
+    write(w, create_a())?;
+    write(w, Argument::GetFh)
+}
+
+#[test]
+fn arguments_are_written(rt: HostRuntime) -> Result<(), Fail> {
+    let expected = joined(rt.alloc(), &CALLS)?;
+    let mut w = Writer::new(rt.alloc());
+    write_each(&mut w)?;
+    assert_eq!(rt; w.as_slice(), expected.as_slice());
     Ok(())
+}
+
+#[test]
+fn arguments_are_written_back(rt: HostRuntime) -> Result<(), Fail> {
+    let calls = joined(rt.alloc(), &CALLS)?;
+    let mut w = Writer::new(rt.alloc());
+    let mut r = Reader::new(&calls);
+    rewrite_calls(rt.alloc(), &mut r, &mut w, CALLS.len())?;
+    assert!(rt; r.is_empty() && w.as_slice() == calls.as_slice());
+    Ok(())
+}
+
+/// A result in plain values.
+#[derive(Clone, Copy, PartialEq, Eq)]
+enum Form<'a> {
+    ExchangeId(ExchangeIdAnswer<'a>),
+    Sequence(SequenceAnswer),
+    PutRootFh,
+    Create {
+        change: ChangeInfo,
+        was_set: &'a [u32],
+    },
+    GetFh(&'a [u8]),
+    Refused(u32, Status),
+    ReadDir {
+        is_end: bool,
+        count: usize,
+        first_name: &'a [u8],
+        last_cookie: u64,
+    },
+}
+
+/// What the worked results are read as.
+const FORMS: [Form<'static>; 8] = [
+    Form::ExchangeId(ExchangeIdAnswer {
+        client: 0x1_0000_0001,
+        sequence: 1,
+        flags: 0x0001_0000,
+        major_id: b"nfs41srv",
+        scope: b"nfs41srv",
+    }),
+    Form::Sequence(SequenceAnswer {
+        session: SESSION,
+        sequence: 1,
+        slot: 0,
+        highest_slot: 7,
+        target_highest_slot: 7,
+        flags: 0,
+    }),
+    Form::PutRootFh,
+    Form::Create {
+        change: ChangeInfo {
+            is_atomic: true,
+            before: 1,
+            after: 0x1_0000_0001,
+        },
+        was_set: &[0, 2],
+    },
+    Form::GetFh(&[0, 0, 0, 1, 0, 0, 0, 1]),
+    Form::Refused(15, Status::NoEnt),
+    Form::Refused(34, Status::Inval),
+    Form::ReadDir {
+        is_end: true,
+        count: 2,
+        first_name: b"a",
+        last_cookie: 0x1_0000_0002,
+    },
+];
+
+fn listing<'a>(answer: &'a ReadDirAnswer<'_>) -> Option<Form<'a>> {
+    let first = answer.entries.first()?;
+    let last = answer.entries.last()?;
+    Some(Form::ReadDir {
+        is_end: answer.is_end,
+        count: answer.entries.len(),
+        first_name: first.name,
+        last_cookie: last.cookie,
+    })
+}
+
+fn form_of<'a>(outcome: &'a Outcome<'_>) -> Option<Form<'a>> {
+    match outcome {
+        Outcome::Done(Answer::ExchangeId(a)) => Some(Form::ExchangeId(*a)),
+        Outcome::Done(Answer::Sequence(a)) => Some(Form::Sequence(*a)),
+        Outcome::Done(Answer::PutRootFh) => Some(Form::PutRootFh),
+        Outcome::Done(Answer::Create(a)) => Some(Form::Create {
+            change: a.change,
+            was_set: a.was_set.as_slice(),
+        }),
+        Outcome::Done(Answer::GetFh(handle)) => Some(Form::GetFh(handle)),
+        Outcome::Done(Answer::ReadDir(a)) => listing(a),
+        Outcome::Refused { operation, status } => Some(Form::Refused(*operation, *status)),
+        _ => None,
+    }
+}
+
+fn is_read(alloc: Global, r: &mut Reader<'_>, form: Form<'_>) -> Result<bool, Refusal> {
+    let outcome = outcome_in(alloc, r)?;
+    Ok(form_of(&outcome) == Some(form))
 }
 
 #[test]
 fn results_are_read(rt: HostRuntime) -> Result<(), Fail> {
-    let mut r = Reader::new(&RESULTS);
-    let sequence = outcome_in(rt.alloc(), &mut r)?;
-    match &sequence {
-        Outcome::Done(Answer::Sequence(a)) => {
-            assert_eq!(rt; a.session, SESSION);
-            assert_eq!(rt; a.sequence, 1);
-            assert_eq!(rt; a.target_highest_slot, 7);
-        }
-        _ => assert!(rt; false),
-    }
-    let root = outcome_in(rt.alloc(), &mut r)?;
-    assert!(rt; matches!(root, Outcome::Done(Answer::PutRootFh)));
-    let create = outcome_in(rt.alloc(), &mut r)?;
-    match &create {
-        Outcome::Done(Answer::Create(a)) => {
-            assert!(rt; a.change.is_atomic);
-            assert_eq!(rt; a.change.before, 1);
-            assert_eq!(rt; a.change.after, 0x1_0000_0001);
-            assert_eq!(rt; a.was_set.as_slice(), [0, 2].as_slice());
-        }
-        _ => assert!(rt; false),
-    }
-    let handle = outcome_in(rt.alloc(), &mut r)?;
-    match &handle {
-        Outcome::Done(Answer::GetFh(bytes)) => {
-            assert_eq!(rt; *bytes, [0, 0, 0, 1, 0, 0, 0, 1].as_slice());
-        }
-        _ => assert!(rt; false),
-    }
-    assert!(rt; r.is_empty());
-    Ok(())
-}
-
-#[test]
-fn exchange_id_is_answered(rt: HostRuntime) -> Result<(), Fail> {
-    let mut r = Reader::new(&EXCHANGE_ID_ANSWER);
-    match outcome_in(rt.alloc(), &mut r)? {
-        Outcome::Done(Answer::ExchangeId(a)) => {
-            assert_eq!(rt; a.client, 0x1_0000_0001);
-            assert_eq!(rt; a.flags, 0x0001_0000);
-            assert_eq!(rt; a.major_id, b"nfs41srv".as_slice());
-        }
-        _ => assert!(rt; false),
+    let bytes = joined(rt.alloc(), &RESULTS)?;
+    let mut r = Reader::new(&bytes);
+    for (place, form) in FORMS.iter().enumerate() {
+        let is_so = is_read(rt.alloc(), &mut r, *form)?;
+        assert!(rt; is_so, "result {place}");
     }
     assert!(rt; r.is_empty());
     Ok(())
@@ -135,130 +193,49 @@ fn exchange_id_is_answered(rt: HostRuntime) -> Result<(), Fail> {
 
 #[test]
 fn results_are_written_back(rt: HostRuntime) -> Result<(), Fail> {
+    let results = joined(rt.alloc(), &RESULTS)?;
     let mut w = Writer::new(rt.alloc());
-    let mut r = Reader::new(&RESULTS);
-    for _ in 0..4 {
-        read_outcome(rt.alloc(), &mut r)?.write(&mut w)?;
-    }
-    assert_eq!(rt; w.as_slice(), RESULTS.as_slice());
+    let mut r = Reader::new(&results);
+    rewrite(rt.alloc(), &mut r, &mut w, RESULTS.len())?;
+    assert!(rt; r.is_empty() && w.as_slice() == results.as_slice());
     Ok(())
 }
 
-#[test]
-fn refusals_are_read(rt: HostRuntime) -> Result<(), Fail> {
-    let bytes = [
-        0, 0, 0, 15, 0, 0, 0, 2, 0, 0, 0, 34, 0, 0, 0, 22, 0, 0, 0, 0, 0, 0, 0, 15, 0, 0, 0, 1,
-    ];
-    let mut r = Reader::new(&bytes);
-    let first = outcome_in(rt.alloc(), &mut r)?;
-    assert!(rt;
-        matches!(
-            first,
-            Outcome::Refused {
-                operation: 15,
-                status: Status::NoEnt
-            }
-        )
-    );
-    let second = outcome_in(rt.alloc(), &mut r)?;
-    assert!(rt;
-        matches!(
-            second,
-            Outcome::Refused {
-                operation: 34,
-                status: Status::Inval
-            }
-        )
-    );
-    assert_eq!(rt; r.len(), 8);
-    let unlisted = outcome_in(rt.alloc(), &mut r).err();
-    assert_eq!(rt; unlisted, Some(Refusal::Value));
-    assert_eq!(rt; r.len(), 8);
-    Ok(())
+/// Whether a result is refused so, and the reader is then where it was.
+fn is_refused(alloc: Global, bytes: &[u8], refusal: Refusal) -> bool {
+    let mut r = Reader::new(bytes);
+    outcome_in(alloc, &mut r).err() == Some(refusal) && r.len() == bytes.len()
 }
 
-/// Whether each front of a result is refused, and the reader is then where it was.
+/// The same of an operation that is cut short.
+fn is_short(alloc: Global, bytes: &[u8]) -> bool {
+    let mut r = Reader::new(bytes);
+    Argument::read_numbered(alloc, &mut r).err() == Some(Refusal::Short) && r.len() == bytes.len()
+}
+
 fn refuses_fronts(alloc: Global, bytes: &[u8]) -> bool {
-    for len in 0..bytes.len() {
-        let mut r = Reader::new(&bytes[..len]);
-        let refused = read_outcome(alloc, &mut r).err();
-        if refused != Some(Refusal::Short) || r.len() != len {
-            return false;
-        }
-    }
-    true
+    (0..bytes.len()).all(|len| is_refused(alloc, &bytes[..len], Refusal::Short))
 }
 
-/// The same of an argument.
-fn refuses_argument_fronts(alloc: Global, bytes: &[u8]) -> bool {
-    for len in 0..bytes.len() {
-        let mut r = Reader::new(&bytes[..len]);
-        let refused = Argument::read_numbered(alloc, &mut r).err();
-        if refused != Some(Refusal::Short) || r.len() != len {
-            return false;
-        }
-    }
-    true
+fn refuses_call_fronts(alloc: Global, bytes: &[u8]) -> bool {
+    (0..bytes.len()).all(|len| is_short(alloc, &bytes[..len]))
 }
 
 #[test]
 fn what_is_cut_short_is_refused(rt: HostRuntime) {
-    assert!(rt; refuses_fronts(rt.alloc(), &EXCHANGE_ID_ANSWER));
-    assert!(rt; refuses_fronts(rt.alloc(), &RESULTS[..44]));
-    assert!(rt; refuses_fronts(rt.alloc(), &RESULTS[44..52]));
-    assert!(rt; refuses_fronts(rt.alloc(), &RESULTS[52..92]));
-    assert!(rt; refuses_fronts(rt.alloc(), &RESULTS[92..]));
-    assert!(rt; refuses_argument_fronts(rt.alloc(), &EXCHANGE_ID));
-    assert!(rt; refuses_argument_fronts(rt.alloc(), &ARGUMENTS[..36]));
-    assert!(rt; refuses_argument_fronts(rt.alloc(), &ARGUMENTS[36..40]));
-    assert!(rt; refuses_argument_fronts(rt.alloc(), &ARGUMENTS[40..76]));
-    assert!(rt; refuses_argument_fronts(rt.alloc(), &ARGUMENTS[76..]));
-}
-
-/// A listing of two names without attributes, with a bool that is neither 0 nor 1 where `end` is put.
-fn listing(end: u8) -> [u8; 80] {
-    let mut bytes = [
-        0, 0, 0, 26, 0, 0, 0, 0, 0, 0, 0, 0, 0, 0, 0, 0, 0, 0, 0, 1, 0, 0, 0, 1, 0, 0, 0, 1, 0, 0,
-        0, 1, b'a', 0, 0, 0, 0, 0, 0, 0, 0, 0, 0, 0, 0, 0, 0, 1, 0, 0, 0, 1, 0, 0, 0, 2, 0, 0, 0,
-        1, b'b', 0, 0, 0, 0, 0, 0, 0, 0, 0, 0, 0, 0, 0, 0, 0, 0, 0, 0, 1,
-    ];
-    bytes[79] = end;
-    bytes
-}
-
-#[test]
-fn listings_are_read(rt: HostRuntime) -> Result<(), Fail> {
-    let bytes = listing(1);
-    let mut r = Reader::new(&bytes);
-    let result = outcome_in(rt.alloc(), &mut r)?;
-    match &result {
-        Outcome::Done(Answer::ReadDir(a)) => {
-            assert!(rt; a.is_end);
-            assert_eq!(rt; a.entries.len(), 2);
-            assert_eq!(rt; a.entries[0].name, b"a".as_slice());
-            assert_eq!(rt; a.entries[1].cookie, 0x1_0000_0002);
-        }
-        _ => assert!(rt; false),
+    for result in RESULTS {
+        assert!(rt; refuses_fronts(rt.alloc(), result), "{result:?}");
     }
-    assert!(rt; r.is_empty());
-    assert!(rt; refuses_fronts(rt.alloc(), &bytes));
-    let bytes = listing(2);
-    let mut r = Reader::new(&bytes);
-    let refused = outcome_in(rt.alloc(), &mut r).err();
-    assert_eq!(rt; refused, Some(Refusal::Value));
-    Ok(())
+    for call in CALLS {
+        assert!(rt; refuses_call_fronts(rt.alloc(), call), "{call:?}");
+    }
 }
 
+/// A status that is not listed, and a listing whose end is neither 0 nor 1.
 #[test]
-#[tactic(auto, using(wire_client::proofs::Fitting::argument_fits))]
-fn arguments_are_written_back(rt: HostRuntime) -> Result<(), Fail> {
-    let mut w = Writer::new(rt.alloc());
-    let mut r = Reader::new(&ARGUMENTS);
-    for _ in 0..4 {
-        let call = Argument::read_numbered(rt.alloc(), &mut r)?;
-        write_argument(&mut w, &call)?;
-    }
-    assert!(rt; r.is_empty());
-    assert_eq!(rt; w.as_slice(), ARGUMENTS.as_slice());
-    Ok(())
+fn other_numbers_are_refused(rt: HostRuntime) {
+    assert!(rt; is_refused(rt.alloc(), &[0, 0, 0, 15, 0, 0, 0, 1], Refusal::Value));
+    let mut other_end = LISTING;
+    other_end[79] = 2;
+    assert!(rt; is_refused(rt.alloc(), &other_end, Refusal::Value));
 }
