@@ -48,8 +48,10 @@ impl CrashDevice {
 
     /// A device that goes on from this one, and stops there.
     pub fn new(device: MemDevice, stop: Stop) -> CrashDevice
+        // As it was given
         ensures device { device_of result ≡ device }
         ensures stop { stop_of result ≡ stop }
+        // No step has begun
         ensures steps { steps_of result ≡ 0 }
         ensures runs { is_stopped result ≡ false }
     {
@@ -110,8 +112,10 @@ impl CrashDevice {
             ≡ at_rest (landed_image landing.now (crash_history self.now).now)) }
         ensures left { IfOk result (λ device. Left (crash_history self.now).now
             (seen (history_of device).now)) }
+        // It has no record yet
         ensures calls { IfOk result (λ device. calls_of device ≡ []) }
         ensures failures { IfOk result (λ device. failures_of device ≡ 0) }
+        // Refused
         ensures memory { OnErr result (result ≡ Err DiskFault.Memory) }
     {
         let mut sectors = self.device.fixed_sectors(alloc)?;
@@ -163,10 +167,13 @@ impl Device for CrashDevice {
     /// Reads every sector that is there, until the device has stopped.
     fn read(&mut self, n: u32, content: &mut [u8; SECTOR]) -> Result<(), DiskFault>
         ensures ok { OnOk result (content.new ≡ seen (crash_history self.old).now n) }
+        // Refused
         ensures range { IsErrOf result DiskFault.Range ↔ (crash_size self.old ≤ n) }
         ensures untouched { IsErrOf result DiskFault.Range → content.new ≡ content.old }
+        // It only reads
         ensures history { crash_history self.new ≡ crash_history self.old }
         ensures size { crash_size self.new ≡ crash_size self.old }
+        // Whether it fails, by where it stops
         ensures cause { HasCause (crash_failures self.old) (crash_failures self.new) result }
         ensures running { is_stopped self.old ≡ false → n < crash_size self.old → IsOk result }
         ensures stopped { is_stopped self.old ≡ true → n < crash_size self.old
@@ -183,14 +190,17 @@ impl Device for CrashDevice {
     fn write(&mut self, n: u32, content: &[u8; SECTOR]) -> Result<(), DiskFault>
         ensures ok { OnOk result (crash_history self.new
             ≡ wrote (record { target = n; content = content.now }) (crash_history self.old)) }
+        // Refused
         ensures err { OnErr result ((crash_history self.new ≡ crash_history self.old)
             ⊎ (crash_history self.new ≡ wrote (record { target = n; content = content.now })
             (crash_history self.old))) }
         ensures untouched { IsErrOf result DiskFault.Range
             → (crash_history self.new ≡ crash_history self.old) × IsSameCourse self.old self.new }
         ensures range { IsErrOf result DiskFault.Range ↔ (crash_size self.old ≤ n) }
+        // In any case
         ensures size { crash_size self.new ≡ crash_size self.old }
         ensures cause { HasCause (crash_failures self.old) (crash_failures self.new) result }
+        // By where it stops
         ensures fate { n < crash_size self.old
             → AnswersFate (next_fate self.old) (crash_history self.old)
             (crash_history self.new) result }
@@ -212,10 +222,13 @@ impl Device for CrashDevice {
     /// The step at which the device stops answers `Fault`, and so does each one after it.
     fn sync(&mut self) -> Result<(), DiskFault>
         ensures ok { OnOk result (crash_history self.new ≡ synced (crash_history self.old)) }
+        // Refused
         ensures err { OnErr result (crash_history self.new ≡ crash_history self.old) }
         ensures not_range { IsErrOf result DiskFault.Range → ⊥ }
+        // In any case
         ensures size { crash_size self.new ≡ crash_size self.old }
         ensures cause { HasCause (crash_failures self.old) (crash_failures self.new) result }
+        // By where it stops
         ensures fate { AnswersFate (next_fate self.old) (crash_history self.old)
             (crash_history self.new) result }
         ensures course { IsNextCourse self.old self.new }

@@ -83,6 +83,7 @@ impl FileDevice {
         ensures whole { IfOk result (λ device. IsTrue (file_is_whole device)) }
         ensures failures { IfOk result (λ device. file_failures device ≡ 0) }
         ensures gathered { IfOk result (λ device. (n : ℕ) → gathered device n ≡ None) }
+        // Refused
         ensures err { OnErr result (IsUnopened result) }
     {
         let run = Run::new(alloc)?;
@@ -113,6 +114,7 @@ impl FileDevice {
     fn fail(&mut self) -> DiskFault
         ensures fault { result ≡ DiskFault.Fault }
         ensures counted { IsCounted (file_failures self.old) (file_failures self.new) }
+        // What stays
         ensures size { file_size self.new ≡ file_size self.old }
         ensures gathered { (n : ℕ) → gathered self.new n ≡ gathered self.old n }
     {
@@ -124,8 +126,10 @@ impl FileDevice {
     fn hand_over(&mut self) -> Result<(), DiskFault>
         ensures ok { OnOk result ((n : ℕ) → gathered self.new n ≡ None) }
         ensures begins { OnOk result (BeginsAnew self.new) }
+        // Refused
         ensures err { OnErr result ((n : ℕ) → gathered self.new n ≡ gathered self.old n) }
         ensures not_range { IsErrOf result DiskFault.Range → ⊥ }
+        // In any case
         ensures size { file_size self.new ≡ file_size self.old }
         ensures cause { HasCause (file_failures self.old) (file_failures self.new) result }
     {
@@ -165,9 +169,12 @@ impl Device for FileDevice {
     fn read(&mut self, n: u32, content: &mut [u8; SECTOR]) -> Result<(), DiskFault>
         ensures newest { IfSome (gathered self.old n) (λ newest. n < file_size self.old
             → (result ≡ Ok tt) × (content.new ≡ newest)) }
+        // It only reads
         ensures gathered { (m : ℕ) → gathered self.new m ≡ gathered self.old m }
+        // Refused
         ensures range { IsErrOf result DiskFault.Range ↔ (file_size self.old ≤ n) }
         ensures untouched { IsErrOf result DiskFault.Range → content.new ≡ content.old }
+        // In any case
         ensures size { file_size self.new ≡ file_size self.old }
         ensures cause { HasCause (file_failures self.old) (file_failures self.new) result }
     {
@@ -192,8 +199,10 @@ impl Device for FileDevice {
     fn write(&mut self, n: u32, content: &[u8; SECTOR]) -> Result<(), DiskFault>
         ensures newest { OnOk result (gathered self.new n ≡ Some content.now) }
         ensures others { (m : ℕ) → m ≢ n → KeepsOrHandsOver self.old self.new m }
+        // Refused
         ensures err { OnErr result ((m : ℕ) → gathered self.new m ≡ gathered self.old m) }
         ensures range { IsErrOf result DiskFault.Range ↔ (file_size self.old ≤ n) }
+        // In any case
         ensures size { file_size self.new ≡ file_size self.old }
         ensures cause { HasCause (file_failures self.old) (file_failures self.new) result }
     {
@@ -211,7 +220,9 @@ impl Device for FileDevice {
     fn sync(&mut self) -> Result<(), DiskFault>
         ensures handed { OnOk result ((n : ℕ) → gathered self.new n ≡ None) }
         ensures kept { (n : ℕ) → KeepsOrHandsOver self.old self.new n }
+        // Refused
         ensures not_range { IsErrOf result DiskFault.Range → ⊥ }
+        // In any case
         ensures size { file_size self.new ≡ file_size self.old }
         ensures cause { HasCause (file_failures self.old) (file_failures self.new) result }
     {

@@ -36,8 +36,10 @@ impl MemDevice {
         ensures size { IfOk result (λ device. size_of device ≡ sectors) }
         ensures history { IfOk result (λ device. history_of device
             ≡ at_rest (image_of (replicate sectors zero_sector))) }
+        // It has no record yet
         ensures calls { IfOk result (λ device. calls_of device ≡ []) }
         ensures failures { IfOk result (λ device. failures_of device ≡ 0) }
+        // Refused
         ensures memory { OnErr result (result ≡ Err DiskFault.Memory) }
     {
         MemDevice::with_sectors(alloc, zeros(alloc, sectors as usize)?)
@@ -50,8 +52,10 @@ impl MemDevice {
         ensures size { IfOk result (λ device. size_of device ≡ vec_len sectors) }
         ensures history { IfOk result (λ device. history_of device
             ≡ at_rest (image_of sectors.items)) }
+        // It has no record yet
         ensures calls { IfOk result (λ device. calls_of device ≡ []) }
         ensures failures { IfOk result (λ device. failures_of device ≡ 0) }
+        // Refused
         ensures memory { OnErr result (result ≡ Err DiskFault.Memory) }
     {
         let first = copied(alloc, &sectors)?;
@@ -76,6 +80,7 @@ impl MemDevice {
         ensures few { size_of self.now < 2 ^ 32 }
         ensures fixed { IfOk result (λ rows. (n : ℕ) → image_of rows.items n
             ≡ (history_of self.now).now.fixed n) }
+        // Refused
         ensures memory { OnErr result (result ≡ Err DiskFault.Memory) }
     {
         let mut rows = copied(alloc, &self.first)?;
@@ -97,6 +102,7 @@ impl MemDevice {
     pub(crate) fn fail(&mut self) -> DiskFault
         ensures fault { result ≡ DiskFault.Fault }
         ensures counted { IsCounted (failures_of self.old) (failures_of self.new) }
+        // What stays
         ensures size { size_of self.new ≡ size_of self.old }
         ensures history { history_of self.new ≡ history_of self.old }
     {
@@ -127,10 +133,13 @@ impl Device for MemDevice {
     /// Every sector that is there is read.
     fn read(&mut self, n: u32, content: &mut [u8; SECTOR]) -> Result<(), DiskFault>
         ensures ok { OnOk result (content.new ≡ seen (history_of self.old).now n) }
+        // Refused
         ensures range { IsErrOf result DiskFault.Range ↔ (size_of self.old ≤ n) }
         ensures untouched { IsErrOf result DiskFault.Range → content.new ≡ content.old }
+        // It only reads
         ensures history { history_of self.new ≡ history_of self.old }
         ensures size { size_of self.new ≡ size_of self.old }
+        // Whether it fails
         ensures cause { HasCause (failures_of self.old) (failures_of self.new) result }
         ensures answered { n < size_of self.old → IsOk result }
     {
@@ -146,8 +155,10 @@ impl Device for MemDevice {
     fn write(&mut self, n: u32, content: &[u8; SECTOR]) -> Result<(), DiskFault>
         ensures ok { OnOk result (history_of self.new
             ≡ wrote (record { target = n; content = content.now }) (history_of self.old)) }
+        // Refused
         ensures err { OnErr result (history_of self.new ≡ history_of self.old) }
         ensures range { IsErrOf result DiskFault.Range ↔ (size_of self.old ≤ n) }
+        // In any case
         ensures size { size_of self.new ≡ size_of self.old }
         ensures cause { HasCause (failures_of self.old) (failures_of self.new) result }
     {

@@ -48,8 +48,10 @@ fn write_over<S: Sectors>(
     ensures whole { S.keeps_word
         → OnOk result (length (applied updates.old (S.image (S.kept base.old)) sector) ≡ SECTOR) }
     ensures others { OnOk result (ChangeOne updates.old updates.new sector) }
+    // What it takes
     ensures count { length updates.new ≤ length updates.old + 1 }
     ensures full { IsErrOf result DraftFault.Full → ⊥ }
+    // It only reads the base
     ensures kept { S.kept base.new ≡ S.kept base.old }
     ensures health { Reads (S.health base.old) (S.health base.new)
         (IsErrOf result DraftFault.Device) }
@@ -91,6 +93,7 @@ fn take_sector(
     requires few { length blocks.old ≤ BlockList.MAX_BLOCKS }
     ensures taken { IfOk result (λ sector. Takes first places.old places.new sector) }
     ensures blocks { IfOk result (λ sector. blocks.new ≡ set blocks.old block (Some sector)) }
+    // Refused
     ensures full { IsErrOf result SpaceFault.Full → free_places places.old ≡ 0 }
 {
     let place = places.take()?;
@@ -118,9 +121,11 @@ fn write_block<S: Sectors>(
     ensures gets { OnOk result (GetSectors first places.old places.new blocks.old blocks.new
         × (length blocks.new ≡ length blocks.old)) }
     ensures others { OnOk result (ChangeBlocks updates.old updates.new blocks.new) }
+    // What it takes
     ensures count { length updates.new ≤ length updates.old + 1 }
     ensures full { IsErrOf result DraftFault.Full
         → FindsNone places.old blocks.old part.entry.block }
+    // It only reads the base
     ensures kept { S.kept base.new ≡ S.kept base.old }
     ensures health { Reads (S.health base.old) (S.health base.new)
         (IsErrOf result DraftFault.Device) }
@@ -155,10 +160,12 @@ pub(crate) fn write_blocks<S: Sectors>(
     ensures gets { OnOk result (GetSectors first places.old places.new blocks.old blocks.new
         × (length blocks.new ≡ length blocks.old)) }
     ensures others { OnOk result (ChangeBlocks updates.old updates.new blocks.new) }
+    // What it takes
     ensures count { OnOk result (length updates.new
         ≤ length updates.old + (offset % SECTOR + length bytes.now + 4095) / SECTOR) }
     ensures full { IsErrOf result DraftFault.Full
         → free_places places.old + set_blocks blocks.old < length blocks.old }
+    // It only reads the base
     ensures kept { S.kept base.new ≡ S.kept base.old }
     ensures health { Reads (S.health base.old) (S.health base.new)
         (IsErrOf result DraftFault.Device) }
@@ -213,6 +220,7 @@ pub(crate) fn write_names(
         → WritesOne (applied updates.old image) (applied updates.new image) blocks.old blocks.new
         block (directory_sector (names_of_block block names.now))) }
     ensures gets { OnOk result (GetSectors first places.old places.new blocks.old blocks.new) }
+    // What it takes
     ensures count { length updates.new ≤ length updates.old + 1 }
     ensures full { IsErrOf result SpaceFault.Full
         → free_places places.old + set_blocks blocks.old < max (length blocks.old) (block + 1) }
@@ -261,8 +269,10 @@ pub(crate) fn clear_tail<S: Sectors>(
         (applied updates.old (S.image (S.kept base.old)))
         (applied updates.new (S.image (S.kept base.old))) blocks.now size) }
     ensures others { OnOk result (ChangeBlocks updates.old updates.new blocks.now) }
+    // What it takes
     ensures count { length updates.new ≤ length updates.old + 1 }
     ensures full { IsErrOf result DraftFault.Full → ⊥ }
+    // It only reads the base
     ensures kept { S.kept base.new ≡ S.kept base.old }
     ensures health { Reads (S.health base.old) (S.health base.new)
         (IsErrOf result DraftFault.Device) }
@@ -294,8 +304,10 @@ fn clear_from<S: Sectors>(
     ensures whole { S.keeps_word
         → OnOk result (length (applied updates.old (S.image (S.kept base.old)) sector) ≡ SECTOR) }
     ensures others { OnOk result (ChangeOne updates.old updates.new sector) }
+    // What it takes
     ensures count { length updates.new ≤ length updates.old + 1 }
     ensures full { IsErrOf result DraftFault.Full → ⊥ }
+    // It only reads the base
     ensures kept { S.kept base.new ≡ S.kept base.old }
     ensures health { Reads (S.health base.old) (S.health base.new)
         (IsErrOf result DraftFault.Device) }

@@ -87,7 +87,9 @@ impl<'a> Draft<'a> {
     /// A draft that has changed nothing yet, over a table of a volume and the places of its data
     /// region, which are copied.
     pub fn new(alloc: Global, table: &'a Table, places: &Bitmap) -> Result<Draft<'a>, AllocError>
+        // Nothing is written yet
         ensures updates { IfOk result (λ draft. draft.updates ≡ []) }
+        // The volume as it is
         ensures nodes { IfOk result (λ draft. draft.nodes ≡ length table.now) }
         ensures places { IfOk result (λ draft. draft.places ≡ places.now) }
         ensures cards { IfOk result (λ draft. cards_of draft ≡ table.now) }
@@ -130,6 +132,7 @@ impl<'a> Draft<'a> {
             (cards_of self.new ≡ set (cards_of self.old) place (Some card)) }
         ensures made { OnOk result (Makes self.old self.new
             (PutNode card.fields.number (new_node card))) }
+        // In any case
         ensures count { length self.new.updates ≤ length self.old.updates + 1 }
         ensures table { self.new.cards.table ≡ self.old.cards.table }
     {
@@ -150,6 +153,7 @@ impl<'a> Draft<'a> {
         ensures cards { OnOk result (Turns self.old self.new place (showing (shown_of shown))) }
         ensures shown { OnOk result (Edits self.old self.new place
             (λ number. Show number (shown_of shown))) }
+        // In any case
         ensures count { length self.new.updates ≤ length self.old.updates + 1 }
         ensures table { self.new.cards.table ≡ self.old.cards.table }
     {
@@ -175,6 +179,7 @@ impl<'a> Draft<'a> {
         ensures known { OnOk result (StaysKnown self.old self.new) }
         ensures cards { OnOk result (cards_of self.new ≡ set (cards_of self.old) place None) }
         ensures freed { OnOk result (Edits self.old self.new place DropNode) }
+        // In any case
         ensures count { length self.new.updates ≤ length self.old.updates + 1 }
         ensures table { self.new.cards.table ≡ self.old.cards.table }
     {
@@ -205,8 +210,10 @@ impl<'a> Draft<'a> {
             (with_name (record_from stamp name.now number))) }
         ensures put { OnOk result (Edits self.old self.new place
             (λ to. PutName to stamp (record { name = name.now; number = number }))) }
+        // What it takes
         ensures count { length self.new.updates ≤ length self.old.updates + 4 }
         ensures full { IsErrOf result SpaceFault.Full → IsOvercharged self.old place blocks_named }
+        // In any case
         ensures table { self.new.cards.table ≡ self.old.cards.table }
     {
         let mut card = take_card(&mut self.cards, place)?;
@@ -238,6 +245,7 @@ impl<'a> Draft<'a> {
         ensures known { OnOk result (StaysKnown self.old self.new) }
         ensures cards { OnOk result (Turns self.old self.new place (without_name name.now)) }
         ensures dropped { OnOk result (DropsNamed self.old self.new place name.now) }
+        // In any case
         ensures count { length self.new.updates ≤ length self.old.updates + 4 }
         ensures table { self.new.cards.table ≡ self.old.cards.table }
     {
@@ -268,6 +276,7 @@ impl<'a> Draft<'a> {
         ensures cards { OnOk result (Turns self.old self.new place (λ card. sized card size)) }
         ensures grown { OnOk result (Edits self.old self.new place
             (λ number. SetSize number size)) }
+        // In any case
         ensures count { length self.new.updates ≤ length self.old.updates + 1 }
         ensures table { self.new.cards.table ≡ self.old.cards.table }
     {
@@ -290,8 +299,10 @@ impl<'a> Draft<'a> {
         ensures cards { OnOk result (Turns self.old self.new place (λ card. sized card size)) }
         ensures tree { S.keeps_word → OnOk result (EditsOver (S.image (S.kept base.old))
             (S.size (S.kept base.old)) self.old self.new place (λ number. SetSize number size)) }
+        // What it takes
         ensures count { OnOk result (length self.new.updates ≤ length self.old.updates + 11) }
         ensures full { IsErrOf result DraftFault.Full → ⊥ }
+        // It only reads the base
         ensures kept { (S.kept base.new ≡ S.kept base.old)
             × (self.new.cards.table ≡ self.old.cards.table) }
         ensures health { Reads (S.health base.old) (S.health base.new)
@@ -329,10 +340,12 @@ impl<'a> Draft<'a> {
         ensures tree { S.keeps_word → OnOk result (EditsOver (S.image (S.kept base.old))
             (S.size (S.kept base.old)) self.old self.new place
             (λ number. PutBytes number offset bytes.now)) }
+        // What it takes
         ensures count { OnOk result (length self.new.updates
             ≤ length self.old.updates + (offset % SECTOR + length bytes.now + 4095) / SECTOR + 10) }
         ensures full { IsErrOf result DraftFault.Full
             → IsOvercharged self.old place (blocks_to (offset + length bytes.now)) }
+        // It only reads the base
         ensures kept { (S.kept base.new ≡ S.kept base.old)
             × (self.new.cards.table ≡ self.old.cards.table) }
         ensures health { Reads (S.health base.old) (S.health base.new)
@@ -363,9 +376,11 @@ impl<'a> Draft<'a> {
         requires { IsKnown self.old }
         ensures laid { OnOk result (Finishes before.now self.old self.new) }
         ensures targets { OnOk result (AreTargets (end_of self.old) self.new.updates) }
+        // What stays
         ensures cards { self.new.cards ≡ self.old.cards }
         ensures places { self.new.places ≡ self.old.places }
         ensures nodes { self.new.nodes ≡ self.old.nodes }
+        // What it takes
         ensures count { OnOk result (length self.new.updates ≤ length self.old.updates + 2) }
     {
         put_marks(&mut self.updates, &self.places, before, 0)?;
@@ -379,7 +394,9 @@ impl<'a> Draft<'a> {
         requires within { place < length (cards_of self.old) }
         ensures back { OnOk result (IsBack self.old.nodes place self.old.places self.old.updates
             (cards_of self.old) self.new card) }
+        // In any case
         ensures table { self.new.cards.table ≡ self.old.cards.table }
+        // What it takes
         ensures count { length self.new.updates
             ≤ length self.old.updates + 1 + sectors_for (set_blocks card.blocks) }
         ensures full { IsErrOf result SpaceFault.Full
@@ -405,6 +422,7 @@ impl<'a> Draft<'a> {
         requires enough { HasEnough card }
         ensures back { OnOk result (IsBack self.old.nodes place self.old.places self.old.updates
             (cards_of self.old) self.new card) }
+        // In any case
         ensures table { self.new.cards.table ≡ self.old.cards.table }
         ensures count { length self.new.updates
             ≤ length self.old.updates + 1 + sectors_for (set_blocks card.blocks) }

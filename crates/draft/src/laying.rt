@@ -21,10 +21,12 @@ use std::alloc::{AllocError, Global};
 
 /// Writes runs, 500 a sector.
 fn lay_runs(updates: &mut Updates, numbers: &[u32], runs: &[Run]) -> Result<(), AllocError>
+    // The sectors, and as many runs as they have room for
     requires once { AreOnce numbers.now }
     requires few { length numbers.now ≤ 9 }
     requires room { length runs.now ≤ MAX_SECTOR_RUNS * length numbers.now }
     requires last { MAX_SECTOR_RUNS * length numbers.now < length runs.now + MAX_SECTOR_RUNS }
+    // Written
     ensures lays { OnOk result ((image : Image) → LaysFront (applied updates.old image)
         (applied updates.new image) numbers.now runs.now (length numbers.now)) }
     ensures count { length updates.new ≤ length updates.old + length numbers.now }
@@ -41,10 +43,12 @@ fn lay_runs(updates: &mut Updates, numbers: &[u32], runs: &[Run]) -> Result<(), 
 
 /// Writes a node's sector and its run sectors.
 fn lay_node(updates: &mut Updates, sector: u32, card: &Card) -> Result<(), AllocError>
+    // A card that has a spelling, in sectors that are apart
     requires fits { IsInode card.now.fields }
     requires count { length card.now.runs ≡ card.now.fields.runs }
     requires once { AreOnce card.now.fields.run_sectors }
     requires apart { times sector card.now.fields.run_sectors ≡ 0 }
+    // Written
     ensures lays { OnOk result ((image : Image)
         → LaysNode (applied updates.old image) (applied updates.new image) sector card.now) }
     ensures count { length updates.new

@@ -18,11 +18,14 @@ pub(crate) fn take_numbers(
     wanted: usize,
 ) -> Result<(), SpaceFault>
     requires { first + length places.old ≤ 2 ^ 32 }
+    // How many there are then
     ensures least { OnOk result (wanted ≤ length numbers.new.items) }
     ensures most { length numbers.old.items ≤ wanted → length numbers.new.items ≤ wanted }
+    // What it takes
     ensures marks { OnOk result (Follow first places.old places.new
         numbers.old.items numbers.new.items) }
     ensures len { length places.new ≡ length places.old }
+    // Refused
     ensures full { IsErrOf result SpaceFault.Full
         → free_places places.old + length numbers.old.items < wanted }
 {
@@ -36,8 +39,10 @@ pub(crate) fn take_numbers(
 /// Gives sectors back until there are no more than so many.
 pub(crate) fn give_numbers(places: &mut Bitmap, first: u32, numbers: &mut Vec<u32>, wanted: usize)
     requires { AreMarked first places.old numbers.old.items }
+    // How many are left
     ensures most { length numbers.new.items ≤ wanted }
     ensures least { wanted ≤ length numbers.old.items → wanted ≤ length numbers.new.items }
+    // What it gives back
     ensures marks { Follow first places.old places.new numbers.old.items numbers.new.items }
     ensures len { length places.new ≡ length places.old }
 {

@@ -51,6 +51,7 @@ impl Updates {
         requires { n < S.size (S.kept base.old) }
         ensures content { S.keeps_word
             → IfOk result (λ content. content ≡ applied self.now (S.image (S.kept base.old)) n) }
+        // It only reads
         ensures kept { S.kept base.new ≡ S.kept base.old }
         ensures health { Reads (S.health base.old) (S.health base.new) (IsTrue (is_err result)) }
     {
@@ -66,8 +67,10 @@ impl Updates {
             ≡ updated self.old (record { target = target; content = content.now })) }
         ensures image { OnOk result ((image : Image) → applied self.new image
             ≡ put (applied self.old image) (record { target = target; content = content.now })) }
+        // In any case
         ensures apart { AreApart self.new }
         ensures count { length self.new ≤ length self.old + 1 }
+        // Refused
         ensures err { OnErr result (self.new ≡ self.old) }
     {
         match place_of(&self.list, target) {

@@ -37,9 +37,11 @@ impl Place {
 
     /// Behind a fragment of so many bytes.
     pub fn behind(self, size: usize) -> Place
+        // A record has room for it
         requires end { self.at + HEADER_BYTES + size < 2 ^ 64 }
         requires bytes { self.size + size ≤ MAX_RECORD_BYTES }
         requires fragments { self.fragments < MAX_FRAGMENTS }
+        // Where it ends
         ensures at { result.at ≡ self.at + HEADER_BYTES + size }
         ensures size { result.size ≡ self.size + size }
         ensures fragments { result.fragments ≡ self.fragments + 1 }

@@ -42,8 +42,10 @@ pub(crate) fn read_node<S: Sectors>(
     requires small { NODES + place < 2 ^ 32 }
     ensures found { IfOk result (λ node. FindsFields S.keeps_word
         (S.image (S.kept sectors.old) (node_sector place)) (option_map fields_of node)) }
+    // Refused
     ensures damaged { S.keeps_word → IsErrOf result ScanFault.Damaged → (fields : Option Fields)
         → ¬ FindsFields S.keeps_word (S.image (S.kept sectors.old) (node_sector place)) fields }
+    // It only reads
     ensures kept { S.kept sectors.new ≡ S.kept sectors.old }
     ensures health { Reads (S.health sectors.old) (S.health sectors.new)
         (IsErrOf result ScanFault.Device) }

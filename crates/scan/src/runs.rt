@@ -21,6 +21,7 @@ fn runs_in(alloc: Global, content: &[u8; SECTOR], count: usize) -> Result<Vec<Ru
     requires some { 0 < count }
     requires few { count ≤ MAX_SECTOR_RUNS }
     ensures found { IfOk result (λ runs. FindsPart (Unit {0}) content.now count runs.items) }
+    // Refused
     ensures damaged { IsErrOf result ScanFault.Damaged
         → (runs : List Run) → ¬ FindsPart (Unit {0}) content.now count runs }
     ensures device { ¬ IsErrOf result ScanFault.Device }
@@ -44,8 +45,10 @@ fn read_part<S: Sectors>(
     requires few { count ≤ MAX_SECTOR_RUNS }
     ensures found { IfOk result (λ runs. FindsPart S.keeps_word
         (S.image (S.kept sectors.old) sector) count runs.items) }
+    // Refused
     ensures damaged { S.keeps_word → IsErrOf result ScanFault.Damaged → (runs : List Run)
         → ¬ FindsPart S.keeps_word (S.image (S.kept sectors.old) sector) count runs }
+    // It only reads
     ensures kept { S.kept sectors.new ≡ S.kept sectors.old }
     ensures health { Reads (S.health sectors.old) (S.health sectors.new)
         (IsErrOf result ScanFault.Device) }
@@ -65,8 +68,10 @@ pub(crate) fn read_runs<S: Sectors>(
     requires enough { length numbers.now ≡ (count + 499) / 500 }
     ensures found { IfOk result (λ runs. FindsRuns S.keeps_word
         (S.image (S.kept sectors.old)) numbers.now count runs.items) }
+    // Refused
     ensures damaged { S.keeps_word → IsErrOf result ScanFault.Damaged → (runs : List Run)
         → ¬ FindsRuns S.keeps_word (S.image (S.kept sectors.old)) numbers.now count runs }
+    // It only reads
     ensures kept { S.kept sectors.new ≡ S.kept sectors.old }
     ensures health { Reads (S.health sectors.old) (S.health sectors.new)
         (IsErrOf result ScanFault.Device) }
@@ -106,6 +111,7 @@ pub(crate) fn blocks_from(
     ensures runs { IfOk result (λ blocks. AreRunsOf runs.now blocks) }
     ensures count { IfOk result (λ blocks. length blocks ≡ blocks_of kind size) }
     ensures few { IfOk result (λ blocks. length blocks ≤ BlockList.MAX_BLOCKS) }
+    // Refused
     ensures damaged { IsErrOf result ScanFault.Damaged → (blocks : List (Option ℕ))
         → AreRunsOf runs.now blocks → length blocks ≡ blocks_of kind size
         → ¬ (length blocks ≤ BlockList.MAX_BLOCKS) }

@@ -50,10 +50,12 @@ fn read_blocks<S: Sectors>(
         (λ laid. AreSetWithin (S.size (S.kept sectors.old)) laid.blocks) }
     ensures marked { IfOk result (λ laid. AreMarked first places.old places.new
         (uses (fields_of inode.now) laid.blocks)) }
+    // Refused
     ensures damaged { S.keeps_word → IsErrOf result ScanFault.Damaged
         → (runs : List Run) (blocks : List (Option ℕ))
         → FindsBlocks S.keeps_word (S.image (S.kept sectors.old)) (fields_of inode.now) runs blocks
         → ¬ CanMark first places.old (uses (fields_of inode.now) blocks) }
+    // It only reads
     ensures kept { S.kept sectors.new ≡ S.kept sectors.old }
     ensures health { Reads (S.health sectors.old) (S.health sectors.new)
         (IsErrOf result ScanFault.Device) }
@@ -83,10 +85,12 @@ fn read_card<S: Sectors>(
     ensures found { IfOk result (FindsRest S.keeps_word (S.image (S.kept sectors.old))) }
     ensures marked { IfOk result (λ card. AreMarked first places.old places.new
         (uses card.fields card.blocks)) }
+    // Refused
     ensures damaged { S.keeps_word → IsErrOf result ScanFault.Damaged → (card : layout.Card)
         → card.fields ≡ fields_of inode
         → FindsRest S.keeps_word (S.image (S.kept sectors.old)) card
         → ¬ CanMark first places.old (uses card.fields card.blocks) }
+    // It only reads
     ensures kept { S.kept sectors.new ≡ S.kept sectors.old }
     ensures health { Reads (S.health sectors.old) (S.health sectors.new)
         (IsErrOf result ScanFault.Device) }
@@ -115,10 +119,12 @@ fn read_place<S: Sectors>(
     ensures found { IfOk result (FindsPlace S.keeps_word (S.image (S.kept sectors.old)) place) }
     ensures marked { IfOk result (λ card. AreMarked first places.old places.new
         (λ n. named_by n card)) }
+    // Refused
     ensures damaged { S.keeps_word → IsErrOf result ScanFault.Damaged
         → (card : Option layout.Card)
         → FindsPlace S.keeps_word (S.image (S.kept sectors.old)) place card
         → ¬ CanMark first places.old (λ n. named_by n card) }
+    // It only reads
     ensures kept { S.kept sectors.new ≡ S.kept sectors.old }
     ensures health { Reads (S.health sectors.old) (S.health sectors.new)
         (IsErrOf result ScanFault.Device) }
@@ -142,9 +148,11 @@ pub(crate) fn read_table<S: Sectors>(
     requires free { places.old ≡ replicate (length places.old) false }
     ensures found { IfOk result (λ cards. IsFound S.keeps_word (S.image (S.kept sectors.old)) nodes
         (length places.old) cards.items places.new) }
+    // Refused
     ensures damaged { S.keeps_word → IsErrOf result ScanFault.Damaged
         → (cards : List (Option layout.Card))
         → ¬ CanHold S.keeps_word (S.image (S.kept sectors.old)) nodes (length places.old) cards }
+    // It only reads
     ensures kept { S.kept sectors.new ≡ S.kept sectors.old }
     ensures health { Reads (S.health sectors.old) (S.health sectors.new)
         (IsErrOf result ScanFault.Device) }

@@ -33,9 +33,11 @@ fn check_marks<S: Sectors>(sectors: &mut S, places: &Bitmap, part: u32) -> Resul
     requires within { BITMAP + part < S.size (S.kept sectors.old) }
     ensures found { OnOk result (S.keeps_word
         → Shows (S.image (S.kept sectors.old) (BITMAP + part)) places.now (SECTOR_PLACES * part)) }
+    // Refused
     ensures damaged { S.keeps_word → IsErrOf result ScanFault.Damaged
         → ¬ AreBits (S.image (S.kept sectors.old) (BITMAP + part)) places.now
         (SECTOR_PLACES * part) }
+    // It only reads
     ensures kept { S.kept sectors.new ≡ S.kept sectors.old }
     ensures health { Reads (S.health sectors.old) (S.health sectors.new)
         (IsErrOf result ScanFault.Device) }
@@ -53,8 +55,10 @@ fn check_marks<S: Sectors>(sectors: &mut S, places: &Bitmap, part: u32) -> Resul
 fn check_spare<S: Sectors>(sectors: &mut S) -> Result<(), ScanFault>
     requires within { NODES ≤ S.size (S.kept sectors.old) }
     ensures found { OnOk result (S.keeps_word → AreSpare (S.image (S.kept sectors.old))) }
+    // Refused
     ensures damaged { S.keeps_word → IsErrOf result ScanFault.Damaged
         → ¬ AreSpare (S.image (S.kept sectors.old)) }
+    // It only reads
     ensures kept { S.kept sectors.new ≡ S.kept sectors.old }
     ensures health { Reads (S.health sectors.old) (S.health sectors.new)
         (IsErrOf result ScanFault.Device) }
@@ -85,9 +89,11 @@ pub fn read_volume<S: Sectors>(
     requires size { S.size (S.kept sectors.old) ≡ size }
     ensures found { IfOk result (λ contents. IsRead S.keeps_word size nodes
         (S.image (S.kept sectors.old)) contents.cards.items contents.places) }
+    // Refused
     ensures damaged { S.keeps_word → IsErrOf result ScanFault.Damaged
         → (cards : List (Option layout.Card))
         → IsLaid version_1 size nodes (S.image (S.kept sectors.old)) cards → ¬ AreFew cards }
+    // It only reads
     ensures kept { S.kept sectors.new ≡ S.kept sectors.old }
     ensures health { Reads (S.health sectors.old) (S.health sectors.new)
         (IsErrOf result ScanFault.Device) }
