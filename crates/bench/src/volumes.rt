@@ -13,9 +13,9 @@ use std::alloc::Global;
 
 /// The bytes of a WRITE and of a READ.
 pub const TRANSFER_BYTES: usize = 8_192;
-/// The files of the directory that is measured, and how many more are made in it and removed.
+/// The files of the directory that is measured.
 pub const FILES: u32 = 4;
-
+/// How many more are made in it and removed.
 pub const MADE: u32 = 8;
 
 /// The attribute mode, and its value 755.
@@ -37,6 +37,7 @@ pub struct Shape {
     pub files: u32,
 }
 
+/// A volume with nothing else on it.
 pub const SMALL: Shape = Shape {
     sectors: 256,
     nodes: 16,
@@ -44,6 +45,7 @@ pub const SMALL: Shape = Shape {
     files: 0,
 };
 
+/// A large volume with many files on it.
 pub const LARGE: Shape = Shape {
     sectors: 65_536,
     nodes: 16_000,

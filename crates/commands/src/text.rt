@@ -20,6 +20,7 @@ pub struct Texts {
 }
 
 impl Texts {
+    /// Nothing by any stream.
     pub fn new(alloc: Global) -> Texts {
         Texts {
             input: Vec::new(alloc),
@@ -28,6 +29,7 @@ impl Texts {
         }
     }
 
+    /// The same texts once more.
     pub fn copy(&self) -> Result<Texts, AllocError> {
         Ok(Texts {
             input: self.input.clone()?,

@@ -45,6 +45,7 @@ struct Record<'a> {
 }
 
 impl<'a> Records<'a> {
+    /// No records.
     pub fn new(alloc: Global) -> Records<'a> {
         Records {
             records: Vec::new(alloc),

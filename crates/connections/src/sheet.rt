@@ -24,6 +24,7 @@ enum Begun {
 }
 
 impl<'a> Sheet<'a> {
+    /// No rows, and no records.
     pub fn new(alloc: Global) -> Sheet<'a> {
         Sheet {
             records: Records::new(alloc),
@@ -32,6 +33,7 @@ impl<'a> Sheet<'a> {
         }
     }
 
+    /// The rows so far.
     pub fn rows(&self) -> &[Row<'a>] {
         self.rows.as_slice()
     }

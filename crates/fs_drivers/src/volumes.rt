@@ -25,6 +25,7 @@ pub fn mount_on<D: Device>(alloc: Global, device: D) -> Option<Fs<D>> {
     }
 }
 
+/// Mounts a device that holds a volume.
 pub fn mount(alloc: Global, device: MemDevice) -> Result<Tree, Fail> {
     match mount_on(alloc, device) {
         Some(fs) => Ok(fs),

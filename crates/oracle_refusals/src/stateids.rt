@@ -14,9 +14,9 @@ use oracle_tree::refusals::Tests;
 use std::alloc::{AllocError, Global};
 use wire::StateId;
 
-/// OPEN4_SHARE_ACCESS_READ and OPEN4_SHARE_ACCESS_WRITE, bits of an open's access.
+/// OPEN4_SHARE_ACCESS_READ, a bit of an open's access.
 pub const READ_ACCESS: u32 = 1;
-
+/// OPEN4_SHARE_ACCESS_WRITE, another.
 pub const WRITE_ACCESS: u32 = 2;
 
 const ZEROS: [u8; 12] = [0; 12];

@@ -12,10 +12,12 @@ use std::test::Fail;
 /// The moment of every turn.
 const NOW: u64 = 5;
 
+/// Makes a new volume with so many nodes.
 pub fn format<D: Device>(alloc: Global, device: &mut D, nodes: u32) -> Result<(), FormatFault> {
     Server::format(alloc, device, nodes)
 }
 
+/// A server on a device; a refusal tells its reason alone.
 pub fn mount<D: Device>(alloc: Global, device: D) -> Result<Server<D>, MountFault> {
     match Server::mount(alloc, device) {
         Ok(server) => Ok(server),
@@ -23,14 +25,17 @@ pub fn mount<D: Device>(alloc: Global, device: D) -> Result<Server<D>, MountFaul
     }
 }
 
+/// The device of a server, which ends.
 pub fn into_device<D: Device>(server: Server<D>) -> D {
     server.into_device()
 }
 
+/// A new connection.
 pub fn connect<D: Device>(server: &mut Server<D>) -> Result<usize, ServerFault> {
     server.connect()
 }
 
+/// Feeds a connection, and tells how many bytes it took.
 pub fn feed<D: Device>(
     server: &mut Server<D>,
     conn: usize,
@@ -39,10 +44,12 @@ pub fn feed<D: Device>(
     server.feed(conn, piece)
 }
 
+/// One turn of a connection.
 pub fn turn<D: Device>(server: &mut Server<D>, conn: usize) -> Result<Turn, ServerFault> {
     server.turn(conn, NOW)
 }
 
+/// The next reply of a connection.
 pub fn take_output<D: Device>(
     server: &mut Server<D>,
     conn: usize,
@@ -50,6 +57,7 @@ pub fn take_output<D: Device>(
     server.take_output(conn)
 }
 
+/// Hangs a connection up.
 pub fn hangup<D: Device>(server: &mut Server<D>, conn: usize) -> Result<(), ServerFault> {
     server.hangup(conn, NOW)
 }
@@ -62,10 +70,12 @@ pub fn mount_tree(alloc: Global, device: MemDevice) -> Result<Fs<MemDevice>, Fai
     }
 }
 
+/// The number of the node with a name of one byte.
 pub fn look_up(fs: &Fs<MemDevice>, cred: &Cred, directory: u64, name: u8) -> Result<u64, FsFault> {
     fs.lookup(cred, directory, &[name])
 }
 
+/// The filehandle of a node.
 pub fn handle(fs: &Fs<MemDevice>, number: u64) -> Result<[u8; 8], FsFault> {
     fs.handle(number)
 }
