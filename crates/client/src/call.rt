@@ -17,8 +17,8 @@ ghost use Rattle.client.specs.Rests.{ids_text, procedure_text, auths_text};
 
 use model::acl::{Cred, Gids};
 use rpc::{
-    AUTH_NONE, AUTH_SYS, COMPOUND, MAX_AUTH_BYTES, MAX_TAG_BYTES, MINOR_VERSION, NFS_VERSION,
-    PROGRAM, write_frame_header,
+    AUTH_NONE, AUTH_SYS, CALL, COMPOUND, MAX_AUTH_BYTES, MAX_TAG_BYTES, MINOR_VERSION, NFS_VERSION,
+    PROGRAM, RPC_VERSION, write_frame_header,
 };
 use std::alloc::Global;
 use wire::Argument;
@@ -27,10 +27,6 @@ use xdr::{Refusal, Writer};
 
 /// A record of one fragment has less bytes than this (RFC 5531, section 11).
 pub(crate) const RECORD_LIMIT: usize = 1 << 31;
-/// The message type of a call, and the version of RPC.
-const CALL: u32 = 0;
-
-const RPC_VERSION: u32 = 2;
 
 /// The body of the credential of this caller: AUTH_SYS, with the stamp 0 and no machine name.
 pub(crate) fn credential_body(alloc: Global, cred: &Cred) -> Result<Vec<u8>, Refusal>

@@ -7,12 +7,8 @@ ghost use Rattle.model.specs.RpcGrammar.{acceptance, accepted, denial, verdict, 
 ghost use Rattle.client.specs.Replies.{message_of, told_by};
 ghost use Rattle.client.specs.Views.{acceptance_view, denial_view, verdict_view, head_view, message_view, told_result};
 
+use rpc::{LAST_FRAGMENT, NFS_VERSION, REPLY, RPC_VERSION};
 use xdr::{Reader, Refusal};
-
-/// The mark of a record's last fragment.
-const LAST_FRAGMENT: u64 = 1 << 31;
-/// The message type of a reply.
-const REPLY: u32 = 1;
 
 /// The accept statuses.
 #[derive(Clone, Copy)]
@@ -63,7 +59,7 @@ pub(crate) fn message_of(bytes: &[u8]) -> Option<&[u8]>
     };
     let message = at.rest();
     if message.len() >= LAST_FRAGMENT as usize
-        || u64::from(header) != LAST_FRAGMENT + message.len() as u64
+        || u64::from(header) != u64::from(LAST_FRAGMENT) + message.len() as u64
     {
         return None;
     }
@@ -134,8 +130,8 @@ fn read_acceptance(r: &mut Reader<'_>) -> Result<Acceptance, Refusal>
         0 => Acceptance::Tells,
         1 => Acceptance::NoProgram,
         2 => {
-            at.read_always(4)?;
-            at.read_always(4)?;
+            at.read_always(NFS_VERSION)?;
+            at.read_always(NFS_VERSION)?;
             Acceptance::OtherProgram
         }
         3 => Acceptance::NoProcedure,
@@ -152,8 +148,8 @@ fn read_denial(r: &mut Reader<'_>) -> Result<Denial, Refusal>
     let mut at = r.fork();
     let denial = match at.read_u32()? {
         0 => {
-            at.read_always(2)?;
-            at.read_always(2)?;
+            at.read_always(RPC_VERSION)?;
+            at.read_always(RPC_VERSION)?;
             Denial::OtherRpc
         }
         1 => Denial::Unauthenticated(at.read_u32()?),

@@ -6,11 +6,9 @@ ghost use Rattle.client.specs.Streams.{ReadsHeader, Fetches, Receives, Converses
 
 use crate::fault::ClientFault;
 use crate::stream::{fill, send};
-use rpc::{HEADER_BYTES, MAX_FRAGMENTS, MAX_RECORD_BYTES};
+use rpc::{HEADER_BYTES, LAST_FRAGMENT, MAX_FRAGMENTS, MAX_RECORD_BYTES};
 use std::io::{Read, Write};
 
-/// The mark of a record's last fragment.
-const LAST_FRAGMENT: u32 = 1 << 31;
 /// Room for a record with the header of one fragment.
 const ROOM: usize = HEADER_BYTES + MAX_RECORD_BYTES;
 

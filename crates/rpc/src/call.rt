@@ -7,12 +7,9 @@ ghost use Rattle.rpc.specs.Views.{start_view, auth_view, header_view, call_read_
 ghost use Rattle.rpc.specs.declared.fault.RecordFault.TheVariants.{NotACall};
 
 use crate::fault::RecordFault;
+use crate::numbers::{CALL, RPC_VERSION};
 use xdr::{Reader, Refusal};
 
-/// The message type of a call.
-const CALL: u32 = 0;
-/// The version of RPC that is spoken.
-const RPC_VERSION: u32 = 2;
 /// The most bytes of a credential or a verifier.
 pub const MAX_AUTH_BYTES: u32 = 400;
 

@@ -6,10 +6,10 @@ ghost use Rattle.std.specs.Int.{w32, from_be_bytes};
 ghost use Rattle.model.specs.Record.{Gathered};
 ghost use Rattle.rpc.specs.Assembly.{Finds};
 
+use crate::numbers::LAST_FRAGMENT;
+
 /// Bytes of a header.
 pub const HEADER_BYTES: usize = 4;
-/// The mark of a record's last fragment.
-pub(crate) const LAST_FRAGMENT: u32 = 1 << 31;
 /// The most bytes of a record.
 pub const MAX_RECORD_BYTES: usize = 16384;
 /// The most fragments of a record.

@@ -21,7 +21,10 @@ pub use call::{Call, CallRead, MAX_AUTH_BYTES, read_call};
 pub use compound::Compound;
 pub use fault::RecordFault;
 pub use fragment::{HEADER_BYTES, MAX_FRAGMENTS, MAX_RECORD_BYTES};
-pub use numbers::{AUTH_NONE, AUTH_SYS, COMPOUND, MINOR_VERSION, NFS_VERSION, PROGRAM};
+pub use numbers::{
+    AUTH_NONE, AUTH_SYS, CALL, COMPOUND, LAST_FRAGMENT, MINOR_VERSION, NFS_VERSION, PROGRAM, REPLY,
+    RPC_VERSION,
+};
 pub use reply::{AuthStat, CompoundResult, Reply, write_frame_header, write_reply};
 pub use request::Request;
 pub use tag::{MAX_TAG_BYTES, Tag};

@@ -1,4 +1,17 @@
-//! The numbers by which a call names what it asks for (RFC 5531, section 9; RFC 8881, section 16; RFC 5662).
+//! The numbers of records and messages, and those by which a call names what it asks for (RFC 5531, sections 9 and 11;
+//! RFC 8881, section 16; RFC 5662).
+
+/// The mark of a record's last fragment, in its header.
+pub const LAST_FRAGMENT: u32 = 1 << 31;
+
+/// The message type of a call.
+pub const CALL: u32 = 0;
+
+/// The message type of a reply.
+pub const REPLY: u32 = 1;
+
+/// The version of RPC.
+pub const RPC_VERSION: u32 = 2;
 
 /// The program NFS.
 pub const PROGRAM: u32 = 100003;

@@ -9,13 +9,10 @@ ghost use Rattle.model.specs.Record.{framed};
 ghost use Rattle.model.specs.Rpc.{words, reply_text};
 ghost use Rattle.rpc.specs.Views.{reply_view, result_text, success_head, compound_front, frame_header, front_of, tail_of};
 
-use crate::fragment::LAST_FRAGMENT;
+use crate::numbers::{LAST_FRAGMENT, NFS_VERSION, REPLY, RPC_VERSION};
 use crate::tag::Tag;
 use model::status::Status;
 use xdr::{Refusal, Writer, opaque_size};
-
-/// The message type of a reply.
-const REPLY: u32 = 1;
 
 /// Why a caller's authentication is refused.
 #[derive(Clone, Copy, Debug, PartialEq, Eq)]
@@ -161,10 +158,13 @@ fn write_body(w: &mut Writer, xid: u32, reply: &Reply<'_>) -> Result<(), Refusal
     ensures { Wrote w.old w.new result (front_of xid reply.now) }
 {
     match reply {
-        Reply::VersionRefused => write_words(w, &[xid, REPLY, 1, 0, 2, 2]),
+        Reply::VersionRefused => write_words(w, &[xid, REPLY, 1, 0, RPC_VERSION, RPC_VERSION]),
         Reply::AuthRefused(stat) => write_words(w, &[xid, REPLY, 1, 1, *stat as u32]),
         Reply::ProgramUnavailable => write_accepted(w, xid, PROG_UNAVAIL),
-        Reply::ProgramMismatch => write_words(w, &[xid, REPLY, 0, 0, 0, PROG_MISMATCH, 4, 4]),
+        Reply::ProgramMismatch => write_words(
+            w,
+            &[xid, REPLY, 0, 0, 0, PROG_MISMATCH, NFS_VERSION, NFS_VERSION],
+        ),
         Reply::ProcedureUnavailable => write_accepted(w, xid, PROC_UNAVAIL),
         Reply::GarbageArguments => write_accepted(w, xid, GARBAGE_ARGS),
         Reply::Success(_) => write_success(w, xid),
