@@ -6,12 +6,14 @@ use Rattle.model.specs.Record as spec
 use Rattle.model.specs.Record.{Gathered, Front, Partial, Refused, Whole, front, fragment, framed}
 use Rattle.rpc.specs.Assembly.{record_limits, Finds}
 use Rattle.rpc.specs.declared.fragment.Fragment.TheVariants as found
+use Rattle.rpc.specs.declared.fragment.TheConstants.{MAX_RECORD_BYTES}
 use Rattle.client.specs.declared.fault.ClientFault.{ClientFault}
 use Rattle.client.specs.declared.fault.ClientFault.TheVariants as faults
 use Rattle.client.specs.declared.receive.Fetched.{Fetched}
 use Rattle.client.specs.declared.receive.Fetched.TheVariants as fetched
 use Rattle.client.specs.declared.receive.Received.{Received}
 use Rattle.client.specs.declared.receive.Received.TheVariants as received
+use Rattle.client.specs.declared.receive.TheConstants.{ROOM}
 
 -- what is known of a stream: the bytes that its writer holds, and those that its reader has left
 pub record Stream : Type 0 where
@@ -61,13 +63,13 @@ pub record Fetches (old new : Option (List ℕ)) (size fragments : ℕ) (before 
 abbrev pub IsReceived : (read room : List ℕ) → Received → Type 0
 IsReceived read room received.Ended = front record_limits read ≡ Partial
 IsReceived read room received.Refused = (fault : spec.RecordFault) × (front record_limits read ≡ Refused fault)
-IsReceived read room (received.Whole size) = (size ≤ 16384) × (front record_limits read ≡ Whole (take size (drop 4 room)) [])
+IsReceived read room (received.Whole size) = (size ≤ MAX_RECORD_BYTES) × (front record_limits read ≡ Whole (take size (drop 4 room)) [])
 
 pub record Receives (old new : Option (List ℕ)) (room : List ℕ) (came : Received) : Type 0 where
   pub read : List ℕ
   pub reads : Consumes old new read
   pub is : IsReceived read room came
-  pub long : length room ≡ 16388
+  pub long : length room ≡ ROOM
 
 -- These bytes are sent, and then bytes are read: none unless all were sent.
 pub record Passes (bytes : List ℕ) (before after : Stream) (read : List ℕ) : Type 0 where
