@@ -19,7 +19,7 @@ pub record IsSafe (keeps_word : Type 0) (old new : Log) : Type 0 where
 abbrev pub list_with : Log → List Update → List (List Update)
 list_with log updates = log.list ++ updates ∷ []
 
--- A transaction was put at the list's end. Where the two have more than 96 different sectors, the
+-- A transaction was put at the list's end. Where the payload has no room for the two together, the
 -- list went into the base first.
 pub record HasApplied (keeps_word : Type 0) (updates : List Update) (old new : Log) : Type 0 where
   pub kept : FitTogether (list_with old updates) → Takes updates old new

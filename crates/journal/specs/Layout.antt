@@ -10,6 +10,7 @@ use Rattle.byteorder.specs.Endian.{big_bytes, big_number}
 use Rattle.disk.specs.declared.update.Update.{Update}
 use Rattle.disk.specs.Moments.{Image}
 use Rattle.disk.specs.Calls.{zero_sector}
+use Rattle.journal.specs.declared.layout.TheConstants.{PAYLOAD_SECTORS}
 
 -- sectors that a transaction may write: from 98 on, on the device, and all different
 pub record AreTargets (size : ℕ) (to : List ℕ) : Type 0 where
@@ -60,7 +61,7 @@ copies image place (target ∷ targets) =
 
 -- a gate sector names these targets
 pub record NamesTargets (size : ℕ) (sector : List ℕ) (to : List ℕ) : Type 0 where
-  pub few : length to ≤ 96
+  pub few : length to ≤ PAYLOAD_SECTORS
   pub fit : AreTargets size to
   pub gate_is : sector ≡ gate to
 

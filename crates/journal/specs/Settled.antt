@@ -2,6 +2,7 @@
 use Rattle.std.specs.Prelude.{◌≡◌, ◌≤◌, ◌<◌, ◌⊎◌, ℕ, List, length}
 use Rattle.disk.specs.Moments.{Image}
 use Rattle.journal.specs.Layout.{AreTargets, gate, through}
+use Rattle.journal.specs.declared.layout.TheConstants.{PAYLOAD_SECTORS}
 
 -- a sector that the journal keeps for its caller
 abbrev pub IsKept : ℕ → ℕ → Type 0
@@ -14,7 +15,7 @@ AreSame size a b = (n : ℕ) → IsKept size n → a n ≡ b n
 -- the gate of an image has a form, and through it the image reads as this one
 pub record Settles (size : ℕ) (image settled : Image) : Type 0 where
   pub to : List ℕ
-  pub few : length to ≤ 96
+  pub few : length to ≤ PAYLOAD_SECTORS
   pub fit : AreTargets size to
   pub gate_is : image 1 ≡ gate to
   pub same : AreSame size settled (through to image)

@@ -3,6 +3,7 @@ use Rattle.std.specs.Prelude.{◌≡◌, ℕ, Bool, false, List, [], ◌∷◌, 
 use Rattle.std.specs.List.{list_any}
 use Rattle.disk.specs.declared.update.Update.{Update}
 use Rattle.journal.specs.Layout.{targets}
+use Rattle.journal.specs.declared.layout.TheConstants.{PAYLOAD_SECTORS}
 
 -- the sectors that they write, one after the other
 abbrev pub sectors_of : List (List Update) → List ℕ
@@ -19,9 +20,9 @@ gathered seen [] = seen
 gathered seen (number ∷ numbers) =
     gathered (if has seen number then seen else seen ++ number ∷ []) numbers
 
--- transactions with at most 96 different sectors
+-- transactions whose different sectors the payload has room for
 abbrev pub FitTogether : List (List Update) → Type 0
-FitTogether list = length (gathered [] (sectors_of list)) ≤ 96
+FitTogether list = length (gathered [] (sectors_of list)) ≤ PAYLOAD_SECTORS
 
 -- the last place of a number
 pub record IsLastPlace (numbers : List ℕ) (number place : ℕ) : Type 0 where
