@@ -19,6 +19,7 @@ use Rattle.opens.specs.Views.{named_by}
 use Rattle.compound.specs.Operates.{RunsTo}
 use Rattle.compound.specs.States.{SharedState}
 use Rattle.compound.specs.Trees.{IsHere}
+use Rattle.compound.specs.declared.results.TheConstants.{MAX_REPLY_BYTES}
 
 -- a state of the request on this file system, with these opens
 pub record IsBeside (fs : FileSystem) (opens : Opens) (request : InProgress) (state : State) : Type 0 where
@@ -51,7 +52,7 @@ opened_answer state change was_set = Answer.Open (record { state = state; change
 
 -- whether the reply has room for it, which only what was set can tell
 abbrev pub has_opened_room : InProgress → (was_set : List ℕ) → Bool
-has_opened_room request was_set = nat_le (length (reply_with request (Done (opened_answer closed_state no_change_info was_set)))) 16368
+has_opened_room request was_set = nat_le (length (reply_with request (Done (opened_answer closed_state no_change_info was_set)))) MAX_REPLY_BYTES
 
 -- and for each effect that an OPEN by a name may have
 abbrev pub HasOpenRoom : InProgress → OpenType → OpenRoom → Type 0

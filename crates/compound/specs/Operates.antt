@@ -25,6 +25,7 @@ use Rattle.compound.specs.declared.operated.Effect.{Effect}
 use Rattle.compound.specs.declared.operated.Effect.TheVariants as effect
 use Rattle.compound.specs.declared.operated.Operated.{Operated}
 use Rattle.compound.specs.declared.operated.Operated.TheVariants as operated
+use Rattle.compound.specs.declared.results.TheConstants.{MAX_REPLY_BYTES}
 
 abbrev pub left_by : Effect → InProgress → InProgress
 left_by effect.Stays request = request
@@ -104,12 +105,12 @@ tree_by world (turns.Replays reply session slot) = world.tree
 
 -- an OK result has room in the reply, whatever follows the operation
 abbrev pub HasRoom : InProgress → model.Outcome → Type 0
-HasRoom request (model.Done answer) = length (reply_with request (model.Done answer)) ≤ 16368
+HasRoom request (model.Done answer) = length (reply_with request (model.Done answer)) ≤ MAX_REPLY_BYTES
 HasRoom request (model.Refused operation reason) = ⊤
 
 -- a reply has room for these bytes after the results so far
 abbrev pub HasRoomFor : InProgress → (text : List ℕ) → Type 0
-HasRoomFor request text = 32 + length (counted request.tag) + length request.results + length text ≤ 16368
+HasRoomFor request text = 32 + length (counted request.tag) + length request.results + length text ≤ MAX_REPLY_BYTES
 
 -- a result can be spelled, in few bytes
 pub record IsSpelled (request : InProgress) (outcome : model.Outcome) : Type 0 where

@@ -11,6 +11,7 @@ use Rattle.session.specs.Views.{table_of}
 use Rattle.session.specs.declared.table.Table as code
 use Rattle.opens.specs.Views.{opens_of}
 use Rattle.opens.specs.declared.opens.Opens as known
+use Rattle.compound.specs.declared.results.TheConstants.{MAX_REPLY_BYTES}
 
 pub record SharedState : Type 0 where
   pub files : FileSystem
@@ -28,7 +29,7 @@ shared_of fs table opens = shared (fs_of fs) (table_of table) (opens_of opens)
 pub record HasState (world : World) (state : SharedState) : Type 0 where
   pub volume : world.limits.volume ≡ state.files.volume.limits
   pub sessions : world.limits.sessions ≡ served
-  pub reply_bytes : world.limits.reply_bytes ≡ 16368
+  pub reply_bytes : world.limits.reply_bytes ≡ MAX_REPLY_BYTES
   pub run : world.run ≡ state.files.volume.run
   pub tree : world.tree ≡ state.files.volume.tree
   pub changes : world.changes ≡ state.files.changes

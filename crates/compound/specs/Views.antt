@@ -16,6 +16,7 @@ use Rattle.compound.specs.declared.progress.HandlePlace.{HandlePlace}
 use Rattle.compound.specs.declared.progress.SlotId.{SlotId}
 use Rattle.compound.specs.declared.next.Next.{Next}
 use Rattle.compound.specs.declared.next.Next.TheVariants as nexts
+use Rattle.compound.specs.declared.results.TheConstants.{MAX_REPLY_BYTES}
 use Rattle.model.specs.declared.status.Status.{Status}
 
 -- a filehandle, with the stateid that goes with it
@@ -60,7 +61,7 @@ resumed asked progress = record {
 abbrev pub fits : Asked → Progress → Bool
 fits asked progress =
     nat_lt progress.answered asked.compound.count && (nat_le progress.position (length asked.compound.operations)
-    && nat_le (32 + length (counted asked.compound.tag) + length progress.results.bytes) 16368)
+    && nat_le (32 + length (counted asked.compound.tag) + length progress.results.bytes) MAX_REPLY_BYTES)
 
 -- no operation was done in this run of the server, of whichever COMPOUND
 pub record IsBegin (run : ℕ) (progress : Progress) : Type 0 where
