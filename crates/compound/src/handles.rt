@@ -8,13 +8,11 @@ use crate::running::Running;
 use crate::tree::status_of;
 use disk::Device;
 use fs::Fs;
+use model::node::ROOT;
 use model::status::Status;
 use std::alloc::Global;
 use wire::{Answer, Operation};
 use xdr::Writer;
-
-/// The root's number.
-const ROOT: u64 = 1;
 
 #[tactic(auto, unfolding(crate::specs::Views::in_progress_of, model::specs::World::outcome_text))]
 impl Running<'_> {

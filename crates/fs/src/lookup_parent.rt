@@ -6,10 +6,8 @@ use crate::nodes::is_directory;
 use crate::rights::grants;
 use acl_eval::{Cred, Mask};
 use disk::Device;
+use model::node::ROOT;
 use model::status::Status;
-
-/// The root's number.
-const ROOT: u64 = 1;
 
 #[tactic(auto, unfolding(crate::specs::Views::fs_of))]
 impl<D: Device> Fs<D> {

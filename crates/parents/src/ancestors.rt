@@ -10,9 +10,7 @@ ghost use Rattle.parents.specs.Parents.{AreParents};
 
 use crate::places::Parents;
 use cards::Table;
-
-/// The root's number.
-const ROOT: u64 = 1;
+use model::node::ROOT;
 
 /// The number of the directory that has a node's name: 0 of the root, and of what is no node's
 /// number.

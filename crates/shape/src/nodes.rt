@@ -5,12 +5,11 @@ ghost use Rattle.directory.specs.Records.{record_of};
 ghost use Rattle.shape.specs.Nodes.{AreNamesAllowed, AreNodesAllowed, IsContentAllowed};
 ghost use Rattle.shape.specs.Nodes.{HasRootDirectory, IsNameAllowed, IsNodeAllowed, IsRootDirectory};
 
-use crate::walk::ROOT;
 use acl_set::is_list_for;
 use cards::{Card, Table};
 use directory::Entry;
 use model::limits::Limits;
-use model::node::NodeKind;
+use model::node::{NodeKind, ROOT};
 use names::check_name;
 
 fn is_name_allowed(name: &[u8], limits: &Limits) -> bool

@@ -4,10 +4,8 @@ ghost use Rattle.std.specs.Prelude.{◌≡◌, true, IfOk};
 ghost use Rattle.shape.specs.Trees.{IsOneTree};
 
 use cards::Table;
+use model::node::ROOT;
 use std::alloc::{AllocError, Global};
-
-/// The root's number.
-pub(crate) const ROOT: u64 = 1;
 
 /// The places that were met, in their order, and a mark for each.
 #[derive(Drop)]
