@@ -1,15 +1,21 @@
 //! Whether an access control list grants rights to a caller (RFC 8881, section 6.2.1).
 #![tactic(auto)]
 
-ghost use Rattle.std.specs.Prelude.{◌≡◌, ◌&&◌};
-ghost use Rattle.model.specs.Acl.{counts, granted, matches};
+ghost use Rattle.std.specs.Prelude.{◌≡◌, ◌+◌, ◌&&◌};
+ghost use Rattle.model.specs.Acl.{counts, granted, matches, read_acl, write_acl, write_attributes};
 
 use bitflags::Flags;
 pub use model::acl::{Ace, AceFlags, AceKind, Acl, Cred, Gids, Mask, Who};
 pub use model::node::NodeKind;
 
-// READ_ACL, WRITE_ACL and WRITE_ATTRIBUTES: with these no list locks the owner out.
-const OWNERS_RIGHTS: u32 = 0x60100;
+// With these no list locks the owner out.
+fn owners_rights() -> Mask
+    ensures { result.0 ≡ read_acl + write_acl + write_attributes }
+{
+    Mask::READ_ACL
+        .union(Mask::WRITE_ACL)
+        .union(Mask::WRITE_ATTRIBUTES)
+}
 
 // Whether an entry says something about the node itself, and of this caller.
 fn concerns(ace: &Ace, owner: u32, group: u32, cred: &Cred) -> bool
@@ -28,7 +34,7 @@ pub fn granted(acl: &[Ace], owner: u32, group: u32, cred: &Cred, mask: Mask) -> 
 {
     let asked = mask.bits();
     let mut undecided = if cred.uid == owner {
-        asked & !OWNERS_RIGHTS
+        mask.difference(owners_rights()).bits()
     } else {
         asked
     };

@@ -11,7 +11,7 @@ pub loop-ace-init : goal.loop-ace-init
 loop-ace-init c =
     elim c.if-cred-owner.branch [
       | then-cred-owner w ↦
-          rw (w.undecided-is, c.bits-asked.ensures tt) (sym (granted-owner c.args.acl.now c.args.owner c.args.group c.args.cred.now c.args.mask.0 (eq-eqb _ _ w.if-cred-owner.true)))
+          rw (w.undecided-is, w.bits-undecided.ensures tt, w.difference.ensures tt, w.owners_rights.ensures) (sym (granted-owner c.args.acl.now c.args.owner c.args.group c.args.cred.now c.args.mask.0 (eq-eqb _ _ w.if-cred-owner.true)))
       | else-cred-owner w ↦
           rw (w.undecided-is, c.bits-asked.ensures tt) (sym (granted-other c.args.acl.now c.args.owner c.args.group c.args.cred.now c.args.mask.0 (ne_eqb _ _ w.if-cred-owner.false)))
     ]
