@@ -2,15 +2,14 @@
 
 ghost use Rattle.std.specs.Prelude.{◌≡◌, ◌≤◌, true, not, position, MatchOption, IfOk, IsOkUnless};
 ghost use Rattle.std.specs.Option.{ForSome, option_copied};
-ghost use Rattle.model.specs.Acl.{are_flags_for, has_width, is_entry_for};
+ghost use Rattle.model.specs.Acl.{are_flags_for, has_width, inheritance, is_entry_for};
 ghost use Rattle.model.specs.Inherit.{is_inherited_by, inherited_flags, inherited, created, first_refused};
 ghost use Rattle.acl_set.specs.Refused.{refused_of};
 
 use crate::fault::AclFault;
 use crate::modes::{MAX_MODE, with_mode};
-use acl_eval::{Ace, AceFlags, Acl, Mask, NodeKind, Who};
+use acl_eval::{Ace, AceFlags, Acl, NodeKind, Who};
 use bitflags::Flags;
-use model::acl::EVERY_RIGHT;
 use std::alloc::Global;
 
 /// What a creation gave of the new node's attributes.
@@ -24,7 +23,15 @@ pub struct Given<'a> {
     pub acl: Option<&'a [Ace]>,
 }
 
-const INHERITANCE: u32 = 0xF;
+// The four flags that say what becomes of an entry in new nodes.
+fn inheritance() -> AceFlags
+    ensures { result.0 ≡ inheritance }
+{
+    AceFlags::FILE_INHERIT
+        .union(AceFlags::DIRECTORY_INHERIT)
+        .union(AceFlags::NO_PROPAGATE)
+        .union(AceFlags::INHERIT_ONLY)
+}
 
 // Whether a new node of this kind takes the entry.
 fn is_inherited(kind: NodeKind, ace: &Ace) -> bool
@@ -44,7 +51,7 @@ fn is_inherited(kind: NodeKind, ace: &Ace) -> bool
 fn flags_inherited(kind: NodeKind, flags: AceFlags) -> AceFlags
     ensures { result.0 ≡ inherited_flags kind flags.0 }
 {
-    let none = flags.difference(AceFlags::from_bits_retain(INHERITANCE));
+    let none = flags.difference(inheritance());
     match kind {
         NodeKind::File => none,
         NodeKind::Directory => {
@@ -87,7 +94,7 @@ pub fn are_flags_for(kind: NodeKind, flags: AceFlags) -> bool
     match kind {
         NodeKind::File => flags.is_empty(),
         NodeKind::Directory => {
-            AceFlags::from_bits_retain(INHERITANCE).contains(flags)
+            inheritance().contains(flags)
                 && (!flags.intersects(further) || flags.intersects(handed_down))
         }
     }
@@ -104,11 +111,12 @@ fn tell_width(who: Who)
 }
 
 // Whether a node of this kind may have the entry.
+#[tactic(auto, unfolding(bitflags::specs::Sets::known_from))]
 pub(crate) fn is_entry_for(kind: NodeKind, ace: &Ace) -> bool
     ensures { result ≡ is_entry_for kind ace.now }
 {
     tell_width(ace.who);
-    are_flags_for(kind, ace.flags) && Mask::from_bits_retain(EVERY_RIGHT).contains(ace.mask)
+    are_flags_for(kind, ace.flags) && !ace.mask.contains_unknown_bits()
 }
 
 // The index of the first entry that a node of this kind may not have.
