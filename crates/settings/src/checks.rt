@@ -14,16 +14,13 @@ use crate::numbers::{SUPPORTED, has_one_outside};
 use crate::said::{Settings, settings_in};
 use acl_set::are_flags_for;
 use bitflags::Flags;
-use model::acl::{AceFlags, EVERY_RIGHT, Mask};
+use model::acl::{AceFlags, Mask};
 use model::limits::Limits;
 use model::node::NodeKind;
 use model::not_done::NotDone;
 use model::status::Status;
 use std::alloc::Global;
 use wire_attributes::{AclEntry, Value, number_of, numbers_of, read_values, who_of};
-
-// All flags that an entry on the wire may have.
-const KNOWN_FLAGS: u32 = 0x4F;
 
 // An entry's type, flags, rights and name, and whether a node of this kind may have such flags.
 fn check_entry(kind: NodeKind, entry: &AclEntry<'_>) -> Result<(), Status>
@@ -48,16 +45,18 @@ fn check_entry(kind: NodeKind, entry: &AclEntry<'_>) -> Result<(), Status>
     Ok(())
 }
 
+#[tactic(auto, unfolding(bitflags::specs::Sets::known_from))]
 fn has_flags_outside(flags: AceFlags) -> bool
     ensures { result ≡ not (is_within flags.0 (inheritance + identifier_group)) }
 {
-    !AceFlags::from_bits_retain(KNOWN_FLAGS).contains(flags)
+    flags.contains_unknown_bits()
 }
 
+#[tactic(auto, unfolding(bitflags::specs::Sets::known_from))]
 fn has_rights_outside(mask: Mask) -> bool
     ensures { result ≡ not (is_within mask.0 every_right) }
 {
-    !Mask::from_bits_retain(EVERY_RIGHT).contains(mask)
+    mask.contains_unknown_bits()
 }
 
 fn check_entries(kind: NodeKind, entries: &[AclEntry<'_>]) -> Result<(), Status>
