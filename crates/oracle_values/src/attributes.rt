@@ -11,7 +11,6 @@ ghost use Rattle.oracle_values.specs.Given.{values_seen};
 use acl_eval::{AceFlags, Mask, NodeKind};
 use acl_set::are_flags_for;
 use bitflags::Flags;
-use model::acl::EVERY_RIGHT;
 use model::limits::Limits;
 use model::status::Status;
 use oracle_tree::refusals::{Tests, concat};
@@ -19,9 +18,6 @@ use settings::{SUPPORTED, Settings, has_one_outside, settings_in};
 use std::alloc::{AllocError, Global};
 use wire::Attributes;
 use wire_attributes::{AclEntry, Value, number_of, numbers_of, who_of};
-
-// All flags that an entry on the wire may have.
-const KNOWN_FLAGS: u32 = 0x4F;
 
 /// The attributes of a bitmap, by rising number.
 pub fn attributes_in(alloc: Global, given: &Attributes<'_>) -> Result<Vec<u32>, AllocError>
@@ -58,21 +54,20 @@ pub fn settings_of(alloc: Global, given: &Attributes<'_>) -> Result<Settings, Al
 }
 
 // The tests of one entry of a list.
+#[tactic(auto, unfolding(bitflags::specs::Sets::known_from))]
 fn entry_tests(alloc: Global, kind: NodeKind, entry: &AclEntry<'_>) -> Result<Tests, AllocError>
     ensures { IfOk result (λ tests. tests.items ≡ entry_refusals kind (entry_view entry.now)) }
 {
     let flags = AceFlags::from_bits_retain(entry.flags);
     let rights = Mask::from_bits_retain(entry.mask);
-    let are_flags = AceFlags::from_bits_retain(KNOWN_FLAGS).contains(flags);
-    let are_rights = Mask::from_bits_retain(EVERY_RIGHT).contains(rights);
     let is_group = flags.intersects(AceFlags::IDENTIFIER_GROUP);
     let inherited = flags.difference(AceFlags::IDENTIFIER_GROUP);
     Vec::from_slice(
         alloc,
         &[
             (1 < entry.kind, Status::AttrNotSupp),
-            (!are_flags, Status::AttrNotSupp),
-            (!are_rights, Status::AttrNotSupp),
+            (flags.contains_unknown_bits(), Status::AttrNotSupp),
+            (rights.contains_unknown_bits(), Status::AttrNotSupp),
             (who_of(entry.who, is_group).is_none(), Status::BadOwner),
             (!are_flags_for(kind, inherited), Status::AttrNotSupp),
         ],
