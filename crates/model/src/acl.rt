@@ -11,9 +11,6 @@ use xdr::Words;
 #[derive(Clone, Copy, PartialEq, Eq, Debug)]
 pub struct Mask(u32);
 
-/// Every right that this server knows.
-pub const EVERY_RIGHT: u32 = 0x1F_01E7;
-
 bitflag_items! {
     impl Mask: u32 {
         /// To read a file's bytes, or to list a directory (`LIST_DIRECTORY`).

@@ -14,7 +14,7 @@ use disk::{Device, SECTOR, Update};
 use inode::{Form, Inode, to_sector};
 use journal::Journal;
 use layout::places::NODES;
-use model::acl::{Ace, AceFlags, AceKind, Acl, EVERY_RIGHT, Mask, Who};
+use model::acl::{Ace, AceFlags, AceKind, Acl, Mask, Who};
 use model::node::NodeKind;
 use std::alloc::{AllocError, Global};
 use std::slice;
@@ -26,7 +26,7 @@ fn fresh_root(alloc: Global) -> Result<Inode, AllocError>
     let everyone = Ace {
         kind: AceKind::Allow,
         flags: AceFlags::empty(),
-        mask: Mask::from_bits_retain(EVERY_RIGHT),
+        mask: Mask::all(),
         who: Who::Everyone,
     };
     Ok(Inode {
