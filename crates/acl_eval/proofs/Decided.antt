@@ -10,7 +10,7 @@ use Rattle.std.proofs.Math.Pow.{pow_pos}
 use Rattle.std.proofs.Math.Dec.{lit<}
 use mathlib.Core.Bool.{beq}
 use Rattle.std.specs.Int.{w32}
-use Rattle.model.specs.Acl.{meets, without, bits_of, counts, first_of, allows, is_allow, is_owners_right, granted, matches}
+use Rattle.model.specs.Acl.{meets, bits_without, bits_of, counts, first_of, allows, is_allow, is_owners_right, granted, matches}
 use Rattle.model.specs.declared.acl.Ace.{Ace}
 use Rattle.model.specs.declared.acl.Cred.{Cred}
 use Rattle.model.specs.declared.acl.Who.{Who}
@@ -48,11 +48,11 @@ left_bit (suc zero) (suc zero) h l = refl
 left_bit (suc zero) (suc (suc b)) h l = absurd (omega arith)
 left_bit (suc (suc a)) b h l = absurd (omega arith)
 
-meets-without : (a b k : ℕ) → b < 2 ^ 32 → k < 32 → meets (without a b) (2 ^ k) ≡ (meets a (2 ^ k) && not (meets b (2 ^ k)))
+meets-without : (a b k : ℕ) → b < 2 ^ 32 → k < 32 → meets (bits_without a b) (2 ^ k) ≡ (meets a (2 ^ k) && not (meets b (2 ^ k)))
 meets-without a b k fits within =
-    let left : bit_at (without a b) k ≡ min (bit_at a k) (1 - bit_at b k) =
+    let left : bit_at (bits_without a b) k ≡ min (bit_at a k) (1 - bit_at b k) =
     bit_at_and a (2 ^ 32 - 1 - b) k ∙ ap (min (bit_at a k)) (bit_at_not w32 b k fits within) in
-    simp (meets-pow a k, meets-pow b k, meets-pow (without a b) k, left) (left_bit (bit_at a k) (bit_at b k) (bit_at-lt a k) (bit_at-lt b k))
+    simp (meets-pow a k, meets-pow b k, meets-pow (bits_without a b) k, left) (left_bit (bit_at a k) (bit_at b k) (bit_at-lt a k) (bit_at-lt b k))
 
 common_bit : (a b : ℕ) → a < 2 → b < 2 → ((a == 1) && (b == 1)) ≡ false → min a b ≡ 0
 common_bit zero b h l e = omega arith
@@ -141,9 +141,9 @@ allow_step true true ace later e = e
 allow_step true false ace later e = refl
 
 -- an ALLOW entry settles the rights that it names
-pub allow_all-allowed : (is_matching : Who → Bool) (ace : Ace) (rest : List Ace) (word : ℕ) → (counts ace && is_matching ace.who) ≡ true → is_allow ace.kind ≡ true → ace.mask.0 < 2 ^ 32 → allow_all is_matching (ace ∷ rest) word ≡ allow_all is_matching rest (without word ace.mask.0)
+pub allow_all-allowed : (is_matching : Who → Bool) (ace : Ace) (rest : List Ace) (word : ℕ) → (counts ace && is_matching ace.who) ≡ true → is_allow ace.kind ≡ true → ace.mask.0 < 2 ^ 32 → allow_all is_matching (ace ∷ rest) word ≡ allow_all is_matching rest (bits_without word ace.mask.0)
 allow_all-allowed is_matching ace rest word e allowed fits =
-    same_by_bits is_matching (ace ∷ rest) rest word (without word ace.mask.0)
+    same_by_bits is_matching (ace ∷ rest) rest word (bits_without word ace.mask.0)
     (λ k h.
     ap (λ o. not (meets word (2 ^ k)) || allows o) (first_of-concerned is_matching ace rest (2 ^ k) e)
     ∙ allow_step (meets word (2 ^ k)) (meets ace.mask.0 (2 ^ k)) ace (first_of is_matching rest (2 ^ k)) allowed
@@ -250,16 +250,16 @@ module _ (acl : List Ace) (owner group : ℕ) (cred : Cred) (mask : ℕ) where
   abbrev grants_bit : ℕ → Bool
   grants_bit right = not (meets mask right) || (allows (first_of names acl right) || ((cred.uid == owner) && is_owners_right right))
 
-  owner_bits : (cred.uid == owner) ≡ true → (k : ℕ) → k < 32 → grants_bit (2 ^ k) ≡ allows_bit names acl (without mask 0x60100) (2 ^ k)
+  owner_bits : (cred.uid == owner) ≡ true → (k : ℕ) → k < 32 → grants_bit (2 ^ k) ≡ allows_bit names acl (bits_without mask 0x60100) (2 ^ k)
   owner_bits e k h =
       rw (e, owners_right k h, meets-without mask 0x60100 k (lit< tt) h) (owner_step (meets mask (2 ^ k)) (meets 0x60100 (2 ^ k)) (allows (first_of names acl (2 ^ k))))
 
-  pub granted-owner : (cred.uid == owner) ≡ true → granted acl owner group cred mask ≡ allow_all names acl (without mask 0x60100)
+  pub granted-owner : (cred.uid == owner) ≡ true → granted acl owner group cred mask ≡ allow_all names acl (bits_without mask 0x60100)
   unfolding granted
   granted-owner e =
       list_all-filter (λ right. allows (first_of names acl right) || ((cred.uid == owner) && is_owners_right right)) (meets mask) powers
-      ∙ same_on_bits grants_bit (allows_bit names acl (without mask 0x60100)) (owner_bits e)
-      ∙ sym (by_bits names acl (without mask 0x60100))
+      ∙ same_on_bits grants_bit (allows_bit names acl (bits_without mask 0x60100)) (owner_bits e)
+      ∙ sym (by_bits names acl (bits_without mask 0x60100))
 
   other_bits : (cred.uid == owner) ≡ false → (k : ℕ) → k < 32 → grants_bit (2 ^ k) ≡ allows_bit names acl mask (2 ^ k)
   other_bits e k h = rw e (other_step (meets mask (2 ^ k)) (allows (first_of names acl (2 ^ k))))

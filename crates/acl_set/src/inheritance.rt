@@ -3,7 +3,7 @@
 ghost use Rattle.std.specs.Prelude.{◌≡◌, ◌≤◌, true, not, position, MatchOption, IfOk, IsOkUnless};
 ghost use Rattle.std.specs.Option.{ForSome, option_copied};
 ghost use Rattle.model.specs.Acl.{are_flags_for, has_width, inheritance, is_entry_for};
-ghost use Rattle.model.specs.Inherit.{is_inherited_by, inherited_flags, inherited, created, first_refused};
+ghost use Rattle.model.specs.Inherit.{is_inherited_by, inherited_flags, inherited, created_list, first_refused};
 ghost use Rattle.acl_set.specs.Refused.{refused_of};
 
 use crate::fault::AclFault;
@@ -152,7 +152,8 @@ pub fn at_creation(
 ) -> Result<Acl, AclFault>
     requires { ForSome given.now.mode (λ mode. mode ≤ MAX_MODE) }
     ensures list { IfOk result (λ list. list
-        ≡ created parent.now kind given.now.empty given.now.mode (option_copied given.now.acl)) }
+        ≡ created_list parent.now kind given.now.empty given.now.mode
+        (option_copied given.now.acl)) }
     ensures refused { MatchOption (refused_of Acl.MAX_SET kind (option_copied given.now.acl))
         (IsOkUnless result AclFault.Memory)
         (λ place. result ≡ Err (AclFault.Ace place)) }

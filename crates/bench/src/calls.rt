@@ -1,6 +1,6 @@
 //! Records of calls as a client sends them (RFC 5531, sections 9 and 11; RFC 8881, section 16.2).
 
-ghost use Rattle.std.specs.Prelude.{◌≡◌, ◌≤◌, length, All, IfOk};
+ghost use Rattle.std.specs.Prelude.{◌≤◌, length};
 ghost use Rattle.wire_client.specs.ArgumentFits.{ArgumentFits};
 
 use crate::replies::reply_of;

@@ -18,7 +18,7 @@ use std::time::Clock;
 /// A piece as it is read from a socket.
 const PIECE_BYTES: usize = 4096;
 /// The most bytes of a reply.
-const MAX_REPLY_BYTES: usize = 16_384;
+const REPLY_BYTES: usize = 16_384;
 
 /// Measures, and prints how many things of each kind are done a second.
 pub fn print_figures<R: Clock + Print>(rt: &R, alloc: Global) -> anyhow::Result<()> {
@@ -59,7 +59,7 @@ fn print_reads<R: Clock + Print>(
 }
 
 fn print_replies<R: Clock + Print>(rt: &R, alloc: Global) -> anyhow::Result<()> {
-    let mut replies = WritesReplies::new(alloc, MAX_REPLY_BYTES)?;
+    let mut replies = WritesReplies::new(alloc, REPLY_BYTES)?;
     replies.turn()?;
     let reply = replies.reply.clone()?;
     println!(rt; "replies: a record of {} bytes", reply.len())?;

@@ -1,14 +1,12 @@
 //! Files on a volume: what its calls do a second, on a small one and on a large one that is full.
 
 ghost use Rattle.std.specs.Prelude.{◌≤◌, length};
-ghost use Rattle.fs.specs.Opening.{type_of};
-ghost use Rattle.model.specs.Open.{given_by};
 
 use crate::work::{Undone, Work};
 use acl_eval::{Cred, Gids};
 use disk::Device;
 use fs::{Fs, FsFault, How, Listing, NewDirectory, OpenRoom, Opening, Share, Writing};
-use settings::Attributes;
+use settings::GivenAttributes;
 use std::alloc::Global;
 
 /// The bytes of a WRITE and of a READ.
@@ -76,10 +74,10 @@ fn caller() -> Cred {
     }
 }
 
-fn attributes() -> Attributes<'static>
+fn attributes() -> GivenAttributes<'static>
     ensures { length result.bitmap.now ≤ 8 }
 {
-    Attributes {
+    GivenAttributes {
         bitmap: &MODE,
         values: &MODE_755,
     }

@@ -1,5 +1,5 @@
 -- A table of cards that are there already.
-use Rattle.std.proofs.Common.{true, false, true≢false, ◌≡◌, ◌≢◌, ◌≤◌, ◌<◌, ◌+◌, ◌-◌, ℕ, zero, suc, List, [], ◌∷◌, ◌++◌, Option, Some, None, length, take, get_or, inl, inr, refl, sym, ap, ◌∙◌, subst, arith, eqb, eq-eqb, ne_eqb}
+use Rattle.std.proofs.Common.{true, false, true≢false, ◌≡◌, ◌≢◌, ◌≤◌, ◌<◌, ◌+◌, ◌-◌, ℕ, zero, suc, List, [], ◌∷◌, ◌++◌, Option, Some, None, length, take, get_or, inl, inr, refl, sym, ap, ◌∙◌, subst, arith, eqb}
 use Rattle.std.specs.Prelude.{is_some}
 use Rattle.std.specs.List.{Contains, sum_by}
 use Rattle.std.specs.List.Sorted.{IsPermutation, IsNonDecreasingBy}
@@ -8,21 +8,18 @@ use Rattle.std.proofs.lemmas.List.{get_or_default, take_more, length-take-le}
 use Rattle.std.proofs.lemmas.List.Elements.{Contains-get_or}
 use Rattle.std.proofs.lemmas.List.Sorted.{IsPermutation-sym, length_permutation, Contains-permutation, sum_by-IsPermutation}
 use Rattle.std.proofs.lemmas.List.Sums.{sum_by-cons}
+use Rattle.std.proofs.lemmas.Option.{same_Some}
 use Rattle.model.specs.Keyed.{Keyed, at, IsAbove}
 use Rattle.model.proofs.KeyedLaws.{at-first, at-rest}
+use Rattle.model.proofs.OptionLaws.{some≢none}
 use Rattle.layout.specs.Cards.{Card}
 use Rattle.layout.specs.Marks.{once_if, times}
 use Rattle.layout.specs.SumLaws.{sum_over}
+use Rattle.layout.proofs.NumberLaws.{once-off, once-at}
 use Rattle.cards.specs.Index.{key_at, entries_from, AreDifferent}
 use Rattle.cards.specs.Tables.{number_at, HaveOwnPlaces, AreNumbered, AreFew, charge_of_all, count_of_all, vacant, IsKept}
 use Rattle.cards.proofs.IndexLaws.{at-entry}
 use Rattle.cards.proofs.TableLaws.{times-push}
-
-some_none : {A : Type 0} (x : A) → Some x ≡ None → ⊥
-some_none x e = cc
-
-some_is : {A : Type 0} (x y : A) → Some x ≡ Some y → x ≡ y
-some_is x y e = cc
 
 -- ---- one card more
 
@@ -49,12 +46,6 @@ sum-push worth [] None = refl
 sum-push worth [] (Some card) = omega arith
 sum-push worth (None ∷ cards) card = sum-push worth cards card
 sum-push worth (Some one ∷ cards) card = omega (arith, sum-push worth cards card)
-
-once-at : (n m : ℕ) → n ≡ m → once_if (eqb n m) ≡ 1
-once-at n m e = ap once_if (eq-eqb n m e)
-
-once-off : (n m : ℕ) → n ≢ m → once_if (eqb n m) ≡ 0
-once-off n m off = ap once_if (ne_eqb n m off)
 
 once-suc : (n m : ℕ) → once_if (eqb n m) ≡ once_if (eqb (suc n) (suc m))
 once-suc n m = elim (cases_eq n m) [
@@ -127,14 +118,14 @@ entries-told first (Some one ∷ cards) (suc i) h = told-later first (Some one) 
 
 -- each node has one
 entries-listed : (first : ℕ) (cards : List (Option Card)) (place number : ℕ) → number_at cards place ≡ Some number → Contains (entries_from first cards) (number, first + place)
-entries-listed first [] place number is = absurd (some_none number (sym is))
-entries-listed first (None ∷ cards) zero number is = absurd (some_none number (sym is))
+entries-listed first [] place number is = absurd (some≢none number (sym is))
+entries-listed first (None ∷ cards) zero number is = absurd (some≢none number (sym is))
 entries-listed first (None ∷ cards) (suc place) number is =
     let e : first + 1 + place ≡ first + suc place = omega arith in
     subst (λ (p : ℕ). Contains (entries_from (first + 1) cards) (number, p)) e (entries-listed (first + 1) cards place number is)
 entries-listed first (Some one ∷ cards) zero number is =
     let e : first ≡ first + 0 = omega arith in
-    (0, omega arith, ap (λ (n : ℕ). (n, first)) (some_is one.fields.number number is) ∙ ap (λ (p : ℕ). (number, p)) e)
+    (0, omega arith, ap (λ (n : ℕ). (n, first)) (same_Some one.fields.number number is) ∙ ap (λ (p : ℕ). (number, p)) e)
 entries-listed first (Some one ∷ cards) (suc place) number is =
     let e : first + 1 + place ≡ first + suc place = omega arith in
     let found = subst (λ (p : ℕ). Contains (entries_from (first + 1) cards) (number, p)) e (entries-listed (first + 1) cards place number is) in
@@ -177,10 +168,10 @@ sum-two place (entry ∷ index) (suc i) h is next = omega (arith, sum_by-cons (i
 -- ---- the entries in another order
 
 at-contains : (index : Keyed ℕ) (number place : ℕ) → at number index ≡ Some place → Contains index (number, place)
-at-contains [] number place is = absurd (some_none place (sym is))
+at-contains [] number place is = absurd (some≢none place (sym is))
 at-contains (entry ∷ index) number place is = elim (cases_eq number entry.0) [
   | inl e ↦
-      let here : entry.1 ≡ place = some_is entry.1 place (sym (at-first entry.0 number entry.1 index e) ∙ is) in
+      let here : entry.1 ≡ place = same_Some entry.1 place (sym (at-first entry.0 number entry.1 index e) ∙ is) in
       (0, omega arith, ap (λ (n : ℕ). (n, entry.1)) (sym e) ∙ ap (λ (p : ℕ). (number, p)) here)
   | inr off ↦ let found = at-contains index number place (sym (at-rest entry.0 number entry.1 index off) ∙ is) in (suc found.0, omega (arith, found.1), found.2)
 ]

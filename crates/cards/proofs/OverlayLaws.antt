@@ -5,21 +5,17 @@ use Rattle.std.proofs.lemmas.List.{length-set, get_or-set_same, get_or-set_other
 use Rattle.std.proofs.Common.{Bor}
 use Rattle.std.specs.Option.{option_copied}
 use Rattle.std.specs.Prelude.{IfSome, IfNone}
+use Rattle.std.proofs.lemmas.Option.{same_Some}
 use Rattle.model.specs.Keyed.{Keyed, at}
 use Rattle.model.proofs.KeyedLaws.{at-first, at-rest}
+use Rattle.model.proofs.OptionLaws.{some≢none}
 use Rattle.layout.specs.Cards.{Card}
 use Rattle.cards.specs.Tables.{number_of, number_at, HaveOwnPlaces, HasNot}
 use Rattle.cards.specs.Overlays.{changed, HaveOwnPlace, AreWithin, change_at, Overlaid, IsMade, IsFresh, CanBecome}
 
-some_none : {A : Type 0} (x : A) → Some x ≡ None → ⊥
-some_none x e = cc
-
-some_is : {A : Type 0} (x y : A) → Some x ≡ Some y → x ≡ y
-some_is x y e = cc
-
 number_same : (found : Option ℕ) (number : ℕ) → (found ≡ Some number) ⊎ (found ≢ Some number)
-number_same None number = inr (λ e. some_none number (sym e))
-number_same (Some other) number = elim (cases_eq other number) [ inl e ↦ inl (ap (λ (n : ℕ). Some n) e) | inr off ↦ inr (λ e. off (some_is other number e)) ]
+number_same None number = inr (λ e. some≢none number (sym e))
+number_same (Some other) number = elim (cases_eq other number) [ inl e ↦ inl (ap (λ (n : ℕ). Some n) e) | inr off ↦ inr (λ e. off (same_Some other number e)) ]
 
 -- ---- which places have changes
 
@@ -29,7 +25,7 @@ at-off (change ∷ changes) place off = at-rest change.0 place change.1 changes 
 
 -- of a place without a change no change is
 other-place : (change : ℕ × Option Card) (changes : Keyed (Option Card)) (place : ℕ) → at place (change ∷ changes) ≡ None → place ≢ change.0
-other-place change changes place none e = some_none change.1 (sym (at-first change.0 place change.1 changes e) ∙ none)
+other-place change changes place none e = some≢none change.1 (sym (at-first change.0 place change.1 changes e) ∙ none)
 
 rest-none : (change : ℕ × Option Card) (changes : Keyed (Option Card)) (place : ℕ) → at place (change ∷ changes) ≡ None → at place changes ≡ None
 rest-none change changes place none = sym (at-rest change.0 place change.1 changes (other-place change changes place none)) ∙ none
@@ -170,7 +166,7 @@ there-unchanged cards (change ∷ changes) place number none is = elim (cases_eq
   | inl here ↦
       elim (cases_lt change.0 (length (changed cards changes))) [
         | inl low ↦ absurd (none 0 (omega arith) (ap number_of (sym (get_or-set_same (changed cards changes) change.0 change.1 None low)) ∙ ap (number_at (set (changed cards changes) change.0 change.1)) (sym here) ∙ is))
-        | inr high ↦ absurd (some_none number (sym is ∙ ap number_of (get_or_past (set (changed cards changes) change.0 change.1) place None (omega (arith, length-set (changed cards changes) change.0 change.1)))))
+        | inr high ↦ absurd (some≢none number (sym is ∙ ap number_of (get_or_past (set (changed cards changes) change.0 change.1) place None (omega (arith, length-set (changed cards changes) change.0 change.1)))))
       ]
   | inr off ↦
       let rest = there-unchanged cards changes place number (λ i h. none (suc i) (omega arith)) (ap number_of (sym (get_or-set_other (changed cards changes) change.0 place change.1 None off)) ∙ is) in

@@ -2,24 +2,20 @@
 use Rattle.std.proofs.Common.{◌≡◌, ◌≢◌, ◌≤◌, ◌<◌, ◌+◌, ◌*◌, ℕ, zero, suc, List, [], ◌∷◌, ◌++◌, Option, Some, None, length, get_or, set, replicate, inl, inr, refl, sym, ap, ◌∙◌, subst, arith, eqb, eq-eqb, ne_eqb}
 use Rattle.std.specs.List.{remove}
 use Rattle.std.proofs.lemmas.Bool.{cases_eq, cases_lt}
-use Rattle.std.proofs.lemmas.List.{length-append, length-set, get_or-set_same, get_or-set_other, get_or_past, get_or-replicate, length-replicate}
-use Rattle.std.proofs.lemmas.Option.{slice_get_within, get_or_from_slice_get}
+use Rattle.std.proofs.lemmas.List.{length-append, length-set, get_or-set_same, get_or-set_other, get_or_past, length-replicate}
+use Rattle.std.proofs.lemmas.Option.{slice_get_within, get_or_from_slice_get, same_Some}
 use Rattle.std.specs.Prelude.{IfSome, slice_get}
 use Rattle.std.proofs.lemmas.List.Edits.{length-remove}
 use Rattle.model.specs.Keyed.{Keyed, at, with, without, IsAbove}
 use Rattle.model.proofs.KeyedLaws.{at-with_same, at-with_other, at-without_same, at-without_other, IsAbove-with, IsAbove-without}
+use Rattle.model.proofs.OptionLaws.{some≢none}
 use Rattle.layout.specs.Cards.{Card}
 use Rattle.layout.specs.Marks.{once_if, times}
 use Rattle.layout.specs.SumLaws.{sum_over}
+use Rattle.layout.proofs.Formatted.{nones-at}
 use Rattle.cards.specs.Index.{key_at}
 use Rattle.cards.specs.Tables.{number_of, number_at, HaveOwnPlaces, AreBelow, IsFree, charge_of, charge_there, charge_of_all, count_of_all, vacancy, vacant, IsKept}
 use Rattle.cards.proofs.IndexLaws.{with-last, without-entry}
-
-some_none : {A : Type 0} (x : A) → Some x ≡ None → ⊥
-some_none x e = cc
-
-some_is : {A : Type 0} (x y : A) → Some x ≡ Some y → x ≡ y
-some_is x y e = cc
 
 -- ---- sums
 
@@ -45,7 +41,7 @@ pub charge-set : (cards : List (Option Card)) (place : ℕ) (card : Option Card)
     → charge_of_all (set cards place card) + charge_there (get_or cards place None) ≡ charge_of_all cards + charge_there card
 charge-set cards place card h = omega (arith, sum-set charge_of cards place card h, charge-there (get_or cards place None), charge-there card)
 
-charge-most : (card : Card) → length card.blocks ≤ 4096 → charge_of card ≤ 4105
+pub charge-most : (card : Card) → length card.blocks ≤ 4096 → charge_of card ≤ 4105
 charge-most card few = omega arith
 
 pub charges-most : (cards : List (Option Card)) → ((place : ℕ) (card : Card) → get_or cards place None ≡ Some card → length card.blocks ≤ 4096) → charge_of_all cards ≤ 4105 * length cards
@@ -97,7 +93,7 @@ free-vacant (one ∷ cards) (suc place) some = let rest = free-vacant cards plac
 
 vacant-taken : (cards : List (Option Card)) (place number : ℕ) → number_at cards place ≡ Some number → vacant place cards ≡ 0
 vacant-taken [] place number is = refl
-vacant-taken (None ∷ cards) zero number is = absurd (some_none number (sym is))
+vacant-taken (None ∷ cards) zero number is = absurd (some≢none number (sym is))
 vacant-taken (Some one ∷ cards) zero number is = refl
 vacant-taken (one ∷ cards) (suc place) number is = vacant-taken cards place number is
 
@@ -106,7 +102,7 @@ vacant-taken (one ∷ cards) (suc place) number is = vacant-taken cards place nu
 pub within-numbered : (cards : List (Option Card)) (place number : ℕ) → number_at cards place ≡ Some number → place < length cards
 within-numbered cards place number is = elim (cases_lt place (length cards)) [
   | inl low ↦ low
-  | inr high ↦ absurd (some_none number (sym is ∙ ap number_of (get_or_past cards place None high)))
+  | inr high ↦ absurd (some≢none number (sym is ∙ ap number_of (get_or_past cards place None high)))
 ]
 
 number-here : (cards : List (Option Card)) (place : ℕ) (card : Option Card) → place < length cards → number_at (set cards place card) place ≡ number_of card
@@ -127,7 +123,7 @@ counts : (cards : List (Option Card)) (place : ℕ) (card : Option Card) → pla
 counts = sum-set (λ c. 1)
 
 count-there : (card : Option Card) (number : ℕ) → number_of card ≡ Some number → worth_there (λ c. 1) card ≡ 1
-count-there None number is = absurd (some_none number (sym is))
+count-there None number is = absurd (some≢none number (sym is))
 count-there (Some card) number is = refl
 
 -- ---- a node is made
@@ -145,17 +141,17 @@ module _ (cards : List (Option Card)) (index : Keyed ℕ) (free : List ℕ) (cha
   found_made : (number n : ℕ) → at number (with index card.fields.number place) ≡ Some n → number_at (set cards place (Some card)) n ≡ Some number
   found_made number n is = elim (cases_eq number card.fields.number) [
     | inl one ↦
-        let here : place ≡ n = some_is place n (sym (at-with_same index card.fields.number place) ∙ ap (λ (k : ℕ). at k (with index card.fields.number place)) (sym one) ∙ is) in
+        let here : place ≡ n = same_Some place n (sym (at-with_same index card.fields.number place) ∙ ap (λ (k : ℕ). at k (with index card.fields.number place)) (sym one) ∙ is) in
         ap (number_at (set cards place (Some card))) (sym here) ∙ number-here cards place (Some card) is_free.within ∙ ap (λ (k : ℕ). Some k) (sym one)
     | inr off ↦
         let there : number_at cards n ≡ Some number = kept.found number n (sym (at-with_other index card.fields.number number place off) ∙ is) in
-        number-elsewhere cards place (Some card) n (λ e. some_none number (sym there ∙ ap (number_at cards) e ∙ number_of_none)) ∙ there
+        number-elsewhere cards place (Some card) n (λ e. some≢none number (sym there ∙ ap (number_at cards) e ∙ number_of_none)) ∙ there
   ]
 
   indexed_made : (number n : ℕ) → number_at (set cards place (Some card)) n ≡ Some number → at number (with index card.fields.number place) ≡ Some n
   indexed_made number n is = elim (cases_eq n place) [
     | inl here ↦
-        let one : card.fields.number ≡ number = some_is card.fields.number number (sym (number-here cards place (Some card) is_free.within) ∙ ap (number_at (set cards place (Some card))) (sym here) ∙ is) in
+        let one : card.fields.number ≡ number = same_Some card.fields.number number (sym (number-here cards place (Some card) is_free.within) ∙ ap (number_at (set cards place (Some card))) (sym here) ∙ is) in
         ap (λ (k : ℕ). at k (with index card.fields.number place)) (sym one) ∙ at-with_same index card.fields.number place ∙ ap (λ (k : ℕ). Some k) (sym here)
     | inr off ↦
         let there : at number index ≡ Some n = kept.indexed number n (sym (number-elsewhere cards place (Some card) n off) ∙ is) in
@@ -171,7 +167,7 @@ module _ (cards : List (Option Card)) (index : Keyed ℕ) (free : List ℕ) (cha
       let longer = length-append index ((card.fields.number, place) ∷ []) in
       record {
         few = omega (arith, length-set cards place (Some card), kept.few);
-        each = each-set cards place (Some card) is_free.within (λ one is. subst (λ (c : Card). length c.blocks ≤ 4096) (some_is card one is) few) kept.each;
+        each = each-set cards place (Some card) is_free.within (λ one is. subst (λ (c : Card). length c.blocks ≤ 4096) (same_Some card one is) few) kept.each;
         rising = subst (IsAbove 0) pushed (IsAbove-with index card.fields.number 0 place kept.rising some);
         found = λ number n is. found_made number n (ap (at number) pushed ∙ is);
         indexed = λ number n is. ap (at number) (sym pushed) ∙ indexed_made number n is;
@@ -196,7 +192,7 @@ replaced cards index free charge place charged card kept there few charged_is =
     ] in
     record {
       few = omega (arith, length-set cards place (Some card), kept.few);
-      each = each-set cards place (Some card) within (λ one is. subst (λ (c : Card). length c.blocks ≤ 4096) (some_is card one is) few) kept.each;
+      each = each-set cards place (Some card) within (λ one is. subst (λ (c : Card). length c.blocks ≤ 4096) (same_Some card one is) few) kept.each;
       rising = kept.rising;
       found = λ number n is. same n ∙ kept.found number n is;
       indexed = λ number n is. kept.indexed number n (sym (same n) ∙ is);
@@ -220,18 +216,18 @@ module _ (cards : List (Option Card)) (index : Keyed ℕ) (free : List ℕ) (cha
 
   found_removed : (other n : ℕ) → at other (without index number) ≡ Some n → number_at (set cards place None) n ≡ Some other
   found_removed other n is = elim (cases_eq other number) [
-    | inl one ↦ absurd (some_none n (sym is ∙ ap (λ (k : ℕ). at k (without index number)) one ∙ at-without_same index number))
+    | inl one ↦ absurd (some≢none n (sym is ∙ ap (λ (k : ℕ). at k (without index number)) one ∙ at-without_same index number))
     | inr off ↦
         let found : number_at cards n ≡ Some other = kept.found other n (sym (at-without_other index number other off) ∙ is) in
-        number-elsewhere cards place None n (λ e. off (some_is other number (sym found ∙ ap (number_at cards) e ∙ there))) ∙ found
+        number-elsewhere cards place None n (λ e. off (same_Some other number (sym found ∙ ap (number_at cards) e ∙ there))) ∙ found
   ]
 
   indexed_removed : (other n : ℕ) → number_at (set cards place None) n ≡ Some other → at other (without index number) ≡ Some n
   indexed_removed other n is = elim (cases_eq n place) [
-    | inl here ↦ absurd (some_none other (sym is ∙ ap (number_at (set cards place None)) here ∙ gone))
+    | inl here ↦ absurd (some≢none other (sym is ∙ ap (number_at (set cards place None)) here ∙ gone))
     | inr off ↦
         let at_n : at other index ≡ Some n = kept.indexed other n (sym (number-elsewhere cards place None n off) ∙ is) in
-        at-without_other index number other (λ e. off (some_is n place (sym at_n ∙ ap (λ (k : ℕ). at k index) e ∙ kept.indexed number place there))) ∙ at_n
+        at-without_other index number other (λ e. off (same_Some n place (sym at_n ∙ ap (λ (k : ℕ). at k index) e ∙ kept.indexed number place there))) ∙ at_n
   ]
 
   pub removed : (i charged : ℕ) → i < length index → key_at index i ≡ number → charged + charge_there (get_or cards place None) ≡ charge
@@ -241,7 +237,7 @@ module _ (cards : List (Option Card)) (index : Keyed ℕ) (free : List ℕ) (cha
       let longer = length-append free (place ∷ []) in
       record {
         few = omega (arith, length-set cards place None, kept.few);
-        each = each-set cards place None within (λ one e. absurd (some_none one (sym e))) kept.each;
+        each = each-set cards place None within (λ one e. absurd (some≢none one (sym e))) kept.each;
         rising = subst (IsAbove 0) left (IsAbove-without index number 0 kept.rising);
         found = λ other n e. found_removed other n (ap (at other) left ∙ e);
         indexed = λ other n e. ap (at other) (sym left) ∙ indexed_removed other n e;
@@ -303,12 +299,6 @@ free_found cards index free charge i (Some place) kept is =
     let there = times-some place free i 0 (slice_get_within free i place (sym is)) (get_or_from_slice_get free i place 0 (sym is)) in
     free-vacant cards place (omega (arith, kept.places place))
 
-nones-at : (count place : ℕ) → get_or (replicate {A = Option Card} count None) place None ≡ None
-nones-at count place = elim (cases_lt place count) [
-  | inl low ↦ get_or-replicate count place None None low
-  | inr high ↦ get_or_past (replicate count None) place None (omega (arith, length-replicate {A = Option Card} count None))
-]
-
 none-worth : (worth : Card → ℕ) (count : ℕ) → sum_over worth (replicate count None) ≡ 0
 none-worth worth zero = refl
 none-worth worth (suc count) = none-worth worth count
@@ -316,10 +306,10 @@ none-worth worth (suc count) = none-worth worth count
 pub kept_none : (count : ℕ) (free : List ℕ) → count ≤ 16384 → AreFirst count free → length free ≡ count → IsKept (replicate count None) [] free 0
 kept_none count free few are len = record {
   few = omega (arith, length-replicate {A = Option Card} count None);
-  each = λ place card is. absurd (some_none card (sym is ∙ nones-at count place));
+  each = λ place card is. absurd (some≢none card (sym is ∙ nones-at count place));
   rising = tt;
-  found = λ number place is. absurd (some_none place (sym is));
-  indexed = λ number place is. absurd (some_none number (sym is ∙ ap number_of (nones-at count place)));
+  found = λ number place is. absurd (some≢none place (sym is));
+  indexed = λ number place is. absurd (some≢none number (sym is ∙ ap number_of (nones-at count place)));
   places = are;
   whole = omega (arith, length-replicate {A = Option Card} count None);
   count_is = sym (none-worth (λ c. 1) count);
@@ -329,4 +319,4 @@ kept_none count free few are len = record {
 -- each number has one place, also among the cards by their other name
 pub own-places : (cards : List (Option Card)) (index : Keyed ℕ) (free : List ℕ) (charge : ℕ) (seen : List (Option Card)) → IsKept cards index free charge → cards ≡ seen → HaveOwnPlaces seen
 own-places cards index free charge seen kept is =
-    subst HaveOwnPlaces is (λ place other number here there. some_is place other (sym (kept.indexed number place here) ∙ kept.indexed number other there))
+    subst HaveOwnPlaces is (λ place other number here there. same_Some place other (sym (kept.indexed number place here) ∙ kept.indexed number other there))

@@ -87,6 +87,6 @@ pub record IsKept (cards : List (Option Card)) (index : Keyed ℕ) (free : List 
   pub charge_is : charge ≡ charge_of_all cards
 
 -- and room for as many of each as there are places
-pub record HasRoom (cards : List (Option Card)) (index_room free_room : ℕ) : Type 0 where
+pub record HasCapacity (cards : List (Option Card)) (index_room free_room : ℕ) : Type 0 where
   pub index : length cards ≤ index_room
   pub free : length cards ≤ free_room

@@ -1,6 +1,6 @@
 //! The cards of a volume by their places.
 
-ghost use Rattle.std.specs.Prelude.{◌≡◌, ◌≢◌, ◌≤◌, ◌<◌, ◌+◌, ℕ, List, [], ◌∷◌, Some, None, length, vec_capacity, replicate, set, slice_index_or, IfOk, IfSome, IfNone, OnOk, IsErrOf};
+ghost use Rattle.std.specs.Prelude.{◌≡◌, ◌≤◌, ◌<◌, ◌+◌, ℕ, List, [], ◌∷◌, Some, None, length, vec_capacity, replicate, set, slice_index_or, IfOk, IfSome, IfNone, OnOk, IsErrOf};
 ghost use Rattle.layout.specs.Marks.{times};
 ghost use Rattle.cards.specs.Tables.{number_at, HasNot, HaveOwnPlaces, AreNumbered, AreBelow, IsFree, AreFew, charge_there, charge_of_all, count_of_all, vacant};
 ghost use Rattle.model.specs.Charge.{charge_of_blocks};
@@ -30,7 +30,7 @@ pub struct Table {
 impl Model for Table {
     ghost use Rattle.std.specs.Prelude.{List, Option, vec_capacity};
     ghost use Rattle.layout.specs.Cards as layout;
-    ghost use Rattle.cards.specs.Tables.{IsKept, HasRoom};
+    ghost use Rattle.cards.specs.Tables.{IsKept, HasCapacity};
 
     ghost Value = { List (Option layout.Card) };
 
@@ -38,7 +38,7 @@ impl Model for Table {
 
     ghost invariant = { λ table.
         IsKept table.cards.items table.index.items table.free.items table.charge
-        × HasRoom table.cards.items (vec_capacity table.index) (vec_capacity table.free) };
+        × HasCapacity table.cards.items (vec_capacity table.index) (vec_capacity table.free) };
 }
 
 impl Table {

@@ -1,7 +1,6 @@
 //! A client: what it sends, and what it knows from the replies.
 
-ghost use Rattle.std.specs.Prelude.{◌≡◌, ◌≤◌, ◌⊎◌, Some, None, [], length, map, All, IsSome, OnOk, OnErr, IfOk, IfErr, MatchResult, MatchOption};
-ghost use Rattle.model.specs.Operation.{operation_of};
+ghost use Rattle.std.specs.Prelude.{◌≡◌, ◌≤◌, ◌⊎◌, Some, None, length, map, All, OnOk, OnErr, IfOk, IfErr, MatchResult, MatchOption};
 ghost use Rattle.wire.specs.ArgumentView.{argument_view};
 ghost use Rattle.wire_client.specs.ArgumentFits.{ArgumentFits};
 ghost use Rattle.client.specs.Requests.{new_client, requested, bytes_kept};

@@ -1,6 +1,6 @@
 //! A reply up to its result (RFC 5531, sections 9 and 11).
 
-ghost use Rattle.std.specs.Prelude.{◌≡◌, None, MatchOption};
+ghost use Rattle.std.specs.Prelude.{◌≡◌, None};
 ghost use Rattle.std.specs.Option.{option_map};
 ghost use Rattle.xdr.specs.Clauses.{Scans};
 ghost use Rattle.model.specs.RpcGrammar.{acceptance, accepted, denial, verdict, reply_head, read_reply};

@@ -1,6 +1,6 @@
 //! The record of a client's operations, as it is kept.
 
-ghost use Rattle.std.specs.Prelude.{◌≡◌, ◌≤◌, ◌^◌, ◌<◌, ◌++◌, length, map, All, IfOk};
+ghost use Rattle.std.specs.Prelude.{◌≡◌, ◌≤◌, ◌<◌, ◌++◌, length, map, All, IfOk};
 ghost use Rattle.xdr.specs.Clauses.{Wrote};
 ghost use Rattle.model.specs.WireArguments.{argument};
 ghost use Rattle.model.specs.World.{stands_alone};

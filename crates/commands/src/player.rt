@@ -32,9 +32,9 @@ fn take<R: Machine>(rt: &R, step: &Step<'_>) -> Result<(), Difference> {
         Step::Zeros { file, length } => zeros(rt, *file, *length),
         Step::Puts { file, place, bytes } => put(rt, *file, *place, bytes),
         Step::Copies { file, copy: to } => copy(rt, *file, *to),
-        Step::Same { file, other } => same(rt, *file, *other),
-        Step::Length { file, length } => has_length(rt, *file, *length),
-        Step::Absent { file } => absent(rt, *file),
+        Step::Same { file, other } => expect_same(rt, *file, *other),
+        Step::Length { file, length } => expect_length(rt, *file, *length),
+        Step::Absent { file } => expect_absent(rt, *file),
         Step::Removes { file } => Ok(fs::remove_file(rt, *file)?),
     }
 }
@@ -109,7 +109,7 @@ fn copy<R: Machine>(rt: &R, file: &str, copy: &str) -> Result<(), Difference> {
     Ok(fs::write(rt, copy, bytes.as_slice())?)
 }
 
-fn same<R: Machine>(rt: &R, file: &str, other: &str) -> Result<(), Difference> {
+fn expect_same<R: Machine>(rt: &R, file: &str, other: &str) -> Result<(), Difference> {
     if fs::read(rt, file)?.as_slice() == fs::read(rt, other)?.as_slice() {
         Ok(())
     } else {
@@ -117,11 +117,11 @@ fn same<R: Machine>(rt: &R, file: &str, other: &str) -> Result<(), Difference> {
     }
 }
 
-fn has_length<R: Machine>(rt: &R, file: &str, length: usize) -> Result<(), Difference> {
+fn expect_length<R: Machine>(rt: &R, file: &str, length: usize) -> Result<(), Difference> {
     has(length, fs::read(rt, file)?.len())
 }
 
-fn absent<R: Machine>(rt: &R, file: &str) -> Result<(), Difference> {
+fn expect_absent<R: Machine>(rt: &R, file: &str) -> Result<(), Difference> {
     match fs::read(rt, file) {
         Ok(_) => Err(Difference::Present),
         Err(_) => Ok(()),

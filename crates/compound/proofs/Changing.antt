@@ -1,6 +1,6 @@
 -- A change on a world is that on its file system: for each operation on the tree whose answer's length does not depend on what
 -- it finds.
-use Rattle.std.proofs.Common.{◌≡◌, ◌≤◌, ◌<◌, ◌^◌, ℕ, Bool, true, false, if◌then◌else◌, List, ◌++◌, length, nat_le, Option, Some, None, Err, IfOk, IsErrOf, refl, sym, ap, subst, ◌∙◌, arith, rules, tests}
+use Rattle.std.proofs.Common.{◌≡◌, ◌≤◌, ◌<◌, ◌^◌, ℕ, Bool, true, false, if◌then◌else◌, List, ◌++◌, length, nat_le, Option, Some, None, Err, IfOk, IsErrOf, refl, sym, ap, subst, ◌∙◌, arith}
 use Rattle.fs.specs.Changes.{Changes, fs_ending}
 use Rattle.fs.specs.FileSystem.{FileSystem}
 use Rattle.fs.specs.Operations.{IsNotDone}
@@ -21,17 +21,19 @@ use Rattle.model.specs.World.{World, InProgress, Gives, run, stepped, state_of, 
 use Rattle.model.specs.declared.limits.Limits.{Limits}
 use Rattle.model.specs.declared.status.Status.{Status}
 use Rattle.model.specs.declared.status.Status.TheVariants as status
+use Rattle.model.proofs.KeptLaws.{refused_length}
 use Rattle.wire.specs.Short.{IsRefusal}
-use Rattle.compound.specs.Operates.{RunsTo, GivesIn, IsAnswered, IsKept, ChangesOpens, run_in_room, tree_by}
+use Rattle.compound.specs.Operates.{RunsTo, GivesIn, IsAnswered, IsKept, ChangesTreeAndOpens, run_in_room, tree_by}
 use Rattle.compound.specs.Runs.{with_rest}
 use Rattle.compound.specs.States.{HasState, shared}
 use Rattle.compound.specs.Trees.{IsHere, IsUp, refusal, told}
 use Rattle.compound.specs.Volumes.{OperationGives, ending}
 use Rattle.compound.proofs.QuietLaws.{leaves_all, left_all}
-use Rattle.compound.proofs.Replies.{refusal_brief, room_length}
+use Rattle.compound.proofs.Replies.{room_length}
 use Rattle.compound.proofs.Rooms.{state_same, has_room_by, gives_refusal}
 use Rattle.compound.proofs.Trees.{here, tree_runs}
 use Rattle.compound.proofs.VolumeLaws.{refusal_changes}
+use Rattle.compound.proofs.Creating.{below}
 
 -- with every answer of its the reply has this room
 abbrev pub HasThisRoom : InProgress → Bool → Stepped → Type 0
@@ -80,9 +82,6 @@ pub same_room : (request : InProgress) (answer other : Answer) (room : Bool)
     → room ≡ nat_le (length (reply_with request (Done answer))) 16368 → room ≡ nat_le (length (reply_with request (Done other))) 16368
 same_room request answer other room same is =
     is ∙ ap (λ (n : ℕ). nat_le n 16368) (omega (arith, same, room_length request (Done answer), room_length request (Done other)))
-
-below : (m n : ℕ) → true ≡ nat_le m n → m ≤ n
-below m n is = search (rules, tests)
 
 pub is_short : (request : InProgress) (answer : Answer) → true ≡ nat_le (length (reply_with request (Done answer))) 16368
     → length (reply_with request (Done answer)) ≤ 16368
@@ -171,7 +170,7 @@ module _ (now : ℕ) (fs : FileSystem) (request : InProgress) (kind : Argument)
     module _ (keeps_word : Type 0) (given : Given) (new : FileSystem) (before after : ℕ) (up : fs.volume.is_down ≡ false) where
       pub told_gives : (T : Type 0) (opens left : Opens) (why : FsFault) → left ≡ opens → ((state : State) → IsHere fs request state → state.opens ≡ opens → IsNotDone fs state now kind why) → (IsErrOf {T = T} (Err why) fault.NoRoom → room ≡ false)
           → Changes keeps_word given fs new before after (fs_ending {T = T} (Err why))
-          → IfOk (told (operation_of kind) why) (ChangesOpens fs new opens left now request kind)
+          → IfOk (told (operation_of kind) why) (ChangesTreeAndOpens fs new opens left now request kind)
       told_gives T opens left (fault.Status reason) stays step no_room changes = λ table.
           let same = left_all keeps_word given fs new before after changes in
           subst (λ (after : Opens). GivesIn now (shared fs table opens) (shared new table after) request request kind (Refused (operation_of kind) reason)) (sym stays)
@@ -224,7 +223,7 @@ is_up now fs state kind fault.Down up bad step = gone fs.volume.is_down up step
 refusal_spelled : (request : InProgress) (operation : ℕ) (reason : Status) → operation < 2 ^ 32 → IsRefusal reason → IsAnswered request (refusal operation reason)
 refusal_spelled request operation reason fits bad = record {
   fits = (fits, bad);
-  small = omega (arith, refusal_brief operation reason);
+  small = omega (arith, refused_length operation reason);
   room = tt;
 }
 

@@ -11,9 +11,9 @@ use Rattle.model.specs.Refusal.{Refusals, first_refusal, refused_or}
 use Rattle.model.specs.StateIds.{Found, Anonymous, Refused, Names, found, by_meaning, by_open, by_seqid, is_anonymous, meant, open_named, close_refusals, closed_state, without_open}
 use Rattle.model.specs.Status.{code_of}
 use Rattle.model.specs.Step.{State, Stepped, does, effect, answered, refused, refusals, unless_refused, current}
-use Rattle.xdr.proofs.Sizes.{int_length}
 use Rattle.xdr.specs.Forms as forms
 use Rattle.xdr.specs.Forms.{fixed_opaque}
+use Rattle.xdr.proofs.Numbers.{length-number_32}
 use Rattle.model.specs.Answer.{Answer, Done}
 use Rattle.model.specs.World.{World, InProgress, run, stepped, state_of, outcome_text}
 use Rattle.model.specs.declared.limits.Limits.{Limits}
@@ -173,7 +173,7 @@ module _ (fs : FileSystem) (opens : Opens) (request : InProgress) (arguments : C
 -- its answer is brief
 text_length : (state : StateId) → length (outcome_text (Done (Answer.Close state))) ≡ 12 + length ((fixed_opaque 12).spelling state.other)
 unfolding outcome_text
-text_length state = simp (length-append, int_length) (omega arith)
+text_length state = simp (length-append, length-number_32) (omega arith)
 
 pub closed_length : length (outcome_text (Done closed_answer)) ≡ 24
 unfolding forms.padded

@@ -3,11 +3,10 @@ use Rattle.std.proofs.Common.{◌≡◌, ◌≤◌, ◌+◌, ℕ, Bool, true, fa
 use Rattle.std.specs.Int.{w32}
 use Rattle.xdr.specs.Grammar.{number}
 use Rattle.xdr.specs.Forms.{elements}
-use Rattle.xdr.proofs.Sizes.{int_length, hyper_length}
+use Rattle.xdr.proofs.Numbers.{length-number_32, length-number_64}
 use Rattle.fs.specs.FileSystem.{FileSystem}
 use Rattle.fs.specs.Operations.{created, new_directory}
 use Rattle.fs.specs.declared.created.Created.{Created}
-use Rattle.fs.specs.declared.fault.FsFault.TheVariants as fault
 use Rattle.model.specs.Answer.{Done, Refused}
 use Rattle.model.specs.Attribute.{trimmed}
 use Rattle.model.specs.Context.{at_node}
@@ -34,7 +33,7 @@ use Rattle.compound.proofs.Trees.{here, tree_runs}
 text_length : (before after : ℕ) (was_set : List ℕ)
     → length (outcome_text (Done (made_answer before after was_set))) ≡ 28 + length (elements (λ (n : ℕ). number w32 n) was_set)
 unfolding outcome_text
-text_length before after was_set = simp (length-append, int_length, hyper_length) (omega arith)
+text_length before after was_set = simp (length-append, length-number_32, length-number_64) (omega arith)
 
 pub same_room : (request : InProgress) (before after before_2 after_2 : ℕ) (was_set : List ℕ)
     → length (reply_with request (Done (made_answer before after was_set))) ≡ length (reply_with request (Done (made_answer before_2 after_2 was_set)))
@@ -51,7 +50,7 @@ pub made_room : (request : InProgress) (before after : ℕ) (was_set : List ℕ)
     → true ≡ nat_le (length (reply_with request (Done (made_answer before after was_set)))) 16368
 made_room request before after was_set room = room ∙ ap (λ (n : ℕ). nat_le n 16368) (same_room request 0 0 before after was_set)
 
-below : (m n : ℕ) → true ≡ nat_le m n → m ≤ n
+pub below : (m n : ℕ) → true ≡ nat_le m n → m ≤ n
 below m n is = search (rules, tests)
 
 pub made_short : (request : InProgress) (before after : ℕ) (was_set : List ℕ)

@@ -1,5 +1,5 @@
 -- READDIR, by the call that lists a directory.
-use Rattle.std.proofs.Common.{◌≡◌, ℕ, Bool, true, false, Err, IfOk, IfErr, refl}
+use Rattle.std.proofs.Common.{◌≡◌, ℕ, false, Err, IfOk, IfErr, refl}
 use Rattle.fs.specs.FileSystem.{FileSystem}
 use Rattle.fs.specs.Listing.{Lists}
 use Rattle.fs.specs.declared.fault.FsFault.{FsFault}
@@ -9,6 +9,7 @@ use Rattle.model.specs.Operation.{Argument, ReadDirArguments}
 use Rattle.model.specs.Step.{State, does, refused, refusals, effect}
 use Rattle.model.specs.World.{InProgress, run}
 use Rattle.model.specs.declared.status.Status.{Status}
+use Rattle.model.proofs.BooleanLaws.{never_both}
 use Rattle.wire.specs.Short.{IsRefusal}
 use Rattle.compound.specs.Operates.{OnlyReads}
 use Rattle.compound.specs.States.{shared}
@@ -27,9 +28,6 @@ pub list_bad : (limits : Limits) (state : State) (now : ℕ) (arguments : ReadDi
 unfolding refusals effect
 list_bad limits state now arguments reason is = does_bad limits state now (Argument.ReadDir arguments) reason _ refl refl is
 
-down : {A : Type 0} (is_down : Bool) → is_down ≡ false → is_down ≡ true → A
-down is_down up is = absurd cc
-
 -- while the file system is up it is refused with a status, or for memory
 pub lists_up : (fs : FileSystem) (state : State) (now : ℕ) (arguments : ReadDirArguments) (why : FsFault) → fs.volume.is_down ≡ false
     → Lists fs state now arguments (Err why) → IsUp why
@@ -37,7 +35,7 @@ lists_up fs state now arguments (fault.Status reason) up is = list_bad fs.volume
 lists_up fs state now arguments fault.NoRoom up is = tt
 lists_up fs state now arguments fault.Memory up is = tt
 lists_up fs state now arguments fault.Device up is = tt
-lists_up fs state now arguments fault.Down up is = down fs.volume.is_down up is
+lists_up fs state now arguments fault.Down up is = never_both fs.volume.is_down up is
 
 -- and the operation comes to that
 
@@ -59,4 +57,4 @@ told_memory fs state now arguments (fault.Status reason) up is = tt
 told_memory fs state now arguments fault.NoRoom up is = tt
 told_memory fs state now arguments fault.Memory up is = refl
 told_memory fs state now arguments fault.Device up is = absurd is
-told_memory fs state now arguments fault.Down up is = down fs.volume.is_down up is
+told_memory fs state now arguments fault.Down up is = never_both fs.volume.is_down up is

@@ -4,7 +4,8 @@ use Rattle.std.proofs.lemmas.Bool.{and_parts, eqb-true}
 use Rattle.std.specs.Int.{w32, w64, to_be_bytes}
 use Rattle.xdr.specs.Forms.{padded, padding, trimmed_bitmap}
 use Rattle.xdr.specs.Grammar.{number}
-use Rattle.xdr.proofs.Sizes.{int_length, hyper_length, padded_length}
+use Rattle.xdr.proofs.Sizes.{padded_length}
+use Rattle.xdr.proofs.Numbers.{length-number_32, length-number_64}
 use Rattle.fs.specs.Changes.{Changes}
 use Rattle.fs.specs.FileSystem.{FileSystem}
 use Rattle.fs.specs.Opening.{IsOpening, IsOpeningCurrent, OpensTree, after_open, effect_of, set_by, type_of}
@@ -31,11 +32,12 @@ use Rattle.model.specs.StateIds.{closed_state, is_like, is_table_full, new_open,
 use Rattle.model.specs.Step.{State, Stepped, alters, does, effect, refused, refusals, without_rights, answered, current, current_refusals}
 use Rattle.model.specs.Tree.{Tree}
 use Rattle.model.specs.World as turns
-use Rattle.model.specs.World.{World, InProgress, HasRun, run, stepped, state_of, reply_with, outcome_text}
+use Rattle.model.specs.World.{World, InProgress, HasRun, run, state_of, reply_with, outcome_text}
 use Rattle.model.specs.declared.limits.Limits.{Limits}
 use Rattle.model.specs.declared.node.NodeKind.TheVariants as kind
 use Rattle.model.specs.declared.status.Status.{Status}
 use Rattle.model.specs.declared.status.Status.TheVariants as status
+use Rattle.model.proofs.TableCalls.{found_passes}
 use Rattle.opens.specs.Views.{named_by}
 use Rattle.wire.specs.Short.{IsRefusal}
 use Rattle.compound.specs.Beside.{has_opened_room, opened_answer, OpensTo}
@@ -117,18 +119,18 @@ unfolding number
 other_length of serial =
     padded_length (to_be_bytes w32 of ++ to_be_bytes w64 serial)
     ∙ ap (λ (n : ℕ). n + padding n)
-    (length-append (to_be_bytes w32 of) (to_be_bytes w64 serial) ∙ ap₂ (λ (m n : ℕ). m + n) (int_length of) (hyper_length serial))
+    (length-append (to_be_bytes w32 of) (to_be_bytes w64 serial) ∙ ap₂ (λ (m n : ℕ). m + n) (length-number_32 of) (length-number_64 serial))
 
 open_length : (of serial seqid : ℕ) (change : ChangeInfo) (was_set : List ℕ)
     → length (outcome_text (Done (opened_answer (stateid_of of serial seqid) change was_set)))
     ≡ 52 + length (trimmed_bitmap.spelling was_set)
 unfolding outcome_text
-open_length of serial seqid change was_set = simp (length-append, int_length, hyper_length) (omega (arith, other_length of serial))
+open_length of serial seqid change was_set = simp (length-append, length-number_32, length-number_64) (omega (arith, other_length of serial))
 
 closed_length : (was_set : List ℕ) → length (outcome_text (Done (opened_answer closed_state no_change_info was_set)))
     ≡ 52 + length (trimmed_bitmap.spelling was_set)
 unfolding outcome_text
-closed_length was_set = simp (length-append, int_length, hyper_length) (omega (arith, padded_length zeros))
+closed_length was_set = simp (length-append, length-number_32, length-number_64) (omega (arith, padded_length zeros))
 
 pub opened_room : (request : InProgress) (of serial seqid : ℕ) (change : ChangeInfo) (was_set : List ℕ) (room : Bool) → room ≡ has_opened_room request was_set
     → room ≡ nat_le (length (reply_with request (Done (opened_answer (stateid_of of serial seqid) change was_set)))) 16368
@@ -138,17 +140,6 @@ opened_room request of serial seqid change was_set room is =
 
 -- What is opened has the number that is asked for
 
-found_holds : {A : Type 0} (test : A → Bool) (entries : List A) (found : A) → find test entries ≡ Some found → test found ≡ true
-found_holds test [] found is = absurd (cc)
-found_holds {A} test (entry ∷ rest) found is = by_test (found_holds test rest found) (test entry) refl is
-  where
-    same_entry : (x y : A) → Some x ≡ Some y → x ≡ y
-    same_entry x y same = cc
-
-    by_test : (find test rest ≡ Some found → test found ≡ true) → (b : Bool) → test entry ≡ b → cond b (Some entry) (find test rest) ≡ Some found → test found ≡ true
-    by_test again true passes there = subst (λ (e : A). test e ≡ true) (same_entry entry found there) passes
-    by_test again false passes there = again there
-
 open_number : (opens : Opens) (asked : Open) → (opened opens asked).state.number ≡ asked.number
 unfolding opened
 open_number opens asked = by_like (open_like opens asked) refl
@@ -157,7 +148,7 @@ open_number opens asked = by_like (open_like opens asked) refl
     by_like None is = refl
     by_like (Some entry) is =
         eqb-true entry.1.number asked.number
-        (and_parts _ _ (and_parts _ _ (found_holds (is_like asked) opens.known entry is)).1).1
+        (and_parts _ _ (and_parts _ _ (found_passes (is_like asked) opens.known entry is)).1).1
 
 -- where it leads tells what is set
 set_is : (is_there is_cut : Bool) (of : OpenType)

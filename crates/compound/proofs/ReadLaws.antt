@@ -20,10 +20,11 @@ use Rattle.model.specs.World.{World, InProgress, Gives, run, stepped, state_of, 
 use Rattle.model.specs.declared.limits.Limits.{Limits}
 use Rattle.model.specs.declared.status.Status.{Status}
 use Rattle.model.specs.declared.status.Status.TheVariants as status
+use Rattle.model.proofs.BooleanLaws.{never_both}
 use Rattle.volume.specs.Changes as ended
 use Rattle.volume.specs.Changes.{IsTree, Nothing, Broken}
 use Rattle.wire.specs.Short.{IsRefusal}
-use Rattle.compound.specs.Operates.{RunsTo, GivesIn, ChangesOpens, run_in_room, tree_by}
+use Rattle.compound.specs.Operates.{RunsTo, GivesIn, ChangesTreeAndOpens, run_in_room, tree_by}
 use Rattle.compound.specs.Runs.{with_rest}
 use Rattle.compound.specs.States.{shared}
 use Rattle.compound.specs.Trees.{IsHere, IsUp, told}
@@ -38,9 +39,6 @@ use Rattle.compound.proofs.VolumeLaws.{quiet_gives}
 pub read_on_tree : (arguments : ReadArguments) → OnTree (Argument.Read arguments)
 unfolding run
 read_on_tree arguments = λ world request now. refl
-
-down : {A : Type 0} (is_down : Bool) → is_down ≡ false → is_down ≡ true → A
-down is_down up is = absurd cc
 
 -- It leaves the tree
 
@@ -120,12 +118,12 @@ module _ (now : ℕ) (fs : FileSystem) (opens : Opens) (request : InProgress) (a
   read_up fault.NoRoom up step = tt
   read_up fault.Memory up step = tt
   read_up fault.Device up step = tt
-  read_up fault.Down up step = down fs.volume.is_down up (says_something {P = λ state. fs.volume.is_down ≡ true} step)
+  read_up fault.Down up step = never_both fs.volume.is_down up (says_something {P = λ state. fs.volume.is_down ≡ true} step)
 
   module _ (keeps_word : Type 0) (new : FileSystem) (before after : ℕ) where
     pub told_reads : (T : Type 0) (why : FsFault) → Says fs opens request (λ state. IsNotRead fs state now (Argument.Read arguments) why)
         → Changes keeps_word (IsTree fs.volume.tree) fs new before after (reading_ending {T = T} (Err why))
-        → IfOk (told 25 why) (ChangesOpens fs new opens opens now request (Argument.Read arguments))
+        → IfOk (told 25 why) (ChangesTreeAndOpens fs new opens opens now request (Argument.Read arguments))
     told_reads T (fault.Status reason) step changes = λ table.
         subst (λ (one : FileSystem). GivesIn now (shared fs table opens) (shared one table opens) request request (Argument.Read arguments) (Refused 25 reason))
         (sym (left_all keeps_word (IsTree fs.volume.tree) fs new before after changes))
@@ -153,4 +151,4 @@ module _ (now : ℕ) (fs : FileSystem) (opens : Opens) (request : InProgress) (a
     told_changes T table fault.Memory up step changes = read_nothing table changes
     told_changes T table fault.Device up step changes =
         changes_by keeps_word (IsTree fs.volume.tree) _ (read_tree fs table opens request now arguments) fs new before after Broken changes
-    told_changes T table fault.Down up step changes = down fs.volume.is_down up (says_something {P = λ state. fs.volume.is_down ≡ true} step)
+    told_changes T table fault.Down up step changes = never_both fs.volume.is_down up (says_something {P = λ state. fs.volume.is_down ≡ true} step)

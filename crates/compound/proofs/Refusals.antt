@@ -12,8 +12,8 @@ use Rattle.model.specs.WireArguments.{arguments_at}
 use Rattle.model.specs.World.{InProgress, Next, Refuses, Reads, next_operation, by_number, by_arguments, first_or, first_tests, later_tests, is_no_operation, is_sequence, stands_alone, op_illegal}
 use Rattle.model.specs.declared.status.Status.{Status}
 use Rattle.model.specs.declared.status.Status.TheVariants as status
+use Rattle.model.proofs.KeptLaws.{refused_length}
 use Rattle.compound.specs.Operates.{IsSpelled}
-use Rattle.compound.proofs.Replies.{refusal_brief}
 
 abbrev NotOk : Next → Type 0
 NotOk (Refuses operation reason) = code_of reason ≢ 0
@@ -60,6 +60,6 @@ pub refused_spelled : (request : InProgress) (operation : ℕ) (reason : Status)
     → IsSpelled request (model.Refused operation reason)
 refused_spelled request operation reason is fits = record {
   fits = (fits, refused_not_ok request operation reason is);
-  small = omega (arith, refusal_brief operation reason);
+  small = omega (arith, refused_length operation reason);
   room = tt;
 }

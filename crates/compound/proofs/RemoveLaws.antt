@@ -1,6 +1,6 @@
 -- REMOVE on a world is that on its file system.
 use Rattle.std.proofs.Common.{◌≡◌, ℕ, Bool, true, false, List, length, nat_le, refl, ap, ◌∙◌, arith, length-append}
-use Rattle.xdr.proofs.Sizes.{int_length, hyper_length}
+use Rattle.xdr.proofs.Numbers.{length-number_32, length-number_64}
 use Rattle.fs.specs.FileSystem.{FileSystem}
 use Rattle.fs.specs.Operations.{IsOn, IsNotDone, MakesTree, does_on}
 use Rattle.fs.specs.Removing.{removed}
@@ -24,7 +24,7 @@ use Rattle.compound.proofs.Trees.{here, is_on, is_there, of_request, remove_bad}
 
 text_length : (before after : ℕ) → length (outcome_text (Done (removed_answer before after))) ≡ 28
 unfolding outcome_text
-text_length before after = simp (length-append, int_length, hyper_length) (omega arith)
+text_length before after = simp (length-append, length-number_32, length-number_64) (omega arith)
 
 pub removed_room : (request : InProgress) (before after before_2 after_2 : ℕ) (room : Bool)
     → room ≡ nat_le (length (reply_with request (Done (removed_answer before after)))) 16368

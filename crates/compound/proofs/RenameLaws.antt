@@ -1,6 +1,6 @@
 -- RENAME on a world is that on its file system.
 use Rattle.std.proofs.Common.{◌≡◌, ℕ, Bool, true, false, not, List, length, nat_le, Option, Some, None, refl, sym, ap, ap₂, subst, ◌∙◌, arith, length-append}
-use Rattle.xdr.proofs.Sizes.{int_length, hyper_length}
+use Rattle.xdr.proofs.Numbers.{length-number_32, length-number_64}
 use Rattle.fs.specs.FileSystem.{FileSystem}
 use Rattle.fs.specs.Operations.{IsNotDone, does_on, current_refusal}
 use Rattle.fs.specs.Renaming.{IsOnBoth, RenamesTree, is_itself, renamed, opens_after}
@@ -34,7 +34,7 @@ use Rattle.compound.proofs.Trees.{here, is_on, is_there, of_request, rename_bad}
 
 text_length : (source target : Change) → length (outcome_text (Done (renamed_answer source target))) ≡ 48
 unfolding outcome_text
-text_length source target = simp (length-append, int_length, hyper_length) (omega arith)
+text_length source target = simp (length-append, length-number_32, length-number_64) (omega arith)
 
 pub renamed_room : (request : InProgress) (source target source_2 target_2 : Change) (room : Bool)
     → room ≡ nat_le (length (reply_with request (Done (renamed_answer source target)))) 16368

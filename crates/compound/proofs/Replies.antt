@@ -1,23 +1,21 @@
 -- How many bytes a reply has.
 use Rattle.std.proofs.Common.{◌≡◌, ℕ, ◌+◌, ◌≤◌, List, ◌++◌, length, arith, length-append}
 use Rattle.std.proofs.lemmas.Grind.{common_steps}
-use Rattle.std.specs.Int.{w32}
 use Rattle.xdr.specs.Forms.{counted}
-use Rattle.xdr.specs.Grammar.{number}
-use Rattle.xdr.proofs.Sizes.{counted_length, int_length}
+use Rattle.xdr.proofs.Sizes.{counted_length}
+use Rattle.xdr.proofs.Numbers.{length-number_32}
 use Rattle.model.specs.Answer.{Outcome, Done, Refused}
 use Rattle.model.specs.Record.{framed}
 use Rattle.model.specs.Rpc.{Success, reply_text, compound_text}
-use Rattle.model.specs.Status.{code_of}
-use Rattle.model.specs.WireAnswers.{behind_refusal}
 use Rattle.model.specs.World.{InProgress, outcome_text, reply_with, status_of}
 use Rattle.model.specs.declared.status.Status.{Status}
+use Rattle.model.proofs.KeptLaws.{refused_length}
 use Rattle.compound.specs.Operates.{IsSpelled}
 
 pub reply_length : (xid : ℕ) (status : Status) (tag : List ℕ) (count : ℕ) (results more : List ℕ)
     → length (reply_text xid (Success (compound_text status tag count (results ++ more)))) ≡ 32 + length (counted tag) + length results + length more
 unfolding reply_text compound_text
-reply_length xid status tag count results more = simp (length-append, int_length) (omega arith)
+reply_length xid status tag count results more = simp (length-append, length-number_32) (omega arith)
 
 pub room_length : (request : InProgress) (outcome : Outcome)
     → length (reply_with request outcome) ≡ 32 + length (counted request.tag) + length request.results + length (outcome_text outcome)
@@ -26,7 +24,7 @@ room_length request outcome = reply_length request.xid (status_of outcome) reque
 -- round a result stand the xid, the message type and four words
 pub success_length : (xid : ℕ) (result : List ℕ) → length (reply_text xid (Success result)) ≡ 24 + length result
 unfolding reply_text
-success_length xid result = simp (length-append, int_length) (omega arith)
+success_length xid result = simp (length-append, length-number_32) (omega arith)
 
 pub framed_length : (bytes : List ℕ) → length (framed bytes) ≡ 4 + length bytes
 unfolding framed
@@ -35,24 +33,9 @@ framed_length bytes = grind (arith, common_steps)
 pub tag_brief : (tag : List ℕ) → length tag ≤ 255 → length (counted tag) ≤ 262
 tag_brief tag short = omega (arith, counted_length tag)
 
-behind_brief : (operation : ℕ) → length (behind_refusal operation) ≤ 4
-behind_brief operation = grind (arith, common_steps, int_length 0)
-
--- a refusal has a number, a status, and at most one word more
-pub refusal_brief : (operation : ℕ) (reason : Status) → length (outcome_text (Refused operation reason)) ≤ 12
-unfolding outcome_text
-refusal_brief operation reason = omega (
-  arith,
-  length-append (number w32 operation) (number w32 (code_of reason) ++ behind_refusal operation),
-  length-append (number w32 (code_of reason)) (behind_refusal operation),
-  int_length operation,
-  int_length (code_of reason),
-  behind_brief operation,
-)
-
 -- an OK result has room, and any other one still fits
 pub spelled_short : (request : InProgress) (outcome : Outcome) → IsSpelled request outcome
     → 32 + length (counted request.tag) + length request.results ≤ 16368 → length (reply_with request outcome) ≤ 16384
 spelled_short request (Done answer) spelled brief = omega (arith, spelled.room)
 spelled_short request (Refused operation reason) spelled brief =
-    omega (arith, room_length request (Refused operation reason), refusal_brief operation reason)
+    omega (arith, room_length request (Refused operation reason), refused_length operation reason)

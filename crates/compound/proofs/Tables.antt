@@ -9,7 +9,7 @@ use Rattle.std.proofs.Math.Path.{fun_ext}
 use Rattle.model.specs.Refusal.{first_refusal}
 use Rattle.model.specs.Session.{Table, SessionLimits, CreateSessionOutcome, Client, create_unless, create_again, create_by, create_refusals, next_number, is_client}
 use Rattle.model.specs.StateIds.{has_opens, without_clients}
-use Rattle.model.specs.World.{World, InProgress, Gives, run, exchanged, created, created_by, tabled, gives, with_table}
+use Rattle.model.specs.World.{World, InProgress, Gives, run, exchanged, session_created, created_by, tabled, gives, with_table}
 use Rattle.model.specs.declared.status.Status.{Status}
 use Rattle.session.specs.Limits.{served}
 use Rattle.session.specs.Views.{among}
@@ -48,18 +48,18 @@ ran_exchange world request now arguments old wanted {fs} {opens} {clients} on ar
 
 pub ran_create : (world : World) (request : InProgress) (now : ℕ) (arguments : CreateSessionArguments) (old : Table)
     → {fs : FileSystem} {opens : Opens} → HasState world (shared fs old opens)
-    → run world request now (Argument.CreateSession arguments) ≡ created world request (sessions.create_session served request.context.cred.uid arguments old)
+    → run world request now (Argument.CreateSession arguments) ≡ session_created world request (sessions.create_session served request.context.cred.uid arguments old)
 unfolding run
 ran_create world request now arguments old {fs} {opens} on =
     let uid = request.context.cred.uid in
-    ap (created world request)
+    ap (session_created world request)
     (ap (λ (limits : SessionLimits). sessions.create_session limits uid arguments world.table) on.sessions
     ∙ ap (sessions.create_session served uid arguments) on.table_is)
 
 -- the opens of the clients that ended with it end
 pub created_ok : (world : World) (request : InProgress) (outcome : CreateSessionOutcome) (answer : CreateSessionAnswer) (new : Table) (before : Opens) (ended : List ℕ)
     → world.opens ≡ before → outcome.answer ≡ Ok answer → outcome.ended_clients ≡ ended → outcome.table ≡ new
-    → created world request outcome ≡ Gives (Outcome.Done (Answer.CreateSession answer)) (record world { table = new; opens = without_clients ended before }) request
+    → session_created world request outcome ≡ Gives (Outcome.Done (Answer.CreateSession answer)) (record world { table = new; opens = without_clients ended before }) request
 created_ok world request outcome answer new before ended known is ends table =
     ap (created_by world request outcome) is
     ∙ (ap (λ (after : Table). gives (record world { table = after; opens = without_clients outcome.ended_clients world.opens }) request (Answer.CreateSession answer)) table
@@ -101,7 +101,7 @@ create_leaves limits uid arguments table = found_leaves limits uid arguments tab
 pub created_err : (world : World) (request : InProgress) (arguments : CreateSessionArguments) (reason : Status) (old new : Table)
     → world.table ≡ old → (sessions.create_session served request.context.cred.uid arguments old).table ≡ new
     → (sessions.create_session served request.context.cred.uid arguments old).answer ≡ Err reason
-    → created world request (sessions.create_session served request.context.cred.uid arguments old)
+    → session_created world request (sessions.create_session served request.context.cred.uid arguments old)
     ≡ Gives (Outcome.Refused 43 reason) (with_table world new) request
 created_err world request arguments reason old new is left refused =
     let outcome = sessions.create_session served request.context.cred.uid arguments old in

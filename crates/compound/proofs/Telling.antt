@@ -1,5 +1,5 @@
 -- Operations that change nothing, by the calls that run them.
-use Rattle.std.proofs.Common.{◌≡◌, ℕ, List, Bool, true, false, refl}
+use Rattle.std.proofs.Common.{◌≡◌, ℕ, List, false, refl}
 use Rattle.fs.specs.FileSystem.{FileSystem}
 use Rattle.fs.specs.Operations.{does_on, IsRefused}
 use Rattle.fs.specs.declared.fault.FsFault.{FsFault}
@@ -12,15 +12,13 @@ use Rattle.model.specs.Session.{Table}
 use Rattle.model.specs.Step.{State, answered, does, refused, refusals, effect}
 use Rattle.model.specs.World.{World, InProgress, run, stepped, state_of}
 use Rattle.model.specs.declared.status.Status.{Status}
+use Rattle.model.proofs.BooleanLaws.{never_both}
 use Rattle.wire.specs.Short.{IsRefusal}
 use Rattle.compound.specs.Operates.{RunsTo}
 use Rattle.compound.specs.Runs.{with_rest}
 use Rattle.compound.specs.States.{shared}
 use Rattle.compound.specs.Trees.{IsStatus, IsHere}
 use Rattle.compound.proofs.Trees.{does_bad, here, tree_runs}
-
-down : {A : Type 0} (is_down : Bool) → is_down ≡ false → is_down ≡ true → A
-down is_down up is = absurd cc
 
 -- while the file system is up they are refused with a status
 pub tells_status : (fs : FileSystem) (state : State) (now : ℕ) (kind : Argument) (why : FsFault) → fs.volume.is_down ≡ false
@@ -29,7 +27,7 @@ tells_status fs state now kind (fault.Status reason) up is = tt
 tells_status fs state now kind fault.NoRoom up is = is
 tells_status fs state now kind fault.Memory up is = is
 tells_status fs state now kind fault.Device up is = is
-tells_status fs state now kind fault.Down up is = down fs.volume.is_down up is
+tells_status fs state now kind fault.Down up is = never_both fs.volume.is_down up is
 
 -- which is not OK
 

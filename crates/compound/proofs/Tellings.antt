@@ -4,7 +4,7 @@ use Rattle.std.specs.Global.{Vec}
 use Rattle.std.specs.Int.{w32}
 use Rattle.xdr.specs.Forms.{counted}
 use Rattle.xdr.specs.Grammar.{number}
-use Rattle.xdr.proofs.Sizes.{int_length}
+use Rattle.xdr.proofs.Numbers.{length-number_32}
 use Rattle.wire.specs.Numbers.{number_of}
 use Rattle.model.specs.Answer.{Answer, Outcome, Done, Refused}
 use Rattle.model.specs.Record.{framed}
@@ -39,8 +39,8 @@ spelled_length operation values = omega (
   arith,
   length-append (number w32 operation) (number w32 0 ++ values),
   length-append (number w32 0) values,
-  int_length operation,
-  int_length 0,
+  length-number_32 operation,
+  length-number_32 0,
 )
 
 -- how much room it needs

@@ -7,6 +7,7 @@ use Rattle.fs.specs.declared.fault.FsFault.{FsFault}
 use Rattle.fs.specs.declared.fault.FsFault.TheVariants as fault
 use Rattle.model.specs.Answer.{Answer, Outcome, Done, Refused}
 use Rattle.std.proofs.lemmas.List.Concat.{flat_map-cons}
+use Rattle.std.proofs.lemmas.Bool.{and_parts}
 use Rattle.model.specs.Attribute.{attribute_refusals, entry_refusals, value_refusals, values_of}
 use Rattle.model.specs.AttributeValue.{Value, Acl}
 use Rattle.model.specs.Context.{Context, has_current, current_number, at_node, has_saved, saving, restored, is_same_name}
@@ -26,6 +27,7 @@ use Rattle.model.specs.declared.node.NodeKind.{NodeKind}
 use Rattle.model.specs.declared.node.NodeKind.TheVariants as kind
 use Rattle.model.specs.declared.status.Status.{Status}
 use Rattle.model.specs.declared.status.Status.TheVariants as status
+use Rattle.model.proofs.BooleanLaws.{never_both}
 use Rattle.wire.specs.Short.{IsRefusal}
 use Rattle.compound.specs.Operates.{RunsTo}
 use Rattle.compound.specs.Runs.{with_rest}
@@ -63,16 +65,13 @@ is_there fs request = record { tree_is = refl; changes_is = refl; context_is = r
 
 -- Faults of a file system that is up
 
-down : {A : Type 0} (is_down : Bool) → is_down ≡ false → is_down ≡ true → A
-down is_down up is = absurd (cc)
-
 pub looks_status : (fs : FileSystem) (state : State) (now : ℕ) (name : List ℕ) (why : FsFault) → fs.volume.is_down ≡ false
     → LooksUp fs state now name (Err why) → IsStatus why
 looks_status fs state now name (fault.Status reason) up is = tt
 looks_status fs state now name fault.NoRoom up is = is
 looks_status fs state now name fault.Memory up is = is
 looks_status fs state now name fault.Device up is = is
-looks_status fs state now name fault.Down up is = down fs.volume.is_down up is
+looks_status fs state now name fault.Down up is = never_both fs.volume.is_down up is
 
 pub parent_status : (fs : FileSystem) (state : State) (now : ℕ) (why : FsFault) → fs.volume.is_down ≡ false
     → LooksUpParent fs state now (Err why) → IsStatus why
@@ -80,7 +79,7 @@ parent_status fs state now (fault.Status reason) up is = tt
 parent_status fs state now fault.NoRoom up is = is
 parent_status fs state now fault.Memory up is = is
 parent_status fs state now fault.Device up is = is
-parent_status fs state now fault.Down up is = down fs.volume.is_down up is
+parent_status fs state now fault.Down up is = never_both fs.volume.is_down up is
 
 pub puts_status : (fs : FileSystem) (state : State) (now : ℕ) (handle : List ℕ) (why : FsFault) → fs.volume.is_down ≡ false
     → PutsHandle fs state now handle (Err why) → IsStatus why
@@ -88,7 +87,7 @@ puts_status fs state now handle (fault.Status reason) up is = tt
 puts_status fs state now handle fault.NoRoom up is = is
 puts_status fs state now handle fault.Memory up is = is
 puts_status fs state now handle fault.Device up is = is
-puts_status fs state now handle fault.Down up is = down fs.volume.is_down up is
+puts_status fs state now handle fault.Down up is = never_both fs.volume.is_down up is
 
 pub gets_status : (fs : FileSystem) (state : State) (now : ℕ) (why : FsFault) → fs.volume.is_down ≡ false
     → GetsHandle fs state now (Err why) → IsStatus why
@@ -96,7 +95,7 @@ gets_status fs state now (fault.Status reason) up is = tt
 gets_status fs state now fault.NoRoom up is = is
 gets_status fs state now fault.Memory up is = is
 gets_status fs state now fault.Device up is = is
-gets_status fs state now fault.Down up is = down fs.volume.is_down up is
+gets_status fs state now fault.Down up is = never_both fs.volume.is_down up is
 
 pub tests_status : (fs : FileSystem) (state : State) (why : FsFault) → fs.volume.is_down ≡ false
     → TestsCurrent fs state (Err why) → IsStatus why
@@ -104,7 +103,7 @@ tests_status fs state (fault.Status reason) up is = tt
 tests_status fs state fault.NoRoom up is = is
 tests_status fs state fault.Memory up is = is
 tests_status fs state fault.Device up is = is
-tests_status fs state fault.Down up is = down fs.volume.is_down up is
+tests_status fs state fault.Down up is = never_both fs.volume.is_down up is
 
 -- Every refusal has a status that is not OK
 
@@ -114,10 +113,6 @@ is_bad reason = not (code_of reason == 0)
 abbrev pub all_bad : Refusals → Bool
 all_bad [] = true
 all_bad (test ∷ rest) = is_bad test.1 && all_bad rest
-
-both : (a b : Bool) → (a && b) ≡ true → (a ≡ true) × (b ≡ true)
-both true b is = (refl, is)
-both false b is = absurd (cc)
 
 bad_refuses : (n : ℕ) → not (n == 0) ≡ true → n ≢ 0
 bad_refuses n bad zero = absurd (bad_zero (subst (λ (k : ℕ). not (k == 0) ≡ true) zero bad))
@@ -137,13 +132,13 @@ first_bad_by false of reason others bad rest is = rest is
 first_bad : (tests : Refusals) (reason : Status) → all_bad tests ≡ true → first_refusal tests ≡ Some reason → is_bad reason ≡ true
 first_bad [] reason bad is = absurd (cc)
 first_bad (test ∷ rest) reason bad is =
-    let each = both (is_bad test.1) (all_bad rest) bad in
+    let each = and_parts (is_bad test.1) (all_bad rest) bad in
     first_bad_by test.0 test.1 reason (first_refusal rest) each.0 (first_bad rest reason each.1) is
 
 pub append_bad : (front rest : Refusals) → all_bad front ≡ true → all_bad rest ≡ true → all_bad (front ++ rest) ≡ true
 append_bad [] rest bad others = others
 append_bad (test ∷ front) rest bad others =
-    let each = both (is_bad test.1) (all_bad front) bad in
+    let each = and_parts (is_bad test.1) (all_bad front) bad in
     ap (λ (b : Bool). b && all_bad (front ++ rest)) each.0 ∙ append_bad front rest each.1 others
 
 each_bad : {X : Type 0} (tests : X → Refusals) → ((x : X) → all_bad (tests x) ≡ true) → (xs : List X) → all_bad (flat_map tests xs) ≡ true

@@ -4,7 +4,7 @@ use Rattle.model.specs.Answer as model
 use Rattle.model.specs.Operation.{Argument}
 use Rattle.model.specs.Tree.{Tree}
 use Rattle.model.specs.World as turns
-use Rattle.model.specs.World.{World, InProgress, HasRun, Entry, Turned, Reads, next_operation, operates, has_run, behind, ends, goes_on, with_result, is_last, entry_of}
+use Rattle.model.specs.World.{World, InProgress, HasRun, Entry, Turned, Reads, next_operation, operates, has_run, behind, ends, goes_on, with_result, is_last, executed_entry}
 use Rattle.model.specs.declared.status.Status.TheVariants as status
 use Rattle.wire.specs.OutcomeView.{outcome_view}
 use Rattle.compound.specs.Operates.{Operates, GivesIn, run_in_room, tree_by, left_by}
@@ -26,7 +26,7 @@ turns_to : (now : ℕ) (old new : SharedState) (request left : InProgress) (oper
     → next_operation request ≡ Reads operation rest → GivesIn now old new request left operation outcome
     → TurnsTo now old new request (with_rest left rest) outcome
 turns_to now old new request left operation rest outcome next ran = λ world number served. (
-  Some (entry_of world (with_rest request rest) operation outcome (with_state world new)),
+  Some (executed_entry world (with_rest request rest) operation outcome (with_state world new)),
   read_turn world number now request operation rest _ next (ran world rest served),
 )
 
@@ -64,5 +64,5 @@ behind_tree world number request (model.Done answer) executed =
 pub run_tree : (world : World) (number : ℕ) (request : InProgress) (operation : Argument) (ran : HasRun)
     → (has_run world number request operation ran).world.tree ≡ tree_by world ran
 run_tree world number request operation (turns.Gives outcome after left) =
-    behind_tree after number left outcome (Some (entry_of world request operation outcome after))
+    behind_tree after number left outcome (Some (executed_entry world request operation outcome after))
 run_tree world number request operation (turns.Replays reply session slot) = refl

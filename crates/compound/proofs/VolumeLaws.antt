@@ -14,7 +14,7 @@ use Rattle.model.specs.Runs.{is_durable, is_commit}
 use Rattle.model.specs.Step.{State, alters, does, effect, refused, unless_refused}
 use Rattle.model.specs.Tree.{Tree}
 use Rattle.model.specs.World as turns
-use Rattle.model.specs.World.{World, InProgress, HasRun, Entry, Turned, Reads, Refuses, next_operation, operates, has_run, behind, ends, goes_on, with_result, is_last, entry_of, run, in_room, stepped, state_of, reply_with}
+use Rattle.model.specs.World.{World, InProgress, HasRun, Entry, Turned, Reads, Refuses, next_operation, operates, has_run, behind, ends, goes_on, with_result, is_last, executed_entry, run, in_room, stepped, state_of, reply_with}
 use Rattle.model.specs.declared.status.Status.{Status}
 use Rattle.model.specs.declared.status.Status.TheVariants as status
 use Rattle.fs.specs.Operations.{MakesTree, new_directory}
@@ -166,7 +166,7 @@ behind_executed world number request (model.Done answer) executed =
 run_executed : (world : World) (number : ℕ) (request : InProgress) (operation : Argument) (ran : HasRun)
     → (has_run world number request operation ran).executed ≡ executed_by world request operation ran
 run_executed world number request operation (turns.Gives outcome after left) =
-    behind_executed after number left outcome (Some (entry_of world request operation outcome after))
+    behind_executed after number left outcome (Some (executed_entry world request operation outcome after))
 run_executed world number request operation (turns.Replays reply session slot) = refl
 
 -- a turn whose next operation is read does what that operation does

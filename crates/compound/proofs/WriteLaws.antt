@@ -3,7 +3,8 @@ use Rattle.std.proofs.Common.{◌≡◌, ◌+◌, ℕ, Bool, true, false, not, L
 use Rattle.std.specs.Int.{w64, to_be_bytes}
 use Rattle.xdr.specs.Forms.{padded, padding}
 use Rattle.xdr.specs.Grammar.{number}
-use Rattle.xdr.proofs.Sizes.{int_length, hyper_length, padded_length}
+use Rattle.xdr.proofs.Sizes.{padded_length}
+use Rattle.xdr.proofs.Numbers.{length-number_32, length-number_64}
 use Rattle.fs.specs.FileSystem.{FileSystem}
 use Rattle.fs.specs.Operations.{IsNotDone, does_on}
 use Rattle.fs.specs.Writing.{Commits, IsWriting, WritesTree, after_write}
@@ -40,15 +41,15 @@ use Rattle.compound.proofs.VerdictLaws.{verdict_bad}
 
 verifier_length : (of : ℕ) → length (padded (to_be_bytes w64 of)) ≡ 8
 unfolding number
-verifier_length of = padded_length (to_be_bytes w64 of) ∙ ap (λ (n : ℕ). n + padding n) (hyper_length of)
+verifier_length of = padded_length (to_be_bytes w64 of) ∙ ap (λ (n : ℕ). n + padding n) (length-number_64 of)
 
 written_length : (of stable count : ℕ) → length (outcome_text (Done (written_answer of stable count))) ≡ 24
 unfolding outcome_text
-written_length of stable count = simp (length-append, int_length, verifier_length) (omega arith)
+written_length of stable count = simp (length-append, length-number_32, verifier_length) (omega arith)
 
 committed_length : (of : ℕ) → length (outcome_text (Done (committed_answer of))) ≡ 16
 unfolding outcome_text
-committed_length of = simp (length-append, int_length, verifier_length) (omega arith)
+committed_length of = simp (length-append, length-number_32, verifier_length) (omega arith)
 
 pub written_room : (request : InProgress) (of stable count : ℕ) (room : Bool)
     → room ≡ nat_le (length (reply_with request (Done (written_answer 0 0 0)))) 16368

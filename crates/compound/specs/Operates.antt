@@ -73,29 +73,29 @@ Operates now old new request operation (operated.Replays slot) =
     × ((world : World) (rest : List ℕ) → HasState world old
     → run_in_room world (with_rest request rest) now operation ≡ turns.Replays reply slot.session slot.slot)
 
--- it leaves all as it is, but for its COMPOUND
+-- all stays as it was, but for its COMPOUND
 abbrev pub OnlyReads : FileSystem → InProgress → Argument → Operated → Type 0
 OnlyReads files request operation done = (now : ℕ) (table : Table) (opens : Opens)
     → Operates now (shared files table opens) (shared files table opens) request operation done
 
--- it leaves the file system, and what is open
+-- the file system and the opens stay as they were
 abbrev pub ChangesTable : (old new : Table) → InProgress → Argument → Operated → Type 0
 ChangesTable old new request operation done = (now : ℕ) (files : FileSystem) (opens : Opens)
     → Operates now (shared files old opens) (shared files new opens) request operation done
 
--- it leaves the file system
-abbrev pub ChangesClients : (old new : Table) → (before after : Opens) → InProgress → Argument → Operated → Type 0
-ChangesClients old new before after request operation done = (now : ℕ) (files : FileSystem)
+-- the file system stays as it was
+abbrev pub ChangesTableAndOpens : (old new : Table) → (before after : Opens) → InProgress → Argument → Operated → Type 0
+ChangesTableAndOpens old new before after request operation done = (now : ℕ) (files : FileSystem)
     → Operates now (shared files old before) (shared files new after) request operation done
 
--- it leaves the clients, the sessions and the opens
-abbrev pub ChangesFiles : (old new : FileSystem) → (now : ℕ) → InProgress → Argument → Operated → Type 0
-ChangesFiles old new now request operation done = (table : Table) (opens : Opens)
+-- the clients, the sessions and the opens stay as they were
+abbrev pub ChangesTree : (old new : FileSystem) → (now : ℕ) → InProgress → Argument → Operated → Type 0
+ChangesTree old new now request operation done = (table : Table) (opens : Opens)
     → Operates now (shared old table opens) (shared new table opens) request operation done
 
--- it leaves the clients and the sessions
-abbrev pub ChangesOpens : (old new : FileSystem) → (before after : Opens) → (now : ℕ) → InProgress → Argument → Operated → Type 0
-ChangesOpens old new before after now request operation done = (table : Table)
+-- the clients and the sessions stay as they were
+abbrev pub ChangesTreeAndOpens : (old new : FileSystem) → (before after : Opens) → (now : ℕ) → InProgress → Argument → Operated → Type 0
+ChangesTreeAndOpens old new before after now request operation done = (table : Table)
     → Operates now (shared old table before) (shared new table after) request operation done
 
 -- the tree after it

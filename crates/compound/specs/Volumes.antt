@@ -4,7 +4,7 @@ use Rattle.model.specs.Operation.{Argument}
 use Rattle.model.specs.Runs.{is_durable}
 use Rattle.model.specs.Tree.{Tree}
 use Rattle.model.specs.World as turns
-use Rattle.model.specs.World.{World, InProgress, HasRun, Entry, Turned, entry_of}
+use Rattle.model.specs.World.{World, InProgress, HasRun, Entry, Turned, executed_entry}
 use Rattle.volume.specs.Changes.{Ending, Done, Nothing, Broken}
 use Rattle.compound.specs.Operates.{run_in_room, tree_by}
 use Rattle.compound.specs.Runs.{with_rest}
@@ -36,7 +36,7 @@ lasts (Some entry) = is_durable entry
 
 -- of an operation that ran
 abbrev pub executed_by : World → InProgress → Argument → HasRun → Option Entry
-executed_by world request operation (turns.Gives outcome after left) = Some (entry_of world request operation outcome after)
+executed_by world request operation (turns.Gives outcome after left) = Some (executed_entry world request operation outcome after)
 executed_by world request operation (turns.Replays reply session slot) = None
 
 -- in some world that has this, whatever follows the operation, it leaves this tree, and has to last or not

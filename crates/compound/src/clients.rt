@@ -17,7 +17,7 @@ impl Running<'_> {
     ghost use Rattle.session.specs.Views.{table_of};
     ghost use Rattle.wire.specs.ArgumentViews.{exchange_id_view, create_session_view};
     ghost use Rattle.opens.specs.Views.{opens_of};
-    ghost use Rattle.compound.specs.Operates.{ChangesClients, ChangesTable, IsAnswered};
+    ghost use Rattle.compound.specs.Operates.{ChangesTableAndOpens, ChangesTable, IsAnswered};
     ghost use Rattle.compound.specs.Views.{in_progress_of};
     ghost use Rattle.compound.specs.declared.fault.Fault.TheVariants.{Memory};
 
@@ -29,7 +29,7 @@ impl Running<'_> {
         arguments: &ExchangeIdArguments<'_>,
     ) -> Result<Operated, Fault>
         requires first { (in_progress_of self.now).answered ≡ 0 }
-        ensures gives { IfOk result (ChangesClients (table_of table.old) (table_of table.new)
+        ensures gives { IfOk result (ChangesTableAndOpens (table_of table.old) (table_of table.new)
             (opens_of opens.now) (opens_of opens.now) (in_progress_of self.now)
             (operations.Argument.ExchangeId (exchange_id_view arguments.now))) }
         ensures answered { IfOk result (IsAnswered (in_progress_of self.now)) }
@@ -52,7 +52,7 @@ impl Running<'_> {
         arguments: &CreateSessionArguments<'_>,
     ) -> Result<Operated, Fault>
         requires first { (in_progress_of self.now).answered ≡ 0 }
-        ensures gives { IfOk result (ChangesClients (table_of table.old) (table_of table.new)
+        ensures gives { IfOk result (ChangesTableAndOpens (table_of table.old) (table_of table.new)
             (opens_of opens.old) (opens_of opens.new) (in_progress_of self.now)
             (operations.Argument.CreateSession (create_session_view arguments.now))) }
         ensures answered { IfOk result (IsAnswered (in_progress_of self.now)) }
@@ -91,7 +91,7 @@ impl Running<'_> {
         client: u64,
     ) -> Result<Operated, Fault>
         requires first { (in_progress_of self.now).answered ≡ 0 }
-        ensures gives { IfOk result (ChangesClients (table_of table.old) (table_of table.new)
+        ensures gives { IfOk result (ChangesTableAndOpens (table_of table.old) (table_of table.new)
             (opens_of opens.now) (opens_of opens.now) (in_progress_of self.now)
             (operations.Argument.DestroyClientId client)) }
         ensures answered { IfOk result (IsAnswered (in_progress_of self.now)) }

@@ -34,7 +34,7 @@ impl Running<'_> {
     ghost use Rattle.wire.specs.Short.{IsRefusal};
     ghost use Rattle.wire.specs.SmallViews.{state_view};
     ghost use Rattle.compound.specs.Beside.{Closes, EndsOpen, closed_answer};
-    ghost use Rattle.compound.specs.Operates.{ChangesOpens, IsAnswered};
+    ghost use Rattle.compound.specs.Operates.{ChangesTreeAndOpens, IsAnswered};
     ghost use Rattle.compound.specs.Views.{in_progress_of};
 
     /// CLOSE: the open that the stateid names has ended, and the current filehandle keeps no stateid. Nothing ends where the reply
@@ -47,7 +47,7 @@ impl Running<'_> {
     ) -> Operated
         requires up { (fs_of fs.now).volume.is_down ≡ false }
         requires run { (in_progress_of self.now).context.run ≡ (fs_of fs.now).volume.run }
-        ensures gives { (now : ℕ) → ChangesOpens (fs_of fs.now) (fs_of fs.now)
+        ensures gives { (now : ℕ) → ChangesTreeAndOpens (fs_of fs.now) (fs_of fs.now)
             (opens_of opens.old) (opens_of opens.new) now (in_progress_of self.now)
             (operations.Argument.Close (close_view arguments.now)) result }
         ensures answered { IsAnswered (in_progress_of self.now) result }

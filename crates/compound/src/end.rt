@@ -1,6 +1,6 @@
 //! The end of a COMPOUND: its whole result, which the slot keeps, and the reply's record.
 
-ghost use Rattle.std.specs.Prelude.{◌≡◌, ◌≤◌, ◌+◌, ◌++◌, [], length};
+ghost use Rattle.std.specs.Prelude.{◌≡◌, ◌≤◌, ◌+◌, [], length};
 ghost use Rattle.model.specs.Rpc.{compound_text};
 ghost use Rattle.model.specs.Session.{finish};
 ghost use Rattle.rpc.specs.Views.{result_text};

@@ -16,17 +16,15 @@ use xdr::Writer;
 
 #[tactic(auto, unfolding(crate::specs::Views::in_progress_of, model::specs::World::outcome_text))]
 impl Running<'_> {
-    ghost use Rattle.std.specs.Prelude.{◌≡◌, ◌<◌, ◌^◌, ℕ, true, false, nat_le, length, IfOk, IfErr};
+    ghost use Rattle.std.specs.Prelude.{◌≡◌, ◌<◌, true, false, IfOk, IfErr};
     ghost use Rattle.fs.specs.FileSystem.{FileSystem};
     ghost use Rattle.fs.specs.Views.{fs_of};
-    ghost use Rattle.model.specs.Answer.{Done, GetFh};
+    ghost use Rattle.model.specs.Answer.{GetFh};
     ghost use Rattle.model.specs.Context.{has_current, current_number, has_saved, saved_number};
     ghost use Rattle.model.specs.Operation as operations;
-    ghost use Rattle.model.specs.WireAnswers as answers;
-    ghost use Rattle.model.specs.World.{reply_with, outcome_text};
+    ghost use Rattle.model.specs.World.{outcome_text};
     ghost use Rattle.model.specs.declared.status.Status.TheVariants as status;
-    ghost use Rattle.compound.specs.Operates.{Operates, RunsTo, OnlyReads, IsAnswered};
-    ghost use Rattle.compound.specs.States.{SharedState};
+    ghost use Rattle.compound.specs.Operates.{OnlyReads, IsAnswered};
     ghost use Rattle.compound.specs.Views.{in_progress_of};
     ghost use Rattle.compound.specs.declared.fault.Fault.TheVariants.{Memory};
 

@@ -32,7 +32,7 @@ mod tree;
 mod writing;
 
 pub use fault::Fault;
-pub use progress::{Progress, RECORD_BUFFER, RESULT_BUFFER, SlotId};
+pub use progress::Progress;
 pub use results::MAX_REPLY_BYTES;
 pub use running::Running;
 pub use step::{Stepped, Undone};

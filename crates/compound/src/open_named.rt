@@ -17,7 +17,7 @@ use crate::setting::was_set;
 use disk::Device;
 use fs::{Fs, How, OpenEffect, OpenRoom, Opening};
 use opens::Opens;
-use settings::Attributes as Given;
+use settings::GivenAttributes;
 use wire::{Attributes, Bitmap, OpenArguments, OpenType, Operation};
 
 /// The attribute size, as a bitmap: all that a cut sets.
@@ -31,7 +31,7 @@ impl Running<'_> {
     ghost use Rattle.opens.specs.Views.{opens_of};
     ghost use Rattle.wire.specs.ArgumentViews.{open_type_view, open_view, opening_view};
     ghost use Rattle.compound.specs.Beside.{HasOpenRoom};
-    ghost use Rattle.compound.specs.Operates.{ChangesOpens, IsAnswered, IsKept};
+    ghost use Rattle.compound.specs.Operates.{ChangesTreeAndOpens, IsAnswered, IsKept};
     ghost use Rattle.compound.specs.States.{shared};
     ghost use Rattle.compound.specs.Views.{in_progress_of};
     ghost use Rattle.compound.specs.Volumes.{OperationGives, ending};
@@ -46,16 +46,21 @@ impl Running<'_> {
         how: &OpenType<'_>,
         name: &[u8],
     ) -> Result<Operated, Fault>
+        // It is up, in the run in which the request began
         requires up { (fs_of fs.old).volume.is_down ≡ false }
         requires run { (in_progress_of self.now).context.run ≡ (fs_of fs.old).volume.run }
         requires opening { opening_view arguments.now.opening
             ≡ operations.Opens (open_type_view how.now) (operations.ByName name.now) }
-        ensures gives { D.keeps_word → IfOk result (ChangesOpens (fs_of fs.old) (fs_of fs.new)
+        // What it answers
+        ensures gives { D.keeps_word → IfOk result
+            (ChangesTreeAndOpens (fs_of fs.old) (fs_of fs.new)
             (opens_of opens.old) (opens_of opens.new) now (in_progress_of self.now)
             (operations.Argument.Open (open_view arguments.now))) }
         ensures answered { IfOk result (IsAnswered (in_progress_of self.now)) }
         ensures kept { (table : Table) → IfOk result (IsKept table) }
+        // Refused
         ensures opens { OnErr result (opens_of opens.new ≡ opens_of opens.old) }
+        // In any case
         ensures volume { (table : Table) → Alters fs.old fs.new (OperationGives
             (shared (fs_of fs.old) table (opens_of opens.old)) (in_progress_of self.now) now
             (operations.Argument.Open (open_view arguments.now))) (ending result) }
@@ -111,11 +116,11 @@ fn how_of<'a>(how: &'a OpenType<'a>) -> How<'a>
 }
 
 /// The attributes that are given, as a file system is asked.
-fn given_of<'a>(given: &'a Attributes<'a>) -> Given<'a>
+fn given_of<'a>(given: &'a Attributes<'a>) -> GivenAttributes<'a>
     ensures is { given_of result ≡ attributes_view given.now }
     ensures few { length result.bitmap.now ≤ 8 }
 {
-    Given {
+    GivenAttributes {
         bitmap: given.bitmap.as_slice(),
         values: given.values,
     }

@@ -1,6 +1,6 @@
 //! OPEN (RFC 8881, section 18.16).
 
-ghost use Rattle.std.specs.Prelude.{◌≡◌, ◌<◌, ◌≤◌, ◌^◌, IsTrue, length};
+ghost use Rattle.std.specs.Prelude.{◌≡◌, ◌<◌, ◌^◌, IsTrue, length};
 ghost use Rattle.xdr.specs.Forms.{is_trimmed};
 ghost use Rattle.model.specs.Answer.{Done};
 ghost use Rattle.model.specs.Open.{creates};
@@ -36,12 +36,12 @@ impl Running<'_> {
     ghost use Rattle.model.specs.Session.{Table};
     ghost use Rattle.model.specs.StateIds.{new_open, opened};
     ghost use Rattle.model.specs.declared.status.Status.TheVariants.{NotSupp};
-    ghost use Rattle.opens.specs.Views.{opens_of, open_of, CanOpen, HasRoom};
+    ghost use Rattle.opens.specs.Views.{opens_of, open_of, CanOpen, HasMemory};
     ghost use Rattle.wire.specs.ArgumentViews.{open_view, opening_view};
     ghost use Rattle.wire.specs.SmallViews.{change_view};
     ghost use Rattle.xdr.specs.Forms.{is_trimmed};
     ghost use Rattle.compound.specs.Beside.{has_opened_room, OpensTo};
-    ghost use Rattle.compound.specs.Operates.{Operates, ChangesOpens, OnlyReads, IsAnswered, IsKept};
+    ghost use Rattle.compound.specs.Operates.{Operates, ChangesTreeAndOpens, OnlyReads, IsAnswered, IsKept};
     ghost use Rattle.compound.specs.States.{SharedState, shared};
     ghost use Rattle.compound.specs.declared.fault.Fault.TheVariants.{Memory};
     ghost use Rattle.compound.specs.Views.{in_progress_of};
@@ -55,14 +55,19 @@ impl Running<'_> {
         now: u64,
         arguments: &OpenArguments<'_>,
     ) -> Result<Operated, Fault>
+        // It is up, in the run in which the request began
         requires up { (fs_of fs.old).volume.is_down ≡ false }
         requires run { (in_progress_of self.now).context.run ≡ (fs_of fs.old).volume.run }
-        ensures gives { D.keeps_word → IfOk result (ChangesOpens (fs_of fs.old) (fs_of fs.new)
+        // What it answers
+        ensures gives { D.keeps_word → IfOk result
+            (ChangesTreeAndOpens (fs_of fs.old) (fs_of fs.new)
             (opens_of opens.old) (opens_of opens.new) now (in_progress_of self.now)
             (operations.Argument.Open (open_view arguments.now))) }
         ensures answered { IfOk result (IsAnswered (in_progress_of self.now)) }
         ensures kept { (table : Table) → IfOk result (IsKept table) }
+        // Refused
         ensures opens { OnErr result (opens_of opens.new ≡ opens_of opens.old) }
+        // In any case
         ensures volume { (table : Table) → Alters fs.old fs.new (OperationGives
             (shared (fs_of fs.old) table (opens_of opens.old)) (in_progress_of self.now) now
             (operations.Argument.Open (open_view arguments.now))) (ending result) }
@@ -85,15 +90,18 @@ impl Running<'_> {
         arguments: &OpenArguments<'_>,
         how: &OpenType<'_>,
     ) -> Result<Operated, Fault>
+        // It is up, in the run in which the request began
         requires up { (fs_of fs.now).volume.is_down ≡ false }
         requires run { (in_progress_of self.now).context.run ≡ (fs_of fs.now).volume.run }
         requires opening { opening_view arguments.now.opening
             ≡ operations.Opens (open_type_view how.now) operations.ByHandle }
-        ensures gives { (now : _) → IfOk result (ChangesOpens (fs_of fs.now) (fs_of fs.now)
+        // What it answers
+        ensures gives { (now : _) → IfOk result (ChangesTreeAndOpens (fs_of fs.now) (fs_of fs.now)
             (opens_of opens.old) (opens_of opens.new) now (in_progress_of self.now)
             (operations.Argument.Open (open_view arguments.now))) }
         ensures answered { IfOk result (IsAnswered (in_progress_of self.now)) }
         ensures kept { (table : Table) → IfOk result (IsKept table) }
+        // Refused
         ensures opens { OnErr result (opens_of opens.new ≡ opens_of opens.old) }
         ensures memory { IfErr result (λ fault. fault ≡ Memory) }
     {
@@ -147,10 +155,11 @@ impl Running<'_> {
         change: ChangeInfo,
         was_set: Bitmap,
     ) -> Operated
-        requires room { HasRoom opens.old }
+        requires room { HasMemory opens.old }
         requires serial { CanOpen (opens_of opens.old) (open_of asked) }
         requires trimmed { IsTrue (is_trimmed was_set) }
         requires short { true ≡ has_opened_room (in_progress_of self.now) was_set }
+        // What it answers
         ensures gives { (now : _) (old new : SharedState) (operation : operations.Argument)
             → old.opens ≡ opens_of opens.old → OpensTo now old new (in_progress_of self.now)
             (open_of asked) (change_view change) was_set operation

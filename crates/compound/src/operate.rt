@@ -32,18 +32,22 @@ impl Running<'_> {
         now: u64,
         argument: &Argument<'_>,
     ) -> Result<Operated, Fault>
+        // It is up, in the run in which the request began
         requires up { (fs_of fs.old).volume.is_down ≡ false }
         requires run { (in_progress_of self.now).context.run ≡ (fs_of fs.old).volume.run }
         requires first { comes_first (argument_view argument.now) ≡ true
             → (in_progress_of self.now).answered ≡ 0 }
+        // What it answers
         ensures gives { D.keeps_word → IfOk result
             (Operates now (shared_of fs.old table.old opens.old)
             (shared_of fs.new table.new opens.new) (in_progress_of self.now)
             (argument_view argument.now)) }
         ensures answered { IfOk result (IsAnswered (in_progress_of self.now)) }
         ensures kept { IfOk result (IsKept (table_of table.new)) }
+        // Refused
         ensures table { OnErr result (table_of table.new ≡ table_of table.old) }
         ensures opens { OnErr result (opens_of opens.new ≡ opens_of opens.old) }
+        // In any case
         ensures volume { Alters fs.old fs.new (OperationGives (shared_of fs.old table.old opens.old)
             (in_progress_of self.now) now (argument_view argument.now)) (ending result) }
     {

@@ -7,14 +7,14 @@ use wire::StateId;
 use xdr::Writer;
 
 /// The bytes for which each COMPOUND has memory from its begin on: those of its longest result, which a slot keeps.
-pub const RESULT_BUFFER: usize = 16_384;
+pub(crate) const RESULT_BUFFER: usize = 16_384;
 
 /// Those of the longest reply's record: the record's header, and six words, stand round the result.
-pub const RECORD_BUFFER: usize = RESULT_BUFFER + 28;
+pub(crate) const RECORD_BUFFER: usize = RESULT_BUFFER + 28;
 
 /// A slot of a session.
 #[derive(Clone, Copy, Debug, PartialEq, Eq)]
-pub struct SlotId {
+pub(crate) struct SlotId {
     pub session: [u8; 16],
     pub slot: u32,
 }

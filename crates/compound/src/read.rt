@@ -32,7 +32,7 @@ impl Running<'_> {
     ghost use Rattle.model.specs.Session.{Table};
     ghost use Rattle.opens.specs.Views.{opens_of};
     ghost use Rattle.wire.specs.ArgumentViews.{read_view};
-    ghost use Rattle.compound.specs.Operates.{ChangesOpens, IsAnswered, IsKept};
+    ghost use Rattle.compound.specs.Operates.{ChangesTreeAndOpens, IsAnswered, IsKept};
     ghost use Rattle.compound.specs.States.{shared};
     ghost use Rattle.compound.specs.Views.{in_progress_of};
     ghost use Rattle.compound.specs.Volumes.{OperationGives, ending};
@@ -44,13 +44,16 @@ impl Running<'_> {
         opens: &Opens,
         arguments: &ReadArguments,
     ) -> Result<Operated, Fault>
+        // It is up, in the run in which the request began
         requires up { (fs_of fs.old).volume.is_down ≡ false }
         requires run { (in_progress_of self.now).context.run ≡ (fs_of fs.old).volume.run }
-        ensures gives { (now : ℕ) → D.keeps_word → IfOk result (ChangesOpens (fs_of fs.old)
+        // What it answers
+        ensures gives { (now : ℕ) → D.keeps_word → IfOk result (ChangesTreeAndOpens (fs_of fs.old)
             (fs_of fs.new) (opens_of opens.now) (opens_of opens.now) now (in_progress_of self.now)
             (operations.Argument.Read (read_view arguments.now))) }
         ensures answered { IfOk result (IsAnswered (in_progress_of self.now)) }
         ensures kept { (table : Table) → IfOk result (IsKept table) }
+        // In any case
         ensures volume { (now : ℕ) (table : Table) → Alters fs.old fs.new (OperationGives
             (shared (fs_of fs.old) table (opens_of opens.now)) (in_progress_of self.now) now
             (operations.Argument.Read (read_view arguments.now))) (ending result) }

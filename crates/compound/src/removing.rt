@@ -24,7 +24,7 @@ impl Running<'_> {
     ghost use Rattle.model.specs.Operation as operations;
     ghost use Rattle.model.specs.Session.{Table};
     ghost use Rattle.model.specs.World.{reply_with};
-    ghost use Rattle.compound.specs.Operates.{ChangesOpens, IsAnswered, IsKept};
+    ghost use Rattle.compound.specs.Operates.{ChangesTreeAndOpens, IsAnswered, IsKept};
     ghost use Rattle.opens.specs.Views.{opens_of};
     ghost use Rattle.compound.specs.States.{shared};
     ghost use Rattle.compound.specs.Trees.{removed_answer};
@@ -39,14 +39,19 @@ impl Running<'_> {
         now: u64,
         name: &[u8],
     ) -> Result<Operated, Fault>
+        // It is up, in the run in which the request began
         requires up { (fs_of fs.old).volume.is_down ≡ false }
         requires run { (in_progress_of self.now).context.run ≡ (fs_of fs.old).volume.run }
-        ensures gives { D.keeps_word → IfOk result (ChangesOpens (fs_of fs.old) (fs_of fs.new)
+        // What it answers
+        ensures gives { D.keeps_word → IfOk result
+            (ChangesTreeAndOpens (fs_of fs.old) (fs_of fs.new)
             (opens_of opens.old) (opens_of opens.new) now (in_progress_of self.now)
             (operations.Argument.Remove name.now)) }
         ensures answered { IfOk result (IsAnswered (in_progress_of self.now)) }
         ensures kept { (table : Table) → IfOk result (IsKept table) }
+        // Refused
         ensures opens { OnErr result (opens_of opens.new ≡ opens_of opens.old) }
+        // In any case
         ensures volume { (table : Table) → Alters fs.old fs.new (OperationGives
             (shared (fs_of fs.old) table (opens_of opens.old)) (in_progress_of self.now) now
             (operations.Argument.Remove name.now)) (ending result) }

@@ -41,7 +41,7 @@ impl Running<'_> {
 
     /// Whether the reply has room for this result, if it were the last one.
     #[tactic(auto, unfolding(crate::specs::Views::in_progress_of, model::specs::World::outcome_text), using(crate::proofs::Replies::reply_length))]
-    pub fn has_room(&self, outcome: &Outcome<'_>) -> bool
+    pub(crate) fn has_room(&self, outcome: &Outcome<'_>) -> bool
         requires fits { answers.outcome.Fits (outcome_view outcome.now) }
         requires small { length (outcome_text (outcome_view outcome.now)) < 2 ^ 63 }
         ensures { result ≡ nat_le

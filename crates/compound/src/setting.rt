@@ -16,7 +16,7 @@ use crate::running::Running;
 use disk::Device;
 use fs::{Fs, Setting};
 use opens::{Access, Opens};
-use settings::Attributes as Given;
+use settings::GivenAttributes;
 use wire::{Answer, Bitmap, CreateAnswer, Operation, Outcome, SetAttrArguments};
 
 impl Running<'_> {
@@ -29,7 +29,7 @@ impl Running<'_> {
     ghost use Rattle.model.specs.World.{reply_with};
     ghost use Rattle.opens.specs.Views.{opens_of};
     ghost use Rattle.wire.specs.ArgumentViews.{set_attr_view};
-    ghost use Rattle.compound.specs.Operates.{ChangesOpens, IsAnswered, IsKept};
+    ghost use Rattle.compound.specs.Operates.{ChangesTreeAndOpens, IsAnswered, IsKept};
     ghost use Rattle.compound.specs.States.{shared};
     ghost use Rattle.compound.specs.Views.{in_progress_of};
     ghost use Rattle.compound.specs.Volumes.{OperationGives, ending};
@@ -42,13 +42,17 @@ impl Running<'_> {
         now: u64,
         arguments: &SetAttrArguments<'_>,
     ) -> Result<Operated, Fault>
+        // It is up, in the run in which the request began
         requires up { (fs_of fs.old).volume.is_down ≡ false }
         requires run { (in_progress_of self.now).context.run ≡ (fs_of fs.old).volume.run }
-        ensures gives { D.keeps_word → IfOk result (ChangesOpens (fs_of fs.old) (fs_of fs.new)
+        // What it answers
+        ensures gives { D.keeps_word → IfOk result
+            (ChangesTreeAndOpens (fs_of fs.old) (fs_of fs.new)
             (opens_of opens.now) (opens_of opens.now) now (in_progress_of self.now)
             (operations.Argument.SetAttr (set_attr_view arguments.now))) }
         ensures answered { IfOk result (IsAnswered (in_progress_of self.now)) }
         ensures kept { (table : Table) → IfOk result (IsKept table) }
+        // In any case
         ensures volume { (table : Table) → Alters fs.old fs.new (OperationGives
             (shared (fs_of fs.old) table (opens_of opens.now)) (in_progress_of self.now) now
             (operations.Argument.SetAttr (set_attr_view arguments.now))) (ending result) }
@@ -62,7 +66,7 @@ impl Running<'_> {
         let asked = Setting {
             number,
             verdict,
-            attributes: Given {
+            attributes: GivenAttributes {
                 bitmap: arguments.attributes.bitmap.as_slice(),
                 values: arguments.attributes.values,
             },

@@ -7,7 +7,7 @@ use wire::StateId;
 
 #[tactic(auto, unfolding(crate::specs::Views::in_progress_of))]
 impl Running<'_> {
-    ghost use Rattle.std.specs.Prelude.{◌≡◌, ℕ};
+    ghost use Rattle.std.specs.Prelude.{◌≡◌};
     ghost use Rattle.fs.specs.Files.{IsVerdict};
     ghost use Rattle.model.specs.Step.{State};
     ghost use Rattle.opens.specs.Views.{opens_of, StandsAt};

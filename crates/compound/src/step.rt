@@ -112,8 +112,10 @@ impl Running<'_> {
         opens: &mut Opens,
         now: u64,
     ) -> Result<Ran, Fault>
+        // It is up, in the run in which the request began
         requires up { (fs_of fs.old).volume.is_down ≡ false }
         requires run { (in_progress_of self.now).context.run ≡ (fs_of fs.old).volume.run }
+        // What it answers
         ensures turns { D.keeps_word → IfOk result
             (λ ran. Turns now (shared_of fs.old table.old opens.old)
             (shared_of fs.new table.new opens.new) (in_progress_of self.now)
@@ -122,8 +124,10 @@ impl Running<'_> {
             ran.position ≤ length self.now.compound.operations.now) }
         ensures answered { IfOk result (λ ran. IsAnswered (in_progress_of self.now) ran.done) }
         ensures kept { IfOk result (λ ran. IsKept (table_of table.new) ran.done) }
+        // Refused
         ensures table { OnErr result (table_of table.new ≡ table_of table.old) }
         ensures opens { OnErr result (opens_of opens.new ≡ opens_of opens.old) }
+        // In any case
         ensures volume { Alters fs.old fs.new (TurnGives (shared_of fs.old table.old opens.old)
             (λ world number. stepped_on world number now (in_progress_of self.now)))
             (ending result) }

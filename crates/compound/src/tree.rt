@@ -9,13 +9,13 @@ use crate::running::Running;
 use disk::Device;
 use fs::{Fs, FsFault, NewDirectory};
 use model::status::Status;
-use settings::Attributes as Given;
+use settings::GivenAttributes;
 use wire::{
     Answer, Attributes, Bitmap, ChangeInfo, CreateAnswer, CreateArguments, Operation, Outcome,
 };
 
 impl Running<'_> {
-    ghost use Rattle.std.specs.Prelude.{◌≡◌, ℕ, true, false, nat_le, length, IfOk, IfErr};
+    ghost use Rattle.std.specs.Prelude.{◌≡◌, true, false, nat_le, length, IfOk, IfErr};
     ghost use Rattle.fs.specs.Views.{fs_of, Alters};
     ghost use Rattle.fs.specs.Operations.{new_directory};
     ghost use Rattle.model.specs.Opens.{Opens};
@@ -27,7 +27,7 @@ impl Running<'_> {
     ghost use Rattle.wire.specs.ArgumentViews.{create_view};
     ghost use Rattle.wire.specs.SmallViews.{attributes_view};
     ghost use Rattle.wire.specs.Short.{IsRefusal};
-    ghost use Rattle.compound.specs.Operates.{OnlyReads, ChangesFiles, IsAnswered, IsKept};
+    ghost use Rattle.compound.specs.Operates.{OnlyReads, ChangesTree, IsAnswered, IsKept};
     ghost use Rattle.compound.specs.States.{shared};
     ghost use Rattle.compound.specs.Trees.{TestsCurrent, made_answer};
     ghost use Rattle.compound.specs.Views.{in_progress_of};
@@ -93,13 +93,16 @@ impl Running<'_> {
         now: u64,
         arguments: &CreateArguments<'_>,
     ) -> Result<Operated, Fault>
+        // It is up, in the run in which the request began
         requires up { (fs_of fs.old).volume.is_down ≡ false }
         requires run { (in_progress_of self.now).context.run ≡ (fs_of fs.old).volume.run }
-        ensures gives { D.keeps_word → IfOk result (ChangesFiles (fs_of fs.old) (fs_of fs.new)
+        // What it answers
+        ensures gives { D.keeps_word → IfOk result (ChangesTree (fs_of fs.old) (fs_of fs.new)
             now (in_progress_of self.now)
             (operations.Argument.Create (create_view arguments.now))) }
         ensures answered { IfOk result (IsAnswered (in_progress_of self.now)) }
         ensures kept { (table : Table) → IfOk result (IsKept table) }
+        // In any case
         ensures volume { (table : Table) (opens : Opens) → Alters fs.old fs.new
             (OperationGives (shared (fs_of fs.old) table opens) (in_progress_of self.now) now
             (operations.Argument.Create (create_view arguments.now))) (ending result) }
@@ -135,13 +138,16 @@ impl Running<'_> {
         name: &[u8],
         attributes: &Attributes<'_>,
     ) -> Result<Operated, Fault>
+        // It is up, in the run in which the request began
         requires up { (fs_of fs.old).volume.is_down ≡ false }
         requires run { (in_progress_of self.now).context.run ≡ (fs_of fs.old).volume.run }
-        ensures gives { D.keeps_word → IfOk result (ChangesFiles (fs_of fs.old) (fs_of fs.new)
+        // What it answers
+        ensures gives { D.keeps_word → IfOk result (ChangesTree (fs_of fs.old) (fs_of fs.new)
             now (in_progress_of self.now)
             (new_directory name.now (attributes_view attributes.now))) }
         ensures answered { IfOk result (IsAnswered (in_progress_of self.now)) }
         ensures kept { (table : Table) → IfOk result (IsKept table) }
+        // In any case
         ensures volume { (table : Table) (opens : Opens) → Alters fs.old fs.new
             (OperationGives (shared (fs_of fs.old) table opens) (in_progress_of self.now) now
             (new_directory name.now (attributes_view attributes.now))) (ending result) }
@@ -154,7 +160,7 @@ impl Running<'_> {
         let asked = NewDirectory {
             parent,
             name,
-            attributes: Given {
+            attributes: GivenAttributes {
                 bitmap: attributes.bitmap.as_slice(),
                 values: attributes.values,
             },
@@ -181,8 +187,7 @@ impl Running<'_> {
     }
 }
 
-ghost use Rattle.std.specs.Prelude.{◌≤◌, ◌<◌, ◌^◌, IsTrue, true, length};
-ghost use Rattle.xdr.specs.Forms.{is_trimmed};
+ghost use Rattle.std.specs.Prelude.{◌<◌, ◌^◌, true, length};
 ghost use Rattle.model.specs.Answer.{Done};
 ghost use Rattle.model.specs.Attribute.{trimmed};
 ghost use Rattle.model.specs.World.{outcome_text};

@@ -33,7 +33,7 @@ impl Running<'_> {
     ghost use Rattle.opens.specs.Views.{opens_of};
     ghost use Rattle.wire.specs.ArgumentViews.{write_view};
     ghost use Rattle.compound.specs.Files.{committed_answer, written_answer};
-    ghost use Rattle.compound.specs.Operates.{ChangesOpens, IsAnswered, IsKept};
+    ghost use Rattle.compound.specs.Operates.{ChangesTreeAndOpens, IsAnswered, IsKept};
     ghost use Rattle.compound.specs.States.{shared};
     ghost use Rattle.compound.specs.Views.{in_progress_of};
     ghost use Rattle.compound.specs.Volumes.{OperationGives, ending};
@@ -46,13 +46,17 @@ impl Running<'_> {
         now: u64,
         arguments: &WriteArguments<'_>,
     ) -> Result<Operated, Fault>
+        // It is up, in the run in which the request began
         requires up { (fs_of fs.old).volume.is_down ≡ false }
         requires run { (in_progress_of self.now).context.run ≡ (fs_of fs.old).volume.run }
-        ensures gives { D.keeps_word → IfOk result (ChangesOpens (fs_of fs.old) (fs_of fs.new)
+        // What it answers
+        ensures gives { D.keeps_word → IfOk result
+            (ChangesTreeAndOpens (fs_of fs.old) (fs_of fs.new)
             (opens_of opens.now) (opens_of opens.now) now (in_progress_of self.now)
             (operations.Argument.Write (write_view arguments.now))) }
         ensures answered { IfOk result (IsAnswered (in_progress_of self.now)) }
         ensures kept { (table : Table) → IfOk result (IsKept table) }
+        // In any case
         ensures volume { (table : Table) → Alters fs.old fs.new (OperationGives
             (shared (fs_of fs.old) table (opens_of opens.now)) (in_progress_of self.now) now
             (operations.Argument.Write (write_view arguments.now))) (ending result) }
@@ -88,13 +92,17 @@ impl Running<'_> {
 
     /// COMMIT (section 18.3): all changes so far are kept. Nothing is where the reply has no room for the result.
     pub(crate) fn commit<D: Device>(&self, fs: &mut Fs<D>) -> Result<Operated, Fault>
+        // It is up, in the run in which the request began
         requires up { (fs_of fs.old).volume.is_down ≡ false }
         requires run { (in_progress_of self.now).context.run ≡ (fs_of fs.old).volume.run }
+        // What it answers
         ensures gives { (arguments : operations.CommitArguments) (now : _) (opens : _)
-            → D.keeps_word → IfOk result (ChangesOpens (fs_of fs.old) (fs_of fs.new) opens opens
+            → D.keeps_word → IfOk result
+            (ChangesTreeAndOpens (fs_of fs.old) (fs_of fs.new) opens opens
             now (in_progress_of self.now) (operations.Argument.Commit arguments)) }
         ensures answered { IfOk result (IsAnswered (in_progress_of self.now)) }
         ensures kept { (table : Table) → IfOk result (IsKept table) }
+        // In any case
         ensures volume { (arguments : operations.CommitArguments) (now : _) (table : Table)
             (opens : _) → Alters fs.old fs.new (OperationGives
             (shared (fs_of fs.old) table opens) (in_progress_of self.now) now

@@ -1,26 +1,17 @@
 -- Names that are read, put and removed, as the entries hold them.
-use Rattle.std.proofs.Common.{◌≡◌, ◌≢◌, ◌<◌, ◌≤◌, ℕ, zero, suc, List, [], ◌∷◌, ◌++◌, Some, None, length, get_or, set, map, refl, sym, ap, subst, ◌∙◌, arith}
+use Rattle.std.proofs.Common.{◌≡◌, ◌≢◌, ◌<◌, ◌≤◌, ℕ, List, [], ◌∷◌, ◌++◌, Some, None, length, get_or, set, map, sym, ap, subst, ◌∙◌, arith}
 use Rattle.std.specs.Prelude.{slice_get}
 use Rattle.std.proofs.lemmas.List.{length-map, get_or-map, map-set, map_push}
+use Rattle.std.proofs.lemmas.Option.{slice_get-get_or, slice_get_past}
 use Rattle.model.specs.Tree.{entry_of}
 use Rattle.directory.specs.declared.entry.Entry.{Entry}
 use Rattle.directory.specs.Records.{Record, record_of, record_from, place_of, with_record, IsRecord, IsDirectory}
 use Rattle.directory.proofs.Places.{entry_of-place, named_there, with_record-set, with_record-push, absent}
 use Rattle.directory.proofs.Kept.{IsDirectory-set, IsDirectory-push}
 
-slice_get-within : (xs : List Record) (i : ℕ) (d : Record) → i < length xs → slice_get xs i ≡ Some (get_or xs i d)
-slice_get-within [] i d h = absurd (omega arith)
-slice_get-within (x ∷ xs) zero d h = refl
-slice_get-within (x ∷ xs) (suc i) d h = slice_get-within xs i d (omega arith)
-
-slice_get-past : (xs : List Record) (i : ℕ) → length xs ≤ i → slice_get xs i ≡ None
-slice_get-past [] i h = refl
-slice_get-past (x ∷ xs) zero h = absurd (omega arith)
-slice_get-past (x ∷ xs) (suc i) h = slice_get-past xs i (omega arith)
-
 pub none_found : (entries : List Entry) (name : List ℕ) (p : ℕ) → p ≡ place_of name (map record_of entries) → length entries ≤ p → entry_of name (map record_of entries) ≡ None
 none_found entries name p is past =
-    entry_of-place name (map record_of entries) ∙ slice_get-past (map record_of entries) (place_of name (map record_of entries)) (omega (arith, length-map entries record_of))
+    entry_of-place name (map record_of entries) ∙ slice_get_past (map record_of entries) (place_of name (map record_of entries)) (omega (arith, length-map entries record_of))
 
 -- the entry at the place has the name
 pub has_name : (entries : List Entry) (name : List ℕ) (p : ℕ) (entry : Entry) → p ≡ place_of name (map record_of entries) → p < length entries → entry ≡ get_or entries p entry → entry.name.items ≡ name
@@ -35,7 +26,7 @@ pub some_found : (entries : List Entry) (name : List ℕ) (p : ℕ) (entry : Ent
 some_found entries name p entry is h at =
     let here : get_or (map record_of entries) p (record_of entry) ≡ record_of entry = get_or-map record_of entries p entry (record_of entry) h ∙ ap record_of (sym at) in
     let within : p < length (map record_of entries) = omega (arith, length-map entries record_of) in
-    sym (entry_of-place name (map record_of entries) ∙ ap (slice_get (map record_of entries)) (sym is) ∙ slice_get-within (map record_of entries) p (record_of entry) within
+    sym (entry_of-place name (map record_of entries) ∙ ap (slice_get (map record_of entries)) (sym is) ∙ slice_get-get_or (map record_of entries) p (record_of entry) within
     ∙ ap (λ (r : Record). Some r) (here ∙ ap (λ (n : List ℕ). record_from entry.stamp n entry.number) (has_name entries name p entry is h at)))
 
 -- the record of the name is the entry at its place
@@ -44,7 +35,7 @@ pub found_entry : (entries : List Entry) (name : List ℕ) (p : ℕ) (entry : En
 found_entry entries name p entry is h at =
     let here : get_or (map record_of entries) p (record_of entry) ≡ record_of entry = get_or-map record_of entries p entry (record_of entry) h ∙ ap record_of (sym at) in
     let within : p < length (map record_of entries) = omega (arith, length-map entries record_of) in
-    entry_of-place name (map record_of entries) ∙ ap (slice_get (map record_of entries)) (sym is) ∙ slice_get-within (map record_of entries) p (record_of entry) within
+    entry_of-place name (map record_of entries) ∙ ap (slice_get (map record_of entries)) (sym is) ∙ slice_get-get_or (map record_of entries) p (record_of entry) within
     ∙ ap (λ (r : Record). Some r) here
 
 -- ---- put, where the name is there

@@ -1,6 +1,7 @@
 -- Names looked up in the map by stamp.
 use Rattle.std.proofs.Common.{ℕ, Bool, true, false, List, [], ◌∷◌, ◌≡◌, ◌≢◌, ◌<◌, ◌∙◌, Option, Some, None, inl, inr, bytes_eq, eqb, length, get_or, refl, sym, ap, arith}
 use Rattle.std.proofs.lemmas.Bool.{cases_order, eqb-true, true≢false}
+use Rattle.std.proofs.lemmas.Option.{same_Some}
 use Rattle.model.specs.Keyed.{Keyed, at, IsAbove}
 use Rattle.model.specs.Tree.{DirEntry, entry_of, found_or}
 use Rattle.model.proofs.KeyedLaws.{at-first, at-rest, at-above, some≢none}
@@ -10,9 +11,6 @@ use Rattle.directory.proofs.ByStamp.{IsRising, rising_above, rising_by_stamp, at
 use Rattle.directory.proofs.MapLaws.{Stands, some_stands, its_own, none_has}
 use Rattle.directory.proofs.Places.{bytes_eq-true, bytes_eq-same}
 use Rattle.directory.proofs.RecordMaps.{first_named, first_stamped, eqb-same, entry_of-first, entry_in, at-first_stamped}
-
-some_is : {X : Type 0} (a b : X) → Some a ≡ Some b → a ≡ b
-some_is a b same = cc
 
 -- A map whose keys rise
 
@@ -42,11 +40,11 @@ named_some name (entry ∷ rest) stamp found rising is named once = step (bytes_
         → found_or b entry (entry_of name rest) ≡ Some (stamp, found)
     step true told others =
         let one : entry.0 ≡ stamp = once entry.0 entry.1 (at-first entry.0 entry.0 entry.1 rest refl) (sym (bytes_eq-true name entry.1.name told)) in
-        let its : entry.1 ≡ found = some_is entry.1 found (sym (at-first entry.0 stamp entry.1 rest (sym one)) ∙ is) in
+        let its : entry.1 ≡ found = same_Some entry.1 found (sym (at-first entry.0 stamp entry.1 rest (sym one)) ∙ is) in
         ap (λ (e : Record). Some e) (ap (λ k. (k, entry.1)) one ∙ ap (λ v. (stamp, v)) its)
     step false told others =
         let apart : stamp ≢ entry.0 = λ same.
-        let its : entry.1 ≡ found = some_is entry.1 found (sym (at-first entry.0 stamp entry.1 rest same) ∙ is) in
+        let its : entry.1 ≡ found = same_Some entry.1 found (sym (at-first entry.0 stamp entry.1 rest same) ∙ is) in
         true≢false (sym (ap (bytes_eq name) (ap (λ (e : DirEntry). e.name) its ∙ named) ∙ bytes_eq-same name) ∙ told) in
         others (sym (at-rest entry.0 stamp entry.1 rest apart) ∙ is)
 
@@ -64,7 +62,7 @@ held xs key value d is = step (first_stamped key xs) refl (sym (at-first_stamped
     step None none told = absurd (some≢none value (sym told))
     step (Some found) some told =
         let at = some_stands stamp_of eqb eqb-true eqb-same key xs found d some in
-        let one : found.1 ≡ value = some_is found.1 value told in
+        let one : found.1 ≡ value = same_Some found.1 value told in
         record { place = at.place; within = at.within; is = at.here ∙ (ap (λ k. (k, found.1)) at.has ∙ ap (λ v. (key, v)) one) }
 
 -- where names are apart and stamps are apart, a name is found in the map as it is among the records

@@ -1,7 +1,7 @@
 -- Where a name stands in a list of records.
-use Rattle.std.proofs.Common.{◌≡◌, ◌≢◌, ◌<◌, ◌≤◌, ◌+◌, ℕ, zero, suc, Bool, true, false, ◌&&◌, eqb, cond, List, [], ◌∷◌, ◌++◌, length, get_or, set, bytes_eq, refl, sym, ap, ◌∙◌, arith, add-one}
+use Rattle.std.proofs.Common.{◌≡◌, ◌≢◌, ◌<◌, ◌≤◌, ◌+◌, ℕ, zero, suc, Bool, true, false, eqb, cond, List, [], ◌∷◌, ◌++◌, length, get_or, set, bytes_eq, refl, sym, ap, ◌∙◌, arith, add-one}
 use Rattle.std.specs.Prelude.{slice_get}
-use Rattle.std.proofs.lemmas.Bool.{eqb-true, eq-eqb}
+use Rattle.std.proofs.lemmas.Bool.{eqb-true, eq-eqb, and_parts}
 use Rattle.model.specs.Tree.{entry_of, found_or}
 use Rattle.directory.specs.Records.{Record, is_named, place_of, with_record}
 
@@ -26,17 +26,13 @@ entry_of-place name (x ∷ xs) = ap (found_or (is_named name x) x) (entry_of-pla
 
 -- ---- what stands at the place, and in front of it
 
-and-true : (x y : Bool) → (x && y) ≡ true → (x ≡ true) × (y ≡ true)
-and-true true y e = (refl, e)
-and-true false y e = absurd cc
-
 -- equal bytes are one list
 pub bytes_eq-true : (a b : List ℕ) → bytes_eq a b ≡ true → a ≡ b
 bytes_eq-true [] [] e = refl
 bytes_eq-true [] (y ∷ b) e = absurd cc
 bytes_eq-true (x ∷ a) [] e = absurd cc
 bytes_eq-true (x ∷ a) (y ∷ b) e =
-    let both = and-true (eqb x y) (bytes_eq a b) e in
+    let both = and_parts (eqb x y) (bytes_eq a b) e in
     ap (λ (n : ℕ). n ∷ a) (eqb-true x y both.0) ∙ ap (λ (bs : List ℕ). y ∷ bs) (bytes_eq-true a b both.1)
 
 named_there_step : (name : List ℕ) (b : Bool) (x : Record) (xs : List Record) (p : ℕ) (d : Record) → is_named name x ≡ b → cond b 0 (p + 1) < suc (length xs) → (p < length xs → (get_or xs p d).1.name ≡ name)

@@ -1,9 +1,10 @@
 -- What a change of records does to the map from names, and to the map by stamp.
-use Rattle.std.proofs.Common.{ℕ, Bool, true, false, List, [], ◌∷◌, ◌++◌, ◌≡◌, ◌≢◌, ◌<◌, ◌≤◌, ◌-◌, ◌∙◌, Option, Some, None, ◌⊎◌, inl, inr, bytes_eq, eqb, length, get_or, set, refl, sym, ap, subst, arith, zero, suc}
-use Rattle.std.specs.Prelude.{option_map, slice_get}
+use Rattle.std.proofs.Common.{ℕ, Bool, true, false, List, [], ◌∷◌, ◌++◌, ◌≡◌, ◌≢◌, ◌<◌, ◌≤◌, ◌-◌, ◌∙◌, Option, Some, None, ◌⊎◌, inl, inr, bytes_eq, eqb, length, get_or, set, refl, sym, ap, subst, arith}
+use Rattle.std.specs.Prelude.{option_map}
 use Rattle.std.specs.List.{AllByRecursion}
 use Rattle.std.proofs.lemmas.Bool.{cases_eq, cases_lt, eqb-true, eq-eqb}
 use Rattle.std.proofs.lemmas.List.{get_or_default}
+use Rattle.std.proofs.lemmas.Option.{slice_get-get_or, slice_get_past}
 use Rattle.model.specs.Keyed.{Keyed, at, here_or, with, without, IsAbove}
 use Rattle.model.specs.Tree.{DirEntry, entry_of, found_or}
 use Rattle.model.proofs.KeyedLaws.{only_map, at-with_same, at-with_other, at-without_same, at-without_other, IsAbove-with, IsAbove-without, some≢none}
@@ -47,18 +48,8 @@ above_by_stamp : (xs : List Record) → AllByRecursion (λ entry. 0 < entry.0) x
 above_by_stamp [] all = tt
 above_by_stamp (x ∷ xs) all = IsAbove-with (by_stamp xs) x.0 0 x.1 (above_by_stamp xs all.1) all.0
 
-slice_get-at : (xs : List Record) (i : ℕ) (d : Record) → i < length xs → slice_get xs i ≡ Some (get_or xs i d)
-slice_get-at [] i d h = absurd (omega arith)
-slice_get-at (x ∷ xs) zero d h = refl
-slice_get-at (x ∷ xs) (suc i) d h = slice_get-at xs i d (omega arith)
-
 pub found_at_place : (name : List ℕ) (xs : List Record) (d : Record) → place_of name xs < length xs → entry_of name xs ≡ Some (get_or xs (place_of name xs) d)
-found_at_place name xs d within = entry_of-place name xs ∙ slice_get-at xs (place_of name xs) d within
-
-slice_get-behind : (xs : List Record) (i : ℕ) → length xs ≤ i → slice_get xs i ≡ None
-slice_get-behind [] i past = refl
-slice_get-behind (x ∷ xs) zero past = absurd (omega arith)
-slice_get-behind (x ∷ xs) (suc i) past = slice_get-behind xs i (omega arith)
+found_at_place name xs d within = entry_of-place name xs ∙ slice_get-get_or xs (place_of name xs) d within
 
 none_in : (found : Option Record) → entry_in found ≡ None → found ≡ None
 none_in None none = refl
@@ -66,7 +57,7 @@ none_in (Some entry) none = absurd (some≢none entry.1 none)
 
 -- a name that stands after the last record is none's
 pub absent_name : (name : List ℕ) (xs : List Record) → length xs ≤ place_of name xs → entry_of name xs ≡ None
-absent_name name xs past = entry_of-place name xs ∙ slice_get-behind xs (place_of name xs) past
+absent_name name xs past = entry_of-place name xs ∙ slice_get_past xs (place_of name xs) past
 
 -- A name is removed
 
@@ -150,7 +141,7 @@ module _ (xs : List Record) (new : Record) (apart : ApartBy name_of xs) where
   ]
 
   not_named : length xs ≤ target → first_named (name_of new) xs ≡ None
-  not_named past = sym (entry_of-first (name_of new) xs) ∙ (entry_of-place (name_of new) xs ∙ slice_get-behind xs target past)
+  not_named past = sym (entry_of-first (name_of new) xs) ∙ (entry_of-place (name_of new) xs ∙ slice_get_past xs target past)
 
   pub put_found : entry_of (name_of new) (with_record xs new) ≡ Some new
   put_found = entry_of-first (name_of new) (with_record xs new) ∙ go is_put

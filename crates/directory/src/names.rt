@@ -1,6 +1,6 @@
 //! The names of a directory.
 
-ghost use Rattle.std.specs.Prelude.{◌≡◌, ◌≢◌, ◌<◌, ◌≤◌, ◌+◌, ℕ, List, [], ◌∷◌, Option, Some, None, length, map, take, drop, option_map, slice_get, slice_set, IsErrOf, IsTrue, ◌↔◌, IfOk, IfSome, IfNone, OnOk, OnErr, MatchOption};
+ghost use Rattle.std.specs.Prelude.{◌≡◌, ◌≢◌, ◌<◌, ◌≤◌, ◌+◌, ℕ, List, [], ◌∷◌, Option, Some, None, length, map, take, drop, option_map, IsErrOf, IsTrue, ◌↔◌, IfOk, IfSome, IfNone, OnOk, OnErr, MatchOption};
 ghost use Rattle.std.specs.List.{AllByRecursion};
 ghost use Rattle.model.specs.Tree.{entry_of};
 ghost use Rattle.directory.specs.Spelling.{directory_sector};

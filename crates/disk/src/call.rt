@@ -1,6 +1,6 @@
 //! The record of calls that a device in memory keeps, and what can be read off it.
 
-ghost use Rattle.std.specs.Prelude.{◌≡◌, ◌+◌, ◌<◌, ◌≤◌, ℕ, [], ◌∷◌, length, slice_index_or, option_copied};
+ghost use Rattle.std.specs.Prelude.{◌≡◌, ◌+◌, ◌<◌, ◌≤◌, ℕ, ◌∷◌, length, slice_index_or, option_copied};
 ghost use Rattle.disk.specs.Moments.{put, seen};
 ghost use Rattle.disk.specs.Calls.{written, written_by, IsLastSync, image_of, history_of_calls};
 

@@ -1,6 +1,6 @@
 //! A device whose power goes at a stated step, and what may then be found on it.
 
-ghost use Rattle.std.specs.Prelude.{◌≡◌, ◌≢◌, ◌+◌, ◌-◌, ◌^◌, ◌<◌, ◌≤◌, ◌⊎◌, ◌↔◌, ℕ, [], ◌∷◌, Bool, true, false, min, length, slice_index_or, if◌then◌else◌, IsTrue, IfOk, OnOk, OnErr, IsErrOf, IsOk};
+ghost use Rattle.std.specs.Prelude.{◌≡◌, ◌-◌, ◌^◌, ◌<◌, ◌≤◌, ◌⊎◌, ◌↔◌, ℕ, [], ◌∷◌, true, false, length, slice_index_or, IfOk, OnOk, OnErr, IsErrOf, IsOk};
 ghost use Rattle.disk.specs.Moments.{seen, wrote, synced, at_rest, Left};
 ghost use Rattle.disk.specs.Cause.{HasCause};
 ghost use Rattle.disk.specs.Calls.{image_of, written_by};

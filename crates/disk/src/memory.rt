@@ -1,6 +1,6 @@
 //! A device in memory, which keeps its word and a record of all its calls.
 
-ghost use Rattle.std.specs.Prelude.{◌≡◌, ◌+◌, ◌-◌, ◌^◌, ◌<◌, ◌≤◌, ◌++◌, ◌↔◌, ℕ, List, [], ◌∷◌, length, vec_len, replicate, reverse, min, All, IfOk, OnOk, OnErr, IsErrOf, IsOk};
+ghost use Rattle.std.specs.Prelude.{◌≡◌, ◌-◌, ◌^◌, ◌<◌, ◌≤◌, ◌↔◌, ℕ, [], vec_len, replicate, reverse, All, IfOk, OnOk, OnErr, IsErrOf, IsOk};
 ghost use Rattle.disk.specs.Moments.{IsSector, seen, wrote, at_rest, written_to};
 ghost use Rattle.disk.specs.Cause.{IsCounted, HasCause};
 ghost use Rattle.disk.specs.Calls.{image_of, zero_sector, written_by, history_of_calls};

@@ -1,6 +1,6 @@
 //! The landings that a test should try.
 
-ghost use Rattle.std.specs.Prelude.{◌≡◌, ◌<◌, ◌≤◌, ◌++◌, ◌∷◌, [], ℕ, length, map, IfOk, OnOk};
+ghost use Rattle.std.specs.Prelude.{◌≡◌, ◌<◌, ◌≤◌, ◌++◌, ◌∷◌, [], length, map, IfOk, OnOk};
 ghost use Rattle.disk.specs.Landing.{choices_to, extended, every_landing};
 ghost use Rattle.disk.specs.Trial.{lists_of, lands, edge_landing_of, edge_landings_of};
 

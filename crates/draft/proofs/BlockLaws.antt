@@ -13,9 +13,10 @@ use Rattle.layout.specs.Cards.{content_at, byte_at}
 use Rattle.layout.specs.Files.{over}
 use Rattle.layout.specs.Marks.{once_if, times_set, mark_by}
 use Rattle.layout.proofs.FileLaws.{holes-at, over-front, over-past, over-same, filling, writing, writing_on}
-use Rattle.layout.proofs.Frame.{once_same, times_set-at, content-kept}
+use Rattle.layout.proofs.Frame.{times_set-at, content-kept}
 use Rattle.layout.proofs.MarkProofs.{each_mark}
 use Rattle.layout.proofs.StepLaws.{each_own, others_hold, each_change}
+use Rattle.layout.proofs.NumberLaws.{once-here}
 use Rattle.draft.specs.Blocks.{IsPut, Takes, HaveMarks, HaveRegion, FollowBlocks, GetSectors, GetsSector, WritesOne, WritesBytes, ChangeBlocks}
 use Rattle.draft.specs.Updates.{ChangeOne}
 use Rattle.draft.proofs.CountLaws.{takes_free, set_more, set_holes}
@@ -91,7 +92,7 @@ writes_hole first places taken old new blocks block sector from part marked in_b
     let at : first + (sector - first) ≡ sector = let behind = takes.behind in omega arith in
     let mark : (n : ℕ) → mark_by first taken n ≡ mark_by first places n + once_if (eqb n sector) =
     λ n. ap (λ (p : List Bool). mark_by first p n) takes.taken ∙ each.taken takes.free n ∙ ap (λ (s : ℕ). mark_by first places n + once_if (eqb n s)) at in
-    let unmarked : mark_by first places sector ≡ 0 = omega (arith, mark sector, each_taken.once sector, once_same sector) in
+    let unmarked : mark_by first places sector ≡ 0 = omega (arith, mark sector, each_taken.once sector, once-here sector) in
     let unnamed : times_set sector blocks ≡ 0 = omega (arith, marked sector) in
     let now : List (Option ℕ) = set blocks block (Some sector) in
     let more : (n : ℕ) → times_set n now ≡ times_set n blocks + once_if (eqb n sector) = λ n. let change = each_change n blocks in change.filled block sector in_blocks hole in
@@ -100,7 +101,7 @@ writes_hole first places taken old new blocks block sector from part marked in_b
     let zeros : mid sector ≡ zero_sector = here old mid sector zero_sector mid_is in
     let is_set : get_or now block None ≡ Some sector = get_or-set_same blocks block (Some sector) None in_blocks in
     let own = each_own now sector in
-    let alone = own.once (omega (arith, more sector, once_same sector)) block is_set in
+    let alone = own.once (omega (arith, more sector, once-here sector)) block is_set in
     let away = elsewhere old new sector (placed zero_sector from part) is in
     let mid_away = elsewhere old mid sector zero_sector mid_is in
     let unlike : (n : ℕ) → 0 < times_set n blocks → n ≢ sector = λ n some e. let same = ap (λ (s : ℕ). times_set s blocks) e in omega arith in

@@ -1,14 +1,16 @@
 -- A node that is removed.
 use Rattle.std.proofs.Common.{◌≡◌, ◌≤◌, ◌<◌, ◌+◌, ◌-◌, ℕ, zero, suc, Bool, false, true, List, [], ◌∷◌, Option, Some, None, length, get_or, set, take, replicate, refl, sym, ap, ◌∙◌, arith, subst, eqb, slice_index_or, slice_set}
+use Rattle.std.proofs.lemmas.Option.{none-some}
 use Rattle.disk.specs.Moments.{Image, applied}
 use Rattle.model.specs.Edit.{DropNode}
 use Rattle.layout.specs.Cards.{Card}
 use Rattle.layout.specs.Known.{AreCards}
 use Rattle.layout.specs.Marks.{once_if, times, times_set, named_by, mark_by}
-use Rattle.layout.proofs.Frame.{once_same}
 use Rattle.layout.proofs.Knowing.{one_card_change}
 use Rattle.layout.proofs.MarkProofs.{each_mark}
 use Rattle.layout.proofs.NodeEditLaws.{named_by-parts, free_node}
+use Rattle.layout.proofs.NumberLaws.{once-here, times_set-front}
+use Rattle.layout.proofs.ChargeLaws.{named-none}
 use Rattle.draft.specs.Blocks.{IsPut, HaveMarks}
 use Rattle.draft.specs.declared.draft.Draft.{Draft}
 use Rattle.draft.specs.Drafts.{cards_of, image_of, IsKnown, StaysKnown, MakesOver}
@@ -19,20 +21,17 @@ use Rattle.draft.proofs.NumberLaws.{mark-used}
 
 -- the first blocks, and one more
 
-some_none : (x : ℕ) → (let none : Option ℕ = None in none ≡ Some x) → ⊥
-some_none x e = cc
-
 next-hole : (n : ℕ) (blocks : List (Option ℕ)) (i : ℕ) → get_or blocks i None ≡ None → times_set n (take (suc i) blocks) ≡ times_set n (take i blocks)
 next-hole n [] zero is = refl
 next-hole n [] (suc i) is = refl
 next-hole n (None ∷ blocks) zero is = refl
-next-hole n (Some s ∷ blocks) zero is = absurd (some_none s (sym is))
+next-hole n (Some s ∷ blocks) zero is = absurd (none-some s (sym is))
 next-hole n (None ∷ blocks) (suc i) is = next-hole n blocks i is
 next-hole n (Some s ∷ blocks) (suc i) is = omega (arith, next-hole n blocks i is)
 
 next-set : (n : ℕ) (blocks : List (Option ℕ)) (i sector : ℕ) → get_or blocks i None ≡ Some sector → times_set n (take (suc i) blocks) ≡ times_set n (take i blocks) + once_if (eqb n sector)
-next-set n [] i sector is = absurd (some_none sector is)
-next-set n (None ∷ blocks) zero sector is = absurd (some_none sector is)
+next-set n [] i sector is = absurd (none-some sector is)
+next-set n (None ∷ blocks) zero sector is = absurd (none-some sector is)
 next-set n (Some s ∷ blocks) zero sector is = let e : s ≡ sector = cc in omega (arith, ap (λ (k : ℕ). once_if (eqb n k)) e)
 next-set n (None ∷ blocks) (suc i) sector is = next-set n blocks i sector is
 next-set n (Some s ∷ blocks) (suc i) sector is = omega (arith, next-set n blocks i sector is)
@@ -43,12 +42,6 @@ take-hole n blocks i is = let next : i + 1 ≡ suc i = omega arith in ap (λ (k 
 pub take-set : (n : ℕ) (blocks : List (Option ℕ)) (i sector : ℕ) → get_or blocks i None ≡ Some sector → times_set n (take (i + 1) blocks) ≡ times_set n (take i blocks) + once_if (eqb n sector)
 take-set n blocks i sector is = let next : i + 1 ≡ suc i = omega arith in ap (λ (k : ℕ). times_set n (take k blocks)) next ∙ next-set n blocks i sector is
 
-pub take-few : (n : ℕ) (blocks : List (Option ℕ)) (i : ℕ) → times_set n (take i blocks) ≤ times_set n blocks
-take-few n blocks zero = omega arith
-take-few n [] (suc i) = omega arith
-take-few n (None ∷ blocks) (suc i) = take-few n blocks i
-take-few n (Some s ∷ blocks) (suc i) = omega (arith, take-few n blocks i)
-
 -- a block that is given back
 pub record GivesBlock (first : ℕ) (was now : List Bool) (blocks : List (Option ℕ)) (from i sector : ℕ) : Type 0 where
   pub behind : first ≤ sector
@@ -58,7 +51,7 @@ pub record GivesBlock (first : ℕ) (was now : List Bool) (blocks : List (Option
 pub gives_block : (first : ℕ) (was now : List Bool) (blocks : List (Option ℕ)) (from i sector : ℕ) → HaveMarks first was blocks → ((n : ℕ) → mark_by first now n + times_set n (take i blocks) ≡ mark_by first was n + times_set n (take from blocks))
     → get_or blocks i None ≡ Some sector → GivesBlock first was now blocks from i sector
 gives_block first was now blocks from i sector marked follow is =
-    let some : 0 < mark_by first now sector = omega (arith, follow sector, marked sector, take-set sector blocks i sector is, take-few sector blocks (i + 1), once_same sector) in
+    let some : 0 < mark_by first now sector = omega (arith, follow sector, marked sector, take-set sector blocks i sector is, times_set-front sector blocks (i + 1), once-here sector) in
     let each_first = each_mark first now 0 in
     let behind : first ≤ sector = each_first.behind sector some in
     let each = each_mark first now (sector - first) in
@@ -72,10 +65,6 @@ gives_block first was now blocks from i sector marked follow is =
           subst (λ (t : ℕ). mark_by first (slice_set now (sector - first) false) n + once_if (eqb n t) ≡ mark_by first now n) at (each.given used n) in
           omega (arith, given, follow n, take-set n blocks i sector is);
     }
-
-named-none : (n : ℕ) → named_by n None ≡ 0
-unfolding named_by
-named-none n = refl
 
 -- the node goes
 

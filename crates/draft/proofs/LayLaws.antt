@@ -9,7 +9,7 @@ use Rattle.extents.specs.Sector.{run_sector}
 use Rattle.layout.specs.Cards.{Card}
 use Rattle.layout.specs.Marks.{times}
 use Rattle.layout.specs.Laid.{runs_of_sector}
-use Rattle.layout.proofs.Frame.{times-at}
+use Rattle.layout.proofs.NumberLaws.{times-at}
 use Rattle.draft.specs.Laying.{AreOnce, LaysFront, LaysNode}
 use Rattle.draft.proofs.UpdateLaws.{put-here, put-elsewhere}
 

@@ -8,7 +8,7 @@ use Rattle.model.specs.declared.node.NodeKind.{NodeKind}
 use Rattle.model.specs.declared.node.NodeKind.TheVariants as kind
 use Rattle.model.specs.Charge.{blocks_of}
 use Rattle.model.specs.Edit.{Shown, Show, PutNode, done}
-use Rattle.layout.specs.Cards.{Card, byte_at, bytes_in, content_of, node_sector, node_with, node_of}
+use Rattle.layout.specs.Cards.{Card, byte_at, bytes_in, content_of, node_with, node_of}
 use Rattle.layout.specs.Cards as layout
 use Rattle.layout.specs.ChangeLaws.{ChangesOwn}
 use Rattle.layout.specs.Known.{IsCard, HasContent, AreCards}
@@ -19,11 +19,12 @@ use Rattle.layout.proofs.Frame.{run_sectors-kept}
 use Rattle.layout.proofs.Knowing.{one_card_change}
 use Rattle.layout.proofs.MarkProofs.{each_mark}
 use Rattle.layout.proofs.NodeEditLaws.{named_by-parts, make_node, show_other}
+use Rattle.layout.proofs.ChargeLaws.{named-none}
 use Rattle.cards.specs.Tables.{number_of, HasNot, IsFree}
 use Rattle.draft.specs.Blocks.{IsPut}
 use Rattle.draft.specs.declared.draft.Draft.{Draft}
 use Rattle.draft.specs.Drafts.{cards_of, image_of, tree_of, IsKnown, StaysKnown, MakesOver, HasNow}
-use Rattle.draft.specs.Nodes.{new_card, IsNew, no_content, new_node, fields_showing, showing}
+use Rattle.draft.specs.Nodes.{new_card, IsNewCard, no_content, new_node, fields_showing, showing}
 use Rattle.draft.proofs.BlockLaws.{here, elsewhere}
 use Rattle.draft.proofs.KnownLaws.{in_table, card_at, named_once, held_at, changed_known, stays_put, made}
 
@@ -102,11 +103,7 @@ known_content form fields kind.Directory = record {
   stamped = record { above = tt; apart = λ i j d low h. absurd (omega arith) };
 }
 
-none-named : (n : ℕ) → named_by n None ≡ 0
-unfolding named_by
-none-named n = refl
-
-module _ (old new : Draft) (place : ℕ) (card : Card) (known : IsKnown old) (free : IsFree (cards_of old) place) (is_new : IsNew card) (fresh : HasNot (cards_of old) card.fields.number) (same : new.nodes ≡ old.nodes) (places : new.places ≡ old.places)
+module _ (old new : Draft) (place : ℕ) (card : Card) (known : IsKnown old) (free : IsFree (cards_of old) place) (is_new : IsNewCard card) (fresh : HasNot (cards_of old) card.fields.number) (same : new.nodes ≡ old.nodes) (places : new.places ≡ old.places)
     (cards : cards_of new ≡ set (cards_of old) place (Some card)) (put : (image : Image) → IsPut (applied old.updates image) (applied new.updates image) (148 + place) (inode_sector card.form card.fields)) where
   abbrev first : ℕ
   first = 148 + old.nodes
@@ -133,7 +130,7 @@ module _ (old new : Draft) (place : ℕ) (card : Card) (known : IsKnown old) (fr
       let known_cards = known.cards in
       one_card_change old.nodes (mark_by first old.places) (mark_by first old.places) (cards_of old) place (Some card) in_it known_cards
       (λ i other off there e. fresh i (ap number_of there ∙ ap (λ (n : ℕ). Some n) e)) is_known
-      (record { marks = λ n. omega (arith, ap (named_by n) free.free, none-named n, new-named n); once = known_cards.once; behind = known_cards.behind })
+      (record { marks = λ n. omega (arith, ap (named_by n) free.free, named-none n, new-named n); once = known_cards.once; behind = known_cards.behind })
 
   pub make_stays : StaysKnown old new
   make_stays = stays_put old new (148 + place) known

@@ -3,8 +3,8 @@ use Rattle.std.proofs.Common.{◌≡◌, ◌≤◌, ◌<◌, ◌+◌, ◌-◌, �
 use Rattle.freemap.specs.Places.{bit_from}
 use Rattle.layout.specs.Marks.{times, once_if}
 use Rattle.layout.specs.Marks.{mark_by}
-use Rattle.layout.proofs.Frame.{once_same, times-at}
 use Rattle.layout.proofs.MarkProofs.{each_mark, mark-back}
+use Rattle.layout.proofs.NumberLaws.{once-here, times-at}
 use Rattle.draft.specs.Laying.{Follow, AreMarked, AreOnce}
 
 pub times-push : (n s : ℕ) (numbers : List ℕ) → times n (numbers ++ s ∷ []) ≡ times n numbers + once_if (eqb n s)
@@ -34,7 +34,7 @@ pub follow-give : (first : ℕ) (was now : List Bool) (named numbers rest : List
 follow-give first was now named numbers rest s follow marked is =
     let last = times-push s s rest in
     let all : times s numbers ≡ times s (rest ++ s ∷ []) = ap (times s) is in
-    let some : 0 < mark_by first now s = omega (arith, once_same s, follow s, marked s) in
+    let some : 0 < mark_by first now s = omega (arith, once-here s, follow s, marked s) in
     let each = each_mark first now (s - first) in
     let behind : first ≤ s = each.behind s some in
     let used = mark-used first now s some in
@@ -51,7 +51,7 @@ times-two [] i j lt h e = absurd (omega arith)
 times-two (x ∷ numbers) i zero lt h e = absurd (omega arith)
 times-two (x ∷ numbers) zero (suc j) lt h e =
     let more : 0 < times x numbers = subst (λ (t : ℕ). 0 < times t numbers) (sym e) (times-at numbers j 0 (omega arith)) in
-    let two : 2 ≤ times x (x ∷ numbers) = omega (arith, once_same x) in
+    let two : 2 ≤ times x (x ∷ numbers) = omega (arith, once-here x) in
     subst (λ (t : ℕ). 2 ≤ times t (x ∷ numbers)) e two
 times-two (x ∷ numbers) (suc i) (suc j) lt h e = let rest = times-two numbers i j (omega arith) (omega arith) e in omega arith
 

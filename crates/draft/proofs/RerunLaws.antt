@@ -5,8 +5,8 @@ use Rattle.std.specs.List.{AllByRecursion}
 use Rattle.inode.specs.Fields.{Fields, IsInode, IsRunSector}
 use Rattle.layout.specs.Marks.{times}
 use Rattle.layout.specs.Marks.{mark_by}
-use Rattle.layout.proofs.Frame.{once_same}
 use Rattle.layout.proofs.MarkProofs.{each_mark, mark-front}
+use Rattle.layout.proofs.NumberLaws.{once-here}
 use Rattle.draft.specs.Laying.{Follow, AreMarked, AreOnce, fields_with}
 use Rattle.draft.proofs.NumberLaws.{are_once}
 
@@ -29,7 +29,7 @@ pub numbers-fit : (first : ℕ) (places : List Bool) (numbers : List ℕ) → 0 
 numbers-fit first places [] some small marked = tt
 numbers-fit first places (x ∷ numbers) some small marked =
     let each = each_mark first places 0 in
-    let here : 0 < mark_by first places x = omega (arith, marked x, once_same x) in
+    let here : 0 < mark_by first places x = omega (arith, marked x, once-here x) in
     let below : x < first + length places = elim (cases_lt x (first + length places)) [ inl low ↦ low | inr high ↦ absurd (let none = each.within x high in omega arith) ] in
     (record { some = omega (arith, each.behind x here); fits = omega arith }, numbers-fit first places numbers some small (λ n. let all = marked n in omega arith))
 

@@ -2,6 +2,7 @@
 use Rattle.std.proofs.Common.{◌≡◌, ◌≤◌, ◌<◌, ◌+◌, ◌-◌, ℕ, List, [], ◌∷◌, Option, Some, None, length, get_or, take, refl, sym, ap, ◌∙◌, arith, inl, inr}
 use Rattle.std.proofs.lemmas.Bool.{cases_order, cases_lt}
 use Rattle.std.proofs.lemmas.List.{length-take, get_or-take}
+use Rattle.std.proofs.lemmas.Option.{same_Some, none-some}
 use Rattle.extents.specs.declared.run.Run.{Run}
 use Rattle.extents.specs.Runs.{sector_by, AreRising, AreApart}
 use Rattle.extents.proofs.RunLemmas.{is_in-yes, is_in-before, is_in-behind}
@@ -27,12 +28,6 @@ at_first run runs some =
     let same : run.sector + (run.block - run.block) ≡ run.sector = omega arith in
     inside run runs run.block (omega arith) (omega arith) ∙ ap (λ (s : ℕ). Some s) same
 
-none_some : (x : ℕ) → (let none : Option ℕ = None in none ≡ Some x) → ⊥
-none_some x e = cc
-
-same_some : (x y : ℕ) → (let some : Option ℕ = Some x in some ≡ Some y) → x ≡ y
-same_some x y e = cc
-
 -- runs from a block on, up to a limit, beside others that have the same sectors there
 abbrev AreSame : (runs others : List Run) (from limit : ℕ) → Type 0
 AreSame runs others from limit = (k : ℕ) → from ≤ k → k < limit → sector_by runs k ≡ sector_by others k
@@ -44,17 +39,17 @@ same_block run other runs others from limit count rising up same = elim (cases_o
   | inr off ↦ elim off [
     | inl low ↦
         let none = before other.block count run.block (other ∷ others) (omega arith, up.1, up.2, up.3, up.4) low in
-        absurd (none_some run.sector (sym none ∙ sym (same run.block rising.0 (omega (arith, rising.1, rising.2))) ∙ at_first run runs rising.1))
+        absurd (none-some run.sector (sym none ∙ sym (same run.block rising.0 (omega (arith, rising.1, rising.2))) ∙ at_first run runs rising.1))
     | inr high ↦
         let none = before run.block limit other.block (run ∷ runs) (omega arith, rising.1, rising.2, rising.3, rising.4) high in
-        absurd (none_some other.sector (sym none ∙ same other.block up.0 (omega (arith, rising.1, rising.2)) ∙ at_first other others up.1))
+        absurd (none-some other.sector (sym none ∙ same other.block up.0 (omega (arith, rising.1, rising.2)) ∙ at_first other others up.1))
   ]
 ]
 
 same_sector : (run other : Run) (runs others : List Run) (from limit count : ℕ) → AreRising from limit (run ∷ runs) → AreRising from count (other ∷ others) → AreSame (run ∷ runs) (other ∷ others) from limit → run.sector ≡ other.sector
 same_sector run other runs others from limit count rising up same =
     let block = same_block run other runs others from limit count rising up same in
-    same_some run.sector other.sector (sym (at_first run runs rising.1) ∙ same run.block rising.0 (omega (arith, rising.1, rising.2)) ∙ ap (sector_by (other ∷ others)) block ∙ at_first other others up.1)
+    same_Some run.sector other.sector (sym (at_first run runs rising.1) ∙ same run.block rising.0 (omega (arith, rising.1, rising.2)) ∙ ap (sector_by (other ∷ others)) block ∙ at_first other others up.1)
 
 -- one that goes on in the other list is followed by none here
 runs_on : (run other : Run) (runs others : List Run) (from limit count : ℕ) → AreRising from limit (run ∷ runs) → AreApart (run ∷ runs) → AreRising from count (other ∷ others) → AreSame (run ∷ runs) (other ∷ others) from limit → run.length < other.length
@@ -69,10 +64,10 @@ runs_on run other (next ∷ runs) others from limit count rising apart up same l
     inside other others end (omega arith) (omega arith) ∙ (let e : other.sector + (end - other.block) ≡ run.sector + run.length = omega arith in ap (λ (s : ℕ). Some s) e) in
     let here : sector_by (next ∷ runs) end ≡ Some (run.sector + run.length) = sym (behind run (next ∷ runs) end (omega arith)) ∙ same end (omega (arith, rising.0)) low ∙ goes in
     elim (cases_lt end next.block) [
-      | inl gap ↦ absurd (none_some (run.sector + run.length) (sym (before next.block limit end (next ∷ runs) (omega arith, rising.4.1, rising.4.2, rising.4.3, rising.4.4) gap) ∙ here))
+      | inl gap ↦ absurd (none-some (run.sector + run.length) (sym (before next.block limit end (next ∷ runs) (omega arith, rising.4.1, rising.4.2, rising.4.3, rising.4.4) gap) ∙ here))
       | inr meets ↦
           let at : next.block ≡ end = omega (arith, rising.4.0) in
-          let s : next.sector ≡ run.sector + run.length = same_some next.sector (run.sector + run.length) (sym (at_first next runs rising.4.1) ∙ ap (sector_by (next ∷ runs)) at ∙ here) in
+          let s : next.sector ≡ run.sector + run.length = same_Some next.sector (run.sector + run.length) (sym (at_first next runs rising.4.1) ∙ ap (sector_by (next ∷ runs)) at ∙ here) in
           absurd (apart.0 (at, s))
     ]
 
@@ -91,7 +86,7 @@ apart_behind run (next ∷ runs) apart = apart.1
 pub fewest : (others runs : List Run) (from limit count : ℕ) → AreRising from limit runs → AreApart runs → AreRising from count others → AreSame runs others from limit → length runs ≤ length others
 fewest others [] from limit count rising apart up same = omega arith
 fewest [] (run ∷ runs) from limit count rising apart up same =
-    absurd (none_some run.sector (sym (same run.block rising.0 (omega (arith, rising.1, rising.2))) ∙ at_first run runs rising.1))
+    absurd (none-some run.sector (sym (same run.block rising.0 (omega (arith, rising.1, rising.2))) ∙ at_first run runs rising.1))
 fewest (other ∷ others) (run ∷ runs) from limit count rising apart up same =
     let block = same_block run other runs others from limit count rising up same in
     let sector = same_sector run other runs others from limit count rising up same in

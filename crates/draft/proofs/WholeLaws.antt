@@ -1,8 +1,7 @@
 -- A draft whose marks are written.
-use Rattle.std.proofs.Common.{◌≡◌, ◌≤◌, ◌<◌, ◌+◌, ◌-◌, ◌*◌, ◌/◌, ◌%◌, ℕ, Bool, false, List, Option, length, get_or, refl, sym, ap, ap₂, ◌∙◌, arith, subst, inl, inr, zero-add, ltb, le-ltb}
+use Rattle.std.proofs.Common.{◌≡◌, ◌≤◌, ◌<◌, ◌+◌, ◌-◌, ◌*◌, ℕ, Bool, false, List, Option, length, refl, sym, ap, ap₂, ◌∙◌, arith, subst, inl, inr, zero-add, ltb, le-ltb}
 use Rattle.std.proofs.lemmas.Bool.{cases_lt}
 use Rattle.std.proofs.lemmas.List.{get_or_past}
-use Rattle.std.proofs.lemmas.Nat.Bits.{bit_at-zero}
 use Rattle.disk.specs.Moments.{Image, applied}
 use Rattle.disk.specs.declared.update.Update.{Update}
 use Rattle.freemap.specs.Places.{bit_from, bit_of, bit_in, mark_of, Shows}
@@ -12,7 +11,7 @@ use Rattle.layout.specs.Cards.{Card, node_sector, tree_of}
 use Rattle.layout.specs.Laid.{AreLaid}
 use Rattle.layout.specs.Marks.{mark_in, mark_by}
 use Rattle.layout.specs.Stands.{Version, HaveForms, IsLaid}
-use Rattle.layout.proofs.MarkProofs.{lays_marks, tree_still}
+use Rattle.layout.proofs.MarkProofs.{lays_marks, tree_still, bit_of-past}
 use Rattle.draft.specs.Blocks.{IsPut}
 use Rattle.draft.specs.Whole.{IsMarked, ShowsPart}
 use Rattle.draft.specs.Updates.{AreBetween}
@@ -27,9 +26,6 @@ written_part old new before places part content shows is = record {
   others = elsewhere old new (98 + part) content is;
 }
 
-sector_end : (bytes : List ℕ) (i : ℕ) → length bytes ≡ 4096 → 32768 ≤ i → bit_of bytes i ≡ 0
-sector_end bytes i len h = let none : get_or bytes (i / 8) 0 ≡ 0 = get_or_past bytes (i / 8) 0 (omega arith) in rw none (bit_at-zero (7 - i % 8))
-
 module _ (old new : Image) (before places : List Bool) (part : ℕ) (is : ShowsPart old new before places part) where
   part_marked : ((i : ℕ) → i < 32768 → bit_of (old (98 + part)) i ≡ mark_of before (32768 * part + i)) → (i : ℕ) → i < 32768 → bit_of (new (98 + part)) i ≡ mark_of places (32768 * part + i)
   part_marked was i h = elim is.shows [
@@ -39,7 +35,7 @@ module _ (old new : Image) (before places : List Bool) (part : ℕ) (is : ShowsP
 
   past_marked : ((i : ℕ) → 32768 ≤ i → bit_of (old (98 + part)) i ≡ 0) → (i : ℕ) → 32768 ≤ i → bit_of (new (98 + part)) i ≡ 0
   past_marked was i h = elim is.shows [
-    | inl shows ↦ sector_end (new (98 + part)) i shows.len h
+    | inl shows ↦ bit_of-past (new (98 + part)) i shows.len h
     | inr kept ↦ ap (λ (s : List ℕ). bit_of s i) kept.0 ∙ was i h
   ]
 

@@ -20,7 +20,7 @@ new_card form fields = record {
   names = [];
 }
 
-pub record IsNew (card : Card) : Type 0 where
+pub record IsNewCard (card : Card) : Type 0 where
   pub is : card ≡ new_card card.form card.fields
   pub number : 0 < card.fields.number
   pub fits : IsInode card.fields

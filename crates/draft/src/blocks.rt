@@ -1,6 +1,6 @@
 //! Bytes and names over a node's blocks.
 
-ghost use Rattle.std.specs.Prelude.{◌≡◌, ◌≢◌, ◌≤◌, ◌<◌, ◌+◌, ◌*◌, ◌/◌, ◌%◌, ◌^◌, ℕ, Some, None, length, replicate, max, ◌-◌, set, slice_index_or, IfOk, OnOk, IsErrOf};
+ghost use Rattle.std.specs.Prelude.{◌≡◌, ◌≤◌, ◌<◌, ◌+◌, ◌*◌, ◌/◌, ◌%◌, ◌^◌, ℕ, Some, None, length, replicate, max, ◌-◌, set, slice_index_or, IfOk, OnOk, IsErrOf};
 ghost use Rattle.disk.specs.Calls.{zero_sector};
 ghost use Rattle.sector.specs.Placed.{placed};
 ghost use Rattle.disk.specs.Moments.{Image, applied};

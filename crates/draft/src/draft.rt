@@ -1,6 +1,6 @@
 //! One transaction in the making.
 
-ghost use Rattle.std.specs.Prelude.{◌≡◌, ◌≤◌, ◌<◌, ◌+◌, ◌*◌, ◌/◌, ◌%◌, ◌^◌, ℕ, set, List, [], Some, None, length, slice_index_or, IfOk, OnOk, IsErrOf};
+ghost use Rattle.std.specs.Prelude.{◌≡◌, ◌≤◌, ◌<◌, ◌+◌, ◌*◌, ◌/◌, ◌%◌, set, [], Some, None, length, slice_index_or, IfOk, OnOk, IsErrOf};
 ghost use Rattle.cards.specs.Overlays.{changed};
 ghost use Rattle.cards.specs.Tables.{HasNot, IsFree};
 ghost use Rattle.directory.specs.Records.{record_from};
@@ -13,7 +13,7 @@ ghost use Rattle.draft.specs.Drafts.{cards_of, end_of, IsKnown, StaysKnown, Make
 ghost use Rattle.draft.specs.Grown.{grown, reaching, sized, blocks_to, CanWrite, CanGrow, CanCut};
 ghost use Rattle.draft.specs.Laying.{CanBeLaid, HasEnough, sectors_for};
 ghost use Rattle.draft.specs.Naming.{CanName, HasName, DropsNamed, with_name, without_name, blocks_named};
-ghost use Rattle.draft.specs.Nodes.{IsNew, new_node, shown_of, showing, HasNode, CanShow};
+ghost use Rattle.draft.specs.Nodes.{IsNewCard, new_node, shown_of, showing, HasNode, CanShow};
 ghost use Rattle.draft.specs.Updates.{AreTargets};
 ghost use Rattle.draft.specs.Whole.{Finishes};
 
@@ -125,7 +125,7 @@ impl<'a> Draft<'a> {
     pub fn make(&mut self, place: u32, card: Card) -> Result<(), AllocError>
         requires known { IsKnown self.old }
         requires free { IsFree (cards_of self.old) place }
-        requires node { IsNew card }
+        requires node { IsNewCard card }
         requires fresh { HasNot (cards_of self.old) card.fields.number }
         ensures known { OnOk result (StaysKnown self.old self.new) }
         ensures cards { OnOk result

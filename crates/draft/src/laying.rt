@@ -1,6 +1,6 @@
 //! Writing a node's sectors.
 
-ghost use Rattle.std.specs.Prelude.{◌≡◌, ◌≢◌, ◌≤◌, ◌<◌, ◌+◌, ◌*◌, ◌/◌, ◌^◌, ℕ, length, OnOk, IsErrOf, vec_len};
+ghost use Rattle.std.specs.Prelude.{◌≡◌, ◌≤◌, ◌<◌, ◌+◌, ◌*◌, ◌/◌, length, OnOk, IsErrOf};
 ghost use Rattle.disk.specs.Moments.{Image, applied};
 ghost use Rattle.freemap.specs.Kept.{free_places};
 ghost use Rattle.inode.specs.Fields.{IsInode};

@@ -1,6 +1,6 @@
 //! The marks of used sectors, written where they change.
 
-ghost use Rattle.std.specs.Prelude.{◌≡◌, ◌≤◌, ◌<◌, ◌+◌, ℕ, length, OnOk};
+ghost use Rattle.std.specs.Prelude.{◌≤◌, ◌<◌, ◌+◌, length, OnOk};
 ghost use Rattle.disk.specs.Moments.{Image, applied};
 ghost use Rattle.draft.specs.Updates.{AreApart};
 ghost use Rattle.draft.specs.Whole.{ShowsPart};
@@ -25,7 +25,7 @@ pub(crate) fn put_marks(
     ensures apart { AreApart updates.new }
 {
     if places.has_same_part(before, part) {
-        updates.are_apart();
+        updates.tell_apart();
         return Ok(());
     }
     let mut content = [0; SECTOR];

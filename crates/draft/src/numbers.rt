@@ -1,6 +1,6 @@
 //! The run sectors of a node.
 
-ghost use Rattle.std.specs.Prelude.{◌≡◌, ◌≤◌, ◌<◌, ◌+◌, ◌^◌, ℕ, length, take, OnOk, IsErrOf, vec_len};
+ghost use Rattle.std.specs.Prelude.{◌≡◌, ◌≤◌, ◌<◌, ◌+◌, ◌^◌, ℕ, length, take, OnOk, IsErrOf};
 ghost use Rattle.freemap.specs.Kept.{free_places};
 ghost use Rattle.draft.specs.Blocks.{HaveMarks};
 ghost use Rattle.draft.specs.Laying.{Follow, AreMarked};

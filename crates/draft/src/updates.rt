@@ -1,10 +1,10 @@
 //! The updates so far.
 
-ghost use Rattle.std.specs.Prelude.{◌≡◌, ◌≤◌, ◌<◌, ◌+◌, ℕ, List, [], Option, Some, None, length, slice_index_or, slice_get, slice_set, IfOk, IfSome, IfNone, OnOk, OnErr, IsTrue, is_err};
+ghost use Rattle.std.specs.Prelude.{◌≡◌, ◌≤◌, ◌<◌, ◌+◌, List, [], Option, Some, None, length, IfOk, IfSome, IfNone, OnOk, OnErr, IsTrue, is_err};
 ghost use Rattle.disk.specs.Moments.{Image, put, applied};
 ghost use Rattle.disk.specs.declared.update.Update.{Update};
 ghost use Rattle.layout.specs.Health.{Reads};
-ghost use Rattle.draft.specs.Updates.{AreApart, updated, IsFirst, HasNot, target_of};
+ghost use Rattle.draft.specs.Updates.{AreApart, updated, IsFirst, HasNot};
 
 use disk::{SECTOR, Update};
 use layout::sectors::{ReadFault, Sectors};
@@ -40,7 +40,7 @@ impl Updates {
     }
 
     /// Tells that no two of them are of one sector.
-    pub(crate) fn are_apart(&self)
+    pub(crate) fn tell_apart(&self)
         ensures { AreApart self.now }
     {
         let _ = &self.list;

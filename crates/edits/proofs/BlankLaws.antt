@@ -1,17 +1,19 @@
 -- Trees with zeros for the bytes of their files.
-use Rattle.std.proofs.Common.{◌≡◌, ◌+◌, ◌-◌, ◌++◌, ◌/◌, ◌%◌, ℕ, suc, Bool, true, false, List, [], ◌∷◌, Option, Some, None, length, map, take, drop, eqb, ltb, refl, sym, ap, ap₂, ◌∙◌, arith}
+use Rattle.std.proofs.Common.{◌≡◌, ◌+◌, ◌-◌, ◌++◌, ◌/◌, ◌%◌, ℕ, suc, Bool, true, false, List, [], ◌∷◌, Option, Some, None, length, map, drop, eqb, ltb, refl, sym, ap, ap₂, ◌∙◌, arith}
 use Rattle.std.specs.Prelude.{slice_index, slice_index_or, option_map, is_some, nat_le, ◌&&◌}
 use Rattle.std.specs.List.{range_with_len}
-use Rattle.std.proofs.lemmas.List.{length-map, length-append, length-replicate, length-take, length-drop}
+use Rattle.std.proofs.lemmas.List.{length-append, length-replicate, length-drop}
 use Rattle.std.proofs.lemmas.List.FromFn.{length-range_with_len}
 use Rattle.disk.specs.Moments.{Image}
 use Rattle.layout.specs.Cards.{Card, byte_at, bytes_in, content_at, content_of, node_of, tree_of}
+use Rattle.layout.proofs.StepLaws.{length-bytes_in}
 use Rattle.model.specs.declared.node.NodeKind.{NodeKind}
 use Rattle.model.specs.declared.node.NodeKind.TheVariants as kind
 use Rattle.model.specs.Charge.{charge, charge_of_blocks, blocks, blocks_of, few_names}
 use Rattle.model.specs.Edit.{Edit, PutNode, DropNode, Show, PutName, DropName, PutBytes, SetSize, done, edited, altered, altered_at, showing, with_content, name_put, name_dropped, resized, overwritten}
 use Rattle.model.specs.Keyed.{Keyed, at, with, without, is_key, total, here_or, before_or_behind, in_place_of, kept_or_not}
 use Rattle.model.specs.Tree.{Tree, Node, Content, File, Directory, DirEntry, names_of, names_at, names_of_node, bytes_of, is_directory_at, is_directory, is_directory_node}
+use Rattle.model.proofs.NodeChangeLaws.{length-resized}
 use Rattle.edits.specs.Edits.{size_of}
 use Rattle.edits.specs.Outlines.{zeros, blank, blank_node, blanked, EachOutline, EditsBlanked}
 
@@ -123,10 +125,6 @@ byte-none blocks k = empty (slice_index_or blocks (k / 4096) None)
     empty None = refl
     empty (Some sector) = refl
 
-pub bytes-length : (image : Image) (blocks : List (Option ℕ)) (size : ℕ) → length (bytes_in image blocks size) ≡ size
-unfolding bytes_in
-bytes-length image blocks size = length-map (range_with_len 0 size) (byte_at image blocks) ∙ length-range_with_len 0 size
-
 pub bytes-none : (blocks : List (Option ℕ)) (size : ℕ) → bytes_in (λ n. []) blocks size ≡ zeros size
 unfolding bytes_in
 bytes-none blocks size = zeros-map (byte_at (λ n. []) blocks) (range_with_len 0 size) (byte-none blocks)
@@ -134,7 +132,7 @@ bytes-none blocks size = zeros-map (byte_at (λ n. []) blocks) (range_with_len 0
 
 pub content-blank : (image : Image) (kind : NodeKind) (card : Card) → blank (content_of image kind card) ≡ content_of (λ n. []) kind card
 content-blank image kind.File card = ap File
-    (ap zeros (bytes-length image card.blocks card.fields.size) ∙ sym (bytes-none card.blocks card.fields.size))
+    (ap zeros (length-bytes_in image card.blocks card.fields.size) ∙ sym (bytes-none card.blocks card.fields.size))
 content-blank image kind.Directory card = refl
 
 pub node-blank : (image : Image) (card : Card) → blank_node (node_of image card) ≡ node_of (λ n. []) card
@@ -149,13 +147,9 @@ each_outline image (Some card ∷ cards) = blanked-with (tree_of image cards) ca
 
 -- Edits
 
-pub resized-length : (bytes : List ℕ) (size : ℕ) → length (resized bytes size) ≡ size
-resized-length bytes size = length-append (take size bytes) (zeros (size - length bytes))
-    ∙ omega (arith, length-take size bytes, length-zeros (size - length bytes))
-
 pub overwritten-length : (bytes part : List ℕ) (offset : ℕ) → length (overwritten bytes offset part) ≡ offset + (length part + (length bytes - (offset + length part)))
 overwritten-length bytes part offset = length-append (resized bytes offset) (part ++ drop (offset + length part) bytes)
-    ∙ omega (arith, resized-length bytes offset, length-append part (drop (offset + length part) bytes), length-drop (offset + length part) bytes)
+    ∙ omega (arith, length-resized bytes offset, length-append part (drop (offset + length part) bytes), length-drop (offset + length part) bytes)
 
 bytes-blank : (content : Content) → length (bytes_of (blank content)) ≡ length (bytes_of content)
 bytes-blank (File bytes) = length-zeros (length bytes)
@@ -199,7 +193,7 @@ done-blanked (PutBytes file offset part) tree = altered-blanked (λ node. with_c
     ∙ sym (overwritten-length (bytes_of node.content) part offset))) tree file
 done-blanked (SetSize file size) tree = altered-blanked (λ node. with_content node (File (resized (bytes_of node.content) size)))
     (λ node. ap (λ (n : ℕ). with_content node (File (zeros n)))
-    (resized-length (bytes_of (blank node.content)) size ∙ sym (resized-length (bytes_of node.content) size))) tree file
+    (length-resized (bytes_of (blank node.content)) size ∙ sym (length-resized (bytes_of node.content) size))) tree file
 
 pub edits_blanked : EditsBlanked
 edits_blanked [] tree = blanked-twice tree

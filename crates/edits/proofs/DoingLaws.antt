@@ -14,7 +14,7 @@ use Rattle.draft.proofs.KnownLaws.{place-within}
 use Rattle.edits.specs.Doing.{AreMade}
 use Rattle.edits.specs.Edits.{fresh_fields, fresh_node, AreEntries}
 use Rattle.edits.specs.Outlines.{zeros, blank_node, blanked, outline_of}
-use Rattle.edits.proofs.BlankLaws.{blanked-with, blanked-without, bytes-none, bytes-length, content-blank, each_outline, overwritten-length, resized-length}
+use Rattle.edits.proofs.BlankLaws.{blanked-with, blanked-without, bytes-none, content-blank, each_outline, overwritten-length}
 use Rattle.edits.proofs.PlaceLaws.{put_forms, IsThere, there_is, outline_put, outline_made, outline_dropped, made_put}
 use Rattle.inode.specs.declared.node.Form.{Form}
 use Rattle.inode.specs.declared.node.Form.TheVariants.{One}
@@ -23,12 +23,14 @@ use Rattle.layout.specs.Cards.{Card, node_of, node_with, content_of, bytes_in}
 use Rattle.layout.specs.Known.{IsCard}
 use Rattle.layout.specs.Marks.{mark_by}
 use Rattle.layout.specs.Stands.{version_1, HaveForms}
+use Rattle.layout.proofs.StepLaws.{length-bytes_in}
 use Rattle.model.specs.declared.node.NodeKind.{NodeKind}
 use Rattle.model.specs.declared.node.NodeKind.TheVariants as kind
 use Rattle.model.specs.Edit.{Shown, done, altered, altered_at, showing, with_content, resized, overwritten, name_put, name_dropped}
 use Rattle.model.specs.Edit as model
 use Rattle.model.specs.Keyed.{Keyed, with, without}
 use Rattle.model.specs.Tree.{Tree, Node, File, Directory, DirEntry, bytes_of, names_of}
+use Rattle.model.proofs.NodeChangeLaws.{length-resized}
 use Rattle.directory.specs.Listing.{by_stamp}
 use Rattle.directory.specs.Records.{Record, place_of, with_record, without_place}
 
@@ -186,7 +188,7 @@ node_written offset part card is =
     ap (λ (k : NodeKind). node_with card.fields (content_of (λ n. []) k (reaching (offset + length part) card))) is
     ∙ ap (λ (l : List ℕ). node_with card.fields (File l)) (bytes-none card.blocks (max card.fields.size (offset + length part)))
     ∙ ap (λ (n : ℕ). node_with card.fields (File (zeros n)))
-    (omega (arith, overwritten-length (bytes_in (λ n. []) card.blocks card.fields.size) part offset, bytes-length (λ n. []) card.blocks card.fields.size))
+    (omega (arith, overwritten-length (bytes_in (λ n. []) card.blocks card.fields.size) part offset, length-bytes_in (λ n. []) card.blocks card.fields.size))
     ∙ ap (λ (k : NodeKind). node_with card.fields (File (zeros (length (overwritten (bytes_of (content_of (λ n. []) k card)) offset part))))) (sym is)
 
 pub node_sized : (size : ℕ) (card : Card) → card.fields.kind ≡ kind.File
@@ -196,7 +198,7 @@ unfolding node_of
 node_sized size card is =
     ap (λ (k : NodeKind). node_with card.fields (content_of (λ n. []) k (sized card size))) is
     ∙ ap (λ (l : List ℕ). node_with card.fields (File l)) (bytes-none card.blocks size)
-    ∙ ap (λ (n : ℕ). node_with card.fields (File (zeros n))) (sym (resized-length (bytes_in (λ n. []) card.blocks card.fields.size) size))
+    ∙ ap (λ (n : ℕ). node_with card.fields (File (zeros n))) (sym (length-resized (bytes_in (λ n. []) card.blocks card.fields.size) size))
     ∙ ap (λ (k : NodeKind). node_with card.fields (File (zeros (length (resized (bytes_of (content_of (λ n. []) k card)) size))))) (sym is)
 
 pub new_is : (card : Card) → card ≡ new_card One card.fields → card ≡ new_card card.form card.fields

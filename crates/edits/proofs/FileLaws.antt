@@ -3,10 +3,11 @@ use Rattle.std.proofs.Common.{◌≡◌, ◌≤◌, ◌+◌, ℕ, List, [], Opti
 use Rattle.draft.specs.Grown.{CanWrite, CanGrow, CanCut, blocks_to}
 use Rattle.edits.specs.Edits.{IsFileTo, size_of}
 use Rattle.edits.specs.Outlines.{outline_of}
-use Rattle.edits.proofs.BlankLaws.{bytes-length, overwritten-length}
+use Rattle.edits.proofs.BlankLaws.{overwritten-length}
 use Rattle.edits.proofs.PlaceLaws.{IsThere, there_is, file_there}
 use Rattle.layout.specs.Cards.{Card, bytes_in, content_of, node_of}
 use Rattle.layout.specs.Known.{AreCards}
+use Rattle.layout.proofs.StepLaws.{length-bytes_in}
 use Rattle.model.specs.declared.node.NodeKind.{NodeKind}
 use Rattle.model.specs.declared.node.NodeKind.TheVariants as kind
 use Rattle.model.specs.Charge.{charge, charge_of_blocks, blocks_of}
@@ -22,7 +23,7 @@ module _ (cards : List (Option Card)) (nodes : ℕ) (mark : ℕ → ℕ) (known 
   unfolding node_of
   size_is = ap size_of (there_is cards known.apart place number it)
       ∙ ap (λ (k : NodeKind). length (bytes_of (content_of (λ n. []) k it.card))) is_file
-      ∙ bytes-length (λ n. []) it.card.blocks it.card.fields.size
+      ∙ length-bytes_in (λ n. []) it.card.blocks it.card.fields.size
 
   small_there : it.card.fields.size ≤ 16777216
   small_there = omega (arith, size_is, file.small)
@@ -42,4 +43,4 @@ pub written_charge : (card : Card) (offset : ℕ) (part : List ℕ) → card.fie
 unfolding node_of
 written_charge card offset part is = ap (λ (n : ℕ). charge_of_blocks (blocks_of kind.File n))
     (ap (λ (k : NodeKind). length (overwritten (bytes_of (content_of (λ n. []) k card)) offset part)) is
-    ∙ omega (arith, overwritten-length (bytes_in (λ n. []) card.blocks card.fields.size) part offset, bytes-length (λ n. []) card.blocks card.fields.size))
+    ∙ omega (arith, overwritten-length (bytes_in (λ n. []) card.blocks card.fields.size) part offset, length-bytes_in (λ n. []) card.blocks card.fields.size))

@@ -11,7 +11,7 @@ use Rattle.model.specs.Keyed.{total}
 use Rattle.model.specs.declared.limits.Limits.{Limits}
 use Rattle.model.specs.Tree.{Tree}
 
-fits-blanked : (limits : Limits) (tree : Tree) → fits limits (blanked tree) ≡ fits limits tree
+pub fits-blanked : (limits : Limits) (tree : Tree) → fits limits (blanked tree) ≡ fits limits tree
 unfolding fits
 fits-blanked limits tree = ap₂ (λ (low rest : Bool). low && rest) (ap (λ (n : ℕ). nat_le n limits.data_sectors) (charge-blanked tree))
     (ap₂ (λ (few names : Bool). few && names) (ap (λ (n : ℕ). nat_le n limits.nodes) (length-blanked tree)) (few-blanked limits.names tree))

@@ -9,13 +9,13 @@ use Rattle.edits.specs.declared.room.Size.{Size}
 use Rattle.edits.specs.Edits.{edit_of, edits_of, CanDo, AreDoable}
 use Rattle.edits.specs.Outlines.{outline_of}
 use Rattle.edits.specs.Sizes.{size_of_content, size_there, size_at, charge_of_size, nodes_in, IsBelow, number_of, resized_by}
-use Rattle.edits.proofs.BlankLaws.{bytes-length}
 use Rattle.edits.proofs.PlaceLaws.{IsThere, there_is, no_number}
 use Rattle.edits.proofs.SizeLaws.{IsRising, behind, still_rising, charge_behind, nodes_behind}
 use Rattle.layout.specs.Cards.{Card, node_of, content_of}
 use Rattle.layout.specs.Known.{AreCards, HasContent}
 use Rattle.layout.proofs.Changing.{tree-above}
 use Rattle.layout.proofs.ChargeLaws.{length-by_stamp, above_by_stamp}
+use Rattle.layout.proofs.StepLaws.{length-bytes_in}
 use Rattle.model.specs.declared.node.NodeKind.{NodeKind}
 use Rattle.model.specs.declared.node.NodeKind.TheVariants as kind
 use Rattle.model.specs.Charge.{charge}
@@ -147,7 +147,7 @@ few_numbers tree edits most can rising low each number = by_edit (touched tree e
 
 module _ (nodes : ℕ) (mark : ℕ → ℕ) (cards : List (Option Card)) (known : AreCards nodes mark cards) where
   content_size : (of : NodeKind) (card : Card) → HasContent of card → size_of_content (content_of (λ n. []) of card) ≡ record { kind = of; count = card.fields.size }
-  content_size kind.File card has = ap (λ (n : ℕ). let size : Size = record { kind = kind.File; count = n } in size) (bytes-length (λ n. []) card.blocks card.fields.size)
+  content_size kind.File card has = ap (λ (n : ℕ). let size : Size = record { kind = kind.File; count = n } in size) (length-bytes_in (λ n. []) card.blocks card.fields.size)
   content_size kind.Directory card has =
       ap (λ (n : ℕ). let size : Size = record { kind = kind.Directory; count = n } in size) (length-by_stamp card.names has.stamped ∙ has.count)
 

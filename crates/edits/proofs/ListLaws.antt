@@ -7,7 +7,7 @@ use Rattle.draft.specs.declared.draft.Draft.{Draft}
 use Rattle.draft.specs.Drafts.{cards_of, IsKnown}
 use Rattle.edits.specs.declared.edit.Edit.{Edit}
 use Rattle.edits.specs.declared.edit.Edit.TheVariants as declared
-use Rattle.edits.specs.Doing.{Does, DoesAnywhere, made_by, HasRoom, Overfills}
+use Rattle.edits.specs.Doing.{Does, DoesAnywhere, made_by, FitsOn, Overfills}
 use Rattle.edits.specs.Edits.{edit_of, edits_of, AreDoable, StayFew}
 use Rattle.edits.specs.Outlines.{blanked, outline_of}
 use Rattle.edits.proofs.BlankLaws.{edits_blanked, charge-blanked, length-blanked}
@@ -125,7 +125,7 @@ module _ (word : Type 0) (base : Image) (size : ℕ) (old mid : Draft) (edit : E
 pub overfills_first : (draft : Draft) (edit : Edit) (edits : List Edit) → Overfills draft (edit ∷ []) → Overfills draft (edit ∷ edits)
 overfills_first draft edit edits over = by_count over.count over.within over.full
   where
-    by_count : (count : ℕ) → count ≤ 1 → (HasRoom (length draft.places) draft.nodes (edited (take count (edit_of edit ∷ [])) (outline_of (cards_of draft))) → ⊥) → Overfills draft (edit ∷ edits)
+    by_count : (count : ℕ) → count ≤ 1 → (FitsOn (length draft.places) draft.nodes (edited (take count (edit_of edit ∷ [])) (outline_of (cards_of draft))) → ⊥) → Overfills draft (edit ∷ edits)
     by_count zero within full = record { count = 0; within = omega arith; full = full }
     by_count (suc zero) within full = record { count = 1; within = omega arith; full = full }
     by_count (suc (suc count)) within full = absurd (omega (arith, within))

@@ -3,7 +3,7 @@ use Rattle.std.proofs.Common.{◌≡◌, ◌+◌, ℕ, suc, List, [], ◌∷◌,
 use Rattle.cards.specs.Tables.{AreTaken, charge_of, charge_of_all, count_of_all}
 use Rattle.draft.specs.declared.draft.Draft.{Draft}
 use Rattle.draft.specs.Drafts.{cards_of, IsKnown, IsOvercharged}
-use Rattle.edits.specs.Doing.{HasRoom, Overfills}
+use Rattle.edits.specs.Doing.{FitsOn, Overfills}
 use Rattle.edits.specs.declared.edit.Edit.TheVariants as declared
 use Rattle.edits.specs.Edits.{fresh_node}
 use Rattle.draft.specs.declared.nodes.Shown.{Shown}
@@ -63,7 +63,7 @@ module _ (nodes : ℕ) (mark : ℕ → ℕ) (cards : List (Option Card)) (known 
 -- a node that would be charged for so many blocks leaves no room
 pub no_room : (draft : Draft) (known : IsKnown draft) (place number : ℕ) (it : IsThere (cards_of draft) place number) (alter : Node → Node) (blocks : Card → ℕ)
     → IsOvercharged draft place blocks → charge (alter (node_of (λ n. []) it.card)) ≡ charge_of_blocks (blocks it.card)
-    → HasRoom (length draft.places) draft.nodes (altered alter (outline_of (cards_of draft)) number) → ⊥
+    → FitsOn (length draft.places) draft.nodes (altered alter (outline_of (cards_of draft)) number) → ⊥
 no_room draft known place number it alter blocks over charged room =
     let sum = charge_altered draft.nodes (mark_by (148 + draft.nodes) draft.places) (cards_of draft) known.cards place number it alter in
     let more = over it.card it.there in

@@ -8,9 +8,9 @@ use Rattle.edits.specs.declared.edit.Edit.TheVariants as declared
 use Rattle.edits.specs.declared.room.Size.{Size}
 use Rattle.edits.specs.Edits.{edit_of, fresh_node, CanDo}
 use Rattle.edits.specs.Sizes.{size_of_content, size_there, size_at, charge_of_size, nodes_in, names_in, number_of, resized_by}
-use Rattle.edits.proofs.BlankLaws.{overwritten-length, resized-length}
+use Rattle.edits.proofs.BlankLaws.{overwritten-length}
 use Rattle.edits.proofs.ChangeLaws.{ChangesOne, change_with, change_without, change_altered, at_altered, stamp_there}
-use Rattle.layout.proofs.ChargeLaws.{length-with, total-ones}
+use Rattle.layout.proofs.ChargeLaws.{length-with}
 use Rattle.model.specs.declared.node.NodeKind.{NodeKind}
 use Rattle.model.specs.declared.node.NodeKind.TheVariants as kind
 use Rattle.model.specs.Charge.{charge}
@@ -18,6 +18,8 @@ use Rattle.model.specs.Edit.{done, showing, name_put, name_dropped, with_content
 use Rattle.model.specs.Keyed.{Keyed, at, with, without, total, worth_at, IsAbove}
 use Rattle.model.specs.Tree.{Tree, Node, Content, File, Directory, DirEntry, names_of, names_at, names_of_node, bytes_of, is_directory, is_directory_node}
 use Rattle.model.proofs.KeyedLaws.{at-with_same, at-without_same, IsAbove-with, IsAbove-without, total-without}
+use Rattle.model.proofs.NodeChangeLaws.{length-resized}
+use Rattle.model.proofs.OpensLaws.{total-ones}
 
 -- What a size tells of a node
 
@@ -135,7 +137,7 @@ new_size tree (declared.SetSize file size) can rising =
     by_node : (found : Option Node)
         → size_there (option_map (λ node. with_content node (File (resized (bytes_of node.content) size))) found) ≡ resized_by (declared.SetSize file size) (size_there found)
     by_node None = refl
-    by_node (Some node) = ap file_of (resized-length (bytes_of node.content) size)
+    by_node (Some node) = ap file_of (length-resized (bytes_of node.content) size)
 
 new_names : (tree : Tree) (edit : Edit) → CanDo tree edit → IsRising tree → IsAbove 0 (names_at (done (edit_of edit) tree) (number_of edit))
 new_names tree (declared.PutNode number of shown) can rising =

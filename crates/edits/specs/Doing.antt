@@ -66,7 +66,7 @@ abbrev pub DoesAnywhere : (old new : Draft) → Edit → Type 0
 DoesAnywhere old new edit = (base : Image) (size : ℕ) → Does ⊤ base size old new (edit ∷ [])
 
 -- the charges come to so many sectors at most, and the nodes to so many places
-pub record HasRoom (sectors places : ℕ) (tree : Tree) : Type 0 where
+pub record FitsOn (sectors places : ℕ) (tree : Tree) : Type 0 where
   pub charge : total charge tree ≤ sectors
   pub nodes : length tree ≤ places
 
@@ -74,5 +74,5 @@ pub record HasRoom (sectors places : ℕ) (tree : Tree) : Type 0 where
 pub record Overfills (draft : Draft) (edits : List Edit) : Type 0 where
   pub count : ℕ
   pub within : count ≤ length edits
-  pub full : HasRoom (length draft.places) draft.nodes
+  pub full : FitsOn (length draft.places) draft.nodes
       (edited (take count (edits_of edits)) (outline_of (cards_of draft))) → ⊥

@@ -5,7 +5,7 @@ use Rattle.cards.specs.Overlays.{changed}
 use Rattle.draft.specs.declared.draft.Outcome.{Outcome}
 use Rattle.draft.specs.Updates.{AreTargets}
 use Rattle.edits.specs.declared.edit.Edit.{Edit}
-use Rattle.edits.specs.Doing.{AreMade, HasRoom, made_by, updates_of_all}
+use Rattle.edits.specs.Doing.{AreMade, FitsOn, made_by, updates_of_all}
 use Rattle.edits.specs.Edits.{edits_of}
 use Rattle.edits.specs.Outlines.{blanked, outline_of}
 use Rattle.edits.specs.Parts.{PartsAreBytes}
@@ -26,7 +26,7 @@ pub record IsWholeVolume (size : ℕ) (table : List (Option Card)) (places : Lis
 -- the tree after each front of edits has room
 abbrev pub FrontsHaveRoom : (sectors places : ℕ) → Tree → List Edit → Type 0
 FrontsHaveRoom sectors places tree edits = (count : ℕ) → count ≤ length edits
-    → HasRoom sectors places (edited (take count (edits_of edits)) tree)
+    → FitsOn sectors places (edited (take count (edits_of edits)) tree)
 
 -- the cards that an outcome makes of a table's
 abbrev pub cards_after : List (Option Card) → Outcome → List (Option Card)

@@ -63,15 +63,18 @@ fn put_name(
     name: &[u8],
     number: u64,
 ) -> Result<(), SpaceFault>
+    // An edit that can be done
     requires known { IsKnown draft.old }
     requires can { IsNewName (outline_of (cards_of draft.old)) directory stamp
         (record { name = name.now; number = number }) }
     requires few { IsTrue (few_names Names.MAX_NAMES (done (PutName directory stamp
         (record { name = name.now; number = number })) (outline_of (cards_of draft.old)))) }
+    // Done, or full
     ensures done { OnOk result (DoesAnywhere draft.old draft.new
         (edit.PutName directory stamp name.entry number)) }
     ensures full { IsErrOf result SpaceFault.Full
         → Overfills draft.old (edit.PutName directory stamp name.entry number ∷ []) }
+    // In any case
     ensures table { draft.new.cards.table ≡ draft.old.cards.table }
 {
     let place = place_of(draft, directory);
@@ -157,13 +160,16 @@ fn put_bytes<S: Sectors>(
     offset: usize,
     bytes: &[u8],
 ) -> Result<(), DraftFault>
+    // An edit that can be done
     requires known { IsKnown draft.old × (end_of draft.old ≤ S.size (S.kept base.old)) }
     requires can { IsFileTo (outline_of (cards_of draft.old)) file (offset + length bytes.now) }
+    // Done, or full
     ensures done { OnOk result (Does S.keeps_word (S.image (S.kept base.old))
         (S.size (S.kept base.old)) draft.old draft.new
         (edit.PutBytes file offset bytes.entry ∷ [])) }
     ensures full { IsErrOf result DraftFault.Full
         → Overfills draft.old (edit.PutBytes file offset bytes.entry ∷ []) }
+    // In any case
     ensures kept { (S.kept base.new ≡ S.kept base.old)
         × (draft.new.cards.table ≡ draft.old.cards.table) }
     ensures health { Reads (S.health base.old) (S.health base.new)
@@ -180,11 +186,14 @@ fn set_size<S: Sectors>(
     file: u64,
     size: u64,
 ) -> Result<(), DraftFault>
+    // An edit that can be done
     requires known { IsKnown draft.old × (end_of draft.old ≤ S.size (S.kept base.old)) }
     requires can { IsFileTo (outline_of (cards_of draft.old)) file size }
+    // Done, or full
     ensures done { OnOk result (Does S.keeps_word (S.image (S.kept base.old))
         (S.size (S.kept base.old)) draft.old draft.new (edit.SetSize file size ∷ [])) }
     ensures full { IsErrOf result DraftFault.Full → ⊥ }
+    // In any case
     ensures kept { (S.kept base.new ≡ S.kept base.old)
         × (draft.new.cards.table ≡ draft.old.cards.table) }
     ensures health { Reads (S.health base.old) (S.health base.new)
@@ -204,13 +213,16 @@ fn edit_one<S: Sectors>(
     base: &mut S,
     edit: Edit<'_>,
 ) -> Result<(), DraftFault>
+    // An edit that can be done
     requires known { IsKnown draft.old × (end_of draft.old ≤ S.size (S.kept base.old)) }
     requires can { CanDo (outline_of (cards_of draft.old)) edit }
     requires few { IsTrue (few_names Names.MAX_NAMES
         (done (edit_of edit) (outline_of (cards_of draft.old)))) }
+    // Done, or full
     ensures done { OnOk result (Does S.keeps_word (S.image (S.kept base.old))
         (S.size (S.kept base.old)) draft.old draft.new (edit.entry ∷ [])) }
     ensures full { IsErrOf result DraftFault.Full → Overfills draft.old (edit.entry ∷ []) }
+    // In any case
     ensures kept { (S.kept base.new ≡ S.kept base.old)
         × (draft.new.cards.table ≡ draft.old.cards.table) }
     ensures health { Reads (S.health base.old) (S.health base.new)
@@ -259,12 +271,15 @@ pub(crate) fn edit_all<S: Sectors>(
     base: &mut S,
     edits: Vec<Edit<'_>>,
 ) -> Result<(), DraftFault>
+    // An edit that can be done
     requires known { IsKnown draft.old × (end_of draft.old ≤ S.size (S.kept base.old)) }
     requires can { AreDoable (outline_of (cards_of draft.old)) edits.items }
     requires few { StayFew (outline_of (cards_of draft.old)) edits.items }
+    // Done, or full
     ensures done { OnOk result (Does S.keeps_word (S.image (S.kept base.old))
         (S.size (S.kept base.old)) draft.old draft.new edits.entry.items) }
     ensures full { IsErrOf result DraftFault.Full → Overfills draft.old edits.entry.items }
+    // In any case
     ensures kept { (S.kept base.new ≡ S.kept base.old)
         × (draft.new.cards.table ≡ draft.old.cards.table) }
     ensures health { Reads (S.health base.old) (S.health base.new)

@@ -146,6 +146,7 @@ pub(crate) fn first_clear(bits: &[u8], from: usize, count: usize) -> Option<usiz
     requires within { count ≤ PLACES }
     requires begins { from ≤ PLACES }
     requires below { IsSetBelow bits.now from }
+    // What it finds
     ensures found { IfSome result (λ place. (place < count) × (bit_of bits.now place ≡ 0)) }
     ensures first { IfSome result (IsSetBelow bits.now) }
     ensures none { IfNone result (IsSetBelow bits.now count) }

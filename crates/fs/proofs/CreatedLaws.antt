@@ -1,5 +1,5 @@
 -- CREATE of a directory that passed its tests: it may be made, and what the tests of room and stamps say of it is what the definition says.
-use Rattle.std.proofs.Common.{◌≡◌, ◌+◌, ◌++◌, ℕ, Bool, true, false, List, [], Option, Some, None, refl, sym, ap, ◌∙◌, subst, is_some, not, arith}
+use Rattle.std.proofs.Common.{◌≡◌, ◌+◌, ◌++◌, ℕ, Bool, true, false, List, [], Option, Some, None, refl, sym, ap, ◌∙◌, subst, not, arith}
 use Rattle.std.proofs.Math.Logic.{∥∥₁_elim}
 use Rattle.std.proofs.Props.{props}
 use Rattle.std.proofs.lemmas.Bool.{not-false}
@@ -20,7 +20,7 @@ use Rattle.model.specs.Charge.{fits}
 use Rattle.model.specs.Context.{at_node}
 use Rattle.model.specs.Directory.{change_of, new_directory}
 use Rattle.model.specs.Edit.{Shown}
-use Rattle.model.specs.Inherit.{created}
+use Rattle.model.specs.Inherit.{created_list}
 use Rattle.model.specs.Keyed.{at}
 use Rattle.model.specs.Limits.{limits_of}
 use Rattle.model.specs.Name.{name_refusals}
@@ -30,7 +30,8 @@ use Rattle.model.specs.Stamp.{next_stamp, is_stamp_left}
 use Rattle.model.specs.Step.{State, made, answered, refused, current, stamp_of}
 use Rattle.model.specs.Tree.{Tree, Node, kind_of, names_at, entry_of}
 use Rattle.model.specs.WellFormed.{IsNode}
-use Rattle.model.proofs.StepCases.{none_in_front, none_in_both}
+use Rattle.model.proofs.RefusalLaws.{none_in_front, none_in_both}
+use Rattle.model.proofs.OptionLaws.{none_by_test}
 use Rattle.settings.specs.declared.said.Settings.{Settings}
 use Rattle.settings.specs.Given.{AreSettings, AreWithin}
 use Rattle.fs.specs.OnTree.{new_directory_refusals}
@@ -41,13 +42,9 @@ use Rattle.fs.specs.Operations as operations
 use Rattle.fs.specs.Planned.{IsList, child_shown, list_by}
 use Rattle.fs.specs.Ready.{MayStand}
 use Rattle.fs.proofs.CardViews.{names_are, kind_told}
-use Rattle.fs.proofs.EntryLaws.{created_list}
+use Rattle.fs.proofs.EntryLaws.{given_list_fits}
 use Rattle.fs.proofs.MakingLaws as laws
 use Rattle.volume.specs.Nodes.{IsNodeOf}
-
-nothing : {A : Type 0} (o : Option A) → is_some o ≡ false → o ≡ None
-nothing None told = refl
-nothing (Some x) told = absurd (cc)
 
 not_same : (x y : Status) → (let one : Option Status = Some x in one ≡ Some y) → x ≡ y
 not_same x y same = cc
@@ -91,10 +88,10 @@ module _ (fs : FileSystem) (formed : MayStand fs.volume fs.changes) (limited : f
       let place = none_in_front _ status.NotDir _ stale.1 in
       let parts = none_in_both (name_refusals fs.volume.limits name ++ attribute_refusals fs.volume.limits kind.Directory settable_at_creation given) _ place.1 in
       let rights = none_in_front _ status.Access _ parts.1 in
-      nothing _ (none_in_front _ status.Exist None rights.1).0
+      none_by_test _ (none_in_front _ status.Exist None rights.1).0
 
   list_of_it : (settings : Settings) → AreWithin fs.volume.limits kind.Directory settings → IsList fs.volume.limits kind.Directory (list_by kind.Directory card.fields.acl settings)
-  list_of_it settings within = created_list fs.volume.limits fs.volume.sectors fs.volume.limits.nodes limited kind.Directory card.fields.acl (listed fs formed number card parent) settings within
+  list_of_it settings within = given_list_fits fs.volume.limits fs.volume.sectors fs.volume.limits.nodes limited kind.Directory card.fields.acl (listed fs formed number card parent) settings within
 
   abbrev own : ℕ
   own = next_stamp fs.volume.run fs.changes
@@ -104,7 +101,7 @@ module _ (fs : FileSystem) (formed : MayStand fs.volume fs.changes) (limited : f
     made_is : first_node kind.Directory 0 child ≡ new_directory cred node.node.acl given own now
     made_is =
         let by : ℕ → List Ace → Bool → Option ℕ → Option (List Ace) → Node =
-        λ s acl nothing_given mode list. first_node kind.Directory 0 (child_shown cred (created acl kind.Directory nothing_given mode list) s now) in
+        λ s acl nothing_given mode list. first_node kind.Directory 0 (child_shown cred (created_list acl kind.Directory nothing_given mode list) s now) in
         ap (first_node kind.Directory 0) child_is
         ∙ ap (λ (s : ℕ). by s card.fields.acl settings.is_empty settings.mode settings.acl) stamp_is
         ∙ ap (λ (acl : List Ace). by own acl settings.is_empty settings.mode settings.acl) (sym node.acl)

@@ -1,5 +1,5 @@
 -- CREATE's tests, one after the other, and what it does.
-use Rattle.std.proofs.Common.{ℕ, Bool, true, false, List, [], ◌∷◌, ◌++◌, ◌≡◌, ◌&&◌, ◌||◌, ◌∙◌, not, refl, sym, ap, is_some}
+use Rattle.std.proofs.Common.{ℕ, Bool, true, false, List, [], ◌∷◌, ◌++◌, ◌≡◌, ◌∙◌, not, refl, sym, ap, is_some}
 use Rattle.std.specs.Prelude.{Option, Some, None, IsTrue}
 use Rattle.model.specs.declared.acl.Cred.{Cred}
 use Rattle.model.specs.declared.limits.Limits.{Limits}
@@ -18,8 +18,9 @@ use Rattle.model.specs.Refusal.{Refusals, first_refusal, refused_or}
 use Rattle.model.specs.Stamp.{is_stamp_left}
 use Rattle.model.specs.Step.{State, current, late, without_rights, refusals, change_refusals, effect, does, refused, made, create, unless_refused}
 use Rattle.model.specs.Tree.{Tree, Node, is_directory, is_directory_at, names_of, names_at, entry_of}
+use Rattle.model.proofs.RefusalLaws.{first-append, or_else}
+use Rattle.model.proofs.BooleanLaws.{alone}
 use Rattle.fs.specs.OnTree.{IsState, new_directory_refusals}
-use Rattle.settings.proofs.Refusing.{or_else, first-append}
 
 module _ (limits : Limits) (tree : Tree) (cred : Cred) (number : ℕ) (name : List ℕ) (given : Attributes) (node : Node)
     (there : at number tree ≡ Some node) (directory : is_directory node.content ≡ true) where
@@ -59,10 +60,6 @@ module _ (limits : Limits) (tree : Tree) (cred : Cred) (number : ℕ) (name : Li
       may_be_made allowed free = tests_are ∙ rw (good, set, allowed, free) refl
 
 -- In a state
-
-alone : (b : Bool) → ((b || false) && true) ≡ b
-alone true = refl
-alone false = refl
 
 abbrev create_of : (name : List ℕ) → Attributes → Argument
 create_of name given = Argument.Create (NewDirectory name given)

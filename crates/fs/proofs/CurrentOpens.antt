@@ -10,7 +10,7 @@ use Rattle.model.specs.Refusal.{first_refusal, refused_or}
 use Rattle.model.specs.StateIds.{is_table_full}
 use Rattle.model.specs.Step.{State, current, does, refused}
 use Rattle.model.specs.Tree.{Tree}
-use Rattle.settings.proofs.Refusing.{or_else}
+use Rattle.model.proofs.RefusalLaws.{or_else}
 use Rattle.fs.specs.declared.opening.Share.{Share}
 use Rattle.fs.specs.FileSystem.{FileSystem}
 use Rattle.fs.specs.Opening.{IsOpeningCurrent, after_open, current_opened, handle_tests}

@@ -11,7 +11,7 @@ use Rattle.model.specs.declared.limits.Limits.{Limits}
 use Rattle.model.specs.declared.node.NodeKind.{NodeKind}
 use Rattle.model.specs.declared.node.NodeKind.TheVariants as kind
 use Rattle.model.specs.Acl.{is_within, every_right, inheritance, are_flags_for, has_width, is_entry_for, is_list_for}
-use Rattle.model.specs.Inherit.{created}
+use Rattle.model.specs.Inherit.{created_list}
 use Rattle.model.specs.Limits.{limits_of}
 use Rattle.model.specs.SetAttr.{list_set}
 use Rattle.model.proofs.FileStepLaws.{list_given, list_is_set}
@@ -60,9 +60,9 @@ small_list limits of acl is =
     record { each = each_spelled of acl parts.0; few = leb-true (length acl) limits.aces parts.1 }
 
 -- the list of a new node is one, where the list that is given is
-pub created_list : (limits : Limits) (sectors nodes : ℕ) → limits ≡ limits_of sectors nodes → (of : NodeKind) (parent : List Ace) → IsList limits kind.Directory parent
-    → (settings : Settings) → AreWithin limits of settings → IsList limits of (created parent of settings.is_empty settings.mode settings.acl)
-created_list limits sectors nodes limited of parent is settings within =
+pub given_list_fits : (limits : Limits) (sectors nodes : ℕ) → limits ≡ limits_of sectors nodes → (of : NodeKind) (parent : List Ace) → IsList limits kind.Directory parent
+    → (settings : Settings) → AreWithin limits of settings → IsList limits of (created_list parent of settings.is_empty settings.mode settings.acl)
+given_list_fits limits sectors nodes limited of parent is settings within =
     let room : limits.aces_set + 5 ≤ limits.aces = subst (λ (l : Limits). l.aces_set + 5 ≤ l.aces) (sym limited) (omega arith) in
     list_given modes_keep_limits inheritance_keeps_limits limits of room parent is settings.is_empty settings.mode settings.acl
     (λ list said. within.acl (omega (arith, room)) list said)

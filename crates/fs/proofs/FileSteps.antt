@@ -1,5 +1,5 @@
 -- READ, WRITE and COMMIT by the definition: their tests, one after the other, and what they do.
-use Rattle.std.proofs.Common.{◌≡◌, ℕ, Bool, true, false, [], ◌∷◌, ◌++◌, ◌&&◌, ◌||◌, not, nat_lt, ◌+◌, length, refl, sym, ap, ap₂, ◌∙◌}
+use Rattle.std.proofs.Common.{◌≡◌, ℕ, Bool, true, false, [], ◌∷◌, ◌++◌, not, nat_lt, ◌+◌, length, refl, sym, ap, ap₂, ◌∙◌}
 use Rattle.std.specs.Prelude.{Option, Some, None, IsTrue, Result, Ok, Err}
 use Rattle.model.specs.declared.limits.Limits.{Limits}
 use Rattle.model.specs.declared.status.Status.{Status}
@@ -17,12 +17,9 @@ use Rattle.model.specs.Stamp.{is_stamp_left}
 use Rattle.model.specs.StateIds.{state_refusals, read_access, write_access}
 use Rattle.model.specs.Step.{State, Stepped, current, refusals, change_refusals, without_rights, effect, does, refused, unless_refused, current_refusals}
 use Rattle.model.specs.Tree.{is_directory_at}
-use Rattle.settings.proofs.Refusing.{or_else, first-append}
+use Rattle.model.proofs.RefusalLaws.{first-append, or_else}
+use Rattle.model.proofs.BooleanLaws.{alone}
 use Rattle.fs.specs.Files.{IsVerdict, verdict_refusals, file_refusals, permit_refusals}
-
-pub alone : (b : Bool) → ((b || false) && true) ≡ b
-alone true = refl
-alone false = refl
 
 pub or_none : (o : Option Status) → or_else o None ≡ o
 or_none None = refl

@@ -1,5 +1,5 @@
 -- The file that an OPEN makes: it may be made, and is the one that the definition says.
-use Rattle.std.proofs.Common.{◌≡◌, ◌≤◌, ◌<◌, ℕ, Bool, false, List, Option, Some, None, refl, sym, ap, ◌∙◌, arith, subst, is_some}
+use Rattle.std.proofs.Common.{◌≡◌, ◌≤◌, ◌<◌, ℕ, Bool, false, List, Option, Some, None, refl, sym, ap, ◌∙◌, arith, subst}
 use Rattle.std.specs.Prelude.{unwrap_or}
 use Rattle.std.specs.Option.{ForSome}
 use Rattle.std.proofs.lemmas.List.Elements.{All-replicate}
@@ -12,7 +12,7 @@ use Rattle.model.specs.declared.node.NodeKind.TheVariants as kind
 use Rattle.model.specs.Attribute.{is_empty, mode_given, size_given}
 use Rattle.model.specs.Directory.{acl_of, is_named}
 use Rattle.model.specs.Edit.{Shown}
-use Rattle.model.specs.Inherit.{created}
+use Rattle.model.specs.Inherit.{created_list}
 use Rattle.model.specs.Keyed.{at}
 use Rattle.model.specs.Limits.{limits_of}
 use Rattle.model.specs.Name.{name_refusals}
@@ -22,6 +22,7 @@ use Rattle.model.specs.Refusal.{first_refusal}
 use Rattle.model.specs.Stamp.{next_stamp}
 use Rattle.model.specs.Tree.{Node, entry_of, names_at}
 use Rattle.model.specs.WellFormed.{IsNode}
+use Rattle.model.proofs.OptionLaws.{none_by_test}
 use Rattle.settings.specs.declared.said.Settings.{Settings}
 use Rattle.settings.specs.Given.{AreSettings, AreWithin}
 use Rattle.fs.specs.FileSystem.{FileSystem}
@@ -29,11 +30,7 @@ use Rattle.fs.specs.Making.{first_node, IsDirectoryOf, IsSizeOf, MayBeMade}
 use Rattle.fs.specs.Planned.{IsList, child_shown, list_by}
 use Rattle.fs.specs.Ready.{MayStand}
 use Rattle.fs.proofs.CreatedLaws.{listed}
-use Rattle.fs.proofs.EntryLaws.{created_list}
-
-nothing : {A : Type 0} (o : Option A) → is_some o ≡ false → o ≡ None
-nothing None told = refl
-nothing (Some x) told = absurd (cc)
+use Rattle.fs.proofs.EntryLaws.{given_list_fits}
 
 size_within : (size : Option ℕ) (most : ℕ) → ForSome size (λ some. some ≤ most) → unwrap_or size 0 ≤ most
 size_within None most within = omega arith
@@ -56,7 +53,7 @@ module _ (fs : FileSystem) (formed : MayStand fs.volume fs.changes) (limited : f
     pub made_is : first_node kind.File size child ≡ new_file cred (acl_of (at number fs.volume.tree)) given own now
     made_is =
         let by : ℕ → ℕ → List Ace → Bool → Option ℕ → Option (List Ace) → Node =
-        λ n s acl nothing_given mode list. first_node kind.File n (child_shown cred (created acl kind.File nothing_given mode list) s now) in
+        λ n s acl nothing_given mode list. first_node kind.File n (child_shown cred (created_list acl kind.File nothing_given mode list) s now) in
         let acl_is : card.fields.acl ≡ acl_of (at number fs.volume.tree) = sym parent.node.acl ∙ sym (ap acl_of parent.node.there) in
         ap (first_node kind.File size) child_is
         ∙ ap (λ (n : ℕ). by n stamp card.fields.acl settings.is_empty settings.mode settings.acl) (size_is ∙ ap (λ (o : Option ℕ). unwrap_or o 0) set.size)
@@ -68,7 +65,7 @@ module _ (fs : FileSystem) (formed : MayStand fs.volume fs.changes) (limited : f
 
     list_of_it : IsList fs.volume.limits kind.File child.acl
     list_of_it = subst (λ (s : Shown). IsList fs.volume.limits kind.File s.acl) (sym child_is)
-        (created_list fs.volume.limits fs.volume.sectors fs.volume.limits.nodes limited kind.File card.fields.acl (listed fs formed number card parent) settings within)
+        (given_list_fits fs.volume.limits fs.volume.sectors fs.volume.limits.nodes limited kind.File card.fields.acl (listed fs formed number card parent) settings within)
 
     is_node : IsNode fs.volume.limits (first_node kind.File size child)
     is_node = record {
@@ -82,7 +79,7 @@ module _ (fs : FileSystem) (formed : MayStand fs.volume fs.changes) (limited : f
     pub may : MayBeMade fs number name (first_node kind.File size child)
     may = record {
       allowed = allowed;
-      new = nothing (entry_of name (names_at fs.volume.tree number)) lacks;
+      new = none_by_test (entry_of name (names_at fs.volume.tree number)) lacks;
       is_node = is_node;
       change = ap (λ (s : Shown). s.change) child_is ∙ stamp_is;
     }

@@ -2,6 +2,7 @@
 use Rattle.std.proofs.Common.{◌≡◌, ◌≢◌, ℕ, Bool, false, List, Option, Some, None, refl, sym, ap, ap₂, ◌∙◌, is_some, inl, inr}
 use Rattle.std.specs.Prelude.{option_map, ◌||◌}
 use Rattle.std.proofs.lemmas.Bool.{cases_eq}
+use Rattle.std.proofs.lemmas.Option.{same_Some}
 use Rattle.edits.specs.Outlines.{blank_node, blanked}
 use Rattle.edits.proofs.BlankLaws.{at-blanked, blanked-with, blanked-without, names-blanked}
 use Rattle.model.specs.declared.acl.Cred.{Cred}
@@ -40,12 +41,9 @@ removable-blanked tree cred directory name =
 
 -- Edits of names
 
-some_node : (x y : Node) → (let one : Option Node = Some x in one ≡ Some y) → x ≡ y
-some_node x y same = cc
-
 -- a node of such a tree has zeros
 node_flat : (tree : Tree) → blanked tree ≡ tree → (number : ℕ) (node : Node) → at number tree ≡ Some node → blank_node node ≡ node
-node_flat tree flat number node is = some_node (blank_node node) node
+node_flat tree flat number node is = same_Some (blank_node node) node
     (sym (ap (option_map blank_node) is) ∙ sym (at-blanked tree number) ∙ ap (at number) flat ∙ is)
 
 pub flat_altered : (change : Node → Node) → ((node : Node) → blank_node node ≡ node → blank_node (change node) ≡ change node)

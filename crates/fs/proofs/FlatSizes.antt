@@ -5,6 +5,7 @@ use Rattle.std.proofs.Props.{props}
 use Rattle.std.specs.Prelude.{IsTrue, option_map, All}
 use Rattle.edits.specs.Outlines.{blank, blank_node, blanked, zeros}
 use Rattle.edits.proofs.BlankLaws.{at-blanked, blanked-with, edits_blanked, length-zeros}
+use Rattle.edits.proofs.FitLaws.{fits-blanked}
 use Rattle.model.specs.declared.limits.Limits.{Limits}
 use Rattle.model.specs.declared.node.NodeKind.TheVariants as kind
 use Rattle.model.specs.Charge.{fits}
@@ -22,7 +23,6 @@ use Rattle.fs.proofs.FlatWrites.{bytes_blank, resized_zeros}
 use Rattle.fs.proofs.RoomLaws.{above_altered, show_room}
 use Rattle.volume.specs.Formed.{IsFormed}
 use Rattle.volume.proofs.EditLaws.{fits_alike}
-use Rattle.volume.proofs.SoundLaws.{fits_blanked}
 
 -- of a tree with zeros as many zeros are left
 resized_blank : (content : Content) (size : ℕ) → resized (bytes_of (blank content)) size ≡ zeros (length (resized (bytes_of content) size))
@@ -91,7 +91,7 @@ module _ (fs : FileSystem) (formed : MayStand fs.volume fs.changes) (number : �
   seen = ap (with flat number) same_node ∙ sym (blanked-with tree number last) ∙ sym (ap blanked after_is)
 
   fits_flat : fits limits (with flat number last_flat) ≡ fits limits after
-  fits_flat = ap (fits limits) seen ∙ fits_blanked limits after
+  fits_flat = ap (fits limits) seen ∙ fits-blanked limits after
 
   -- The tree after them may stand
 

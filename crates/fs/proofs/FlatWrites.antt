@@ -7,6 +7,7 @@ use Rattle.std.proofs.lemmas.List.{take-replicate, drop-replicate, take_all, app
 use Rattle.std.specs.Prelude.{IsTrue, Result, Ok, option_map, nat_le}
 use Rattle.edits.specs.Outlines.{blank, blank_node, blanked, zeros}
 use Rattle.edits.proofs.BlankLaws.{at-blanked, blanked-with, key-blanked, directory-blanked, edits_blanked, length-zeros, overwritten-length}
+use Rattle.edits.proofs.FitLaws.{fits-blanked}
 use Rattle.model.specs.declared.acl.Cred.{Cred}
 use Rattle.model.specs.declared.limits.Limits.{Limits}
 use Rattle.model.specs.declared.status.Status.{Status}
@@ -28,7 +29,7 @@ use Rattle.model.specs.Step.{State, does}
 use Rattle.model.specs.Tree.{Tree, Node, Content, File, Directory, bytes_of, is_directory_at}
 use Rattle.model.specs.WellFormed.{IsWellFormed, IsContent}
 use Rattle.model.proofs.NodeChangeLaws.{altered-twice}
-use Rattle.model.proofs.StepCases.{none_in_front, none_in_both}
+use Rattle.model.proofs.RefusalLaws.{none_in_front, none_in_both}
 use Rattle.fs.specs.FileSystem.{FileSystem}
 use Rattle.fs.specs.Files.{permit_refusals, verdict_refusals}
 use Rattle.fs.specs.Ready.{MayStand}
@@ -37,7 +38,6 @@ use Rattle.fs.proofs.KeptLaws.{formed_by}
 use Rattle.fs.proofs.RoomLaws.{above_altered, show_room}
 use Rattle.volume.specs.Formed.{IsFormed}
 use Rattle.volume.proofs.EditLaws.{fits_alike}
-use Rattle.volume.proofs.SoundLaws.{fits_blanked}
 
 -- Zeros that are written over zeros are zeros
 
@@ -156,7 +156,7 @@ module _ (fs : FileSystem) (formed : MayStand fs.volume fs.changes) (counted : f
   seen = flat_is ∙ ap (with flat number) same_node ∙ sym (blanked-with tree number (showing shown (put part node))) ∙ sym (ap blanked after_is)
 
   fits_flat : fits limits (edited wanted_flat flat) ≡ fits limits after
-  fits_flat = ap (fits limits) seen ∙ fits_blanked limits after
+  fits_flat = ap (fits limits) seen ∙ fits-blanked limits after
 
   -- The tests on the flat tree
 

@@ -16,15 +16,16 @@ use Rattle.model.specs.Keyed.{Keyed, at, is_key, with, in_place_of, before_or_be
 use Rattle.model.specs.Need.{Right, granted_on, is_granted, are_granted, here, listing_rights}
 use Rattle.model.specs.NodeAttributes.{unreadable}
 use Rattle.model.specs.Operation.{Argument, ReadDirArguments}
-use Rattle.model.specs.ReadDir.{asks_lists, asks_errors, may_read_list, entry_attributes, entry_of, names_after, all_entries, page, page_bytes, page_room, page_refusals}
+use Rattle.model.specs.ReadDir.{asks_lists, asks_errors, may_read_list, entry_attributes, listed_entry, names_after, all_entries, page, page_bytes, page_room, page_refusals}
 use Rattle.model.specs.Refusal.{first_refusal, refused_or}
 use Rattle.model.specs.SetAttr.{attributes_at}
 use Rattle.model.specs.Step.{State, current, refusals, change_refusals, without_rights, effect, does, answered, refused, unless_refused}
 use Rattle.model.specs.Tree.{Tree, Node, DirEntry, is_directory_at, names_at}
-use Rattle.settings.proofs.Refusing.{or_else}
+use Rattle.model.proofs.BooleanLaws.{and_false, alone}
+use Rattle.model.proofs.RefusalLaws.{or_else}
 use Rattle.fs.specs.OnTree.{IsState}
 use Rattle.fs.specs.Listing.{list_refusals, may_read_lists, page_of}
-use Rattle.fs.proofs.FileSteps.{alone, or_none, does_by}
+use Rattle.fs.proofs.FileSteps.{or_none, does_by}
 
 module _ {A : Type 0} (x y : A) where
   chosen : (asked may : Bool) → (asked ≡ false) ⊎ (may ≡ true) → (if asked && not may then x else y) ≡ y
@@ -77,15 +78,11 @@ regrouped false false false false false behind = refl
 crowded_second : (all shown : ℕ) → (shown == 0) ≡ true → (shown == all) ≡ false → (nat_lt 0 all && shown == 0) ≡ true
 crowded_second all shown none short = ap₂ (λ (a b : Bool). a && b) (lt-ltb 0 all (omega (arith, eqb-true shown 0 none, eqb-false shown all short))) none
 
-nothing_and : (b : Bool) → (b && false) ≡ false
-nothing_and true = refl
-nothing_and false = refl
-
 roomy_second : (all shown : ℕ) → ((shown == 0) ≡ false) ⊎ ((shown == all) ≡ true) → (nat_lt 0 all && shown == 0) ≡ false
-roomy_second all shown (inl some) = ap (λ (b : Bool). nat_lt 0 all && b) some ∙ nothing_and (nat_lt 0 all)
+roomy_second all shown (inl some) = ap (λ (b : Bool). nat_lt 0 all && b) some ∙ and_false (nat_lt 0 all)
 roomy_second all shown (inr whole) = elim (cases_eq shown 0) [
   | inl none ↦ ap (λ (b : Bool). b && shown == 0) (le-ltb 0 all (omega (arith, eqb-true shown all whole)))
-  | inr some ↦ ap (λ (b : Bool). nat_lt 0 all && b) (ne_eqb shown 0 some) ∙ nothing_and (nat_lt 0 all)
+  | inr some ↦ ap (λ (b : Bool). nat_lt 0 all && b) (ne_eqb shown 0 some) ∙ and_false (nat_lt 0 all)
 ]
 
 -- Records that come by stamp, after a cookie, are records
@@ -150,7 +147,7 @@ module _ (limits : Limits) (tree : Tree) (cred : Cred) (number : ℕ) (state : S
   same_tests = rw (is.tree_is, is.cred_is, is.current_is) refl
 
   abbrev pub all : List Entry
-  all = map (entry_of limits tree cred arguments.bitmap) (names_after arguments.cookie (names_at tree number))
+  all = map (listed_entry limits tree cred arguments.bitmap) (names_after arguments.cookie (names_at tree number))
 
   same_entries : all_entries limits state arguments ≡ all
   same_entries = rw (is.tree_is, is.cred_is, is.current_is) refl

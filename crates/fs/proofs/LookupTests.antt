@@ -1,5 +1,5 @@
 -- LOOKUP's tests, one after the other.
-use Rattle.std.proofs.Common.{ℕ, Bool, true, false, List, [], ◌∷◌, ◌++◌, ◌≡◌, ◌&&◌, ◌||◌, not, refl, ap, ◌∙◌, is_some}
+use Rattle.std.proofs.Common.{ℕ, true, false, List, [], ◌∷◌, ◌++◌, ◌≡◌, not, refl, ap, ◌∙◌, is_some}
 use Rattle.std.specs.Prelude.{Option, Some, None}
 use Rattle.model.specs.declared.acl.Cred.{Cred}
 use Rattle.model.specs.declared.status.Status.{Status}
@@ -16,7 +16,8 @@ use Rattle.model.specs.Operation.{Argument}
 use Rattle.model.specs.Refusal.{Refusals, first_refusal, refused_or}
 use Rattle.model.specs.Step.{State, current, is_name_there, refusals, change_refusals, effect, does, refused, answered, moved_to, unless_refused}
 use Rattle.model.specs.Tree.{Tree, Node, DirEntry, is_directory_at, is_directory_node, is_directory, names_of, names_of_node, entry_of}
-use Rattle.settings.proofs.Refusing.{or_else, first-append}
+use Rattle.model.proofs.RefusalLaws.{first-append, or_else}
+use Rattle.model.proofs.BooleanLaws.{alone}
 use Rattle.fs.specs.OnTree.{IsState}
 
 -- LOOKUP's tests
@@ -47,10 +48,6 @@ does_is : (limits : Limits) (state : State) (now : ℕ) (name : List ℕ) (o : O
 unfolding does
 does_is limits state now name o same =
     ap (λ (p : Option Status). unless_refused state (Argument.Lookup name) p (effect limits state now (Argument.Lookup name))) same
-
-alone : (b : Bool) → ((b || false) && true) ≡ b
-alone true = refl
-alone false = refl
 
 permitted_is : (state : State) (name : List ℕ)
     → permitted state.tree state.context (Argument.Lookup name) ≡ granted_on (at (current state) state.tree) state.context.cred execute

@@ -19,7 +19,8 @@ use Rattle.model.specs.Tree.{Tree, Node, Content, File, Directory, DirEntry, nam
 use Rattle.model.specs.WellFormed.{IsWellFormed, IsBefore, IsContent}
 use Rattle.model.proofs.ChangeLaws.{IsChanged, creation_keeps}
 use Rattle.model.proofs.KeyedLaws.{at-with_same, at-with_other, with-with_same, at-above, total-with, IsAbove-with}
-use Rattle.layout.proofs.ChargeLaws.{total-ones}
+use Rattle.model.proofs.OptionLaws.{none_unless}
+use Rattle.model.proofs.OpensLaws.{total-ones}
 use Rattle.fs.specs.FileSystem.{FileSystem}
 use Rattle.fs.specs.Making.{first_content, first_node, tree_with, MayBeMade}
 use Rattle.fs.specs.Ready.{MayStand}
@@ -27,10 +28,6 @@ use Rattle.fs.proofs.FrontLaws.{made_by, after_is}
 use Rattle.fs.proofs.RoomLaws.{replaced_room, replaced_room_back, show_room, above_then}
 use Rattle.volume.specs.Formed.{IsFormed}
 use Rattle.volume.proofs.EditLaws.{fits_alike}
-
-none_unless : {A : Type 0} (o : Option A) → ((x : A) → o ≡ Some x → ⊥) → o ≡ None
-none_unless None never = refl
-none_unless (Some x) never = absurd (never x refl)
 
 -- zeros stand for the bytes of a new file already
 blank_first : (of : NodeKind) (size : ℕ) → blank (first_content of size) ≡ first_content of size

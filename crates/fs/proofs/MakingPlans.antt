@@ -5,7 +5,6 @@ use Rattle.std.proofs.Math.Logic.{∥∥₁_elim}
 use Rattle.std.proofs.Props.{props}
 use Rattle.std.specs.Prelude.{IsTrue, nat_lt, ◌==◌}
 use Rattle.std.proofs.lemmas.Bool.{ltb-false}
-use Rattle.model.proofs.StepCases.{none_in_front}
 use Rattle.std.specs.List.{IsAmong}
 use Rattle.draft.specs.declared.nodes.Shown.{Shown}
 use Rattle.draft.specs.Nodes.{shown_of}
@@ -20,7 +19,7 @@ use Rattle.model.specs.declared.node.NodeKind.{NodeKind}
 use Rattle.model.specs.declared.node.NodeKind.TheVariants as kind
 use Rattle.model.specs.Changes.{touched}
 use Rattle.model.specs.Charge.{fits}
-use Rattle.model.specs.Edit.{PutNode, PutName, Show, SetSize, done, edited, altered, altered_at, name_put, with_content, resized}
+use Rattle.model.specs.Edit.{PutNode, PutName, Show, SetSize, done, edited, name_put, with_content, resized}
 use Rattle.model.specs.Edit as model
 use Rattle.model.specs.Keyed.{Keyed, at, with, is_key}
 use Rattle.model.specs.Limits.{limits_of}
@@ -32,6 +31,7 @@ use Rattle.model.specs.Tree.{Tree, Node, File, Directory, DirEntry, bytes_of, na
 use Rattle.model.specs.WellFormed.{IsWellFormed}
 use Rattle.model.proofs.KeyedLaws.{at-with_same, with-with_same}
 use Rattle.model.proofs.NodeChangeLaws.{altered-once}
+use Rattle.model.proofs.RefusalLaws.{none_in_front}
 use Rattle.fs.specs.FileSystem.{FileSystem}
 use Rattle.fs.specs.Making.{first_node, sizing, tree_with, IsSizeOf, MayBeMade}
 use Rattle.fs.specs.Planned.{IsPlanned}

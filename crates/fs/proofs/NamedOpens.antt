@@ -14,7 +14,7 @@ use Rattle.model.specs.Stamp.{next_stamp, is_stamp_left}
 use Rattle.model.specs.StateIds.{is_table_full}
 use Rattle.model.specs.Step.{State, Stepped, alters, change_refusals, current, does, is_name_there, refused, unless_refused}
 use Rattle.model.specs.Tree.{Tree, Node}
-use Rattle.settings.proofs.Refusing.{or_else}
+use Rattle.model.proofs.RefusalLaws.{or_else}
 use Rattle.fs.specs.declared.opening.OpenEffect.{OpenEffect}
 use Rattle.fs.specs.declared.opening.OpenEffect.TheVariants as effect
 use Rattle.fs.specs.declared.opening.Opened.{Opened}

@@ -1,5 +1,5 @@
 -- OPEN by the definition: its tests, one after the other, and what it does.
-use Rattle.std.proofs.Common.{◌≡◌, ℕ, Bool, true, false, List, [], ◌∷◌, ◌++◌, ◌&&◌, ◌||◌, not, refl, sym, ap, ap₂, ◌∙◌}
+use Rattle.std.proofs.Common.{◌≡◌, ℕ, Bool, List, [], ◌∷◌, ◌++◌, not, refl, sym, ap, ap₂, ◌∙◌}
 use Rattle.std.specs.Prelude.{Option, Some, None, IsTrue}
 use Rattle.model.specs.declared.limits.Limits.{Limits}
 use Rattle.model.specs.declared.status.Status.{Status}
@@ -15,13 +15,10 @@ use Rattle.model.specs.Refusal.{Refusals, first_refusal, refused_or}
 use Rattle.model.specs.StateIds.{is_table_full}
 use Rattle.model.specs.Step.{State, current, refusals, change_refusals, without_rights, effect, does, unless_refused}
 use Rattle.model.specs.Tree.{is_directory_at}
-use Rattle.settings.proofs.Refusing.{or_else, first-append}
+use Rattle.model.proofs.RefusalLaws.{first-append, or_else}
+use Rattle.model.proofs.BooleanLaws.{alone}
 use Rattle.fs.specs.Opening.{file_tests, handle_tests, place_tests}
 use Rattle.fs.proofs.FileSteps.{does_by}
-
-pub alone : (b : Bool) → ((b || false) && true) ≡ b
-alone true = refl
-alone false = refl
 
 pub grouped : (first second third : Option Status) → or_else first (or_else second third) ≡ or_else (or_else first second) third
 grouped None second third = refl

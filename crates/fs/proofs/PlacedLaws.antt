@@ -11,33 +11,16 @@ use Rattle.model.specs.Edit as model
 use Rattle.model.specs.Keyed.{Keyed, at, is_key, with, without, kept_or_not}
 use Rattle.model.specs.Tree.{Tree, Node, DirEntry, names_of, names_of_node, names_at, is_directory_node, is_directory_at, entry_of, found_or}
 use Rattle.model.specs.WellFormed.{one_if, times_named, IsWellFormed, IsBefore}
-use Rattle.model.proofs.ChangeLaws.{entry_found, names_in, led_to}
+use Rattle.model.proofs.ChangeLaws.{entry_found, names_in, led_to, never_named, directory_key}
 use Rattle.model.proofs.EditLaws.{IsForest, forest_of, directory_at}
 use Rattle.model.proofs.EditViews.{entry_before, NameDropped, name_is_dropped, NodeDropped, node_is_dropped}
 use Rattle.model.proofs.KeyedLaws.{at-with_same, at-with_other}
+use Rattle.model.proofs.OptionLaws.{none_unless, some≢none}
 use Rattle.fs.specs.declared.renaming.Renaming.{Renaming}
 use Rattle.fs.specs.RenameTests.{moving_edits}
 use Rattle.fs.proofs.FlatLaws.{key-altered}
 
-some≢none : {A : Type 0} (x : A) → (let one : Option A = Some x in one ≡ None) → ⊥
-some≢none x same = cc
-
-none_unless : {A : Type 0} (o : Option A) → ((x : A) → o ≡ Some x → ⊥) → o ≡ None
-none_unless None never = refl
-none_unless (Some x) never = absurd (never x refl)
-
 -- Names of a directory
-
-found_cases : (test : Bool) (entry : ℕ × DirEntry) (others : Option (ℕ × DirEntry)) → found_or test entry others ≡ None → (test ≡ false) × (others ≡ None)
-found_cases true entry others none = absurd (some≢none entry none)
-found_cases false entry others none = (refl, none)
-
-never_named : (name : List ℕ) (names : Keyed DirEntry) → entry_of name names ≡ None → times_named name names ≡ 0
-never_named name [] none = refl
-never_named name (entry ∷ rest) none =
-    let apart = found_cases (bytes_eq name entry.1.name) entry (entry_of name rest) none in
-    let others : times_named name rest ≡ 0 = never_named name rest apart.1 in
-    rw apart.0 (omega arith)
 
 not_named : (name : List ℕ) (names : Keyed DirEntry) → times_named name names ≡ 0 → entry_of name names ≡ None
 not_named name [] none = refl
@@ -92,9 +75,6 @@ names-put tree number stamp entry is =
     ap (λ (o : Option Node). at stamp (names_at (altered_at (name_put stamp entry) tree number o) number)) found.1
     ∙ ap (λ (o : Option Node). at stamp (names_of_node o)) (at-with_same tree number (name_put stamp entry found.0))
     ∙ at-with_same (names_of found.0.content) stamp entry
-
-directory_key : (tree : Tree) (number : ℕ) → is_directory_at tree number ≡ true → is_key number tree ≡ true
-directory_key tree number is = ap is_some (directory_at (at number tree) is).1
 
 -- What stands before the name goes to its place: nothing under the new name, and the old one still
 

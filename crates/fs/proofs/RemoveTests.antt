@@ -1,5 +1,5 @@
 -- REMOVE's tests, one after the other, and what it does.
-use Rattle.std.proofs.Common.{ℕ, Bool, true, false, List, [], ◌∷◌, ◌++◌, ◌≡◌, ◌&&◌, ◌∙◌, not, refl, sym, ap, is_some}
+use Rattle.std.proofs.Common.{ℕ, Bool, true, false, List, [], ◌∷◌, ◌++◌, ◌≡◌, ◌∙◌, not, refl, sym, ap, is_some}
 use Rattle.std.specs.Prelude.{Option, Some, None, IsTrue}
 use Rattle.model.specs.declared.acl.Cred.{Cred}
 use Rattle.model.specs.declared.limits.Limits.{Limits}
@@ -17,7 +17,8 @@ use Rattle.model.specs.Rename.{has_names, remove}
 use Rattle.model.specs.Stamp.{is_stamp_left}
 use Rattle.model.specs.Step.{State, current, late, without_rights, refusals, change_refusals, effect, does, refused, unless_refused}
 use Rattle.model.specs.Tree.{Tree, Node, is_directory, is_directory_node, is_directory_at}
-use Rattle.settings.proofs.Refusing.{or_else, first-append}
+use Rattle.model.proofs.RefusalLaws.{first-append, or_else}
+use Rattle.model.proofs.BooleanLaws.{and_true}
 use Rattle.fs.specs.Removing.{may_remove, removal_refusals}
 
 module _ (limits : Limits) (tree : Tree) (cred : Cred) (number : ℕ) (name : List ℕ) where
@@ -79,10 +80,6 @@ module _ (limits : Limits) (tree : Tree) (cred : Cred) (number : ℕ) (name : Li
             may_go none = by_names false none
 
 -- In a state
-
-and_true : (b : Bool) → (b && true) ≡ b
-and_true true = refl
-and_true false = refl
 
 nested : (front : Option Status) (test : Bool) (rest : Option Status)
     → or_else (or_else front (refused_or test status.NoEnt None)) rest ≡ or_else front (refused_or test status.NoEnt rest)

@@ -29,7 +29,8 @@ use Rattle.model.specs.Tree.{Tree, Node, DirEntry, is_directory_node, is_directo
 use Rattle.model.specs.WellFormed.{IsWellFormed}
 use Rattle.model.proofs.ChangeLaws.{entry_found, names_in, led_to}
 use Rattle.model.proofs.EditLaws.{forest_of}
-use Rattle.model.proofs.StepCases.{none_in_front, none_in_both}
+use Rattle.model.proofs.RefusalLaws.{none_in_front, none_in_both}
+use Rattle.model.proofs.OptionLaws.{some≢none}
 use Rattle.volume.specs.Formed.{IsFormed}
 use Rattle.volume.proofs.EditLaws.{fits_alike}
 use Rattle.fs.specs.FileSystem.{FileSystem}
@@ -44,9 +45,6 @@ use Rattle.fs.proofs.RoomLaws.{above_name_dropped, drop_name_room, above_node_dr
 pub no_names : {A : Type 0} (names : Keyed A) → nat_lt 0 (length names) ≡ false → names ≡ []
 no_names [] told = refl
 no_names (entry ∷ rest) told = absurd (true≢false (sym (lt-ltb 0 (length (entry ∷ rest)) (omega arith)) ∙ told))
-
-some≢none : {A : Type 0} (x : A) → (let one : Option A = Some x in one ≡ None) → ⊥
-some≢none x same = cc
 
 -- The tests that a removal passed
 

@@ -22,7 +22,7 @@ use Rattle.model.specs.declared.limits.Limits.{Limits}
 use Rattle.model.specs.declared.status.Status.TheVariants as status
 use Rattle.model.specs.Changes.{touched}
 use Rattle.model.specs.Charge.{fits}
-use Rattle.model.specs.Edit.{DropName, DropNode, PutName, Show, done, edited, name_dropped}
+use Rattle.model.specs.Edit.{DropName, PutName, Show, done, edited, name_dropped}
 use Rattle.model.specs.Edit as model
 use Rattle.model.specs.Keyed.{at, is_key}
 use Rattle.model.specs.Limits.{limits_of}

@@ -16,7 +16,7 @@ use Rattle.model.specs.Rename.{late_at_rename, rename}
 use Rattle.model.specs.Stamp.{is_stamp_left}
 use Rattle.model.specs.Step.{State, current, saved, late, without_rights, refusals, effect, does, refused, unless_refused}
 use Rattle.model.specs.Tree.{Tree, is_directory_at}
-use Rattle.settings.proofs.Refusing.{or_else, first-append}
+use Rattle.model.proofs.RefusalLaws.{first-append, or_else}
 use Rattle.fs.specs.RenameTests.{directory_refusals, moving_refusals, placing_refusals}
 
 or_behind : (test : Bool) (reason : Status) (front rest : Option Status) → refused_or test reason (or_else front rest) ≡ or_else (refused_or test reason front) rest

@@ -1,9 +1,8 @@
 -- RENAME of a name that passed its tests, and is not given to itself: its edits can be done, and the tree after them may stand where it fits.
-use Rattle.std.proofs.Common.{◌≡◌, ◌<◌, ◌+◌, ◌^◌, ◌&&◌, ◌||◌, ℕ, zero, suc, Bool, true, false, List, [], ◌∷◌, ◌++◌, Option, Some, None, take, eq-eqb, refl, sym, ap, ap₂, ◌∙◌, arith, is_some, bytes_eq, true≢false, inl, inr}
+use Rattle.std.proofs.Common.{◌≡◌, ◌<◌, ◌+◌, ◌^◌, ◌&&◌, ℕ, zero, suc, Bool, true, false, List, [], ◌∷◌, ◌++◌, Option, Some, None, take, eq-eqb, refl, sym, ap, ap₂, ◌∙◌, arith, is_some, bytes_eq}
 use Rattle.std.proofs.Math.Logic.{∥∥₁_elim}
 use Rattle.std.proofs.Props.{props}
-use Rattle.std.proofs.lemmas.Bool.{not-false, cases_Bool}
-use Rattle.std.specs.Cmp.Lexicographic.{bytes_decides}
+use Rattle.std.proofs.lemmas.Bool.{not-false}
 use Rattle.std.specs.Prelude.{IsTrue, option_map, ◌==◌}
 use Rattle.directory.specs.Records.{record_from}
 use Rattle.edits.specs.Outlines.{blanked}
@@ -30,7 +29,9 @@ use Rattle.model.specs.StateIds.{without_number}
 use Rattle.model.specs.Step.{State, Stepped, does, answered, refused, current, saved, stamp_of}
 use Rattle.model.specs.Tree.{Tree, DirEntry, is_directory_at, names_at, entry_of}
 use Rattle.model.specs.WellFormed.{IsWellFormed}
-use Rattle.model.proofs.StepCases.{none_in_front, none_in_both}
+use Rattle.model.proofs.BooleanLaws.{second_of_neither, second_false}
+use Rattle.model.proofs.RefusalLaws.{none_in_front, none_in_both}
+use Rattle.model.proofs.StepProofs.{other_way}
 use Rattle.volume.specs.Formed.{IsFormed}
 use Rattle.volume.proofs.EditLaws.{fits_alike}
 use Rattle.fs.specs.declared.renaming.Renaming.{Renaming}
@@ -45,20 +46,6 @@ use Rattle.fs.proofs.RemovedLaws.{no_names}
 use Rattle.fs.proofs.RenameFlat.{moving-blanked, placing-blanked}
 use Rattle.fs.proofs.RenameSteps as steps
 use Rattle.fs.proofs.RoomLaws.{above_name_dropped, drop_name_room, above_node_dropped, drop_node_room, show_room, above_altered, above_shown}
-
-second_false : (a b : Bool) → (a && b) ≡ false → a ≡ true → b ≡ false
-second_false true b told is = told
-second_false false b told is = absurd (true≢false (sym is))
-
-neither : (a b : Bool) → (a || b) ≡ false → b ≡ false
-neither true b told = absurd (true≢false told)
-neither false b told = told
-
-other_way : (a b : List ℕ) → bytes_eq a b ≡ false → bytes_eq b a ≡ false
-other_way a b apart = elim (cases_Bool (bytes_eq b a)) [
-  | inl same ↦ absurd (true≢false (sym ((bytes_decides a b).1 (sym ((bytes_decides b a).0 same))) ∙ apart))
-  | inr off ↦ off
-]
 
 -- In each state of the operation
 
@@ -140,7 +127,7 @@ empty_by tree cred asked found under placed =
     let below = none_in_front _ status.Inval _ rights.1 in
     let exists = none_in_front _ status.Exist None below.1 in
     no_names (names_at tree found.1) (sym (ap (λ (o : Option (ℕ × DirEntry)). has_names tree (number_of_entry o)) under)
-    ∙ neither _ (has_names tree (target_in tree asked.to (arguments_of asked)))
+    ∙ second_of_neither _ (has_names tree (target_in tree asked.to (arguments_of asked)))
     (second_false (is_named tree asked.to asked.new_name.now) _ exists.0 (ap is_some under)))
 
 -- the entry that goes, and the tree after that

@@ -2,14 +2,15 @@
 use Rattle.std.proofs.Common.{◌≡◌, ◌≤◌, ◌&&◌, ℕ, Bool, true, false, [], ◌∷◌, Option, Some, None, length, eqb, refl, sym, ap, ap₂, ◌∙◌, arith, inl, inr}
 use Rattle.std.specs.Prelude.{IsTrue}
 use Rattle.std.proofs.lemmas.Bool.{cases_eq, le-leb}
+use Rattle.std.proofs.lemmas.Option.{same_Some}
 use Rattle.edits.proofs.NamedLaws.{few-at}
-use Rattle.layout.proofs.ChargeLaws.{total-ones}
 use Rattle.model.specs.declared.limits.Limits.{Limits}
 use Rattle.model.specs.Charge.{blocks, charge, charge_of_blocks, fits}
 use Rattle.model.specs.Edit.{Shown, Show, DropName, DropNode, done, name_dropped, showing, altered, altered_at}
 use Rattle.model.specs.Keyed.{Keyed, at, with, without, kept_or_not, total, worth_at, IsAbove}
 use Rattle.model.specs.Tree.{Tree, Node, Content, File, Directory, names_of}
 use Rattle.model.proofs.KeyedLaws.{at-with_same, at-with_other, at-without_same, at-without_other, at-above, some≢none, IsAbove-with, IsAbove-without, total-with, total-without}
+use Rattle.model.proofs.OpensLaws.{total-ones}
 use Rattle.shape.proofs.FitLaws.{few-from}
 use Rattle.volume.proofs.EditLaws.{DoesFit, fit_parts}
 
@@ -23,9 +24,6 @@ both : (a b : Bool) → (IsTrue a → IsTrue b) → (IsTrue b → IsTrue a) → 
 both true b on back = on refl
 both false true on back = sym (back refl)
 both false false on back = refl
-
-some_is : (x y : Node) → (let one : Option Node = Some x in one ≡ Some y) → x ≡ y
-some_is x y same = cc
 
 -- Nodes are counted by a sum too
 abbrev worth : Node → ℕ
@@ -55,7 +53,7 @@ module _ (tree : Tree) (number : ℕ) (node old : Node) (above : IsAbove 0 tree)
         nodes = omega (arith, nodes, length_then);
         few = few-from limits.names 0 replaced above_then (λ n other is. elim (cases_eq n number) [
           | inl same ↦
-              let it : node ≡ other = some_is node other (sym (at-with_same tree number node) ∙ ap (λ (k : ℕ). at k replaced) (sym same) ∙ is) in
+              let it : node ≡ other = same_Some node other (sym (at-with_same tree number node) ∙ ap (λ (k : ℕ). at k replaced) (sym same) ∙ is) in
               let here = few-at limits.names tree number old was.few there in
               let count : length (names_of other.content) ≡ length (names_of node.content) = ap (λ (x : Node). length (names_of x.content)) (sym it) in
               omega (arith, here, fewer, count)
@@ -75,7 +73,7 @@ module _ (tree : Tree) (number : ℕ) (node old : Node) (above : IsAbove 0 tree)
         nodes = omega (arith, nodes, length_then);
         few = few-from limits.names 0 tree above (λ n other is. elim (cases_eq n number) [
           | inl same ↦
-              let it : old ≡ other = some_is old other (sym there ∙ ap (λ (k : ℕ). at k tree) (sym same) ∙ is) in
+              let it : old ≡ other = same_Some old other (sym there ∙ ap (λ (k : ℕ). at k tree) (sym same) ∙ is) in
               let here = few-at limits.names replaced number node was.few (at-with_same tree number node) in
               let count : length (names_of other.content) ≡ length (names_of old.content) = ap (λ (x : Node). length (names_of x.content)) (sym it) in
               omega (arith, here, fewer, count)

@@ -3,8 +3,9 @@ use Rattle.std.proofs.Common.{◌≡◌, ◌<◌, ◌+◌, ◌^◌, ℕ, zero, s
 use Rattle.std.proofs.Math.Logic.{∥∥₁_elim}
 use Rattle.std.proofs.Props.{props}
 use Rattle.std.specs.Prelude.{IsTrue, Result, Ok, option_map, if◌then◌else◌}
-use Rattle.edits.specs.Outlines.{blank, blank_node, blanked, zeros}
-use Rattle.edits.proofs.BlankLaws.{at-blanked, blanked-twice, key-blanked, directory-blanked, edits_blanked, resized-length}
+use Rattle.edits.specs.Outlines.{blank_node, blanked, zeros}
+use Rattle.edits.proofs.BlankLaws.{at-blanked, blanked-twice, key-blanked, directory-blanked, edits_blanked}
+use Rattle.edits.proofs.FitLaws.{fits-blanked}
 use Rattle.model.specs.declared.acl.Cred.{Cred}
 use Rattle.model.specs.declared.limits.Limits.{Limits}
 use Rattle.model.specs.declared.node.NodeKind.{NodeKind}
@@ -22,9 +23,10 @@ use Rattle.model.specs.Refusal.{Refusals, first_refusal}
 use Rattle.model.specs.SetAttr.{kind_at, set_attributes, sets, sets_size, shown_set, size_edits}
 use Rattle.model.specs.Stamp.{next_stamp, is_stamp_left}
 use Rattle.model.specs.Step.{State, does}
-use Rattle.model.specs.Tree.{Tree, Node, Content, File, Directory, bytes_of, kind_of, is_directory_at}
+use Rattle.model.specs.Tree.{Tree, Node, File, Directory, bytes_of, is_directory_at}
 use Rattle.model.specs.WellFormed.{IsWellFormed}
-use Rattle.model.proofs.StepCases.{none_in_front, none_in_both}
+use Rattle.model.proofs.RefusalLaws.{none_in_front, none_in_both}
+use Rattle.model.proofs.NodeChangeLaws.{length-resized}
 use Rattle.fs.specs.FileSystem.{FileSystem}
 use Rattle.fs.specs.Files.{verdict_refusals}
 use Rattle.fs.specs.Ready.{MayStand}
@@ -37,7 +39,7 @@ use Rattle.fs.proofs.SettingSteps as steps
 use Rattle.fs.proofs.SettingTests.{tests_are}
 use Rattle.volume.specs.Formed.{IsFormed}
 use Rattle.volume.proofs.EditLaws.{fits_alike}
-use Rattle.volume.proofs.SoundLaws.{fits_blanked}
+use Rattle.volume.proofs.SoundLaws.{kind_blank}
 
 -- Sizes that are set of zeros leave zeros
 
@@ -48,7 +50,7 @@ sized_zeros : (size : ℕ) (node : Node) → blank_node node ≡ node → blank_
 sized_zeros size node same =
     let bytes : bytes_of node.content ≡ zeros (length (bytes_of node.content)) = ap (λ (n : Node). bytes_of n.content) (sym same) ∙ bytes_blank node.content in
     ap (λ (l : List ℕ). with_content node (File l))
-    (ap zeros (resized-length (bytes_of node.content) size)
+    (ap zeros (length-resized (bytes_of node.content) size)
     ∙ sym (ap (λ (l : List ℕ). resized l size) bytes ∙ resized_zeros (length (bytes_of node.content)) size))
 
 flat_sized : (tree : Tree) → blanked tree ≡ tree → (number size : ℕ) → blanked (done (SetSize number size) tree) ≡ done (SetSize number size) tree
@@ -58,10 +60,6 @@ flat_set : (tree : Tree) → blanked tree ≡ tree → (number : ℕ) (size : Op
     → blanked (edited (size_edits number size ++ (Show number shown ∷ [])) tree) ≡ edited (size_edits number size ++ (Show number shown ∷ [])) tree
 flat_set tree flat number None shown = flat_shown tree flat number shown
 flat_set tree flat number (Some size) shown = flat_shown (done (SetSize number size) tree) (flat_sized tree flat number size) number shown
-
-pub kind_blank : (content : Content) → kind_of (blank content) ≡ kind_of content
-kind_blank (File bytes) = refl
-kind_blank (Directory names) = refl
 
 module _ (fs : FileSystem) (formed : MayStand fs.volume fs.changes) (counted : fs.changes < 2 ^ 32) (limited : fs.volume.limits ≡ limits_of fs.volume.sectors fs.volume.limits.nodes)
     (cred : Cred) (now number : ℕ) (verdict : Result (Unit {0}) Status) (given : Attributes) (node : Node) (there : at number fs.volume.tree ≡ Some node)
@@ -126,7 +124,7 @@ module _ (fs : FileSystem) (formed : MayStand fs.volume fs.changes) (counted : f
   seen = sym (flat_set flat (blanked-twice tree) number (size_given given) shown) ∙ edits_blanked wanted tree
 
   fits_flat : fits limits (edited wanted flat) ≡ fits limits after
-  fits_flat = ap (fits limits) seen ∙ fits_blanked limits after
+  fits_flat = ap (fits limits) seen ∙ fits-blanked limits after
 
   shown_flat : shown_set (at number flat) given own now ≡ shown
   shown_flat = ap (λ (o : Option Node). shown_set o given own now) flat_there ∙ rw (kind_blank node.content) refl

@@ -36,7 +36,7 @@ use Rattle.model.specs.Tree.{Tree, Node, Content, File, Directory, bytes_of, kin
 use Rattle.model.specs.WellFormed.{IsContent}
 use Rattle.model.proofs.KeyedLaws.{at-with_same}
 use Rattle.model.proofs.NodeChangeLaws.{altered-once}
-use Rattle.model.proofs.StepCases.{none_in_front, none_in_both}
+use Rattle.model.proofs.RefusalLaws.{none_in_front, none_in_both}
 use Rattle.settings.specs.declared.said.Settings.{Settings}
 use Rattle.settings.specs.Given.{AreSettings, AreWithin, given_of}
 use Rattle.fs.specs.declared.setting.Setting.{Setting}
@@ -52,6 +52,7 @@ use Rattle.fs.proofs.SettingLaws as laws
 use Rattle.volume.specs.Edits.{edited_by}
 use Rattle.volume.specs.Formed.{IsFormed}
 use Rattle.volume.specs.Nodes.{IsNodeOf, ShowsContent}
+use Rattle.volume.proofs.SoundLaws.{kind_blank}
 
 -- What a node shows, by its fields and by what is given
 
@@ -71,7 +72,7 @@ pub listed : (fs : FileSystem) (formed : MayStand fs.volume fs.changes) (number 
 listed fs formed number card is = ∥∥₁_elim formed.well_formed (Prim.hlevel props) (λ well.
     let own = (well.nodes number (blank_node is.node) (at-blanked fs.volume.tree number ∙ ap (option_map blank_node) is.there)).entries in
     subst (λ (acl : List Ace). IsList fs.volume.limits card.fields.kind acl) is.acl
-    (subst (λ (of : NodeKind). IsList fs.volume.limits of is.node.acl) (flat.kind_blank is.node.content ∙ kind_shown card.fields.kind card is.node.content is.content) own))
+    (subst (λ (of : NodeKind). IsList fs.volume.limits of is.node.acl) (kind_blank is.node.content ∙ kind_shown card.fields.kind card is.node.content is.content) own))
 
 module _ (fs : FileSystem) (formed : MayStand fs.volume fs.changes) (counted : fs.changes < 2 ^ 32) (limited : fs.volume.limits ≡ limits_of fs.volume.sectors fs.volume.limits.nodes)
     (cred : Cred) (now : ℕ) (asked : Setting) (card : Card) (is_node : IsNodeOf fs.volume.tree asked.number card)

@@ -18,10 +18,11 @@ use Rattle.model.specs.Stamp.{is_stamp_left}
 use Rattle.model.specs.StateIds.{state_refusals, write_access}
 use Rattle.model.specs.Step.{State, Stepped, current, refusals, change_refusals, without_rights, effect, does, refused, unless_refused}
 use Rattle.model.specs.Tree.{is_directory_at}
-use Rattle.settings.proofs.Refusing.{or_else, first-append}
+use Rattle.model.proofs.RefusalLaws.{first-append, or_else}
+use Rattle.model.proofs.BooleanLaws.{alone}
 use Rattle.fs.specs.Files.{IsVerdict}
 use Rattle.fs.specs.Setting.{may_set, setting_tests, sized_refusals}
-use Rattle.fs.proofs.FileSteps.{alone, does_by, verdict_first}
+use Rattle.fs.proofs.FileSteps.{does_by, verdict_first}
 use Rattle.fs.proofs.OpenSteps.{grouped}
 
 module _ (limits : Limits) (state : State) (now : ℕ) (has : IsTrue (has_current state.context)) (arguments : SetAttrArguments) (verdict : Result (Unit {0}) Status)

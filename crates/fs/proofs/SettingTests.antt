@@ -16,7 +16,7 @@ use Rattle.model.specs.Operation.{Attributes}
 use Rattle.model.specs.Refusal.{Refusals, first_refusal, refused_or}
 use Rattle.model.specs.SetAttr.{kind_at, sets_size}
 use Rattle.model.specs.Tree.{Tree, Node, is_directory, is_directory_at, is_directory_node}
-use Rattle.settings.proofs.Refusing.{or_else, first-append}
+use Rattle.model.proofs.RefusalLaws.{first-append, or_else}
 use Rattle.fs.specs.Setting.{may_set, setting_tests, sized_refusals}
 use Rattle.fs.proofs.CardViews.{granted_by}
 use Rattle.volume.specs.Nodes.{IsNodeOf, ShowsContent}

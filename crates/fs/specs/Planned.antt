@@ -9,7 +9,7 @@ use Rattle.model.specs.declared.node.NodeKind.{NodeKind}
 use Rattle.model.specs.Acl.{is_list_for}
 use Rattle.model.specs.Charge.{fits}
 use Rattle.model.specs.Edit.{Shown}
-use Rattle.model.specs.Inherit.{created}
+use Rattle.model.specs.Inherit.{created_list}
 use Rattle.model.specs.Stamp.{next_stamp}
 use Rattle.settings.specs.declared.said.Settings.{Settings}
 use Rattle.fs.specs.FileSystem.{FileSystem}
@@ -36,7 +36,7 @@ shown_by fields stamp now = record {
 
 -- the list of a new node of this kind, below a directory of this one
 abbrev pub list_by : NodeKind → (parent : List Ace) → Settings → List Ace
-list_by of parent settings = created parent of settings.is_empty settings.mode settings.acl
+list_by of parent settings = created_list parent of settings.is_empty settings.mode settings.acl
 
 -- a new node of this caller with such a list
 abbrev pub child_shown : Cred → (acl : List Ace) → (stamp now : ℕ) → Shown

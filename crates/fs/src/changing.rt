@@ -167,13 +167,17 @@ impl<D: Device> Fs<D> {
 
     /// Makes a change, and counts it. A stop may lose it until the next flush.
     pub(crate) fn alter(&mut self, edits: Vec<Edit<'_>>) -> Result<(), FsFault>
+        // A change that may be made
         requires up { (fs_of self.old).volume.is_down ≡ false }
         requires planned { IsPlanned (fs_of self.old) edits.items }
+        // In any case
         ensures volume { Alters self.old self.new
             (IsEdited (fs_of self.old).volume edits.entry.items) (fs_ending result) }
+        // Done
         ensures shows { OnOk result (Shows D.keeps_word
             (edited_by (fs_of self.old).volume edits.entry.items) (fs_of self.new).volume.tree) }
         ensures counted { OnOk result ((fs_of self.new).changes ≡ (fs_of self.old).changes + 1) }
+        // Refused
         ensures only { IfErr result (λ fault.
             (fault ≡ FsFault.Memory) ⊎ (fault ≡ FsFault.Device)) }
     {
@@ -184,13 +188,17 @@ impl<D: Device> Fs<D> {
 
     /// Keeps a change, and counts it.
     pub(crate) fn keep(&mut self, edits: Vec<Edit<'_>>) -> Result<(), FsFault>
+        // A change that may be made
         requires up { (fs_of self.old).volume.is_down ≡ false }
         requires planned { IsPlanned (fs_of self.old) edits.items }
+        // In any case
         ensures volume { Alters self.old self.new
             (IsTree (edited_by (fs_of self.old).volume edits.entry.items)) (fs_ending result) }
+        // Done
         ensures shows { OnOk result (Shows D.keeps_word
             (edited_by (fs_of self.old).volume edits.entry.items) (fs_of self.new).volume.tree) }
         ensures counted { OnOk result ((fs_of self.new).changes ≡ (fs_of self.old).changes + 1) }
+        // Refused
         ensures only { IfErr result (λ fault.
             (fault ≡ FsFault.Memory) ⊎ (fault ≡ FsFault.Device)) }
     {

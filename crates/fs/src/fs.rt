@@ -2,7 +2,7 @@
 
 ghost use Rattle.std.specs.Prelude.{◌<◌, ◌^◌};
 ghost use Rattle.fs.specs.Ready.{IsReady, IsReady-prop};
-ghost use Rattle.volume.specs.Volumes.{held_of};
+ghost use Rattle.volume.specs.Views.{held_of};
 
 use disk::Device;
 use model::limits::Limits;
@@ -27,7 +27,7 @@ impl<D: Device> Fs<D> {
     ghost use Rattle.fs.specs.Views.{fs_of, fs_failures};
     ghost use Rattle.fs.specs.Formatting.{Formats};
     ghost use Rattle.volume.specs.Checks.{FailsCheck, HasChecked};
-    ghost use Rattle.volume.specs.MountAnswers.{HasMounted, IsRefused, ComesBack};
+    ghost use Rattle.volume.specs.MountAnswers.{HasMounted, IsMountRefused, ComesBack};
 
     /// Makes the device a new volume of this many nodes, with an empty root: `volume::format`.
     ///
@@ -58,7 +58,7 @@ impl<D: Device> Fs<D> {
         // Refused
         ensures back { IfErr result (ComesBack D.size D.failed (D.size device) (D.failed device)) }
         ensures refused { D.keeps_word → IfErr result (λ refused.
-            IsRefused (D.size device) (D.history device) (D.history refused.device) refused.fault) }
+            IsMountRefused (D.size device) (D.history device) (D.history refused.device) refused.fault) }
     {
         let volume = Volume::mount(alloc, device)?;
         Ok(Fs {

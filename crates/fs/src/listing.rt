@@ -70,14 +70,14 @@ impl Listing<'_> {
 impl<D: Device> Fs<D> {
     ghost use Rattle.std.specs.Prelude.{true, ℕ, map, IfOk, IsErrOf};
     ghost use Rattle.std.specs.List.{AllByRecursion, list_all};
-    ghost use Rattle.directory.specs.Listing.{after, by_stamp};
+    ghost use Rattle.directory.specs.Listing.{by_stamp};
     ghost use Rattle.directory.specs.Records.{IsRecord};
     ghost use Rattle.directory.specs.Rest.{record_at, rest_of};
     ghost use Rattle.fs.specs.Views.{fs_of};
     ghost use Rattle.fs.specs.Listing.{Lists, PageFits, list_arguments, list_refusals, page_of, page_view};
     ghost use Rattle.fs.specs.Operations.{IsOn};
     ghost use Rattle.model.specs.Keyed.{at};
-    ghost use Rattle.model.specs.ReadDir.{entry_attributes, entry_of, may_read_list};
+    ghost use Rattle.model.specs.ReadDir.{entry_attributes, listed_entry, may_read_list};
     ghost use Rattle.model.specs.Step.{State};
     ghost use Rattle.model.specs.Tree.{names_at};
     ghost use Rattle.settings.specs.Given.{IsChecked};
@@ -178,7 +178,7 @@ impl<D: Device> Fs<D> {
     ) -> Result<Page<'a>, AllocError>
         requires { AllByRecursion IsRecord (rest_of names) }
         ensures page { IfOk result (λ page. page_view page ≡ page_of room
-            (map (entry_of (fs_of self.entry.now).volume.limits (fs_of self.entry.now).volume.tree
+            (map (listed_entry (fs_of self.entry.now).volume.limits (fs_of self.entry.now).volume.tree
             cred.now asked.entry.now) (rest_of names.entry))) }
         ensures fits { IfOk result PageFits }
     {
@@ -205,7 +205,7 @@ impl<D: Device> Fs<D> {
     /// The entry of a name.
     fn listed<'a>(&'a self, cred: &Cred, name: &'a Entry, asked: &'a [u32]) -> ListedEntry<'a>
         requires { IsRecord (record_at name) }
-        ensures view { entry_view result ≡ entry_of (fs_of self.entry.now).volume.limits
+        ensures view { entry_view result ≡ listed_entry (fs_of self.entry.now).volume.limits
             (fs_of self.entry.now).volume.tree cred.now asked.entry.now (record_at name.entry) }
         ensures fits { EntryFits result }
     {

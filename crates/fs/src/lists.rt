@@ -2,7 +2,7 @@
 
 ghost use Rattle.std.specs.Prelude.{◌≡◌, ◌≤◌, IfOk};
 ghost use Rattle.std.specs.Option.{ForSome};
-ghost use Rattle.model.specs.Inherit.{created};
+ghost use Rattle.model.specs.Inherit.{created_list};
 ghost use Rattle.model.specs.SetAttr.{list_set};
 
 use acl_eval::{Ace, Acl, NodeKind};
@@ -20,7 +20,7 @@ pub(crate) fn list_created(
 ) -> Result<Acl, AllocError>
     requires { ForSome settings.mode (λ mode. mode ≤ MAX_MODE) }
     ensures { IfOk result (λ acl. acl
-        ≡ created parent.now kind settings.is_empty settings.mode settings.acl) }
+        ≡ created_list parent.now kind settings.is_empty settings.mode settings.acl) }
 {
     if let Some(acl) = settings.acl {
         return Ok(acl);

@@ -15,7 +15,7 @@ use edits::Edit;
 use model::not_done::NotDone;
 use model::status::Status;
 use names::check_name;
-use settings::{Attributes, SETTABLE_AT_CREATION, Settings, check_attributes};
+use settings::{GivenAttributes, SETTABLE_AT_CREATION, Settings, check_attributes};
 use std::alloc::AllocError;
 
 /// The directory that a caller asks for.
@@ -25,7 +25,7 @@ pub struct NewDirectory<'a> {
     pub parent: u64,
     pub name: &'a [u8],
     /// At most the mode and the list.
-    pub attributes: Attributes<'a>,
+    pub attributes: GivenAttributes<'a>,
 }
 
 /// A directory that may be made.
@@ -39,7 +39,6 @@ struct Planned<'a> {
 #[tactic(auto, unfolding(crate::specs::Views::fs_of, crate::specs::Views::fs_failures))]
 impl<D: Device> Fs<D> {
     ghost use Rattle.std.specs.Prelude.{◌≡◌, ◌≤◌, ◌+◌, ◌<◌, true, false, length, OnOk, IfOk, IfErr, IsErrOf};
-    ghost use Rattle.std.specs.Option.{ForSome};
     ghost use Rattle.draft.specs.Nodes.{shown_of};
     ghost use Rattle.edits.specs.Edits.{AreEntries};
     ghost use Rattle.layout.specs.Known.{IsCard};
@@ -147,10 +146,12 @@ impl<D: Device> Fs<D> {
     /// is set.
     fn permit_dir(&self, cred: &Cred, asked: NewDirectory) -> Result<(&Card, Settings), NotDone>
         requires { length asked.attributes.bitmap.now ≤ 8 }
+        // Its tests, in their order
         ensures tests { IsCheckedInMemory
             (new_directory_refusals (fs_of self.entry.now).volume.limits
             (fs_of self.entry.now).volume.tree cred.now asked.entry.parent asked.entry.name.now
             (given_of asked.entry.attributes)) result }
+        // Where none holds
         ensures parent { IfOk result (λ permitted.
             IsNodeOf (fs_of self.entry.now).volume.tree asked.entry.parent permitted.0.now) }
         ensures fit { IfOk result (λ permitted. IsCard permitted.0.now) }
@@ -200,9 +201,11 @@ impl<D: Device> Fs<D> {
             (first_node new.kind new.size (shown_of shown)) }
         requires entries { AreEntries (shown_of shown).acl }
         requires stamp { stamp ≡ next_stamp (fs_of self.now).volume.run (fs_of self.now).changes }
+        // Its tests, in their order
         ensures tests { IsCheckedInMemory (room_tests (fs_of self.now) (tree_with (fs_of self.now)
             new.entry.directory new.entry.name.now
             (first_node new.entry.kind new.entry.size (shown_of shown)) now)) result }
+        // Where none holds
         ensures planned { IfOk result (λ edits. IsPlanned (fs_of self.now) edits.items) }
         ensures after { IfOk result (λ edits. edited_by (fs_of self.now).volume edits.items
             ≡ tree_with (fs_of self.now) new.entry.directory new.entry.name.now

@@ -14,7 +14,7 @@ use edits::Edit;
 use model::not_done::NotDone;
 use model::status::Status;
 use names::check_name;
-use settings::{Attributes, SETTABLE_AT_OPEN, Settings, check_attributes};
+use settings::{GivenAttributes, SETTABLE_AT_OPEN, Settings, check_attributes};
 
 /// An open that passed its tests.
 #[derive(Drop)]
@@ -245,10 +245,12 @@ impl<D: Device> Fs<D> {
         requires few { length (given_by (type_of asked.how)).bitmap ≤ 8 }
         requires leads { LeadsTo (fs_of self.now).volume.tree asked.directory asked.name.now
             number }
+        // Its tests, in their order
         ensures tests { (state : State)
             → IsState (fs_of self.entry.now).volume.tree cred.now asked.entry.directory state
             → IsCheckedInMemory (file_tests (fs_of self.entry.now).volume.limits state
             asked.entry.share.access (type_of asked.entry.how) asked.entry.name.now) result }
+        // Where none holds
         ensures node { IfOk result (λ found.
             IsNodeOf (fs_of self.entry.now).volume.tree number found.0.now) }
         ensures file { IfOk result (λ found. found.0.now.fields.kind ≡ kind.File) }
@@ -285,7 +287,7 @@ impl<D: Device> Fs<D> {
     }
 
     /// The tests of attributes that an open gives of a file that is there, and whether they cut it.
-    fn check_cut(&self, given: Attributes<'_>) -> Result<bool, NotDone>
+    fn check_cut(&self, given: GivenAttributes<'_>) -> Result<bool, NotDone>
         requires { length given.bitmap.now ≤ 8 }
         ensures tests { IsCheckedInMemory (attribute_refusals (fs_of self.now).volume.limits
             kind.File settable_at_open (given_of given.entry)) result }
@@ -296,7 +298,7 @@ impl<D: Device> Fs<D> {
     }
 
     /// The tests of attributes that an open gives, and what they set.
-    fn check_given(&self, given: Attributes<'_>) -> Result<Settings, NotDone>
+    fn check_given(&self, given: GivenAttributes<'_>) -> Result<Settings, NotDone>
         requires { length given.bitmap.now ≤ 8 }
         ensures tests { IsCheckedInMemory (attribute_refusals (fs_of self.now).volume.limits
             kind.File settable_at_open (given_of given.entry)) result }
@@ -321,8 +323,10 @@ impl<D: Device> Fs<D> {
         requires node { IsNodeOf (fs_of self.now).volume.tree number card.now }
         requires file { card.now.fields.kind ≡ kind.File }
         requires fit { IsCard card.now }
+        // Its tests, in their order
         ensures tests { IsCheckedInMemory (room_tests (fs_of self.now)
             (tree_cut (fs_of self.now) number now)) result }
+        // Where none holds
         ensures planned { IfOk result (λ edits. IsPlanned (fs_of self.now) edits.items) }
         ensures after { IfOk result (λ edits. edited_by (fs_of self.now).volume edits.items
             ≡ tree_cut (fs_of self.now) number now) }
@@ -415,10 +419,12 @@ impl<D: Device> Fs<D> {
             directory.now }
         requires lacks { is_named (fs_of self.now).volume.tree asked.directory asked.name.now
             ≡ false }
+        // Its tests, in their order
         ensures tests { (state : State)
             → IsState (fs_of self.now).volume.tree cred.now asked.entry.directory state
             → IsCheckedInMemory (file_tests (fs_of self.now).volume.limits state
             asked.entry.share.access (type_of asked.entry.how) asked.entry.name.now) result }
+        // Where none holds
         ensures settings { IfOk result (λ settings.
             AreSettings settings (given_by (type_of asked.entry.how))) }
         ensures within { IfOk result (λ settings.

@@ -15,7 +15,7 @@ use acl_eval::{Cred, Mask};
 use cards::Card;
 use disk::Device;
 use model::status::Status;
-use settings::Attributes;
+use settings::GivenAttributes;
 
 /// `OPEN4_SHARE_ACCESS_READ` and `OPEN4_SHARE_ACCESS_WRITE`.
 const READ: u32 = 1;
@@ -29,9 +29,9 @@ pub enum How<'a> {
     NoCreate,
     /// Where it is not there it is made with these attributes; where it is, it is cut if they give the
     /// size 0.
-    Unchecked(Attributes<'a>),
+    Unchecked(GivenAttributes<'a>),
     /// It may not be there, and is made with these attributes.
-    Guarded(Attributes<'a>),
+    Guarded(GivenAttributes<'a>),
 }
 
 /// What an open asks to do, and to deny to others, as it was sent (RFC 8881, section 18.16.1,

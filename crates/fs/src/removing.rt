@@ -67,9 +67,9 @@ impl<D: Device> Fs<D> {
     /// # Errors
     ///
     /// Refused by the first of these that holds: STALE, NOTDIR, a name that is none, NOENT, ACCESS
-    /// without the right to delete the node and that to delete a child of the directory, NOTEMPTY,
-    /// and SERVERFAULT where the run has used up its stamps; then `NoRoom`. It is never NOSPC.
-    /// Memory may run out before or after any of them.
+    /// with neither the right to delete the node nor that to delete a child of the directory,
+    /// NOTEMPTY, and SERVERFAULT where the run has used up its stamps; then `NoRoom`. It is never
+    /// NOSPC. Memory may run out before or after any of them.
     pub fn remove(
         &mut self,
         cred: &Cred,

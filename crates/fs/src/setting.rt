@@ -19,7 +19,7 @@ use edits::Edit;
 use model::not_done::NotDone;
 use model::status::Status;
 use settings::{
-    ACL, Attributes, MODE, OWNER, OWNER_GROUP, SETTABLE_AT_SETATTR, SIZE, Settings,
+    ACL, GivenAttributes, MODE, OWNER, OWNER_GROUP, SETTABLE_AT_SETATTR, SIZE, Settings,
     check_attributes, is_among,
 };
 use std::alloc::AllocError;
@@ -32,7 +32,7 @@ pub struct Setting<'a> {
     pub number: u64,
     /// On the stateid, for an open with write access; it is looked at where a size is set.
     pub verdict: Result<(), Status>,
-    pub attributes: Attributes<'a>,
+    pub attributes: GivenAttributes<'a>,
 }
 
 /// Whether a caller has the rights to set attributes of these numbers on a node.
@@ -180,9 +180,11 @@ impl<D: Device> Fs<D> {
     /// The tests before those of room and stamps: the node, and what is set.
     fn permit_setting(&self, cred: &Cred, asked: Setting<'_>) -> Result<(&Card, Settings), NotDone>
         requires { length asked.attributes.bitmap.now ≤ 8 }
+        // Its tests, in their order
         ensures tests { IsCheckedInMemory (setting_tests (fs_of self.entry.now).volume.limits
             (fs_of self.entry.now).volume.tree cred.now asked.entry.number asked.entry.verdict
             (given_of asked.entry.attributes)) result }
+        // Where none holds
         ensures node { IfOk result (λ permitted.
             IsNodeOf (fs_of self.entry.now).volume.tree asked.entry.number permitted.0.now) }
         ensures fit { IfOk result (λ permitted. IsCard permitted.0.now) }

@@ -164,13 +164,17 @@ impl<D: Device> Fs<D> {
 
     /// Makes a change, and counts it; one that is to be stable is kept.
     fn put(&mut self, edits: Vec<Edit<'_>>, is_stable: bool) -> Result<(), FsFault>
+        // A change that may be made
         requires up { (fs_of self.old).volume.is_down ≡ false }
         requires planned { IsPlanned (fs_of self.old) edits.items }
+        // In any case
         ensures volume { Alters self.old self.new
             (IsPut (fs_of self.old).volume edits.entry.items is_stable) (fs_ending result) }
+        // Done
         ensures shows { OnOk result (Shows D.keeps_word
             (edited_by (fs_of self.old).volume edits.entry.items) (fs_of self.new).volume.tree) }
         ensures counted { OnOk result ((fs_of self.new).changes ≡ (fs_of self.old).changes + 1) }
+        // Refused
         ensures only { IfErr result (λ fault.
             (fault ≡ FsFault.Memory) ⊎ (fault ≡ FsFault.Device)) }
     {

@@ -11,13 +11,13 @@ use fs::{
     Change, Fs, FsFault, How, NewDirectory, OpenRoom, Opening, Renamed, Renaming, Setting, Share,
     Writing,
 };
-use settings::Attributes;
+use settings::GivenAttributes;
 
-fn attributes(given: Given<'_>) -> Attributes<'_>
+fn attributes(given: Given<'_>) -> GivenAttributes<'_>
     ensures { length result.bitmap.now ≤ 8 }
 {
     let Given { bitmap, values } = given;
-    Attributes { bitmap, values }
+    GivenAttributes { bitmap, values }
 }
 
 fn how_of(make: Make<'_>) -> How<'_>

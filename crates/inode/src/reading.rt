@@ -1,6 +1,6 @@
 //! Reading a node's sector.
 
-ghost use Rattle.std.specs.Prelude.{◌≡◌, ◌≤◌, ◌+◌, ◌*◌, ◌++◌, ℕ, List, length, drop, vec_len, IfOk, IfSome, OnErr, IsErrOf, Some};
+ghost use Rattle.std.specs.Prelude.{◌≡◌, ◌≤◌, ◌+◌, ◌*◌, ◌++◌, ℕ, List, length, drop, vec_len, IfOk, IfSome, IsErrOf, Some};
 ghost use Rattle.std.specs.List.{AllByRecursion, flat_map};
 ghost use Rattle.model.specs.declared.acl.Ace.{Ace};
 ghost use Rattle.model.specs.declared.node.NodeKind.{NodeKind};

@@ -1,6 +1,6 @@
 //! Writing a node's sector.
 
-ghost use Rattle.std.specs.Prelude.{◌≡◌, ◌≤◌, ◌+◌, ◌-◌, ◌*◌, ◌++◌, length, take, replicate};
+ghost use Rattle.std.specs.Prelude.{◌≡◌, ◌≤◌, ◌+◌, ◌-◌, ◌*◌, ◌++◌, length, take};
 ghost use Rattle.std.specs.List.{AllByRecursion};
 ghost use Rattle.inode.specs.Fields.{fields_of, IsAce, IsInode};
 ghost use Rattle.inode.specs.Spelling.{inode_sector, head, nine, magic, acl_bytes};

@@ -15,6 +15,7 @@ use Rattle.journal.proofs.Images.{Out, put_same, put_other, low_out, applied_out
 use Rattle.journal.proofs.Stages.{Fit-of, no_targets, between_one}
 use Rattle.journal.proofs.Moments.{between_of}
 use Rattle.journal.proofs.Commits.{seen_fixed, between_after}
+use Rattle.journal.proofs.Lists.{applied_at}
 
 pub length-fresh : (size : ℕ) (updates : List Update) → length (fresh size updates) ≡ size - 1
 length-fresh size updates = length-map-range_with_len (fresh_at updates) 1 (size - 1)
@@ -34,14 +35,6 @@ range_applied f a (suc k) n F t l h = ⊎_elim
     (λ (e : a ≡ n → ⊥). range_applied f (a + 1) k n (put F (f a)) t
     (⊎_elim (λ (q : a ≡ n). absurd (e q)) (λ (q : a ≡ n → ⊥). omega arith) (cases_eq a n)) (omega arith))
     (cases_eq a n)
-
--- updates change a sector by its content alone
-applied_at : (us : List Update) (F G : Image) (n : ℕ) → F n ≡ G n → applied us F n ≡ applied us G n
-applied_at [] F G n e = e
-applied_at (u ∷ us) F G n e = applied_at us (put F u) (put G u) n (⊎_elim
-    (λ (q : u.target ≡ n). put_same F u n q ∙ sym (put_same G u n q))
-    (λ (q : u.target ≡ n → ⊥). put_other F u n q ∙ e ∙ sym (put_other G u n q))
-    (cases_eq u.target n))
 
 -- an image as a format leaves it
 settles_formatted : (size : ℕ) (sector0 : List ℕ) (updates : List Update) (image : Image) → 256 ≤ size → AreTargets size (targets updates) → image 0 ≡ sector0

@@ -1,8 +1,8 @@
 -- A gate sector has one list of targets: its words give them back.
-use Rattle.std.proofs.Common.{◌≡◌, ◌≤◌, ◌<◌, ◌+◌, ◌-◌, ◌*◌, ◌^◌, ◌||◌, ◌==◌, ℕ, suc, zero, Bool, true, false, List, [], ◌∷◌, ◌++◌, length, take, drop, map, get_or, replicate, refl, sym, ap, ◌∙◌, subst, arith, eqb, eq-eqb, ◌&&◌}
+use Rattle.std.proofs.Common.{◌≡◌, ◌≤◌, ◌<◌, ◌+◌, ◌-◌, ◌*◌, ◌^◌, ◌==◌, ℕ, suc, zero, Bool, true, false, List, [], ◌∷◌, ◌++◌, length, take, drop, map, get_or, replicate, refl, sym, ap, ◌∙◌, subst, arith, eqb, eq-eqb, ◌&&◌}
 use lib.Pointwise.{pointwise}
 use Rattle.std.specs.List.{range_with_len, list_any}
-use Rattle.std.proofs.lemmas.Bool.{eqb-false}
+use Rattle.std.proofs.lemmas.Bool.{eqb-false, or_parts}
 use Rattle.std.proofs.lemmas.List.{drop-drop, take_more}
 use Rattle.byteorder.specs.Endian.{big_bytes, big_number}
 use Rattle.byteorder.specs.Numbers.{big_number-reads_back}
@@ -12,14 +12,10 @@ use Rattle.journal.proofs.Images.{Out}
 use Rattle.journal.proofs.Lists.{Fit-push, targets_of-Fit}
 use Rattle.journal.proofs.Stages.{Fit-of}
 
-or_none : (a b : Bool) → (a || b) ≡ false → (a ≡ false) × (b ≡ false)
-or_none false b e = (refl, e)
-or_none true b e = absurd (let q : true ≡ false = e in cc)
-
 Out-any : (ts : List ℕ) (n : ℕ) → list_any (λ t. t == n) ts ≡ false → Out ts n
 Out-any [] n e = tt
 Out-any (t ∷ ts) n e =
-    let q = or_none (t == n) (list_any (λ t. t == n) ts) e in
+    let q = or_parts (t == n) (list_any (λ t. t == n) ts) e in
     (eqb-false t n q.0, Out-any ts n q.1)
 
 -- one more target

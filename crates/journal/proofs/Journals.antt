@@ -6,6 +6,7 @@ use Rattle.disk.specs.Moments.{Image, History, seen}
 use Rattle.journal.specs.Layout.{AreTargets, gate, targets}
 use Rattle.journal.specs.Phase.{IsGated}
 use Rattle.journal.specs.Commit.{AddsEither, IsCommitted}
+use Rattle.journal.proofs.Lists.{targets-push}
 
 -- the device's size stays
 pub same_fit : (old new : ℕ) (to : List ℕ) → new ≡ old → AreTargets old to → AreTargets new to
@@ -22,11 +23,6 @@ gated_of to h e q = record { rests = none_of h.now.unsynced e; gate_is = q }
 pub on_ok : {T E P : Type 0} (r : Result T E) → is_err r ≡ false → OnOk r P → P
 on_ok (Ok x) e p = p
 on_ok (Err x) e p = absurd (let c : true ≡ false = e in cc)
-
--- one more target
-pub targets-push : (us : List Update) (u : Update) → targets (us ++ u ∷ []) ≡ targets us ++ u.target ∷ []
-targets-push [] u = refl
-targets-push (v ∷ us) u = ap (λ ts. v.target ∷ ts) (targets-push us u)
 
 pub targets_more : (us : List Update) (i : ℕ) (d : Update) → i < length us
     → targets (take (i + 1) us) ≡ targets (take i us) ++ (get_or us i d).target ∷ []

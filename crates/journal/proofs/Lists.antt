@@ -153,7 +153,7 @@ abbrev pub Apart : List ℕ → Type 0
 Apart [] = Unit {0}
 Apart (t ∷ ts) = Out ts t × Apart ts
 
-Out-each : (t : ℕ) (ts : List ℕ) → ((j : ℕ) → j < length ts → t ≢ get_or ts j 0) → Out ts t
+pub Out-each : (t : ℕ) (ts : List ℕ) → ((j : ℕ) → j < length ts → t ≢ get_or ts j 0) → Out ts t
 Out-each t [] f = tt
 Out-each t (s ∷ ts) f = ((λ e. f 0 (omega arith) (sym e)), Out-each t ts (λ j l. f (suc j) (omega arith)))
 

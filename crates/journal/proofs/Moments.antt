@@ -55,7 +55,7 @@ AddsOnly-wrote_all (u ∷ us) h = AddsOnly-join (LeftWith (u ∷ us) h.now) h (w
     (AddsOnly-weaken (LeftWith us (wrote u h).now) (LeftWith (u ∷ us) h.now) (wrote u h) (wrote_all us (wrote u h)) (LeftWith-rest u us h) (AddsOnly-wrote_all us (wrote u h)))
 
 -- what a read gives, a crash may leave
-seen-may_hold : (us : List Update) (fixed : Image) (n : ℕ) → (newest us fixed n ≡ fixed n) ⊎ Among us n (newest us fixed n)
+pub seen-may_hold : (us : List Update) (fixed : Image) (n : ℕ) → (newest us fixed n ≡ fixed n) ⊎ Among us n (newest us fixed n)
 seen-may_hold [] fixed n = inl refl
 seen-may_hold (u ∷ us) fixed n = ⊎_elim
     (λ (e : u.target ≡ n). inr (inl (e, sym (put_same (newest us fixed) u n e))))

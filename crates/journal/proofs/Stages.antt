@@ -1,14 +1,11 @@
 -- Images within the phases of a flush, and what they settle to.
-use Rattle.std.proofs.Common.{◌≡◌, ◌≢◌, ◌≤◌, ◌<◌, ◌⊎◌, ◌+◌, ℕ, suc, List, [], ◌∷◌, length, refl, sym, ap, ◌∙◌, inl, inr, ⊎_elim, arith, get_or, subst}
+use Rattle.std.proofs.Common.{◌≡◌, ◌≤◌, ◌<◌, ◌⊎◌, ◌+◌, ℕ, suc, List, [], ◌∷◌, length, refl, sym, ap, ◌∙◌, inl, inr, ⊎_elim, arith, subst}
 use Rattle.disk.specs.declared.update.Update.{Update}
 use Rattle.disk.specs.Moments.{Image, applied}
 use Rattle.journal.specs.Layout.{AreTargets, home, through, gate, targets, placed, copies}
 use Rattle.journal.specs.Settled.{IsKept, AreSame, Settles}
 use Rattle.journal.proofs.Images.{Out, Fit, Between, home_cases, home_out, low_out, applied_out, between_out, applied_home, placed_out_below, placed_out_above, applied_placed, targets_copies, holds_copies, length-targets}
-
-Out-of : (t : ℕ) (ts : List ℕ) → ((j : ℕ) → j < length ts → t ≢ get_or ts j 0) → Out ts t
-Out-of t [] f = tt
-Out-of t (s ∷ ts) f = ((λ e. f 0 (omega arith) (sym e)), Out-of t ts (λ j l. f (suc j) (omega arith)))
+use Rattle.journal.proofs.Lists.{Out-each}
 
 AreTargets-rest : (size t : ℕ) (ts : List ℕ) → AreTargets size (t ∷ ts) → AreTargets size ts
 AreTargets-rest size t ts a = record {
@@ -22,7 +19,7 @@ Fit-of size [] a = tt
 Fit-of size (t ∷ ts) a = (
   a.from_98 0 0 (omega arith),
   a.on_device 0 0 (omega arith),
-  Out-of t ts (λ j l. a.apart 0 (suc j) 0 (omega arith) (omega arith)),
+  Out-each t ts (λ j l. a.apart 0 (suc j) 0 (omega arith) (omega arith)),
   Fit-of size ts (AreTargets-rest size t ts a),
 )
 

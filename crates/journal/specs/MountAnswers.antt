@@ -29,7 +29,7 @@ pub record HasMounted (size : ℕ) (old : History) (log : Log) : Type 0 where
   pub cost : moment log.history ≤ moment old + 100
 
 -- What a mount that is refused did. Damaged comes only where the gate has no form.
-pub record IsRefused (size : ℕ) (old new : History) (fault : JournalFault) : Type 0 where
+pub record IsMountRefused (size : ℕ) (old new : History) (fault : JournalFault) : Type 0 where
   pub refused : AddsOnly (SettlesAs size (seen old.now)) old new
   pub closed_refused : IsClosed old → (new ≡ old) ⊎ (new ≡ synced old)
   pub damaged : fault ≡ faults.Damaged → LeavesOnlySynced size old new

@@ -1,7 +1,7 @@
 //! How a transaction goes through the gate: it is recorded behind the open gate, and then copied
 //! home.
 
-ghost use Rattle.std.specs.Prelude.{OnOk, ◌≡◌, ◌≤◌, ◌<◌, ◌+◌, [], ◌∷◌, length};
+ghost use Rattle.std.specs.Prelude.{OnOk, ◌≡◌, ◌≤◌, ◌<◌, [], length};
 ghost use Rattle.disk.specs.Moments.{seen};
 ghost use Rattle.journal.specs.Layout.{AreTargets, targets};
 ghost use Rattle.journal.specs.Phase.{IsGated, FailsCounted};
@@ -21,12 +21,14 @@ pub(crate) fn commit<D: Device>(
     requires few { length updates.now ≤ PAYLOAD_SECTORS }
     requires fit { AreTargets (D.size device.old) (targets updates.now) }
     requires large { FIRST_TARGET ≤ D.size device.old }
+    // On a device that keeps its word
     ensures moments { D.keeps_word → IsGated [] (D.history device.old)
         → AddsEither (D.size device.old) updates.now (seen (D.history device.old).now)
         (D.history device.old) (D.history device.new) }
     ensures ok { D.keeps_word → IsGated [] (D.history device.old)
         → OnOk result (IsCommitted (D.size device.old) updates.now
         (D.history device.old) (D.history device.new)) }
+    // On any device
     ensures size { D.size device.new ≡ D.size device.old }
     ensures failures { FailsCounted (D.failed device.old) (D.failed device.new) result }
 {
@@ -45,11 +47,13 @@ pub(crate) fn record<D: Device>(
     requires few { length updates.now ≤ PAYLOAD_SECTORS }
     requires fit { AreTargets (D.size device.old) (targets updates.now) }
     requires large { FIRST_TARGET ≤ D.size device.old }
+    // On a device that keeps its word
     ensures moments { D.keeps_word → IsGated [] (D.history device.old)
         → Records (D.size device.old) updates.now (D.history device.old) (D.history device.new) }
     ensures ok { D.keeps_word → IsGated [] (D.history device.old)
         → OnOk result (IsRecorded (D.size device.old) updates.now
         (D.history device.old) (D.history device.new)) }
+    // On any device
     ensures size { D.size device.new ≡ D.size device.old }
     ensures failures { FailsCounted (D.failed device.old) (D.failed device.new) result }
 {
@@ -63,12 +67,14 @@ pub(crate) fn copy_home<D: Device>(device: &mut D, updates: &[Update]) -> Result
     requires few { length updates.now ≤ PAYLOAD_SECTORS }
     requires fit { AreTargets (D.size device.old) (targets updates.now) }
     requires large { FIRST_TARGET ≤ D.size device.old }
+    // On a device that keeps its word
     ensures moments { D.keeps_word → IsShown updates.now (D.history device.old)
         → KeepsShown (D.size device.old) (targets updates.now)
         (D.history device.old) (D.history device.new) }
     ensures ok { D.keeps_word → IsShown updates.now (D.history device.old)
         → OnOk result (IsCopiedHome (D.size device.old) (targets updates.now)
         (D.history device.old) (D.history device.new)) }
+    // On any device
     ensures size { D.size device.new ≡ D.size device.old }
     ensures failures { FailsCounted (D.failed device.old) (D.failed device.new) result }
 {
@@ -82,11 +88,13 @@ pub(crate) fn replay<D: Device>(device: &mut D, to: &[u32]) -> Result<(), DiskFa
     requires few { length to.now ≤ PAYLOAD_SECTORS }
     requires fit { AreTargets (D.size device.old) to.now }
     requires large { FIRST_TARGET ≤ D.size device.old }
+    // On a device that keeps its word
     ensures moments { D.keeps_word → IsGated to.now (D.history device.old)
         → KeepsShown (D.size device.old) to.now (D.history device.old) (D.history device.new) }
     ensures ok { D.keeps_word → IsGated to.now (D.history device.old)
         → OnOk result (IsCopiedHome (D.size device.old) to.now
         (D.history device.old) (D.history device.new)) }
+    // On any device
     ensures size { D.size device.new ≡ D.size device.old }
     ensures failures { FailsCounted (D.failed device.old) (D.failed device.new) result }
 {

@@ -7,7 +7,7 @@ ghost use Rattle.journal.specs.Calls.{AddsFirst, HasApplied, HasFlushed, HasWrit
 ghost use Rattle.journal.specs.Format.{AddsFormats, IsFormatted};
 ghost use Rattle.journal.specs.Layout.{AreTargets, gate, targets};
 ghost use Rattle.journal.specs.Log.{Answers, Moved, contents};
-ghost use Rattle.journal.specs.MountAnswers.{ComesBack, HasMounted, IsNew, IsRefused};
+ghost use Rattle.journal.specs.MountAnswers.{ComesBack, HasMounted, IsNew, IsMountRefused};
 ghost use Rattle.journal.specs.Phase.{FailsCounted};
 ghost use Rattle.journal.specs.Transactions.{FitTogether, gathered, sectors_of};
 
@@ -86,7 +86,7 @@ impl<D: Device> Journal<D> {
             HasMounted (D.size device) (D.history device) (log_of journal)) }
         // Refused
         ensures back { IfErr result (ComesBack D.size D.failed device) }
-        ensures refused { D.keeps_word → IfErr result (λ refused. IsRefused (D.size device)
+        ensures refused { D.keeps_word → IfErr result (λ refused. IsMountRefused (D.size device)
             (D.history device) (D.history refused.device) refused.fault) }
     {
         let mut device = device;
@@ -264,11 +264,14 @@ impl<D: Device> Journal<D> {
 
     /// Takes the list into the base if the updates would not fit the payload beside it.
     fn make_room(&mut self, updates: &[Update]) -> Result<(), DiskFault>
+        // A transaction that may be taken
         requires up { (log_of self.old).is_down ≡ false }
         requires short { length updates.now ≤ MAX_UPDATES }
         requires fit { AreTargets (log_of self.old).size (targets updates.now) }
+        // In any case
         ensures part { IsPart D.keeps_word (log_of self.old) (log_of self.new)
             (failures_of self.old) (failures_of self.new) result }
+        // It is flushed where there is no room, and only there
         ensures kept { FitTogether (list_with (log_of self.old) updates.now)
             → (log_of self.new ≡ log_of self.old) × (self.new.list.items ≡ self.old.list.items) }
         ensures flushed { OnOk result ((FitTogether (list_with (log_of self.old) updates.now) → ⊥)

@@ -60,15 +60,18 @@ pub(crate) fn fits(named: &[u32], updates: &[Update]) -> bool
 
 /// Puts an update in the place of the one of its sector, or else after the others.
 pub(crate) fn put(list: &mut Vec<Update>, named: &mut Vec<u32>, update: Update)
+    // There is room for it
     requires named_are { named.old.items ≡ targets list.old.items }
     requires few { length (gathered named.old.items (update.target ∷ [])) ≤ PAYLOAD_SECTORS }
     requires room { PAYLOAD_SECTORS ≤ vec_capacity list.old }
     requires named_room { PAYLOAD_SECTORS ≤ vec_capacity named.old }
+    // What the list has then
     ensures applied { (image : Image) (n : ℕ) → applied list.new.items image n
         ≡ with (applied list.old.items image) update n }
     ensures targets { targets list.new.items
         ≡ gathered (targets list.old.items) (update.target ∷ []) }
     ensures named_are { named.new.items ≡ targets list.new.items }
+    // It takes no memory
     ensures capacity { vec_capacity list.new ≡ vec_capacity list.old }
     ensures named_capacity { vec_capacity named.new ≡ vec_capacity named.old }
 {
@@ -83,15 +86,18 @@ pub(crate) fn put(list: &mut Vec<Update>, named: &mut Vec<u32>, update: Update)
 
 /// Puts updates one after the other.
 pub(crate) fn put_all(list: &mut Vec<Update>, named: &mut Vec<u32>, updates: Vec<Update>)
+    // There is room for it
     requires named_are { named.old.items ≡ targets list.old.items }
     requires few { length (gathered named.old.items (targets updates.items)) ≤ PAYLOAD_SECTORS }
     requires room { PAYLOAD_SECTORS ≤ vec_capacity list.old }
     requires named_room { PAYLOAD_SECTORS ≤ vec_capacity named.old }
+    // What the list has then
     ensures applied { (image : Image) (n : ℕ) → applied list.new.items image n
         ≡ applied updates.items (applied list.old.items image) n }
     ensures targets { targets list.new.items
         ≡ gathered (targets list.old.items) (targets updates.items) }
     ensures named_are { named.new.items ≡ targets list.new.items }
+    // It takes no memory
     ensures capacity { vec_capacity list.new ≡ vec_capacity list.old }
     ensures named_capacity { vec_capacity named.new ≡ vec_capacity named.old }
 {

@@ -14,10 +14,12 @@ use disk::{Device, DiskFault, SECTOR, Update};
 pub(crate) fn write_payload<D: Device>(device: &mut D, updates: &[Update]) -> Result<(), DiskFault>
     requires few { length updates.now ≤ PAYLOAD_SECTORS }
     requires large { FIRST_TARGET ≤ D.size device.old }
+    // On a device that keeps its word
     ensures moments { D.keeps_word → AddsUpdates (placed 2 updates.now)
         (D.history device.old) (D.history device.new) }
     ensures ok { D.keeps_word → OnOk result (IsFixedAs (placed 2 updates.now)
         (D.history device.old) (D.history device.new)) }
+    // On any device
     ensures size { D.size device.new ≡ D.size device.old }
     ensures failures { FailsCounted (D.failed device.old) (D.failed device.new) result }
 {
@@ -50,12 +52,14 @@ pub(crate) fn copy_payload<D: Device>(device: &mut D, targets: &[u32]) -> Result
     requires few { length targets.now ≤ PAYLOAD_SECTORS }
     requires fit { AreTargets (D.size device.old) targets.now }
     requires large { FIRST_TARGET ≤ D.size device.old }
+    // On a device that keeps its word
     ensures moments { D.keeps_word
         → AddsUpdates (copies (seen (D.history device.old).now) 2 targets.now)
         (D.history device.old) (D.history device.new) }
     ensures ok { D.keeps_word → OnOk result
         (IsFixedAs (copies (seen (D.history device.old).now) 2 targets.now)
         (D.history device.old) (D.history device.new)) }
+    // On any device
     ensures size { D.size device.new ≡ D.size device.old }
     ensures failures { FailsCounted (D.failed device.old) (D.failed device.new) result }
 {

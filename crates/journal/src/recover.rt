@@ -15,6 +15,7 @@ use disk::{Device, SECTOR};
 pub(crate) fn recover<D: Device>(device: &mut D, named: &mut Vec<u32>) -> Result<(), JournalFault>
     requires large { MIN_SECTORS ≤ D.size device.old }
     requires room { PAYLOAD_SECTORS ≤ vec_capacity named.old }
+    // On a device that keeps its word
     ensures moments { D.keeps_word
         → AddsOnly (SettlesAs (D.size device.old) (seen (D.history device.old).now))
         (D.history device.old) (D.history device.new) }
@@ -24,6 +25,7 @@ pub(crate) fn recover<D: Device>(device: &mut D, named: &mut Vec<u32>) -> Result
         → WritesNothing (D.history device.old) (D.history device.new) result }
     ensures damaged { D.keeps_word → IsErrOf result JournalFault.Damaged
         → LeavesOnlySynced (D.size device.old) (D.history device.old) (D.history device.new) }
+    // On any device
     ensures none { OnOk result
         ((named.new.items ≡ []) × (vec_capacity named.new ≡ vec_capacity named.old)) }
     ensures size { D.size device.new ≡ D.size device.old }

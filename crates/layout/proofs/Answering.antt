@@ -1,5 +1,6 @@
 -- What is asked of the tree is answered by the cards.
 use Rattle.std.proofs.Common.{◌≡◌, ℕ, zero, suc, List, [], ◌∷◌, Option, Some, None, get_or, refl, sym, ap, ◌∙◌, arith}
+use Rattle.std.proofs.lemmas.Option.{same_Some, none-some}
 use Rattle.disk.specs.Moments.{Image}
 use Rattle.model.specs.Keyed.{at, with}
 use Rattle.model.proofs.KeyedLaws.{at-with_same, at-with_other}
@@ -8,17 +9,11 @@ use Rattle.layout.specs.Cards.{Card, tree_of, node_of}
 use Rattle.layout.specs.Laid.{AreNumbered}
 use Rattle.layout.proofs.Changing.{tree-lacks}
 
-some_is : (x y : Card) → (let one : Option Card = Some x in one ≡ Some y) → x ≡ y
-some_is x y e = cc
-
-none_some : (x : Card) → (let none : Option Card = None in none ≡ Some x) → ⊥
-none_some x e = cc
-
 pub tree-has : (image : Image) (cards : List (Option Card)) (place : ℕ) (card : Card) → AreNumbered cards → get_or cards place None ≡ Some card → at card.fields.number (tree_of image cards) ≡ Some (node_of image card)
-tree-has image [] place card apart there = absurd (none_some card there)
-tree-has image (None ∷ cards) zero card apart there = absurd (none_some card there)
+tree-has image [] place card apart there = absurd (none-some card there)
+tree-has image (None ∷ cards) zero card apart there = absurd (none-some card there)
 tree-has image (Some one ∷ cards) zero card apart there =
-    let same : one ≡ card = some_is one card there in
+    let same : one ≡ card = same_Some one card there in
     ap (λ (c : Card). at card.fields.number (with (tree_of image cards) c.fields.number (node_of image c))) same ∙ at-with_same (tree_of image cards) card.fields.number (node_of image card)
 tree-has image (None ∷ cards) (suc place) card apart there = tree-has image cards place card (λ i j a b off. apart (suc i) (suc j) a b (omega arith)) there
 tree-has image (Some one ∷ cards) (suc place) card apart there =

@@ -2,6 +2,7 @@
 use Rattle.std.proofs.Common.{◌≡◌, ◌≢◌, ◌≤◌, ◌<◌, ◌+◌, ℕ, zero, suc, List, [], ◌∷◌, Option, Some, None, length, get_or, set, refl, sym, ap, ap₂, ◌∙◌, arith, inl, inr, subst}
 use Rattle.std.proofs.lemmas.Bool.{cases_eq, cases_lt}
 use Rattle.std.proofs.lemmas.List.{length-set, get_or-set_same, get_or-set_other, set-get_or, get_or_past}
+use Rattle.std.proofs.lemmas.Option.{same_Some, none-some}
 use Rattle.disk.specs.Moments.{Image}
 use Rattle.model.specs.Keyed.{at, with, without, IsAbove}
 use Rattle.model.proofs.KeyedLaws.{at-with_other, IsAbove-with}
@@ -37,12 +38,6 @@ named-set n (other ∷ cards) (suc i) card h = omega (arith, named-set n cards i
 
 -- The tree
 
-some_is : (x y : Card) → (let one : Option Card = Some x in one ≡ Some y) → x ≡ y
-some_is x y e = cc
-
-none_some : (x : Card) → (let none : Option Card = None in none ≡ Some x) → ⊥
-none_some x e = cc
-
 abbrev pub AreAbove : List (Option Card) → Type 0
 AreAbove cards = (i : ℕ) (card : Card) → get_or cards i None ≡ Some card → 0 < card.fields.number
 
@@ -68,7 +63,7 @@ module _ (old new : Image) where
   keeps_all : (cards : List (Option Card)) (place : ℕ) → get_or cards place None ≡ None → ((i : ℕ) (card : Card) → i ≢ place → get_or cards i None ≡ Some card → node_of new card ≡ node_of old card)
       → (i : ℕ) (card : Card) → get_or cards i None ≡ Some card → node_of new card ≡ node_of old card
   keeps_all cards place none keeps i card there = elim (cases_eq i place) [
-    | inl one ↦ absurd (none_some card (sym none ∙ ap (λ (k : ℕ). get_or cards k None) (sym one) ∙ there))
+    | inl one ↦ absurd (none-some card (sym none ∙ ap (λ (k : ℕ). get_or cards k None) (sym one) ∙ there))
     | inr off ↦ keeps i card off there
   ]
 
@@ -104,10 +99,10 @@ module _ (old new : Image) where
   -- no card in place of one
   pub tree-drop : (cards : List (Option Card)) (place : ℕ) (was : Card) → get_or cards place None ≡ Some was → KeepsOthers cards place → AreAbove cards → IsOwnNumber cards place (Some was)
       → tree_of new (set cards place None) ≡ without (tree_of old cards) was.fields.number
-  tree-drop [] place was there keeps above own = absurd (none_some was there)
-  tree-drop (None ∷ cards) zero was there keeps above own = absurd (none_some was there)
+  tree-drop [] place was there keeps above own = absurd (none-some was there)
+  tree-drop (None ∷ cards) zero was there keeps above own = absurd (none-some was there)
   tree-drop (Some one ∷ cards) zero was there keeps above own =
-      let same : was ≡ one = some_is was one (sym there) in
+      let same : was ≡ one = same_Some was one (sym there) in
       tree-kept cards (λ i card e. keeps (suc i) card (omega arith) e)
       ∙ sym (without-with_fresh (tree_of old cards) one.fields.number (node_of old one) (tree-above old cards (λ i card e. above (suc i) card e)) (above 0 one refl)
       (tree-lacks old cards one.fields.number (λ i card e f. own (suc i) card (omega arith) e (f ∙ ap (λ (c : Card). c.fields.number) (sym same)))))
@@ -171,7 +166,7 @@ module _ (nodes : ℕ) (old new : Image) (marked mark : ℕ → ℕ) (cards : Li
 pub above_held : (nodes : ℕ) (image : Image) (mark : ℕ → ℕ) (cards : List (Option Card)) → AreLaid nodes image mark cards → (i : ℕ) (card : Card) → get_or cards i None ≡ Some card → 0 < card.fields.number
 above_held nodes image mark cards laid i card there = elim (cases_lt i nodes) [
   | inl low ↦ let holds : HoldsPlace image i (Some card) = subst (HoldsPlace image i) there (laid.held i low) in holds.node.number
-  | inr high ↦ absurd (none_some card (sym (get_or_past cards i None (omega (arith, laid.count))) ∙ there))
+  | inr high ↦ absurd (none-some card (sym (get_or_past cards i None (omega (arith, laid.count))) ∙ there))
 ]
 
 module _ (cards : List (Option Card)) (place : ℕ) (is : Option Card) (h : place < length cards) (own : IsOwnNumber cards place is) where

@@ -8,6 +8,7 @@ use Rattle.model.specs.declared.node.NodeKind.TheVariants as kind
 use Rattle.model.specs.Charge.{charge, blocks, blocks_of, charge_of_blocks, divided_up}
 use Rattle.model.specs.Keyed.{Keyed, at, with, total, worth_at, IsAbove}
 use Rattle.model.proofs.KeyedLaws.{total-with, IsAbove-with}
+use Rattle.model.proofs.OpensLaws.{total-ones}
 use Rattle.directory.proofs.ByStamp.{at-by_stamp}
 use Rattle.extents.specs.declared.run.Run.{Run}
 use Rattle.extents.specs.Runs.{AreRising}
@@ -20,6 +21,7 @@ use Rattle.layout.specs.MarkLaws.{FullIsCharged}
 use Rattle.layout.specs.Marks.{once_if, times, times_set, named_by, named}
 use Rattle.layout.proofs.Changing.{tree-lacks, tree-above}
 use Rattle.layout.proofs.Knowing.{AreEach, each_above, each_card, laid_are_cards}
+use Rattle.layout.proofs.NumberLaws.{once-off}
 
 -- f 0 + f 1 + .. + f (n - 1)
 abbrev pub sum_to : (ℕ → ℕ) → ℕ → ℕ
@@ -42,9 +44,6 @@ sum_to-ones : (n : ℕ) → sum_to (λ i. 1) n ≡ n
 sum_to-ones zero = refl
 sum_to-ones (suc n) = omega (arith, sum_to-ones n)
 
-once-not : (n s : ℕ) → n ≢ s → once_if (eqb n s) ≡ 0
-once-not n s off = rw (ne_eqb n s off) refl
-
 once-le : (n s : ℕ) → once_if (eqb n s) ≤ 1
 once-le n s = elim (cases_eq n s) [
   | inl e ↦ rw (eq-eqb n s e) (omega arith)
@@ -59,8 +58,8 @@ sum_once a s (suc n) =
     elim (cases_order (a + n) s) [
       | inl e ↦ (let none = before.1 (omega arith) in omega (arith, once-le (a + n) s), λ h. absurd (omega arith))
       | inr off ↦ elim off [
-        | inl low ↦ (omega (arith, before.0, once-not (a + n) s (omega arith)), λ h. omega (arith, before.1 (omega arith), once-not (a + n) s (omega arith)))
-        | inr high ↦ (omega (arith, before.0, once-not (a + n) s (omega arith)), λ h. absurd (omega arith))
+        | inl low ↦ (omega (arith, before.0, once-off (a + n) s (omega arith)), λ h. omega (arith, before.1 (omega arith), once-off (a + n) s (omega arith)))
+        | inr high ↦ (omega (arith, before.0, once-off (a + n) s (omega arith)), λ h. absurd (omega arith))
       ]
     ]
 
@@ -86,10 +85,6 @@ few_runs from count (run ∷ runs) rising h =
     let some = rising.1 in
     let fits = rising.2 in
     omega (arith, few_runs (run.block + run.length) count runs rising.4 fits)
-
-pub total-ones : {A : Type 0} (entries : Keyed A) → total (λ value. 1) entries ≡ length entries
-total-ones [] = refl
-total-ones (entry ∷ rest) = omega (arith, total-ones rest)
 
 pub none_worth : {A : Type 0} (worth : A → ℕ) (found : Option A) → found ≡ None → worth_at worth found ≡ 0
 none_worth worth found e = ap (worth_at worth) e
@@ -137,7 +132,7 @@ card_charged image card a n is =
     let runs = few_runs 0 (length card.blocks) card.runs is.runs.rising (omega arith) in
     omega (arith, sum_card a n card, is.fits.run_sectors, is.run_count)
 
-named-none : (n : ℕ) → named_by n None ≡ 0
+pub named-none : (n : ℕ) → named_by n None ≡ 0
 unfolding named_by
 named-none n = refl
 

@@ -3,6 +3,7 @@ use Rattle.std.proofs.Common.{◌≡◌, ◌<◌, ◌+◌, ◌-◌, ◌/◌, ◌
 use Rattle.std.proofs.Math.Nat.{zero-div}
 use Rattle.std.proofs.lemmas.Bool.{cases_lt}
 use Rattle.std.proofs.lemmas.List.{length-replicate, get_or-replicate, get_or_past}
+use Rattle.std.proofs.lemmas.Option.{none-some}
 use Rattle.disk.specs.Moments.{Image}
 use Rattle.disk.specs.Calls.{zero_sector}
 use Rattle.model.specs.Keyed.{with}
@@ -23,7 +24,7 @@ use Rattle.layout.proofs.FileLaws.{zero_sector-at}
 use Rattle.layout.proofs.FirstLaws.{sized_parts}
 use Rattle.layout.proofs.StepLaws.{node_of-directory}
 
-nones-at : (n i : ℕ) → get_or (replicate {A = Option Card} n None) i None ≡ None
+pub nones-at : (n i : ℕ) → get_or (replicate {A = Option Card} n None) i None ≡ None
 nones-at n i = elim (cases_lt i n) [
   | inl low ↦ get_or-replicate n i None None low
   | inr high ↦ get_or_past (replicate n None) i None (omega (arith, length-replicate {A = Option Card} n None))
@@ -45,9 +46,6 @@ bit_of-zeros bytes is i =
 either_zero : (b : Bool) → (let either : ℕ = if b then 0 else 0 in either ≡ 0)
 either_zero true = refl
 either_zero false = refl
-
-none_some : (x : Card) → (let none : Option Card = None in none ≡ Some x) → ⊥
-none_some x e = cc
 
 bit_in-zeros : (low high : List ℕ) → low ≡ zero_sector → high ≡ zero_sector → (i : ℕ) → bit_in low high i ≡ 0
 bit_in-zeros low high a b i = ap₂ (λ (x y : ℕ). if ltb i 32768 then x else y) (bit_of-zeros low a i) (bit_of-zeros high b (i - 32768)) ∙ either_zero (ltb i 32768)
@@ -103,7 +101,7 @@ module _ (version : Version) (size nodes : ℕ) (image : Image) (formatted : IsF
 
   root_alone : (i : ℕ) (card : Card) → get_or root_cards i None ≡ Some card → i ≡ 0
   root_alone zero card at_i = refl
-  root_alone (suc i) card at_i = absurd (none_some card (sym (nones-at (nodes - 1) i) ∙ at_i))
+  root_alone (suc i) card at_i = absurd (none-some card (sym (nones-at (nodes - 1) i) ∙ at_i))
 
   apart : AreNumbered root_cards
   apart i j a b off at_i at_j = absurd (off (root_alone i a at_i ∙ sym (root_alone j b at_j)))
@@ -113,7 +111,7 @@ module _ (version : Version) (size nodes : ℕ) (image : Image) (formatted : IsF
 
   forms : HaveForms version root_cards
   forms zero card at_i = ap (λ (c : Card). c.form) (some_is card root_card (sym at_i))
-  forms (suc i) card at_i = absurd (none_some card (sym (nones-at (nodes - 1) i) ∙ at_i))
+  forms (suc i) card at_i = absurd (none-some card (sym (nones-at (nodes - 1) i) ∙ at_i))
 
   unmarked : (n : ℕ) → mark_in nodes image n ≡ 0
   unfolding mark_in

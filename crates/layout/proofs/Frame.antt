@@ -1,6 +1,7 @@
 -- A card whose sectors are kept is held still, and is the same node.
-use Rattle.std.proofs.Common.{◌≡◌, ◌<◌, ◌/◌, ◌%◌, ℕ, zero, suc, List, [], ◌∷◌, Option, Some, None, length, get_or, map, refl, ap, ◌∙◌, arith, eqb, eq-eqb}
+use Rattle.std.proofs.Common.{◌≡◌, ◌<◌, ◌/◌, ◌%◌, ℕ, zero, suc, List, [], ◌∷◌, Option, Some, None, get_or, map, refl, ap, ◌∙◌, arith}
 use Rattle.std.specs.List.{range_with_len}
+use Rattle.std.proofs.lemmas.Option.{same_Some, none-some}
 use Rattle.disk.specs.Moments.{Image}
 use Rattle.model.specs.declared.node.NodeKind.{NodeKind}
 use Rattle.model.specs.declared.node.NodeKind.TheVariants as kind
@@ -9,31 +10,15 @@ use Rattle.extents.specs.declared.run.Run.{Run}
 use Rattle.layout.specs.CardLaws.{AreKept, Frame}
 use Rattle.layout.specs.Cards.{Card, node_sector, content_at, byte_at, bytes_in, content_of, node_with, node_of}
 use Rattle.layout.specs.Laid.{AreRunSectors, HoldsContent, HoldsCard}
-use Rattle.layout.specs.Marks.{once_if, times, times_set, named_by}
-
-none_some : (n : ℕ) → (let none : Option ℕ = None in none ≡ Some n) → ⊥
-none_some n e = cc
-
-some_is : (x y : ℕ) → (let one : Option ℕ = Some x in one ≡ Some y) → x ≡ y
-some_is x y e = cc
-
-pub once_same : (n : ℕ) → once_if (eqb n n) ≡ 1
-once_same n = rw (eq-eqb n n refl) refl
-
-times-here : (n : ℕ) (sectors : List ℕ) → 0 < times n (n ∷ sectors)
-times-here n sectors = omega (arith, once_same n)
+use Rattle.layout.specs.Marks.{times, times_set, named_by}
+use Rattle.layout.proofs.NumberLaws.{once-here, times-at}
 
 pub times_set-at : (blocks : List (Option ℕ)) (i n : ℕ) → get_or blocks i None ≡ Some n → 0 < times_set n blocks
-times_set-at [] i n is = absurd (none_some n is)
-times_set-at (None ∷ blocks) zero n is = absurd (none_some n is)
+times_set-at [] i n is = absurd (none-some n is)
+times_set-at (None ∷ blocks) zero n is = absurd (none-some n is)
 times_set-at (None ∷ blocks) (suc i) n is = times_set-at blocks i n is
-times_set-at (Some s ∷ blocks) zero n is = let e : s ≡ n = some_is s n is in rw e (omega (arith, once_same n))
+times_set-at (Some s ∷ blocks) zero n is = let e : s ≡ n = same_Some s n is in rw e (omega (arith, once-here n))
 times_set-at (Some s ∷ blocks) (suc i) n is = omega (arith, times_set-at blocks i n is)
-
-pub times-at : (sectors : List ℕ) (i d : ℕ) → i < length sectors → 0 < times (get_or sectors i d) sectors
-times-at [] i d h = absurd (omega arith)
-times-at (sector ∷ sectors) zero d h = times-here sector sectors
-times-at (sector ∷ sectors) (suc i) d h = omega (arith, times-at sectors i d (omega arith))
 
 pub run_sectors-kept : (old new : Image) (sectors : List ℕ) (runs : List Run) → ((n : ℕ) → 0 < times n sectors → new n ≡ old n) → AreRunSectors old sectors runs → AreRunSectors new sectors runs
 run_sectors-kept old new sectors runs same are i h = same (get_or sectors i 0) (times-at sectors i 0 h) ∙ are i h

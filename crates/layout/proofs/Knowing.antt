@@ -2,6 +2,7 @@
 use Rattle.std.proofs.Common.{◌≡◌, ◌<◌, ℕ, List, Option, Some, None, get_or, set, sym, ap, ◌∙◌, arith, inl, inr, subst}
 use Rattle.std.proofs.lemmas.Bool.{cases_eq, cases_lt}
 use Rattle.std.proofs.lemmas.List.{length-set, get_or_past, get_or-set_same, get_or-set_other}
+use Rattle.std.proofs.lemmas.Option.{none-some}
 use Rattle.disk.specs.Moments.{Image}
 use Rattle.model.specs.declared.node.NodeKind.{NodeKind}
 use Rattle.model.specs.declared.node.NodeKind.TheVariants as kind
@@ -37,9 +38,6 @@ laid_are_cards nodes image mark cards laid = record {
   once = laid.once;
 }
 
-none_some : (card : Card) → (let none : Option Card = None in none ≡ Some card) → ⊥
-none_some card e = cc
-
 -- each card of a table is one
 abbrev pub AreEach : List (Option Card) → Type 0
 AreEach cards = (i : ℕ) (card : Card) → get_or cards i None ≡ Some card → IsCard card
@@ -47,7 +45,7 @@ AreEach cards = (i : ℕ) (card : Card) → get_or cards i None ≡ Some card �
 pub each_card : (nodes : ℕ) (mark : ℕ → ℕ) (cards : List (Option Card)) → AreCards nodes mark cards → AreEach cards
 each_card nodes mark cards known i card there = elim (cases_lt i nodes) [
   | inl low ↦ subst IsPlace there (known.each i low)
-  | inr high ↦ absurd (none_some card (sym (get_or_past cards i None (omega (arith, known.count))) ∙ there))
+  | inr high ↦ absurd (none-some card (sym (get_or_past cards i None (omega (arith, known.count))) ∙ there))
 ]
 
 pub each_above : (cards : List (Option Card)) → AreEach cards → AreAbove cards

@@ -1,5 +1,5 @@
 -- Marks in memory, and in the bitmap's sectors.
-use Rattle.std.proofs.Common.{◌≡◌, ◌≢◌, ◌≤◌, ◌<◌, ◌+◌, ◌-◌, ◌/◌, ◌%◌, ◌^◌, ◌⊎◌, ℕ, Bool, true, false, List, Option, Some, None, length, get_or, set, refl, sym, ap, ap₂, ◌∙◌, arith, subst, inl, inr, eqb, ltb, eq-eqb, ne_eqb, lt-ltb, le-ltb, if◌then◌else◌, slice_get}
+use Rattle.std.proofs.Common.{◌≡◌, ◌≢◌, ◌≤◌, ◌<◌, ◌+◌, ◌-◌, ◌/◌, ◌%◌, ◌^◌, ◌⊎◌, ℕ, Bool, true, false, List, Option, Some, None, length, get_or, set, refl, sym, ap, ap₂, ◌∙◌, arith, subst, inl, inr, ltb, lt-ltb, le-ltb, if◌then◌else◌, slice_get}
 use Rattle.std.proofs.lemmas.Bool.{cases_eq, cases_lt}
 use Rattle.std.proofs.lemmas.List.{get_or_past, get_or-set_same, get_or-set_other}
 use Rattle.std.proofs.lemmas.Option.{slice_get_within, get_or_from_slice_get}
@@ -14,11 +14,12 @@ use Rattle.layout.specs.Stands.{Version}
 use Rattle.layout.specs.Superblock.{is_size}
 use Rattle.std.specs.Prelude.{IsTrue}
 use Rattle.layout.proofs.FirstLaws.{sized_parts}
-use Rattle.layout.specs.Marks.{once_if, mark_in, named_by, mark_by}
+use Rattle.layout.specs.Marks.{mark_in, named_by, mark_by}
 use Rattle.layout.specs.Stands.{IsLaid}
 use Rattle.layout.proofs.CardLaws.{cards-back}
 use Rattle.layout.proofs.Frame.{held-still, node-kept}
 use Rattle.layout.proofs.Changing.{named-at, tree-kept}
+use Rattle.layout.proofs.NumberLaws.{once-off, once-at}
 
 -- ---- marks by places
 
@@ -30,12 +31,6 @@ module _ (first : ℕ) (places : List Bool) (n : ℕ) where
   pub mark-back : first ≤ n → mark_by first places n ≡ bit_from (get_or places (n - first) false)
   unfolding mark_by
   mark-back h = rw (le-ltb n first h) refl
-
-once-yes : (n m : ℕ) → n ≡ m → once_if (eqb n m) ≡ 1
-once-yes n m e = rw (eq-eqb n m e) refl
-
-once-no : (n m : ℕ) → n ≢ m → once_if (eqb n m) ≡ 0
-once-no n m e = rw (ne_eqb n m e) refl
 
 bit-le : (b : Bool) → bit_from b ≤ 1
 bit-le true = omega arith
@@ -68,12 +63,12 @@ true-within places place is = elim (cases_lt place (length places)) [
 pub each_mark : EachMark
 each_mark first places place = record {
   taken = λ free n. let in_ = slice_get-within places place false free in elim (mark-set first places place false true in_.0 in_.1 n) [
-    | inl here ↦ omega (arith, here.1, here.2, once-yes n (first + place) here.0)
-    | inr there ↦ omega (arith, there.1, once-no n (first + place) there.0)
+    | inl here ↦ omega (arith, here.1, here.2, once-at n (first + place) here.0)
+    | inr there ↦ omega (arith, there.1, once-off n (first + place) there.0)
   ];
   given = λ used n. elim (mark-set first places place true false (true-within places place used) used n) [
-    | inl here ↦ omega (arith, here.1, here.2, once-yes n (first + place) here.0)
-    | inr there ↦ omega (arith, there.1, once-no n (first + place) there.0)
+    | inl here ↦ omega (arith, here.1, here.2, once-at n (first + place) here.0)
+    | inr there ↦ omega (arith, there.1, once-off n (first + place) there.0)
   ];
   once = λ n. elim (cases_lt n first) [
     | inl low ↦ omega (arith, mark-front first places n low)
@@ -89,7 +84,7 @@ each_mark first places place = record {
 -- ---- the bitmap's sectors
 
 -- past the two sectors no bit stands
-bit_of-past : (bytes : List ℕ) (i : ℕ) → length bytes ≡ 4096 → 32768 ≤ i → bit_of bytes i ≡ 0
+pub bit_of-past : (bytes : List ℕ) (i : ℕ) → length bytes ≡ 4096 → 32768 ≤ i → bit_of bytes i ≡ 0
 bit_of-past bytes i long h =
     let none : get_or bytes (i / 8) 0 ≡ 0 = get_or_past bytes (i / 8) 0 (omega arith) in
     ap (λ (b : ℕ). b / 2 ^ (7 - i % 8) % 2) none ∙ ap (λ (b : ℕ). b % 2) (zero-div (2 ^ (7 - i % 8)))

@@ -1,11 +1,38 @@
--- How often numbers stand in a list, once they are sorted.
-use Rattle.std.proofs.Common.{◌≡◌, ◌≢◌, ◌≤◌, ◌<◌, ◌+◌, ℕ, zero, suc, List, [], ◌∷◌, length, get_or, refl, sym, ap, ◌∙◌, arith, inl, inr, eqb, eq-eqb, ne_eqb}
+-- How often numbers stand in a list.
+use Rattle.std.proofs.Common.{◌≡◌, ◌≢◌, ◌≤◌, ◌<◌, ◌+◌, ℕ, zero, suc, List, [], ◌∷◌, ◌++◌, Option, Some, None, length, take, get_or, refl, sym, ap, ◌∙◌, arith, inl, inr, eqb, eq-eqb, ne_eqb}
 use Rattle.std.proofs.lemmas.Bool.{cases_eq}
 use Rattle.std.proofs.lemmas.List.Sorted.{sum_by-IsPermutation}
 use Rattle.std.proofs.lemmas.List.Sums.{sum_by-cons}
 use Rattle.std.specs.List.{sum_by}
 use Rattle.std.specs.List.Sorted.{IsPermutation, IsNonDecreasing}
-use Rattle.layout.specs.Marks.{once_if, times}
+use Rattle.layout.specs.Marks.{once_if, times, times_set}
+
+pub once-here : (n : ℕ) → once_if (eqb n n) ≡ 1
+once-here n = rw (eq-eqb n n refl) refl
+
+pub once-at : (m n : ℕ) → m ≡ n → once_if (eqb m n) ≡ 1
+once-at m n is = rw (eq-eqb m n is) refl
+
+pub once-off : (m n : ℕ) → m ≢ n → once_if (eqb m n) ≡ 0
+once-off m n off = rw (ne_eqb m n off) refl
+
+pub times-append : (n : ℕ) (a b : List ℕ) → times n (a ++ b) ≡ times n a + times n b
+times-append n [] b = omega arith
+times-append n (x ∷ a) b = omega (arith, times-append n a b)
+
+-- what stands in a list stands in it once at least
+pub times-at : (xs : List ℕ) (i d : ℕ) → i < length xs → 0 < times (get_or xs i d) xs
+times-at [] i d h = absurd (omega arith)
+times-at (x ∷ xs) zero d h = omega (arith, once-here x)
+times-at (x ∷ xs) (suc i) d h = omega (arith, times-at xs i d (omega arith))
+
+pub times_set-front : (n : ℕ) (blocks : List (Option ℕ)) (i : ℕ) → times_set n (take i blocks) ≤ times_set n blocks
+times_set-front n blocks zero = omega arith
+times_set-front n [] (suc i) = omega arith
+times_set-front n (None ∷ blocks) (suc i) = times_set-front n blocks i
+times_set-front n (Some s ∷ blocks) (suc i) = omega (arith, times_set-front n blocks i)
+
+-- Once they are sorted
 
 times-sum : (n : ℕ) (xs : List ℕ) → times n xs ≡ sum_by (λ x. once_if (eqb n x)) xs
 times-sum n [] = refl
@@ -20,7 +47,7 @@ place-of n [] some = absurd (omega arith)
 place-of n (x ∷ xs) some = elim (cases_eq n x) [
   | inl same ↦ (0, (omega arith, sym same))
   | inr off ↦
-      let none : once_if (eqb n x) ≡ 0 = rw (ne_eqb n x off) refl in
+      let none = once-off n x off in
       let found = place-of n xs (omega arith) in
       (suc found.0, (omega (arith, found.1.0), found.1.1))
 ]
@@ -49,6 +76,6 @@ once-each n (x ∷ xs) rises = elim (cases_eq n x) [
         absurd (omega (arith, found.1.1))
   ]
   | inr off ↦
-      let none : once_if (eqb n x) ≡ 0 = rw (ne_eqb n x off) refl in
+      let none = once-off n x off in
       omega (arith, once-each n xs (λ i j before h. rises (suc i) (suc j) (omega arith) (omega arith)))
 ]

@@ -1,5 +1,5 @@
 -- Sums over the tree are sums over the cards.
-use Rattle.std.proofs.Common.{◌≡◌, ◌+◌, ℕ, suc, List, [], ◌∷◌, ◌++◌, Option, Some, None, length, refl, sym, ap, ◌∙◌, arith, inl, inr, eqb, eq-eqb, ne_eqb}
+use Rattle.std.proofs.Common.{◌≡◌, ℕ, suc, List, [], ◌∷◌, Option, Some, None, length, refl, sym, ap, ◌∙◌, arith, inl, inr, eqb, eq-eqb, ne_eqb}
 use Rattle.std.proofs.lemmas.Bool.{cases_eq}
 use Rattle.disk.specs.Moments.{Image}
 use Rattle.model.specs.declared.node.NodeKind.{NodeKind}
@@ -9,6 +9,7 @@ use Rattle.model.specs.Keyed.{at, total}
 use Rattle.model.specs.Tree.{Node, DirEntry, names_of}
 use Rattle.model.specs.WellFormed.{links_from, links_in, links_to, one_if}
 use Rattle.model.proofs.KeyedLaws.{total-with}
+use Rattle.model.proofs.OpensLaws.{total-ones}
 use Rattle.directory.specs.Listing.{by_stamp}
 use Rattle.directory.specs.Records.{Record}
 use Rattle.layout.specs.Cards.{Card, tree_of, node_of, content_of}
@@ -17,8 +18,9 @@ use Rattle.layout.specs.Laid.{AreNumbered}
 use Rattle.layout.specs.Marks.{once_if, times}
 use Rattle.layout.specs.SumLaws.{sum_over, numbers_of, entry_numbers, NamesTotal, Sums, EachSum}
 use Rattle.layout.proofs.Changing.{AreAbove, tree-lacks, tree-above}
-use Rattle.layout.proofs.ChargeLaws.{charge_is, none_worth, total-ones, stamped-rest, above_by_stamp, fresh_stamp}
+use Rattle.layout.proofs.ChargeLaws.{charge_is, none_worth, stamped-rest, above_by_stamp, fresh_stamp}
 use Rattle.layout.proofs.Knowing.{AreEach, each_above, each_card, laid_are_cards}
+use Rattle.layout.proofs.NumberLaws.{times-append}
 
 pub names_total : NamesTotal
 names_total worth [] stamped = refl
@@ -39,10 +41,6 @@ sum_over-same : (f g : Card → ℕ) (cards : List (Option Card)) → AreEach ca
 sum_over-same f g [] each same = refl
 sum_over-same f g (None ∷ cards) each same = sum_over-same f g cards (λ i card e. each (suc i) card e) same
 sum_over-same f g (Some one ∷ cards) each same = omega (arith, same one (each 0 one refl), sum_over-same f g cards (λ i card e. each (suc i) card e) same)
-
-times-append : (n : ℕ) (a b : List ℕ) → times n (a ++ b) ≡ times n a + times n b
-times-append n [] b = omega arith
-times-append n (x ∷ a) b = omega (arith, times-append n a b)
 
 one_once : (x n : ℕ) → one_if (eqb x n) ≡ once_if (eqb n x)
 one_once x n = elim (cases_eq x n) [

@@ -6,33 +6,28 @@ use Rattle.std.specs.Str.Parse.{IsNumeral, digits_value}
 use Rattle.std.proofs.lemmas.Fmt.{decimal_is_IsNumeral}
 use Rattle.std.proofs.lemmas.Nat.{and_assoc, and_or_self, and_or_apart}
 use Rattle.std.specs.Int.Bits.{and_zero_r}
+use Rattle.std.proofs.lemmas.Option.{same_Some}
+use Rattle.std.proofs.lemmas.Bool.{and_parts}
 use Rattle.model.specs.declared.acl.Ace.{Ace}
 use Rattle.model.specs.declared.acl.AceKind.{AceKind}
 use Rattle.model.specs.declared.acl.AceKind.TheVariants as kind
 use Rattle.model.specs.declared.acl.Who.{Who}
 use Rattle.model.specs.declared.acl.Who.TheVariants as who
-use Rattle.model.specs.Acl.{meets, without}
+use Rattle.model.specs.Acl.{meets, bits_without}
 use Rattle.model.specs.AttributeValue.{AclEntry}
 use Rattle.model.specs.AclText.{who_text, kind_number, kind_in, identifier_group, entry_flags, entry_text, written_number, number_in, numbered, who_in, named_in, is_named_group, ace_of, ace_in, ReadsNumbers, Agrees, Means, ReadsNames, StandsFor, ReadsEntries, HasWidth, WritesEntries}
 
-some_value : {A : Type 0} (x y : A) → Some x ≡ Some y → x ≡ y
-some_value x y same = cc
-
 chosen : {A : Type 0} (test : Bool) (here value : A) (others : Option A) → cond test (Some here) others ≡ Some value
     → ((test ≡ true) × (here ≡ value)) ⊎ ((test ≡ false) × (others ≡ Some value))
-chosen true here value others is = inl (refl, some_value here value is)
+chosen true here value others is = inl (refl, same_Some here value is)
 chosen false here value others is = inr (refl, is)
 
 -- Numbers
 
-both : (a b : Bool) → (a && b) ≡ true → (a ≡ true) × (b ≡ true)
-both true b is = (refl, is)
-both false b is = absurd (cc)
-
 written_is : (text : List ℕ) (value number : ℕ) → written_number text value ≡ Some number → (text ≡ decimal number) × (number < 2 ^ 32)
 written_is text value number is = elim (chosen (nat_lt value (2 ^ 32) && bytes_eq text (decimal value)) value number None is) [
   | inl here ↦
-      let tests = both (nat_lt value (2 ^ 32)) (bytes_eq text (decimal value)) here.0 in
+      let tests = and_parts (nat_lt value (2 ^ 32)) (bytes_eq text (decimal value)) here.0 in
       let text_is : text ≡ decimal value = (bytes_decides text (decimal value)).0 tests.1 in
       (text_is ∙ ap decimal here.1, subst (λ n. n < 2 ^ 32) here.1 (ltb-true value (2 ^ 32) tests.0))
   | inr nothing ↦ absurd (none_is nothing.1)
@@ -70,10 +65,10 @@ numbered_means : (is_group : Bool) (text : List ℕ) (read : Option ℕ) (name :
 numbered_means is_group text None name read is = absurd (cc)
 numbered_means true text (Some number) name read is =
     let digits = (reads_numbers text number).0 read in
-    subst (Means true text) (some_value (who.NamedGroup number) name is) (digits.0, (refl, digits.1))
+    subst (Means true text) (same_Some (who.NamedGroup number) name is) (digits.0, (refl, digits.1))
 numbered_means false text (Some number) name read is =
     let digits = (reads_numbers text number).0 read in
-    subst (Means false text) (some_value (who.User number) name is) (digits.0, (refl, digits.1))
+    subst (Means false text) (same_Some (who.User number) name is) (digits.0, (refl, digits.1))
 
 -- one of the special names, or another text
 special_means : (is_group : Bool) (text special : List ℕ) (named name : Who) (others : Option Who) → special ≡ who_text named → Agrees is_group named
@@ -164,7 +159,7 @@ entry_stands : (entry : AclEntry) (ace : Ace) (of : Option AceKind) (name : Opti
 entry_stands entry ace None name kind_read name_read is = absurd (cc)
 entry_stands entry ace (Some of) None kind_read name_read is = absurd (cc)
 entry_stands entry ace (Some of) (Some name) kind_read name_read is =
-    subst (StandsFor entry) (some_value (ace_of entry of name) ace is) (record {
+    subst (StandsFor entry) (same_Some (ace_of entry of name) ace is) (record {
       kind = kind_is entry.kind of kind_read;
       flags = refl;
       mask = refl;
@@ -195,16 +190,16 @@ reads_entries entry ace = record {
 group_is_told : (flags : ℕ) → meets (bit_or flags identifier_group) identifier_group ≡ true
 group_is_told flags = rw (and_or_self identifier_group flags) refl
 
-told_taken_out : (flags : ℕ) → without (bit_or flags identifier_group) identifier_group ≡ without flags identifier_group
+told_taken_out : (flags : ℕ) → bits_without (bit_or flags identifier_group) identifier_group ≡ bits_without flags identifier_group
 told_taken_out flags = and_or_apart (2 ^ 32 - 1 - identifier_group) flags identifier_group refl
 
-group_is_not_told : (flags : ℕ) → without flags identifier_group ≡ flags → meets flags identifier_group ≡ false
+group_is_not_told : (flags : ℕ) → bits_without flags identifier_group ≡ flags → meets flags identifier_group ≡ false
 group_is_not_told flags bare =
     let none : bit_and flags identifier_group ≡ 0 =
     ap (λ (f : ℕ). bit_and f identifier_group) (sym bare) ∙ and_assoc identifier_group flags (2 ^ 32 - 1 - identifier_group) ∙ and_zero_r flags in
     rw none refl
 
-flag_is : (flags : ℕ) (name : Who) → without flags identifier_group ≡ flags
+flag_is : (flags : ℕ) (name : Who) → bits_without flags identifier_group ≡ flags
     → meets (entry_flags flags name) identifier_group ≡ is_named_group name
 flag_is flags (who.NamedGroup number) bare = group_is_told flags
 flag_is flags who.Owner bare = group_is_not_told flags bare
@@ -212,14 +207,14 @@ flag_is flags who.Group bare = group_is_not_told flags bare
 flag_is flags who.Everyone bare = group_is_not_told flags bare
 flag_is flags (who.User number) bare = group_is_not_told flags bare
 
-flags_are : (flags : ℕ) (name : Who) → without flags identifier_group ≡ flags → flags ≡ without (entry_flags flags name) identifier_group
+flags_are : (flags : ℕ) (name : Who) → bits_without flags identifier_group ≡ flags → flags ≡ bits_without (entry_flags flags name) identifier_group
 flags_are flags (who.NamedGroup number) bare = sym (told_taken_out flags ∙ bare)
 flags_are flags who.Owner bare = sym bare
 flags_are flags who.Group bare = sym bare
 flags_are flags who.Everyone bare = sym bare
 flags_are flags (who.User number) bare = sym bare
 
-agrees_is : (flags : ℕ) (name : Who) → without flags identifier_group ≡ flags → HasWidth name → Agrees (meets (entry_flags flags name) identifier_group) name
+agrees_is : (flags : ℕ) (name : Who) → bits_without flags identifier_group ≡ flags → HasWidth name → Agrees (meets (entry_flags flags name) identifier_group) name
 agrees_is flags (who.NamedGroup number) bare small = (flag_is flags (who.NamedGroup number) bare, small)
 agrees_is flags who.Owner bare small = tt
 agrees_is flags who.Group bare small = tt

@@ -1,24 +1,23 @@
 -- A node is below another exactly where it is reached from it.
-use Rattle.std.proofs.Common.{ℕ, zero, suc, Bool, true, false, List, [], ◌∷◌, ◌≡◌, ◌≢◌, ◌+◌, ◌<◌, ◌≤◌, ◌&&◌, not, inl, inr, refl, sym, ap, ◌∙◌, subst, arith, eqb, eq-eqb, ne_eqb, lt-ltb, is_some, length}
+use Rattle.std.proofs.Common.{ℕ, zero, suc, true, false, List, [], ◌∷◌, ◌≡◌, ◌≢◌, ◌+◌, ◌<◌, ◌≤◌, ◌&&◌, not, inl, inr, refl, sym, ap, ◌∙◌, subst, arith, eqb, eq-eqb, ne_eqb, lt-ltb, is_some, length}
 use Rattle.std.specs.Prelude.{Option, Some, None, if◌then◌else◌}
 use Rattle.std.specs.List.{list_any}
 use Rattle.std.proofs.lemmas.Bool.{cases_eq, cases_Bool}
+use Rattle.std.proofs.lemmas.Option.{same_Some}
 use Rattle.model.specs.Ancestors.{parent_of, ancestors_in, IsBelowIsReached}
 use Rattle.model.specs.Keyed.{Keyed, at, is_key, without, total, IsAbove}
 use Rattle.model.specs.Limits.{Limits}
 use Rattle.model.specs.Tree.{Tree, Node, DirEntry, root, names_of, names_at, names_of_node}
 use Rattle.model.specs.WellFormed.{one_if, links_from, links_to, links_owed, IsFrom, Start, Named, IsWellFormed}
 use Rattle.model.proofs.KeyedLaws.{at-first, at-rest, at-without_other, total-without, IsAbove-without, some≢none}
-
-some_value : {A : Type 0} (x y : A) → Some x ≡ Some y → x ≡ y
-some_value x y same = cc
+use Rattle.model.proofs.BooleanLaws.{and_false, if_true, one_at_most}
 
 -- what stands in a map is worth at most the sum
 pub total-some : {A : Type 0} (worth : A → ℕ) (entries : Keyed A) (key : ℕ) (value : A) → at key entries ≡ Some value → worth value ≤ total worth entries
 total-some worth [] key value is = absurd (some≢none value (sym is))
 total-some worth (entry ∷ rest) key value is = elim (cases_eq key entry.0) [
   | inl one ↦
-      let same : entry.1 ≡ value = some_value entry.1 value (sym (at-first entry.0 key entry.1 rest one) ∙ is) in
+      let same : entry.1 ≡ value = same_Some entry.1 value (sym (at-first entry.0 key entry.1 rest one) ∙ is) in
       let worths : worth entry.1 ≡ worth value = ap worth same in
       omega arith
   | inr apart ↦
@@ -26,19 +25,13 @@ total-some worth (entry ∷ rest) key value is = elim (cases_eq key entry.0) [
       omega arith
 ]
 
-if_true : {A : Type 0} (b : Bool) (x y : A) → b ≡ true → (if b then x else y) ≡ x
-if_true b x y is = rw is refl
-
-if_false : {A : Type 0} (b : Bool) (x y : A) → b ≡ false → (if b then x else y) ≡ y
-if_false b x y is = rw is refl
-
 -- the directory that has the only name is found
 parent_found : (tree : Tree) (number place : ℕ) (node : Node) → links_to tree number ≤ 1 → at place tree ≡ Some node → 1 ≤ links_from number node
     → parent_of tree number ≡ place
 parent_found [] number place node most is leads = absurd (some≢none node (sym is))
 parent_found (entry ∷ rest) number place node most is leads = elim (cases_eq place entry.0) [
   | inl one ↦
-      let same : entry.1 ≡ node = some_value entry.1 node (sym (at-first entry.0 place entry.1 rest one) ∙ is) in
+      let same : entry.1 ≡ node = same_Some entry.1 node (sym (at-first entry.0 place entry.1 rest one) ∙ is) in
       let worths : links_from number entry.1 ≡ links_from number node = ap (links_from number) same in
       if_true _ entry.0 (parent_of rest number) (lt-ltb 0 (links_from number entry.1) (omega arith)) ∙ sym one
   | inr apart ↦
@@ -88,14 +81,6 @@ crowd tree nodes least above (suc depth) each =
         let behind = length_total (without nodes key) in
         omega arith
 
-one_at_most : (b : Bool) → one_if b ≤ 1
-one_at_most true = omega arith
-one_at_most false = omega arith
-
-never_and : (b : Bool) → (b && false) ≡ false
-never_and true = refl
-never_and false = refl
-
 module _ (limits : Limits) (tree : Tree) (well : IsWellFormed limits tree) where
   -- what a name leads to: no root, and its parent is the directory
   leads : (place stamp : ℕ) (entry : DirEntry) → at stamp (names_at tree place) ≡ Some entry
@@ -113,7 +98,7 @@ module _ (limits : Limits) (tree : Tree) (well : IsWellFormed limits tree) where
           let owed : links_to tree entry.number ≡ links_owed tree entry.number = well.linked entry.number in
           let most : links_owed tree entry.number ≤ 1 = one_at_most (is_key entry.number tree && not (eqb entry.number root)) in
           let no_root : entry.number ≢ root = λ same.
-          let none : links_owed tree entry.number ≡ 0 = ap (links_owed tree) same ∙ ap one_if (never_and (is_key root tree)) in absurd (omega arith) in
+          let none : links_owed tree entry.number ≡ 0 = ap (links_owed tree) same ∙ ap one_if (and_false (is_key root tree)) in absurd (omega arith) in
           (ap is_some is, parent_found tree entry.number place node (omega arith) is (omega arith), no_root)
 
   -- the depth of what is reached, with a node at each lower depth

@@ -14,7 +14,7 @@ use Rattle.model.specs.Session as sessions
 use Rattle.model.specs.Session.{Table, Session}
 use Rattle.model.specs.Step.{State, does}
 use Rattle.model.specs.Tree.{Tree}
-use Rattle.model.specs.World.{World, ServerLimits, InProgress, Connection, Quiet, Waiting, Busy, Replied, Closed, HasRun, Gives, Replays, exchanged, created_by, tabled, started_in, begun, reclaimed, state_of, refuses, in_room, has_room, run as run_of, Turned, Entry, entry_of, behind, ends, goes_on, with_result, is_last, has_run, operates, Next, Refuses, Reads, next_operation, requested, in_progress, called, turned, one, reply_at}
+use Rattle.model.specs.World.{World, ServerLimits, InProgress, Connection, Quiet, Waiting, Busy, Replied, Closed, HasRun, Gives, Replays, exchanged, created_by, tabled, started_in, begun, reclaimed, state_of, refuses, in_room, has_room, run as run_of, Turned, Entry, executed_entry, behind, ends, goes_on, with_result, is_last, has_run, operates, Next, Refuses, Reads, next_operation, requested, in_progress, called, turned, one, reply_at}
 use Rattle.model.proofs.Headline.{slice_get-last}
 use Rattle.model.proofs.LimitLaws.{modes_keep_limits, inheritance_keeps_limits}
 use Rattle.model.proofs.Headline.{taken_done, done_behind}
@@ -114,7 +114,7 @@ behind_permitted world number request (Outcome.Done answer) executed permits =
 has_run_permitted : (world : World) (number : ℕ) (request : InProgress) (operation : Argument) (ran : HasRun)
     → RanPermitted world request operation ran → TurnPermitted (has_run world number request operation ran)
 has_run_permitted world number request operation (Gives outcome after left) permits =
-    behind_permitted after number left outcome (Some (entry_of world request operation outcome after)) permits
+    behind_permitted after number left outcome (Some (executed_entry world request operation outcome after)) permits
 has_run_permitted world number request operation (Replays result session slot) permits = tt
 
 operates_permitted : (world : World) (number now : ℕ) (request : InProgress) (next : Next) → TurnPermitted (operates world number now request next)

@@ -159,7 +159,7 @@ are_values attributes bytes vs rest fits read none =
     let t = (values_exact attributes).takes bytes vs rest fits read in
     (t.0, t.1 ∙ ap (λ (x : List ℕ). (values attributes).spelling vs ++ x) (empty_is rest none) ∙ append-nil ((values attributes).spelling vs))
 
-again : (attributes : List ℕ) (vs : List Value) (bytes : List ℕ) → (values attributes).Fits vs → bytes ≡ (values attributes).spelling vs → values_at attributes bytes ≡ Ok (vs, [])
+pub again : (attributes : List ℕ) (vs : List Value) (bytes : List ℕ) → (values attributes).Fits vs → bytes ≡ (values attributes).spelling vs → values_at attributes bytes ≡ Ok (vs, [])
 again attributes vs bytes fits is =
     ap (values_at attributes) (is ∙ sym (append-nil ((values attributes).spelling vs))) ∙ (values_exact attributes).again vs [] fits
 

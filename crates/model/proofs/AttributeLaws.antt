@@ -1,46 +1,31 @@
 -- What a client gives as a list is one that a node may have.
-use Rattle.std.proofs.Common.{◌≡◌, ℕ, ◌+◌, ◌^◌, ◌≤◌, Bool, true, false, not, nat_lt, List, [], ◌∷◌, ◌++◌, length, refl, sym, ap, subst, ◌∙◌, arith, le-leb, ltb-false}
+use Rattle.std.proofs.Common.{◌≡◌, ℕ, ◌+◌, ◌^◌, ◌≤◌, Bool, true, not, nat_lt, List, [], ◌∷◌, length, refl, sym, ap, subst, ◌∙◌, arith, le-leb, ltb-false}
 use Rattle.std.specs.Prelude.{Option, Some, None, count_by, flat_map, is_none, unwrap_or}
 use Rattle.std.specs.List.{list_all}
-use Rattle.std.proofs.lemmas.Bool.{lt-ltb}
+use Rattle.std.proofs.lemmas.Bool.{lt-ltb, not-false}
 use Rattle.std.proofs.lemmas.List.Concat.{flat_map-cons}
 use Rattle.std.proofs.lemmas.List.Sums.{count_by-le-length}
 use Rattle.model.specs.declared.acl.Ace.{Ace}
 use Rattle.model.specs.declared.acl.Who.{Who}
 use Rattle.model.specs.declared.acl.Who.TheVariants as who
 use Rattle.model.specs.declared.node.NodeKind.{NodeKind}
-use Rattle.model.specs.declared.status.Status.{Status}
 use Rattle.model.specs.declared.status.Status.TheVariants as status
-use Rattle.model.specs.Acl.{meets, without, is_within, has_width, every_right, inheritance, are_flags_for, is_entry_for, is_list_for, is_plain}
+use Rattle.model.specs.Acl.{meets, bits_without, is_within, has_width, every_right, inheritance, are_flags_for, is_entry_for, is_list_for, is_plain}
 use Rattle.model.specs.AclText.{Agrees, identifier_group, ace_in, aces_in, named_in}
 use Rattle.model.specs.Attribute.{entry_refusals, value_refusals, attribute_refusals, first_said, acl_said, values_of, attributes_of, supported, has_one_outside, GivenListsFit}
 use Rattle.model.specs.AttributeValue.{AclEntry, Value, Acl}
 use Rattle.model.specs.Limits.{Limits}
-use Rattle.model.specs.Refusal.{Refusals, first_refusal, refused_or}
+use Rattle.model.specs.Refusal.{Refusals, first_refusal}
 use Rattle.model.proofs.AclTextLaws.{reads_entries}
+use Rattle.model.proofs.RefusalLaws.{none_in_front, none_in_both}
 
 -- Tests one after the other
 
-pub front_passed : (test : Bool) (reason : Status) (rest : Option Status) → refused_or test reason rest ≡ None → (test ≡ false) × (rest ≡ None)
-front_passed true reason rest none = absurd (cc)
-front_passed false reason rest none = (refl, none)
-
-both_passed : (front rest : Refusals) → first_refusal (front ++ rest) ≡ None → (first_refusal front ≡ None) × (first_refusal rest ≡ None)
-both_passed [] rest none = (refl, none)
-both_passed (test ∷ front) rest none =
-    let here = front_passed test.0 test.1 (first_refusal (front ++ rest)) none in
-    let others = both_passed front rest here.1 in
-    (rw here.0 others.0, others.1)
-
 pub first_passed : {X : Type 0} (tests : X → Refusals) (x : X) (xs : List X) → first_refusal (flat_map tests (x ∷ xs)) ≡ None
     → (first_refusal (tests x) ≡ None) × (first_refusal (flat_map tests xs) ≡ None)
-first_passed tests x xs none = both_passed (tests x) (flat_map tests xs) (ap first_refusal (sym (flat_map-cons tests x xs)) ∙ none)
+first_passed tests x xs none = none_in_both (tests x) (flat_map tests xs) (ap first_refusal (sym (flat_map-cons tests x xs)) ∙ none)
 
 -- Entries
-
-held : (b : Bool) → not b ≡ false → b ≡ true
-held true fails = refl
-held false fails = absurd (cc)
 
 meant_width : (is_group : Bool) (name : Who) → Agrees is_group name → has_width name ≡ true
 meant_width is_group who.Owner meant = refl
@@ -54,13 +39,13 @@ entry_fits : (kind : NodeKind) (entry : AclEntry) (ace : Ace) → first_refusal 
     → is_entry_for kind ace ≡ true
 entry_fits kind entry ace none read =
     let stands = (reads_entries entry ace).0 read in
-    let behind_kind = front_passed (nat_lt 1 entry.kind) status.AttrNotSupp _ none in
-    let behind_flags = front_passed (not (is_within entry.flags (inheritance + identifier_group))) status.AttrNotSupp _ behind_kind.1 in
-    let behind_mask = front_passed (not (is_within entry.mask every_right)) status.AttrNotSupp _ behind_flags.1 in
-    let behind_name = front_passed (is_none (named_in entry)) status.BadOwner _ behind_mask.1 in
-    let behind_kinds = front_passed (not (are_flags_for kind (without entry.flags identifier_group))) status.AttrNotSupp _ behind_name.1 in
-    let flags : are_flags_for kind ace.flags.0 ≡ true = ap (are_flags_for kind) stands.flags ∙ held _ behind_kinds.0 in
-    let mask : is_within ace.mask.0 every_right ≡ true = ap (λ (m : ℕ). is_within m every_right) (sym stands.mask) ∙ held _ behind_mask.0 in
+    let behind_kind = none_in_front (nat_lt 1 entry.kind) status.AttrNotSupp _ none in
+    let behind_flags = none_in_front (not (is_within entry.flags (inheritance + identifier_group))) status.AttrNotSupp _ behind_kind.1 in
+    let behind_mask = none_in_front (not (is_within entry.mask every_right)) status.AttrNotSupp _ behind_flags.1 in
+    let behind_name = none_in_front (is_none (named_in entry)) status.BadOwner _ behind_mask.1 in
+    let behind_kinds = none_in_front (not (are_flags_for kind (bits_without entry.flags identifier_group))) status.AttrNotSupp _ behind_name.1 in
+    let flags : are_flags_for kind ace.flags.0 ≡ true = ap (are_flags_for kind) stands.flags ∙ not-false _ behind_kinds.0 in
+    let mask : is_within ace.mask.0 every_right ≡ true = ap (λ (m : ℕ). is_within m every_right) (sym stands.mask) ∙ not-false _ behind_mask.0 in
     rw (flags, mask, meant_width (meets entry.flags identifier_group) ace.who stands.who.1) refl
 
 entries_fit : (kind : NodeKind) (entries : List AclEntry) → first_refusal (flat_map (entry_refusals kind) entries) ≡ None
@@ -81,7 +66,7 @@ list_fits : (limits : Limits) (kind : NodeKind) (entries : List AclEntry) → li
     → first_refusal (value_refusals limits kind (Acl entries)) ≡ None → is_list_for limits.aces_set limits.aces kind (aces_in entries) ≡ true
 unfolding is_list_for
 list_fits limits kind entries room none =
-    let passed = front_passed (nat_lt limits.aces_set (length entries)) status.Inval _ none in
+    let passed = none_in_front (nat_lt limits.aces_set (length entries)) status.Inval _ none in
     let few = ltb-false limits.aces_set (length entries) passed.0 in
     let fit = entries_fit kind entries passed.1 in
     let counted = count_by-le-length (λ (ace : Ace). not (is_plain ace)) (aces_in entries) in
@@ -110,7 +95,7 @@ said_fits limits kind (value ∷ values) acl room none said =
 pub given_lists_fit : GivenListsFit
 unfolding attribute_refusals
 given_lists_fit limits kind settable given acl room none said =
-    let behind_supported = front_passed (has_one_outside supported (attributes_of given.bitmap)) status.AttrNotSupp _ none in
-    let behind_settable = front_passed (has_one_outside settable (attributes_of given.bitmap)) status.Inval _ behind_supported.1 in
-    let behind_whole = front_passed (is_none (values_of given)) status.BadXdr _ behind_settable.1 in
+    let behind_supported = none_in_front (has_one_outside supported (attributes_of given.bitmap)) status.AttrNotSupp _ none in
+    let behind_settable = none_in_front (has_one_outside settable (attributes_of given.bitmap)) status.Inval _ behind_supported.1 in
+    let behind_whole = none_in_front (is_none (values_of given)) status.BadXdr _ behind_settable.1 in
     said_fits limits kind (unwrap_or (values_of given) []) acl room behind_whole.1 said

@@ -41,12 +41,12 @@ entry_found name (entry ∷ rest) least above found is =
           (at-rest entry.0 found.0 entry.1 rest (omega arith) ∙ others.0, others.1)
     ]
 
-not_found : (test : Bool) (entry : ℕ × DirEntry) (others : Option (ℕ × DirEntry)) → found_or test entry others ≡ None
+pub not_found : (test : Bool) (entry : ℕ × DirEntry) (others : Option (ℕ × DirEntry)) → found_or test entry others ≡ None
     → (test ≡ false) × (others ≡ None)
 not_found true entry others none = absurd (some≢none entry none)
 not_found false entry others none = (refl, none)
 
-never_named : (name : List ℕ) (names : Keyed DirEntry) → entry_of name names ≡ None → times_named name names ≡ 0
+pub never_named : (name : List ℕ) (names : Keyed DirEntry) → entry_of name names ≡ None → times_named name names ≡ 0
 never_named name [] none = refl
 never_named name (entry ∷ rest) none =
     let apart = not_found (bytes_eq name entry.1.name) entry (entry_of name rest) none in
@@ -56,10 +56,6 @@ never_named name (entry ∷ rest) none =
 names_of_content : (limits : Limits) (content : Content) → IsContent limits content → AreNames limits (names_of content)
 names_of_content limits (File bytes) is = record { rising = tt; named = λ stamp entry has. absurd (some≢none entry (sym has)); once = λ name. omega arith }
 names_of_content limits (Directory names) is = is
-
-one_at_most : (b : Bool) → one_if b ≤ 1
-one_at_most true = omega arith
-one_at_most false = omega arith
 
 is_owed : (b c : Bool) → 1 ≤ one_if (b && c) → b ≡ true
 is_owed true c owed = refl
@@ -189,14 +185,8 @@ was_before stamp later tree before order = record {
   entry = λ number node of entry is has. let low : of < stamp = before.entry number node of entry is has in omega arith;
 }
 
-directory_key : (tree : Tree) (number : ℕ) → is_directory_at tree number ≡ true → is_key number tree ≡ true
+pub directory_key : (tree : Tree) (number : ℕ) → is_directory_at tree number ≡ true → is_key number tree ≡ true
 directory_key tree number is = ap is_some (directory_at (at number tree) is).1
-
-no_directory : (tree : Tree) (number : ℕ) → is_directory_at tree number ≡ true → at number tree ≡ None → ⊥
-no_directory tree number is none = true≢false (sym is ∙ ap is_directory_node none)
-  where
-    true≢false : true ≡ false → ⊥
-    true≢false same = cc
 
 module _ (limits : Limits) (tree : Tree) (well : IsWellFormed limits tree) (stamp : ℕ) (before : IsBefore stamp tree) (now : ℕ) where
   another : (place : ℕ) → is_directory_at tree place ≡ true → (after : Tree) → ((node : Node) → at place after ≡ Some node → node.change ≡ stamp)

@@ -2,7 +2,7 @@
 -- leaves each session that runs.
 use Rattle.std.proofs.Common.{◌≡◌, ℕ, ◌≤◌, Bool, true, false, not, cond, ◌&&◌, ◌||◌, ◌==◌, List, [], ◌∷◌, ◌++◌, map, filter, find, Option, None, Some, Result, refl, sym, ap, ◌∙◌, bytes_eq, eqb-true, eq-eqb}
 use Rattle.std.specs.List.{list_all, list_any}
-use Rattle.std.proofs.lemmas.Bool.{true≢false, and_parts, and_from}
+use Rattle.std.proofs.lemmas.Bool.{true≢false, and_parts, and_from, not-false, not-true, or_parts}
 use Rattle.model.specs.declared.status.Status.{Status}
 use Rattle.model.specs.declared.status.Status.TheVariants as status
 use Rattle.model.specs.Answer.{ExchangeIdAnswer, CreateSessionAnswer}
@@ -10,14 +10,15 @@ use Rattle.model.specs.Operation.{ExchangeIdArguments, CreateSessionArguments, S
 use Rattle.model.specs.OpenClients.{is_confirmed_client, has_record}
 use Rattle.model.specs.Opens.{Opens, Open}
 use Rattle.model.specs.Refusal.{first_refusal}
-use Rattle.model.specs.Session.{SessionLimits, Client, Slot, Running, Kept, Session, Table, slot_at, is_session, is_client, is_of_client, is_running, is_unconfirmed_of, is_confirmed_of, confirmed_with, is_replaced_by, replaced_by, is_of_clients, staying, without_unconfirmed, without_client, is_full_of_clients, with_new_client, new_client, new_record, exchange_by, exchange_id, exchange_flags, has_only, has_state, new_session, created, create_refusals, create_unless, create_again, create_by, create_session, CreateSessionOutcome, next_number, destroy_by, destroy_session, destroy_client_by, destroy_client_id, reclaim_by, reclaim_complete, with_slot, started, finish}
+use Rattle.model.specs.Session.{SessionLimits, Client, Slot, Running, Kept, Session, Table, slot_at, is_session, is_client, is_of_client, is_running, is_unconfirmed_of, is_confirmed_of, confirmed_with, is_replaced_by, replaced_by, is_of_clients, staying, without_unconfirmed, without_client, is_full_of_clients, with_new_client, new_client, new_record, exchange_by, exchange_id, exchange_flags, has_only, has_state, new_session, create_session_answer, create_refusals, create_unless, create_again, create_by, create_session, CreateSessionOutcome, next_number, destroy_by, destroy_session, destroy_client_by, destroy_client_id, reclaim_by, reclaim_complete, with_slot, started, finish}
 use Rattle.model.specs.SlotsHeld.{is_slot_running}
 use Rattle.model.specs.StateIds.{has_opens, without_clients}
 use Rattle.model.proofs.SlotLaw.{exchange_same, destroy_client_same, reclaim_same, id_of}
-use Rattle.model.proofs.SlotRuns.{or_parts, and_none, any-map, any-none, any-append, any-filter, any-found, at_rest, told_by}
-use Rattle.model.proofs.StepCases.{none_in_front}
+use Rattle.model.proofs.SlotRuns.{any-map, any-none, any-append, any-filter, any-found, at_rest, told_by}
 use Rattle.model.proofs.TableCalls.{either, found_passes, marked, mark_same, slotted}
 use Rattle.model.proofs.TableLaws.{size, all-filter, all-append, all-map, confirms, stays}
+use Rattle.model.proofs.BooleanLaws.{and_false}
+use Rattle.model.proofs.RefusalLaws.{none_in_front}
 
 -- Tests over lists
 
@@ -94,14 +95,6 @@ found-none {A} p bad (x ∷ xs) y found none =
     by_test true found here later = let same : x ≡ y = cc in ap bad (sym same) ∙ here
     by_test false found here later = later found
 
-not_true : (b : Bool) → not b ≡ true → b ≡ false
-not_true true is = sym is
-not_true false is = refl
-
-not_false : (b : Bool) → not b ≡ false → b ≡ true
-not_false true is = refl
-not_false false is = sym is
-
 -- The invariant: of each session and each open the client has a confirmed record
 
 abbrev pub is_of_known : Table → ℕ × Open → Bool
@@ -154,23 +147,23 @@ nobody opens old new clients = record {
 without_unconfirmed_same : (owner : List ℕ) (table : Table) (number : ℕ) → has_record (without_unconfirmed owner table) number ≡ has_record table number
 without_unconfirmed_same owner table number =
     any-filter (is_confirmed_client number) (λ client. not (is_unconfirmed_of owner client)) (λ _. false) table.clients
-    (λ client leaves good. unconfirmed client (not_false (is_unconfirmed_of owner client) leaves))
+    (λ client leaves good. unconfirmed client (not-false (is_unconfirmed_of owner client) leaves))
     (any-none (λ _. false) table.clients (λ client. refl))
   where
     unconfirmed : (client : Client) → is_unconfirmed_of owner client ≡ true → is_confirmed_client number client ≡ false
     unconfirmed client is =
-        let mark : client.is_confirmed ≡ false = not_true client.is_confirmed (and_parts (not client.is_confirmed) (bytes_eq client.owner owner) is).0 in
-        ap (λ b. is_client number client && b) mark ∙ and_none (is_client number client)
+        let mark : client.is_confirmed ≡ false = not-true client.is_confirmed (and_parts (not client.is_confirmed) (bytes_eq client.owner owner) is).0 in
+        ap (λ b. is_client number client && b) mark ∙ and_false (is_client number client)
 
 further_same : (uid : ℕ) (arguments : ExchangeIdArguments) (table : Table) (number : ℕ)
     → has_record (with_new_client uid arguments table) number ≡ has_record table number
 further_same uid arguments table number =
-    any-append (is_confirmed_client number) table.clients (new_client uid arguments table) (and_none (is_client number (new_client uid arguments table)))
+    any-append (is_confirmed_client number) table.clients (new_client uid arguments table) (and_false (is_client number (new_client uid arguments table)))
 
 without_client_same : (gone : ℕ) (table : Table) (number : ℕ) → (number == gone) ≡ false → has_record (without_client gone table) number ≡ has_record table number
 without_client_same gone table number apart =
     any-filter (is_confirmed_client number) (λ client. not (is_client gone client)) (λ _. false) table.clients
-    (λ client leaves good. other client (not_false (is_client gone client) leaves))
+    (λ client leaves good. other client (not-false (is_client gone client) leaves))
     (any-none (λ _. false) table.clients (λ client. refl))
   where
     other : (client : Client) → is_client gone client ≡ true → is_confirmed_client number client ≡ false
@@ -407,7 +400,7 @@ module _ (table : Table) (one_each : (id : List ℕ) → size (is_session id) ta
 
   module _ (limits : SessionLimits) (arguments : CreateSessionArguments) (client : Client) where
     abbrev answer : CreateSessionAnswer
-    answer = created limits arguments client table
+    answer = create_session_answer limits arguments client table
 
     -- those whose records give way
     abbrev gone : ℕ → Bool
@@ -450,14 +443,14 @@ module _ (table : Table) (one_each : (id : List ℕ) → size (is_session id) ta
 
         left : (x : Client) → stays client answer x ≡ false → (is_replaced_by client x && is_client number x) ≡ false → is_confirmed_client number x ≡ false
         left x leaves other =
-            let apart : is_client number x ≡ false = ap (λ b. b && is_client number x) (sym (not_false (is_replaced_by client x) leaves)) ∙ other in
+            let apart : is_client number x ≡ false = ap (λ b. b && is_client number x) (sym (not-false (is_replaced_by client x) leaves)) ∙ other in
             ap (λ b. b && x.is_confirmed) apart
 
     record_stands : find (is_client client.number) table.clients ≡ Some client → list_any (is_confirmed_client client.number) clients ≡ true
     record_stands found =
         let named : is_client client.number client ≡ true = eq-eqb client.number client.number refl in
         let kept : stays client answer client ≡ true
-        = ap (λ b. not (is_confirmed_of client.owner client && not b)) named ∙ ap not (and_none (is_confirmed_of client.owner client)) in
+        = ap (λ b. not (is_confirmed_of client.owner client && not b)) named ∙ ap not (and_false (is_confirmed_of client.owner client)) in
         any-found (is_client client.number) (is_confirmed_client client.number) (confirms client answer) (filter (stays client answer) table.clients) client
         (find-kept (is_client client.number) (stays client answer) table.clients client found kept)
         (ap (λ b. is_confirmed_client client.number (cond b (confirmed_with answer client) client)) named ∙ ap (λ b. b && true) named)
@@ -471,12 +464,12 @@ module _ (table : Table) (one_each : (id : List ℕ) → size (is_session id) ta
     created_lives opens found lives None = record {
       of_opens = all-kept (is_of_known table) (λ (entry : ℕ × Open). not (gone entry.1.client))
           (λ (entry : ℕ × Open). list_any (is_confirmed_client entry.1.client) clients) opens.known
-          (λ entry known stays_open. keeps_record entry.1.client known (not_true (gone entry.1.client) stays_open)) lives.of_opens;
+          (λ entry known stays_open. keeps_record entry.1.client known (not-true (gone entry.1.client) stays_open)) lives.of_opens;
       of_sessions = all-append (λ (session : Session). list_any (is_confirmed_client session.client) clients) (staying client table)
           (new_session limits arguments client table)
           (all-kept (λ session. has_record table session.client) (λ session. not (is_of_clients (replaced_by client table) session))
           (λ (session : Session). list_any (is_confirmed_client session.client) clients) table.sessions
-          (λ session known stays_there. keeps_record session.client known (not_true (gone session.client) stays_there)) lives.of_sessions)
+          (λ session known stays_there. keeps_record session.client known (not-true (gone session.client) stays_there)) lives.of_sessions)
           (record_stands found);
     }
 

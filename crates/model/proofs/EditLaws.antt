@@ -3,6 +3,7 @@ use Rattle.std.proofs.Common.{ℕ, Bool, true, false, List, [], ◌≡◌, ◌�
 use Rattle.std.specs.Prelude.{Option, Some, None}
 use Rattle.std.specs.Cmp.Lexicographic.{bytes_decides}
 use Rattle.std.proofs.lemmas.Bool.{cases_eq, cases_Bool}
+use Rattle.std.proofs.lemmas.Option.{same_Some}
 use Rattle.model.specs.declared.node.NodeKind.TheVariants as kind
 use Rattle.model.specs.Acl.{is_list_for}
 use Rattle.model.specs.Charge.{fits}
@@ -14,6 +15,8 @@ use Rattle.model.specs.Refusal.{first_refusal}
 use Rattle.model.specs.Tree.{Tree, Node, Content, File, Directory, DirEntry, root, kind_of, names_of, names_at, names_of_node, is_directory, is_directory_node, is_directory_at}
 use Rattle.model.specs.WellFormed.{one_if, links_in, links_from, links_to, links_owed, is_stamped, stamped_in, times_named, IsFrom, Start, Named, AreNames, IsContent, IsNode, IsWellFormed}
 use Rattle.model.proofs.KeyedLaws.{at-with_same, at-with_other, at-without_same, at-without_other, at-above, total-with, total-without, total-none, IsAbove-with, IsAbove-without, some≢none}
+use Rattle.model.proofs.BooleanLaws.{and_false, one_at_most}
+use Rattle.model.proofs.OptionLaws.{none_unless}
 
 -- Well formed, but for a node, the head, that no name leads to. Whether it fits is asked at the end alone.
 
@@ -31,13 +34,6 @@ pub record IsForest (limits : Limits) (tree : Tree) (head : Option ℕ) : Type 0
   pub nodes : (number : ℕ) (node : Node) → at number tree ≡ Some node → IsNode limits node
 
 -- Small facts
-
-some_value : {A : Type 0} (x y : A) → Some x ≡ Some y → x ≡ y
-some_value x y same = cc
-
-nothing_unless : {A : Type 0} (o : Option A) → ((x : A) → o ≡ Some x → ⊥) → o ≡ None
-nothing_unless None never = refl
-nothing_unless (Some x) never = absurd (never x refl)
 
 pub kind_of_directory : (content : Content) → is_directory content ≡ true → kind_of content ≡ kind.Directory
 kind_of_directory (File bytes) directory = absurd (cc)
@@ -102,7 +98,7 @@ module _ (tree : Tree) (numbered : IsAbove 0 tree) (place : ℕ) (old : Node) (t
       → (number : ℕ) (other : Node) → at number after ≡ Some other → P number other
   which P first others number other has = elim (cases_eq number place) [
     | inl one ↦
-        let same : node ≡ other = some_value node other (sym at_place ∙ (sym (ap (λ n. at n after) one) ∙ has)) in
+        let same : node ≡ other = same_Some node other (sym at_place ∙ (sym (ap (λ n. at n after) one) ∙ has)) in
         subst (λ n. P n other) (sym one) (subst (P place) same first)
     | inr apart ↦ others number other (sym (at_other number apart) ∙ has)
   ]
@@ -185,7 +181,7 @@ module _ (limits : Limits) (tree : Tree) (forest : IsForest limits tree None) (p
       → (other ≡ entry) ⊎ (at of (names_at then number) ≡ Some other)
   drop_either number of other named = elim (cases_eq number place) [
     | inl one ↦ elim (cases_eq of stamp) [
-      | inl same ↦ inl (some_value other entry
+      | inl same ↦ inl (same_Some other entry
           (sym named ∙ (ap (λ n. at of (names_at tree n)) one ∙ (ap (λ k. at k (names_at tree place)) same
           ∙ (ap (at stamp) (names_before tree forest.numbered place old there dropped) ∙ has)))))
       | inr apart ↦ inr (drop_stays number of (λ at_place. apart) ∙ named)
@@ -271,19 +267,11 @@ module _ (limits : Limits) (tree : Tree) (forest : IsForest limits tree None) (p
 
 -- Small facts of numbers and links
 
-one_at_most : (b : Bool) → one_if b ≤ 1
-one_at_most true = omega arith
-one_at_most false = omega arith
-
-never_and : (b : Bool) → (b && false) ≡ false
-never_and true = refl
-never_and false = refl
-
 not_owed : (tree : Tree) (number : ℕ) → at number tree ≡ None → links_owed tree number ≡ 0
 not_owed tree number none = ap (λ (o : Option Node). one_if (is_some o && not (eqb number root))) none
 
 root_not_owed : (tree : Tree) → links_owed tree root ≡ 0
-root_not_owed tree = ap one_if (never_and (is_key root tree))
+root_not_owed tree = ap one_if (and_false (is_key root tree))
 
 head_is_no_root : (limits : Limits) (tree : Tree) (head : ℕ) → IsForest limits tree (Some head) → head ≢ root
 head_is_no_root limits tree head forest same =
@@ -354,8 +342,8 @@ module _ (limits : Limits) (tree : Tree) (head : ℕ) (forest : IsForest limits 
       elim (forest.reached number (sym (ap is_some (at-without_other tree head number apart)) ∙ key)) [
         | inl is_from ↦ inl (from_more tree freed (λ of stamp entry has. ap (at stamp) (free_names of) ∙ has) root number is_from)
         | inr is_from ↦ absurd (apart (from_leaf tree is_from.0
-            (ap (names_at tree) (sym (some_value head is_from.0 is_from.1)) ∙ (ap names_of_node there ∙ empty)) number is_from.2
-            ∙ sym (some_value head is_from.0 is_from.1)))
+            (ap (names_at tree) (sym (same_Some head is_from.0 is_from.1)) ∙ (ap names_of_node there ∙ empty)) number is_from.2
+            ∙ sym (same_Some head is_from.0 is_from.1)))
       ]
 
   pub free_which : (P : ℕ → Node → Type 0) → ((number : ℕ) (other : Node) → at number tree ≡ Some other → P number other)
@@ -399,7 +387,7 @@ module _ (limits : Limits) (tree : Tree) (head : ℕ) (forest : IsForest limits 
   names_old = names_of_directory limits old.content (forest.nodes place old there).content is
 
   unused_in : (number : ℕ) (other : Node) → at number tree ≡ Some other → at stamp (names_of other.content) ≡ None
-  unused_in number other has = nothing_unless (at stamp (names_of other.content))
+  unused_in number other has = none_unless (at stamp (names_of other.content))
       (λ found named. lt_irrefl stamp (fresh number stamp found (ap (λ (o : Option Node). at stamp (names_of_node o)) has ∙ named)))
 
   unused : at stamp (names_of old.content) ≡ None
@@ -439,7 +427,7 @@ module _ (limits : Limits) (tree : Tree) (head : ℕ) (forest : IsForest limits 
   place_reached : IsFrom with_name root place
   place_reached = elim (forest.reached place (ap is_some there)) [
     | inl is_from ↦ from_more tree with_name put_stays root place is_from
-    | inr is_from ↦ absurd (apart_from (subst (λ n. IsFrom tree n place) (sym (some_value head is_from.0 is_from.1)) is_from.2))
+    | inr is_from ↦ absurd (apart_from (subst (λ n. IsFrom tree n place) (sym (same_Some head is_from.0 is_from.1)) is_from.2))
   ]
 
   head_reached : IsFrom with_name root head
@@ -452,7 +440,7 @@ module _ (limits : Limits) (tree : Tree) (head : ℕ) (forest : IsForest limits 
         | inl is_from ↦ inl (from_more tree with_name put_stays root number is_from)
         | inr is_from ↦ inl (from_from with_name root head number head_reached
             (from_more tree with_name put_stays head number
-            (subst (λ n. IsFrom tree n number) (sym (some_value head is_from.0 is_from.1)) is_from.2)))
+            (subst (λ n. IsFrom tree n number) (sym (same_Some head is_from.0 is_from.1)) is_from.2)))
       ]
 
   put_stamped : (of : ℕ) → stamped_in with_name of ≤ 1
@@ -476,7 +464,7 @@ module _ (limits : Limits) (tree : Tree) (head : ℕ) (forest : IsForest limits 
   put_named : (of : ℕ) (other : DirEntry) → at of put_names ≡ Some other → first_refusal (name_refusals limits other.name) ≡ None
   put_named of other named = elim (cases_eq of stamp) [
     | inl one ↦
-        let same : put_entry ≡ other = some_value put_entry other
+        let same : put_entry ≡ other = same_Some put_entry other
         (sym (at-with_same (names_of old.content) stamp put_entry) ∙ (sym (ap (λ k. at k put_names) one) ∙ named)) in
         subst (λ (e : DirEntry). first_refusal (name_refusals limits e.name) ≡ None) same allowed
     | inr apart ↦ names_old.named of other (sym (at-with_other (names_of old.content) stamp of put_entry apart) ∙ named)
@@ -576,7 +564,7 @@ module _ (limits : Limits) (tree : Tree) (forest : IsForest limits tree None) (n
       → (of : ℕ) (other : Node) → at of with_node ≡ Some other → P of other
   node_which P first others of other has = elim (cases_eq of number) [
     | inl one ↦
-        let same : node ≡ other = some_value node other (sym (at-with_same tree number node) ∙ (sym (ap (λ n. at n with_node) one) ∙ has)) in
+        let same : node ≡ other = same_Some node other (sym (at-with_same tree number node) ∙ (sym (ap (λ n. at n with_node) one) ∙ has)) in
         subst (λ n. P n other) (sym one) (subst (P number) same first)
     | inr apart ↦ others of other (sym (at-with_other tree number of node apart) ∙ has)
   ]

@@ -1,6 +1,5 @@
 -- The results are exact.
-use Rattle.std.proofs.Common.{◌≡◌, ◌≢◌, ℕ, ◌^◌, ◌<◌, Bool, true, false, List, [], ◌∷◌, ◌++◌, Option, Some, None, Ok, refl, sym, ap, subst, ◌∙◌, ◌⊎◌, inl, inr, cond, eqb, append_assoc, arith}
-use Rattle.std.specs.Prelude.{find}
+use Rattle.std.proofs.Common.{◌≡◌, ◌≢◌, ℕ, ◌^◌, ◌<◌, Bool, true, false, List, [], ◌++◌, Option, Some, None, Ok, refl, sym, ap, subst, ◌∙◌, inl, inr, cond, eqb, append_assoc, arith}
 use Rattle.std.specs.Int.{w32}
 use Rattle.std.proofs.lemmas.Bool.{eqb-true, eqb-false, ne_eqb}
 use Rattle.xdr.specs.Grammar.{◌>>=◌, void, number, number_at, unsigned_int, unsigned_hyper}
@@ -20,6 +19,7 @@ use Rattle.model.specs.Answer.{Answer, Outcome, Done, Refused}
 use Rattle.model.specs.WireTypes.{file_handle, verifier, state_id, change_info}
 use Rattle.model.specs.WireAnswers.{answered_attributes, access_answer, create_answer, open_answer, read_answer, entry, read_dir_answer, rename_answer, write_answer, exchange_id_answer, create_session_answer, sequence_answer, answer_told, answer_choice, refusals, refusal_of, behind_refusal, outcome_told, refused_by, behind_status, outcome_choice, outcome_at, outcome}
 use Rattle.model.proofs.ExactTypes.{any_opaque_exact, file_handle_exact, verifier_exact, session_id_exact, state_id_exact, attributes_of_exact, change_info_exact, channel_exact}
+use Rattle.model.proofs.TableCalls.{found_passes}
 
 pub answered_attributes_exact : Exact answered_attributes
 answered_attributes_exact = attributes_of_exact trimmed_bitmap trimmed_exact
@@ -124,17 +124,6 @@ answer_again Answer.DestroyClientId rest small fits = refl
 answer_again Answer.ReclaimComplete rest small fits = refl
 
 -- ---- a status, and what follows it
-
-chosen_option : {A : Type 0} (b : Bool) (x y z : Option A) → cond b x y ≡ z → ((b ≡ true) × (x ≡ z)) ⊎ ((b ≡ false) × (y ≡ z))
-chosen_option b x y z e = chosen b x y z e
-
-found_passes : {A : Type 0} (test : A → Bool) (xs : List A) (x : A) → find test xs ≡ Some x → test x ≡ true
-found_passes test [] x e = absurd cc
-found_passes {A = A} test (y ∷ ys) x e =
-    elim (chosen_option (test y) (Some y) (find test ys) (Some x) e) [
-      | inl h ↦ let same : y ≡ x = cc (h.1) in subst (λ (z : A). test z ≡ true) same h.0
-      | inr h ↦ found_passes test ys x h.1
-    ]
 
 refusal_again : (reason : Status) → code_of reason ≢ 0 → refusal_of (code_of reason) ≡ Some reason
 refusal_again status.Ok other = absurd (other refl)

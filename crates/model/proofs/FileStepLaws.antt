@@ -1,7 +1,7 @@
 -- What WRITE, SETATTR and OPEN passed, and that each of them keeps a tree well formed.
 use Rattle.std.proofs.Common.{ℕ, Bool, true, false, List, [], ◌∷◌, ◌++◌, ◌≡◌, ◌+◌, ◌<◌, ◌≤◌, ◌&&◌, ◌||◌, not, if◌then◌else◌, refl, sym, ap, ◌∙◌, subst, arith, is_some, length, nat_lt, ltb-true, le-leb}
 use Rattle.std.specs.Prelude.{Option, Some, None, All, flat_map, unwrap_or, is_none}
-use Rattle.std.proofs.lemmas.Bool.{true≢false, ltb-false}
+use Rattle.std.proofs.lemmas.Bool.{true≢false, ltb-false, not-false}
 use Rattle.std.proofs.lemmas.List.{length-replicate}
 use Rattle.std.proofs.lemmas.List.Elements.{All-take, All-replicate, All-weaker}
 use Rattle.std.proofs.lemmas.List.Sums.{AllPass-from_list_all}
@@ -18,7 +18,7 @@ use Rattle.model.specs.Context.{has_current}
 use Rattle.model.specs.Directory.{number_of_entry, number_named, acl_of}
 use Rattle.model.specs.Edit.{PutBytes, SetSize, Show, showing, with_content, resized, overwritten, altered, edited}
 use Rattle.model.specs.Files.{are_bytes, file_refusals, taken_bytes, has_bytes}
-use Rattle.model.specs.Inherit.{created, created_without_list, inherited}
+use Rattle.model.specs.Inherit.{created_list, created_without_list, inherited}
 use Rattle.model.specs.Keyed.{at, is_key, with}
 use Rattle.model.specs.Limits.{Limits}
 use Rattle.model.specs.Name.{name_refusals}
@@ -31,22 +31,14 @@ use Rattle.model.specs.StateIds.{state_refusals, write_access}
 use Rattle.model.specs.StepLaws.{IsSound}
 use Rattle.model.specs.Tree.{Tree, Node, Content, File, Directory, DirEntry, kind_of, names_of, names_at, bytes_of, is_directory, is_directory_node, is_directory_at, entry_of}
 use Rattle.model.specs.WellFormed.{IsContent, IsNode}
-use Rattle.model.proofs.AttributeLaws.{given_lists_fit}
+use Rattle.model.proofs.AttributeLaws.{given_lists_fit, first_passed}
 use Rattle.model.proofs.ChangeLaws.{IsChanged, creation_keeps, entry_found, names_in, led_to}
 use Rattle.model.proofs.EditLaws.{forest_of, kind_of_directory}
 use Rattle.model.proofs.KeyedLaws.{some≢none}
 use Rattle.model.proofs.NodeChangeLaws.{altered-once, altered-twice, resized_bytes, length-resized, overwritten_bytes, overwritten_within, replacement_keeps}
-use Rattle.model.proofs.StepCases.{Passes, none_in_front, none_in_both}
-
--- Truth values
-
-pub is_true : (b : Bool) → not b ≡ false → b ≡ true
-is_true true told = refl
-is_true false told = sym told
-
-pub second_false : (a b : Bool) → (a && b) ≡ false → a ≡ true → b ≡ false
-second_false true b none is = none
-second_false false b none is = absurd (true≢false (sym is))
+use Rattle.model.proofs.StepCases.{Passes}
+use Rattle.model.proofs.RefusalLaws.{none_in_front, none_in_both}
+use Rattle.model.proofs.BooleanLaws.{second_false}
 
 -- A file's node
 
@@ -72,7 +64,7 @@ file_at tree place key no_directory = by_node (at place tree) refl key no_direct
 pub current_key : (state : State) → first_refusal (current_refusals state) ≡ None → is_key (current state) state.tree ≡ true
 current_key state passed =
     let handle = none_in_front (not (has_current state.context)) status.NoFileHandle _ passed in
-    is_true (is_key (current state) state.tree)
+    not-false (is_key (current state) state.tree)
     (none_in_front (not (is_key (current state) state.tree)) status.Stale None handle.1).0
 
 no_directory : (b : Bool) → refused_or b status.IsDir None ≡ None → b ≡ false
@@ -149,7 +141,7 @@ write_changed limits state now arguments passes sound some =
     (file_refusals state ++ state_refusals state.opens state.context write_access arguments.state) bytes.1 in
     let is_file = none_in_both (file_refusals state) (state_refusals state.opens state.context write_access arguments.state) tests.1 in
     let late = none_in_front (has_bytes arguments && nat_lt limits.file_bytes (arguments.offset + length part)) status.FBig None passes.late in
-    let all = AllPass-from_list_all (λ byte. nat_lt byte 256) arguments.data_bytes (is_true (are_bytes arguments.data_bytes) bytes.0) in
+    let all = AllPass-from_list_all (λ byte. nat_lt byte 256) arguments.data_bytes (not-false (are_bytes arguments.data_bytes) bytes.0) in
     let small = All-weaker (λ (byte : ℕ). nat_lt byte 256 ≡ true) (λ (byte : ℕ). byte < 256) (λ byte low. ltb-true byte 256 low) arguments.data_bytes all in
     bytes_written limits state sound (current state)
     (file_at state.tree (current state) (current_key state tests.0) (no_directory (is_directory_at state.tree (current state)) is_file.0))
@@ -157,10 +149,6 @@ write_changed limits state now arguments passes sound some =
     (ltb-false limits.file_bytes (arguments.offset + length part) (second_false (has_bytes arguments) _ late.0 some))
 
 -- The attributes that are set
-
-first_passed : {X : Type 0} (tests : X → Refusals) (x : X) (xs : List X) → first_refusal (flat_map tests (x ∷ xs)) ≡ None
-    → (first_refusal (tests x) ≡ None) × (first_refusal (flat_map tests xs) ≡ None)
-first_passed tests x xs none = none_in_both (tests x) (flat_map tests xs) none
 
 some_number : (x y : ℕ) → Some x ≡ Some y → x ≡ y
 some_number x y same = cc
@@ -206,7 +194,7 @@ module _ (modes : ModesKeepLimits) (inheritance : InheritanceKeepsLimits) where
   pub list_given : (limits : Limits) (of : NodeKind) → limits.aces_set + 5 ≤ limits.aces → (parent : List Ace)
       → is_list_for limits.aces_set limits.aces kind.Directory parent ≡ true → (nothing_given : Bool) (mode : Option ℕ) (acl : Option (List Ace))
       → ((list : List Ace) → acl ≡ Some list → is_list_for limits.aces_set limits.aces of list ≡ true)
-      → is_list_for limits.aces_set limits.aces of (created parent of nothing_given mode acl) ≡ true
+      → is_list_for limits.aces_set limits.aces of (created_list parent of nothing_given mode acl) ≡ true
   list_given limits of room parent is nothing_given mode None fits = list_created limits of room parent is nothing_given mode
   list_given limits of room parent is nothing_given mode (Some list) fits = fits list refl
 
@@ -417,7 +405,7 @@ module _ (modes : ModesKeepLimits) (inheritance : InheritanceKeepsLimits) where
       = ap (λ (o : Opening). first_refusal (middle_at_open limits state o)) (sym same) ∙ passes.middle in
       let directory = none_in_front (not (is_directory_at state.tree (current state))) status.NotDir (first_refusal (name_refusals limits name)) place in
       by_name limits state now sound name how (is_name_there state name) refl is middle
-      (is_true (is_directory_at state.tree (current state)) directory.0) directory.1
+      (not-false (is_directory_at state.tree (current state)) directory.0) directory.1
 
 -- An opening that makes and cuts nothing leaves all as it is
 

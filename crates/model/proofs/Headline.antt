@@ -1,7 +1,8 @@
 -- The headline, by induction over a run: what a stop may leave is the tree of a good prefix of what was executed.
-use Rattle.std.proofs.Common.{◌≡◌, ℕ, zero, suc, ◌<◌, ◌≤◌, ◌⊎◌, inl, inr, Bool, true, false, not, cond, ◌&&◌, ◌||◌, ◌==◌, List, [], ◌∷◌, ◌++◌, length, take, get_or, slice_get, option_to_list, Option, None, Some, refl, sym, ap, ◌∙◌, subst, arith, append-nil, length-append, take_all}
+use Rattle.std.proofs.Common.{◌≡◌, ℕ, zero, suc, ◌<◌, ◌≤◌, ◌⊎◌, inl, inr, Bool, true, false, not, cond, ◌==◌, List, [], ◌∷◌, ◌++◌, length, take, get_or, slice_get, option_to_list, Option, None, Some, refl, sym, ap, ◌∙◌, subst, arith, append-nil, length-append, take_all}
 use Rattle.std.proofs.lemmas.List.{take-append-le}
 use Rattle.std.specs.List.{IsAmong, AllByRecursion}
+use Rattle.std.proofs.lemmas.Bool.{false≢true, or_left, and_from, or_right}
 use Rattle.model.specs.Keyed.{at}
 use Rattle.model.specs.Tree.{Tree}
 use Rattle.model.specs.World.{World, ServerLimits, Entry, Turned, Turn, Idle, Ran, Answered, one, is_busy, reply_at}
@@ -49,21 +50,11 @@ AllLawful-append done entry all lawful i other e = by_place (slice_get-last done
     by_place (inr same) = subst LawfulEntry (sym same) lawful
 
 -- a durable operation passes the test
-and_true : (a b : Bool) → a ≡ true → b ≡ true → (a && b) ≡ true
-and_true a b p q = ap (λ (x : Bool). x && b) p ∙ q
-
-or_left : (a b : Bool) → a ≡ true → (a || b) ≡ true
-or_left a b p = ap (λ (x : Bool). x || b) p
-
-or_right : (a b : Bool) → b ≡ true → (a || b) ≡ true
-or_right true b p = refl
-or_right false b p = p
-
 durable_passes : (entry : Entry) → LawfulEntry entry → IsDurable entry → is_durable entry ≡ true
 durable_passes entry lawful (inl change) =
     let law = lawful change.0 in
-    or_left _ _ (and_true _ _ law.1 (and_true _ _ law.2 (ap not change.1)))
-durable_passes entry lawful (inr commit) = or_right _ _ (and_true _ _ commit.0 commit.1)
+    or_left _ _ (and_from _ _ law.1 (and_from _ _ law.2 (ap not change.1)))
+durable_passes entry lawful (inr commit) = or_right _ _ (and_from _ _ commit.0 commit.1)
 
 -- What holds in a run
 
@@ -118,9 +109,6 @@ latest start done entry settled tree within same = record {
   beyond = λ i other less e durable. omega arith;
 }
 
-differ : false ≡ true → ⊥
-differ e = cc
-
 behind_one : (start : Tree) (done : List Entry) (entry : Entry) (tree : Tree) (b : Bool) → is_durable entry ≡ b → (b ≡ true → tree ≡ entry.after)
     → StandsFor start done (length done) tree → StandsFor start (done ++ entry ∷ []) (length (done ++ entry ∷ [])) tree
 behind_one start done entry tree true e durable stands = latest start done entry _ tree (omega arith) (durable refl)
@@ -133,7 +121,7 @@ behind_one start done entry tree false e durable stands = record {
   where
     by_place : (i : ℕ) (other : Entry) → is_durable other ≡ true → (slice_get done i ≡ Some other) ⊎ (other ≡ entry) → i < stands.k
     by_place i other lasts (inl at) = stands.beyond i other (slice_get-within done i other at) at lasts
-    by_place i other lasts (inr same) = absurd (differ (sym e ∙ ap is_durable (sym same) ∙ lasts))
+    by_place i other lasts (inr same) = absurd (false≢true (sym e ∙ ap is_durable (sym same) ∙ lasts))
 
 -- The parts of `done` after an event
 
@@ -215,8 +203,8 @@ core_fails start old new event done settled core fails =
     let at = core.tree fails.up in
     record {
       within = let inside = core.within in omega (arith, length-append done (option_to_list (executed_of old.world event)));
-      whole = λ up. absurd (differ (sym up ∙ fails.down));
-      tree = λ up. absurd (differ (sym up ∙ fails.down));
+      whole = λ up. absurd (false≢true (sym up ∙ fails.down));
+      tree = λ up. absurd (false≢true (sym up ∙ fails.down));
       chain = chain_behind start old.world.tree _ done _ fits at core.chain;
       lawful = lawful_behind old.world.tree _ done _ fits core.lawful;
       recent = λ tree among.
@@ -228,8 +216,8 @@ core_stays : (start : Tree) (old new : Serving) (connection : ℕ) (done : List 
     → Core start new done settled
 core_stays start old new connection done settled core stays = record {
   within = core.within;
-  whole = λ up. absurd (differ (sym up ∙ stays.still_down));
-  tree = λ up. absurd (differ (sym up ∙ stays.still_down));
+  whole = λ up. absurd (false≢true (sym up ∙ stays.still_down));
+  tree = λ up. absurd (false≢true (sym up ∙ stays.still_down));
   chain = core.chain;
   lawful = core.lawful;
   recent = λ tree among. core.recent tree (stays.no_others tree among);
@@ -346,7 +334,7 @@ names_behind history world (Takes connection) names =
 
 -- The induction
 
-only_start : (start tree : Tree) → IsAmong (start ∷ []) tree → tree ≡ start
+pub only_start : (start tree : Tree) → IsAmong (start ∷ []) tree → tree ≡ start
 only_start start tree among = by_place among.0 among.1.0 among.1.1
   where
     by_place : (place : ℕ) → place < length (start ∷ []) → tree ≡ get_or (start ∷ []) place tree → tree ≡ start

@@ -4,13 +4,15 @@ use Rattle.std.proofs.lemmas.Bool.{and_parts, and_from, cases_eq}
 use Rattle.std.proofs.lemmas.Grind.{common_steps}
 use Rattle.std.specs.List.{list_all}
 use Rattle.std.specs.Int.{w32}
+use Rattle.std.proofs.lemmas.Option.{same_Some}
 use Rattle.xdr.specs.declared.refusal.Refusal.{Refusal}
 use Rattle.xdr.specs.declared.refusal.Refusal.TheVariants.{Long}
 use Rattle.xdr.specs.Grammar.{number, number_at, unsigned_int, ◌>>=◌, ◌&◌}
 use Rattle.xdr.specs.Forms.{counted, counted_at, padded_at}
-use Rattle.xdr.proofs.Sizes.{counted_length, int_length}
+use Rattle.xdr.proofs.Sizes.{counted_length}
 use Rattle.xdr.proofs.Steps.{bind_ok, guard_ok, ok_is}
 use Rattle.xdr.proofs.Reading.{padded_len}
+use Rattle.xdr.proofs.Numbers.{length-number_32}
 use Rattle.model.specs.declared.acl.Cred.{Cred}
 use Rattle.model.specs.declared.status.Status.{Status}
 use Rattle.model.specs.declared.status.Status.TheVariants as status
@@ -22,16 +24,17 @@ use Rattle.model.specs.Record as marks
 use Rattle.model.specs.Refusal.{first_refusal}
 use Rattle.model.specs.Rpc.{CallRead, NoCall, OtherVersion, Calls, Call, VersionRefused, read_call, is_call_read, Request, Answers, Runs, request_of, by_head, by_cred, compound_head, cred_of, is_empty, Success, reply_text, compound_text}
 use Rattle.model.specs.Session as sessions
-use Rattle.model.specs.Session.{SessionLimits, Client, Slot, SlotState, Session, Table, no_slot, slot_at, is_session, is_client, destroy_by, destroy_session, create_session, create_by, create_again, create_unless, create_refusals, CreateSessionOutcome, is_of_clients, replaced_by, staying, next_number, new_session, with_slot, started, finish, is_running}
+use Rattle.model.specs.Session.{SessionLimits, Client, Slot, Session, Table, no_slot, slot_at, is_session, is_client, destroy_by, destroy_session, create_session, create_by, create_again, create_unless, create_refusals, CreateSessionOutcome, is_of_clients, replaced_by, staying, next_number, new_session, with_slot, started, finish, is_running}
 use Rattle.model.specs.StateIds.{has_opens}
 use Rattle.model.specs.Status.{code_of}
 use Rattle.model.specs.WireAnswers.{behind_refusal}
-use Rattle.model.specs.World.{ServerLimits, InProgress, Connection, Quiet, Waiting, Busy, Replied, Closed, World, Entry, HasRun, Gives, Replays, Next, Refuses, Reads, Turned, next_operation, exchanged, created_by, tabled, started_in, begun, reclaimed, run, outcome_text, reply_with, has_room, in_room, status_of, with_result, result_of, kept_by, ends, goes_on, behind, has_run, operates, in_progress, requested, called, turned, with_connection, entry_of, refuses, one, arrived, arrives_at, changed, arrives, without_reply, takes, can_connect, connects, is_busy, without_connection, hangs_up, operations_left, turns, hung_up, is_last}
-use Rattle.model.specs.KeptReplies.{reply_so_far, max_kept, is_short_state, keeps_short, IsShort, HasRoom, KeepsShort}
+use Rattle.model.specs.World.{ServerLimits, InProgress, Connection, Quiet, Waiting, Busy, Replied, Closed, World, Entry, HasRun, Gives, Replays, Next, Refuses, Reads, Turned, next_operation, exchanged, created_by, tabled, started_in, begun, reclaimed, run, outcome_text, reply_with, has_room, in_room, status_of, with_result, result_of, kept_by, ends, goes_on, behind, has_run, operates, in_progress, requested, called, turned, with_connection, executed_entry, refuses, one, arrived, arrives_at, connection_changed, arrives, without_reply, takes, can_connect, connects, is_busy, without_connection, hangs_up, operations_left, turns, hung_up, is_last}
+use Rattle.model.specs.KeptReplies.{reply_so_far, max_kept, is_short_state, keeps_short, IsShort, HasReplyRoom, KeepsShort}
 use Rattle.model.proofs.KeyedLaws.{at-with_same, at-with_other, at-without_same, at-without_other}
 use Rattle.model.proofs.SlotLaw.{exchange_same, destroy_client_same, reclaim_same}
 use Rattle.model.proofs.TableLaws.{all-filter, all-append, all-map}
 use Rattle.model.proofs.TableCalls.{either}
+use Rattle.model.proofs.SlotsHeld.{busy_request}
 
 -- Sessions
 
@@ -117,12 +120,12 @@ reply_with_length request outcome =
     let whole = reply_length request.xid (status_of outcome) request.tag (request.answered + 1) (request.results ++ outcome_text outcome) in
     omega (arith, whole, with_length request outcome)
 
-refused_length : (operation : ℕ) (reason : Status) → length (outcome_text (Refused operation reason)) ≤ 12
+pub refused_length : (operation : ℕ) (reason : Status) → length (outcome_text (Refused operation reason)) ≤ 12
 unfolding outcome_text number
 refused_length operation reason = by_operation (behind_refusal operation) (behind operation)
   where
     behind : (operation : ℕ) → length (behind_refusal operation) ≤ 4
-    behind operation = grind (arith, common_steps, int_length 0)
+    behind operation = grind (arith, common_steps, length-number_32 0)
 
     by_operation : (text : List ℕ) → length text ≤ 4
         → length (number w32 operation ++ (number w32 (code_of reason) ++ text)) ≤ 12
@@ -132,8 +135,8 @@ refused_length operation reason = by_operation (behind_refusal operation) (behin
           short,
           length-append (number w32 operation) (number w32 (code_of reason) ++ text),
           length-append (number w32 (code_of reason)) text,
-          int_length operation,
-          int_length (code_of reason),
+          length-number_32 operation,
+          length-number_32 (code_of reason),
         )
 
 -- the tag of a request
@@ -259,12 +262,6 @@ pub record Bounded (limits : ServerLimits) (world : World) : Type 0 where
   pub short : IsShort world
   pub same : world.limits ≡ limits
 
-some_connection : (a b : Connection) → Some a ≡ Some b → a ≡ b
-some_connection a b same = cc
-
-busy_request : (a b : InProgress) → Busy a ≡ Busy b → a ≡ b
-busy_request a b same = cc
-
 -- a connection that is put down in place of another
 put_down : (limits : ServerLimits) (connections : Keyed Connection) (here : ℕ) (new : Connection) (world : World) → world.limits ≡ limits
     → world.connections ≡ with connections here new → AllShort (max_kept limits) world.table.sessions
@@ -284,7 +281,7 @@ put_down limits connections here new world limits_are are short others mine = re
     by_place : (other : ℕ) (request : InProgress) → at other (with connections here new) ≡ Some (Busy request) → (other ≡ here) ⊎ (other ≢ here)
         → weight request ≤ limits.reply_bytes
     by_place other request there (inl same) =
-        mine request (some_connection new (Busy request)
+        mine request (same_Some new (Busy request)
         (sym (at-with_same connections here new) ∙ (ap (λ (n : ℕ). at n (with connections here new)) (sym same) ∙ there)))
     by_place other request there (inr differs) = others other request (sym (at-with_other connections here other new differs) ∙ there)
 
@@ -355,18 +352,18 @@ module _ (world : World) (short : IsShort world) (here : ℕ) where
   fits_behind : (request : InProgress) → weight request ≤ limits.reply_bytes → (operation : Argument) (before : InProgress) → (ran : HasRun)
       → HasLeft world request ran → Bounded limits (has_run world here before operation (in_room world request (operation_of operation) ran)).world
   fits_behind request light operation before (Gives (Refused number reason) after left) leaves =
-      refused_behind request after left leaves light number reason (Some (entry_of world before operation (Refused number reason) after))
+      refused_behind request after left leaves light number reason (Some (executed_entry world before operation (Refused number reason) after))
   fits_behind request light operation before (Gives (Done answer) after left) leaves = by_room (has_room world request (Done answer)) refl
     where
       too_big : Bounded limits (has_run world here before operation (refuses world request (operation_of operation) status.RepTooBig)).world
       too_big = refused_behind request world request (leaves_same world request short.kept) light (operation_of operation) status.RepTooBig
-          (Some (entry_of world before operation (Refused (operation_of operation) status.RepTooBig) world))
+          (Some (executed_entry world before operation (Refused (operation_of operation) status.RepTooBig) world))
 
       by_room : (room : Bool) → has_room world request (Done answer) ≡ room
           → Bounded limits (has_run world here before operation
           (cond room (Gives (Done answer) after left) (refuses world request (operation_of operation) status.RepTooBig))).world
       by_room true is =
-          done_behind request after left leaves light answer (Some (entry_of world before operation (Done answer) after))
+          done_behind request after left leaves light answer (Some (executed_entry world before operation (Done answer) after))
           (omega (arith, reply_with_length request (Done answer), leb-true (length (reply_with request (Done answer))) limits.reply_bytes is))
       by_room false is = too_big
   fits_behind request light operation before (Replays result session slot) leaves =
@@ -386,7 +383,7 @@ module _ (world : World) (short : IsShort world) (here : ℕ) where
   answered : (reply : List ℕ) → Bounded limits (with_connection world here (Replied reply))
   answered reply = replied reply (with_connection world here (Replied reply)) refl refl short.kept
 
-  module _ (room : HasRoom limits) (now : ℕ) where
+  module _ (room : HasReplyRoom limits) (now : ℕ) where
     requested_bounded : (xid : ℕ) (request : Request) → TagFits request → Bounded limits (requested world here now xid request).world
     requested_bounded xid (Answers reply) fits = answered (marks.framed (reply_text xid reply))
     requested_bounded xid (Runs cred compound) fits =
@@ -406,7 +403,7 @@ module _ (world : World) (short : IsShort world) (here : ℕ) where
     turned_bounded (Some (Replied reply)) is = stays
     turned_bounded (Some Closed) is = stays
 
-turn_bounded : (world : World) (here now : ℕ) → HasRoom world.limits → IsShort world → Bounded world.limits (one world here now).world
+turn_bounded : (world : World) (here now : ℕ) → HasReplyRoom world.limits → IsShort world → Bounded world.limits (one world here now).world
 unfolding one
 turn_bounded world here now room short = turned_bounded world short here room now (at here world.connections) refl
 
@@ -414,7 +411,7 @@ turn_bounded world here now room short = turned_bounded world short here room no
 
 module _ (world : World) (short : IsShort world) (here : ℕ) where
   changed_short : (change : Connection → Connection) → ((c : Connection) (request : InProgress) → change c ≡ Busy request → c ≡ Busy request)
-      → (connection : Option Connection) → at here world.connections ≡ connection → IsShort (changed world here change connection)
+      → (connection : Option Connection) → at here world.connections ≡ connection → IsShort (connection_changed world here change connection)
   changed_short change only None is = short
   changed_short change only (Some connection) is =
       (put_down world.limits world.connections here (change connection) (with_connection world here (change connection)) refl refl short.kept (light_in world short)
@@ -470,15 +467,15 @@ module _ (world : World) (short : IsShort world) (here : ℕ) where
       by_place other request there (inr differs) =
           short.busy other request (sym (at-without_other world.connections here other differs) ∙ there)
 
-turns_short : (most : ℕ) (world : World) (here now : ℕ) → HasRoom world.limits → IsShort world → IsShort (turns most world here now)
+turns_short : (most : ℕ) (world : World) (here now : ℕ) → HasReplyRoom world.limits → IsShort world → IsShort (turns most world here now)
 turns_short zero world here now room short = short
 turns_short (suc most) world here now room short =
     let next = turn_bounded world here now room short in
     either IsShort (is_busy (at here world.connections)) _ _
-    (λ busy. turns_short most (one world here now).world here now (subst HasRoom (sym next.same) room) next.short)
+    (λ busy. turns_short most (one world here now).world here now (subst HasReplyRoom (sym next.same) room) next.short)
     (λ idle. short)
 
-hung_up_short : (world : World) (here now : ℕ) → HasRoom world.limits → IsShort world → IsShort (hung_up world here now)
+hung_up_short : (world : World) (here now : ℕ) → HasReplyRoom world.limits → IsShort world → IsShort (hung_up world here now)
 unfolding hung_up hangs_up
 hung_up_short world here now room short =
     let left = turns (operations_left (at here world.connections)) world here now in

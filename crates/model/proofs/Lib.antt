@@ -3,6 +3,7 @@ pub mod AncestorLaws
 pub mod AnswerLaws
 pub mod AttributeExact
 pub mod AttributeLaws
+pub mod BooleanLaws
 pub mod ChangeLaws
 pub mod ClientTables
 pub mod EditLaws
@@ -22,14 +23,16 @@ pub mod NodeAttributeLaws
 pub mod NodeChangeLaws
 pub mod NumberLaws
 pub mod OpenClients
+pub mod OpensGoOn
 pub mod OpensJoined
 pub mod OpensLaws
-pub mod OpensGoOn
 pub mod OpensSteps
+pub mod OptionLaws
 pub mod PageLaws
 pub mod ReadOperations
 pub mod RecordLaws
 pub mod RecordOnly
+pub mod RefusalLaws
 pub mod ResultLaws
 pub mod ResultRuns
 pub mod RpcExact
@@ -44,8 +47,8 @@ pub mod SlotsHeld
 pub mod SoundLaws
 pub mod StampLaws
 pub mod StateIdLaws
-pub mod StateIdRuns
 pub mod StateIdRows
+pub mod StateIdRuns
 pub mod StepCases
 pub mod StepProofs
 pub mod TableCalls

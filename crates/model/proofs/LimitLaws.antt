@@ -7,30 +7,22 @@ use Rattle.std.specs.Int.RustNames.{bit_or}
 use Rattle.std.proofs.lemmas.Bool.{false≢true, true≢false, and_parts, and_from, or_cases, cases_Bool, eqb-true, eq-eqb, leb-true, le-leb, ltb-false, or_right, not-true, not-false}
 use Rattle.std.proofs.lemmas.List.{length-append, length-map}
 use Rattle.std.proofs.lemmas.List.Elements.{All-from_recursion, All-nil, All-append, All-filter, All-map, filter-append, filter_passes}
-use Rattle.std.proofs.lemmas.List.Sums.{AllPass-from_list_all, list_all-from_AllPass, length-filter, count_by-le-length}
+use Rattle.std.proofs.lemmas.List.Sums.{AllPass-from_list_all, list_all-from_AllPass, length-filter}
 use Rattle.std.proofs.lemmas.Nat.{and_assoc, and_comm, and_or_apart}
 use Rattle.std.proofs.lemmas.Nat.Bits.{same_from_bits, bit_at_and, bit_at_or}
-use Rattle.model.specs.Acl.{meets, without, is_within, has_width, counts, every_right, inheritance, inherit_only, is_special, is_plain, are_flags_for, is_entry_for, is_list_for}
+use Rattle.model.specs.Acl.{meets, bits_without, is_within, has_width, counts, every_right, inheritance, inherit_only, is_special, is_plain, are_flags_for, is_entry_for, is_list_for}
 use Rattle.model.specs.Mode.{moded, write_rights, rights_of, rights_lacking, limited, limited_kind, not_counting, is_handed_down, has_rights, owner_bits, group_bits, other_bits}
 use Rattle.model.specs.Inherit.{is_inherited_by, as_inherited, inherited, created_without_list, first_refused}
 use Rattle.model.specs.AclLaws.{ModesKeepLimits, InheritanceKeepsLimits, SetListsAreWithinLimits, CreationKeepsLimits}
-use Rattle.model.proofs.ModeLaws.{head, middle, filter-filter_comm}
+use Rattle.model.proofs.ModeLaws.{head, middle}
 use Rattle.model.specs.declared.acl.Ace.{Ace}
 use Rattle.model.specs.declared.acl.AceKind.{AceKind}
 use Rattle.model.specs.declared.acl.AceKind.TheVariants as kind
 use Rattle.model.specs.declared.node.NodeKind.{NodeKind}
 use Rattle.model.specs.declared.node.NodeKind.TheVariants as node
+use Rattle.model.proofs.TableLaws.{size, size-le, size-filter}
 
 -- ---- how many pass
-
-abbrev size : {X : Type 0} → (X → Bool) → List X → ℕ
-size p xs = length (filter p xs)
-
-size-le : {X : Type 0} (p : X → Bool) (xs : List X) → size p xs ≤ length xs
-size-le p xs = rw (length-filter p xs) (count_by-le-length p xs)
-
-size-filter-le : {X : Type 0} (p q : X → Bool) (xs : List X) → size p (filter q xs) ≤ size p xs
-size-filter-le p q xs = rw (filter-filter_comm p q xs) (size-le q (filter p xs))
 
 size-append : {X : Type 0} (p : X → Bool) (xs ys : List X) → size p (xs ++ ys) ≡ size p xs + size p ys
 size-append p xs ys = ap length (filter-append p xs ys) ∙ length-append (filter p xs) (filter p ys)
@@ -115,7 +107,7 @@ module _ (of : NodeKind) (acl : List Ace) (mode : ℕ) where
   moded_others : size is_other (moded of acl mode) ≤ size is_other acl
   unfolding moded
   moded_others =
-      let cut = size-filter-le is_other has_rights (head of mode ++ numbers ++ middle of mode ++ tail) in
+      let cut = size-filter is_other has_rights (head of mode ++ numbers ++ middle of mode ++ tail) in
       let parts = numbers_and_tail acl in
       let a = size-append is_other (head of mode ++ numbers ++ middle of mode) tail in
       let b = size-append is_other (head of mode ++ numbers) (middle of mode) in
@@ -138,9 +130,9 @@ meets-wider word part whole e h =
     (cases_Bool (meets word whole))
 
 -- what has no bit but some has no other after it lost more
-within-without : (number less bits : ℕ) → is_within number bits ≡ true → is_within (without number less) bits ≡ true
+within-without : (number less bits : ℕ) → is_within number bits ≡ true → is_within (bits_without number less) bits ≡ true
 within-without number less bits e =
-    eq-eqb _ _ (and_comm bits (without number less) ∙ (and_assoc bits number (2 ^ 32 - 1 - less)
+    eq-eqb _ _ (and_comm bits (bits_without number less) ∙ (and_assoc bits number (2 ^ 32 - 1 - less)
     ∙ (ap (bit_and number) (and_comm (2 ^ 32 - 1 - less) bits)
     ∙ (sym (and_assoc (2 ^ 32 - 1 - less) number bits)
     ∙ ap (λ n. bit_and n (2 ^ 32 - 1 - less)) (and_comm number bits ∙ eqb-true _ number e)))))
@@ -164,7 +156,7 @@ within-or number more bits e d = eq-eqb _ _ (same_from_bits _ _ each)
         )
 
 -- what has no bit but some has none beside them
-pub within-none : (number bits : ℕ) → is_within number bits ≡ true → bit_and bits (2 ^ 32 - 1 - bits) ≡ 0 → without number bits ≡ 0
+pub within-none : (number bits : ℕ) → is_within number bits ≡ true → bit_and bits (2 ^ 32 - 1 - bits) ≡ 0 → bits_without number bits ≡ 0
 within-none number bits e apart =
     ap (λ n. bit_and n (2 ^ 32 - 1 - bits)) (sym (eqb-true _ number e))
     ∙ (ap (λ n. bit_and n (2 ^ 32 - 1 - bits)) (and_comm bits number)
@@ -340,12 +332,12 @@ inherited_other : (of : NodeKind) (ace : Ace) → is_inherited_by of ace ≡ tru
 inherited_other node.File ace h = rw (meets-wider ace.flags.0 1 3 refl h) (not_and_false (is_special ace.who && counts ace))
 inherited_other node.Directory ace h = rw (meets_some ace.flags.0 h) (not_and_false (is_special ace.who && counts ace))
 
-directory_flags : (flags : ℕ) (directories further : Bool) → meets flags 2 ≡ directories → meets flags 4 ≡ further → (directories || (meets flags 1 && not further)) ≡ true → is_within flags inheritance ≡ true → are_flags_for node.Directory (cond directories (cond further (without flags inheritance) (without flags inherit_only)) (bit_or flags inherit_only)) ≡ true
+directory_flags : (flags : ℕ) (directories further : Bool) → meets flags 2 ≡ directories → meets flags 4 ≡ further → (directories || (meets flags 1 && not further)) ≡ true → is_within flags inheritance ≡ true → are_flags_for node.Directory (cond directories (cond further (bits_without flags inheritance) (bits_without flags inherit_only)) (bit_or flags inherit_only)) ≡ true
 directory_flags flags true true e f h within = rw (within-none flags inheritance within refl)
 directory_flags flags true false e f h within =
     and_from _ _
     (within-without flags inherit_only inheritance within)
-    (or_right _ (meets (without flags inherit_only) 3) (ap (λ w. not (w == 0)) (and_assoc 3 flags (2 ^ 32 - 1 - inherit_only)) ∙ meets-wider flags 2 3 refl e))
+    (or_right _ (meets (bits_without flags inherit_only) 3) (ap (λ w. not (w == 0)) (and_assoc 3 flags (2 ^ 32 - 1 - inherit_only)) ∙ meets-wider flags 2 3 refl e))
 directory_flags flags false further e f h within = silent_flags flags (meets-wider flags 1 3 refl (and_parts _ _ h).0) within
 
 inherited_fits : (of : NodeKind) (ace : Ace) → is_inherited_by of ace ≡ true → Fits node.Directory ace → Fits of (as_inherited of ace)

@@ -11,6 +11,7 @@ use Rattle.std.specs.Int.Bits.{and_zero_l}
 use Rattle.model.specs.Attribute.{attributes_of_word, attributes_from, attributes_of, is_among, trimmed, word_before}
 use Rattle.model.specs.AttributeValue.{attribute_of}
 use Rattle.model.specs.NodeAttributes.{supported_bitmap, node_values, common, node_attributes, AnswersAsked}
+use Rattle.model.proofs.BooleanLaws.{and_false, and_true, or_same}
 
 -- Lists
 
@@ -29,7 +30,7 @@ filter-like : {A : Type 0} (p q : A → Bool) (xs : List A) → AllByRecursion (
 filter-like p q [] same = refl
 filter-like p q (x ∷ xs) same = ap (λ l. cond (p x) (x ∷ l) l) (filter-like p q xs same.1) ∙ ap (λ b. cond b (x ∷ filter q xs) (filter q xs)) same.0
 
-filter-map : {A B : Type 0} (p : B → Bool) (f : A → B) (xs : List A) → filter p (map f xs) ≡ map f (filter (λ x. p (f x)) xs)
+pub filter-map : {A B : Type 0} (p : B → Bool) (f : A → B) (xs : List A) → filter p (map f xs) ≡ map f (filter (λ x. p (f x)) xs)
 filter-map p f [] = refl
 filter-map {A = A} p f (x ∷ xs) = by_test (filter-map p f xs) (p (f x))
   where
@@ -78,21 +79,6 @@ any_chosen p q f (x ∷ xs) = by_test (any_chosen p q f xs) (q x)
         → list_any p (map f (cond b (x ∷ filter q xs) (filter q xs))) ≡ ((b && p (f x)) || list_any (λ y. q y && p (f y)) xs)
     by_test later true = ap (λ b. p (f x) || b) later
     by_test later false = later
-
-and_false : (b : Bool) → (b && false) ≡ false
-and_false true = refl
-and_false false = refl
-
-and_true : (b : Bool) → (b && true) ≡ b
-and_true true = refl
-and_true false = refl
-
-or_false : (b : Bool) → (b || false) ≡ b
-or_false true = refl
-or_false false = refl
-
-or_same : (b rest : Bool) → rest ≡ false → (b || rest) ≡ b
-or_same b rest none = ap (λ r. b || r) none ∙ or_false b
 
 range_from : (a n least : ℕ) → least ≤ a → AllByRecursion (λ x. least ≤ x) (range_with_len a n)
 range_from a zero least within = tt

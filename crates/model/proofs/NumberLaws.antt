@@ -4,7 +4,7 @@ use Rattle.std.proofs.lemmas.Bool.{false≢true, and_parts}
 use Rattle.std.proofs.lemmas.Grind.{and-not_self}
 use Rattle.std.proofs.lemmas.List.Elements.{All-from_recursion, All-append, All-filter, All-map}
 use Rattle.std.proofs.lemmas.Nat.{and_le_l}
-use Rattle.model.specs.Acl.{meets, without, counts, is_special, is_allow}
+use Rattle.model.specs.Acl.{meets, bits_without, counts, is_special, is_allow}
 use Rattle.model.specs.Mode.{moded, rights_of, rights_lacking, limited, limited_kind, not_counting, is_handed_down, has_rights, group_bits}
 use Rattle.model.specs.AclLaws.{NumbersStayWithinTheGroup, allows_a_number}
 use Rattle.model.proofs.ModeLaws.{head, middle, not_counting_counts}
@@ -19,7 +19,7 @@ lacking_fits node.File bits = let h = and_le_l (rights_of node.File 7) (2 ^ 32 -
 lacking_fits node.Directory bits = let h = and_le_l (rights_of node.Directory 7) (2 ^ 32 - 1 - rights_of node.Directory bits) in omega arith
 
 -- what a word lost it does not have
-pub meets-without : (a b : ℕ) → b ≤ 2 ^ 32 - 1 → meets (without a b) b ≡ false
+pub meets-without : (a b : ℕ) → b ≤ 2 ^ 32 - 1 → meets (bits_without a b) b ≡ false
 meets-without a b h = rw (and-not_self a (2 ^ 32 - 1) b b refl h refl)
 
 -- within the rights lacking, where the entry allows something to a number

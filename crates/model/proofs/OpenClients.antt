@@ -21,10 +21,10 @@ use Rattle.model.specs.Session as sessions
 use Rattle.model.specs.Session.{Session, Table, is_session}
 use Rattle.model.specs.SetAttr.{sets}
 use Rattle.model.specs.SlotsHeld.{is_slot_running, is_on, is_busy_on}
-use Rattle.model.specs.StateIds.{Found, Anonymous, Names, found, is_like, open_like, joined, opened, opened_by, without_clients}
+use Rattle.model.specs.StateIds.{Found, Anonymous, Names, found, is_like, open_like, upgraded, opened, opened_by, without_clients}
 use Rattle.model.specs.Step.{State, Stepped, effect, rename, does}
 use Rattle.model.specs.Tree.{Tree}
-use Rattle.model.specs.World.{ServerLimits, InProgress, Connection, Quiet, Busy, Replied, World, HasRun, Gives, Replays, Entry, entry_of, exchanged, created_by, tabled, started_in, begun, reclaimed, refuses, stepped, state_of, run, Turned, with_connection, with_result, result_of, kept_by, behind, ends, goes_on, is_last, stands_alone, is_sequence, one, in_progress, mounted_world, Reads, next_operation, arrives, takes, connects, hangs_up, can_connect, changed, arrives_at, without_reply, is_busy, without_connection}
+use Rattle.model.specs.World.{ServerLimits, InProgress, Connection, Quiet, Busy, Replied, World, HasRun, Gives, Replays, Entry, executed_entry, exchanged, created_by, tabled, started_in, begun, reclaimed, refuses, stepped, state_of, run, Turned, with_connection, with_result, result_of, kept_by, behind, ends, goes_on, is_last, stands_alone, is_sequence, one, in_progress, mounted_world, Reads, next_operation, arrives, takes, connects, hangs_up, can_connect, connection_changed, arrives_at, without_reply, is_busy, without_connection}
 use Rattle.model.proofs.ClientTables.{is_of_known, Lives, StaysFor, KeepsRunning, exchange_lives, exchange_running, destroy_client_lives, destroy_client_running, reclaim_lives, reclaim_running, destroy_lives, destroy_running, create_lives, create_running, started_lives, started_stays, finish_lives, finish_stays}
 use Rattle.model.proofs.KeyedLaws.{at-with_same, at-with_other, at-without_same, at-without_other}
 use Rattle.model.proofs.LimitLaws.{modes_keep_limits, inheritance_keeps_limits}
@@ -91,7 +91,7 @@ module _ (table : Table) where
   joined_known : (opens : Opens) (asked : Open) → Known opens → has_record table asked.client ≡ true → (joins : Option (ℕ × Open)) → open_like opens asked ≡ joins
       → Known (opened_by opens asked joins).opens
   joined_known opens asked known mine (Some entry) like =
-      all-with (is_of_known table) opens.known entry.0 (joined asked.access entry.1) known
+      all-with (is_of_known table) opens.known entry.0 (upgraded asked.access entry.1) known
       (found_given (is_like asked) (is_of_known table) opens.known entry known like)
   joined_known opens asked known mine None like = all-with (is_of_known table) opens.known (opens.given + 1) asked known mine
 
@@ -130,9 +130,6 @@ module _ (table : Table) where
 pub record Living (world : World) : Type 0 where
   pub lives : Lives world.table world.opens
   pub requests : (number : ℕ) (request : InProgress) → at number world.connections ≡ Some (Busy request) → RunsInSession world.table request
-
-same_request : (a b : InProgress) → Some (Busy a) ≡ Some (Busy b) → a ≡ b
-same_request a b same = cc
 
 -- no other request has begun than before
 fewer_busy : (world : World) (connections : Keyed Connection) → Living world
@@ -425,12 +422,12 @@ module _ (limits : ServerLimits) (world : World) (held : Held limits world) (liv
   turned now _ (TooBig request operation rest goes reads) =
       went (Refused (operation_of operation) status.RepTooBig) world (read_of request rest)
       (refused_here (read_of request rest) (operation_of operation) status.RepTooBig)
-      (Some (entry_of world (read_of request rest) operation (Refused (operation_of operation) status.RepTooBig) world))
+      (Some (executed_entry world (read_of request rest) operation (Refused (operation_of operation) status.RepTooBig) world))
   turned now _ (Gave request operation rest outcome after left goes reads is) =
       went outcome after left
       (subst (HasLeft world) is (run_left limits world held living (read_of request rest) (its_running request rest goes) now operation
       (goes_so request operation rest goes reads)))
-      (Some (entry_of world (read_of request rest) operation outcome after))
+      (Some (executed_entry world (read_of request rest) operation outcome after))
   turned now _ (Repeats request operation rest result session slot goes reads is) = replied (framed (reply_text request.xid (Success result)))
 
   one_living : (now : ℕ) → Living (one world here now).world
@@ -439,7 +436,7 @@ module _ (limits : ServerLimits) (world : World) (held : Held limits world) (liv
   -- The other events
 
   changed_living : (change : Connection → Connection) → ((c : Connection) (request : InProgress) → change c ≡ Busy request → c ≡ Busy request)
-      → (connection : Option Connection) → at here world.connections ≡ connection → Living (changed world here change connection)
+      → (connection : Option Connection) → at here world.connections ≡ connection → Living (connection_changed world here change connection)
   changed_living change only None is = living
   changed_living change only (Some connection) is =
       fewer_busy world (with world.connections here (change connection)) living

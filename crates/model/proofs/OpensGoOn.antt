@@ -2,6 +2,7 @@
 use Rattle.std.proofs.Common.{ℕ, Bool, true, false, ◌≡◌, ◌≢◌, ◌+◌, ◌⊎◌, ◌&&◌, ◌==◌, not, inl, inr, refl, sym, ap, ◌∙◌, subst, arith, filter, bytes_eq}
 use Rattle.std.specs.Prelude.{Option, Some, None}
 use Rattle.std.proofs.lemmas.Bool.{cases_eq, eqb-true, and_parts}
+use Rattle.std.proofs.lemmas.Option.{same_Some}
 use Rattle.model.specs.Answer.{Answer, Outcome, OpenAnswer}
 use Rattle.model.specs.Context.{is_same_name}
 use Rattle.model.specs.Files.{has_bytes}
@@ -12,16 +13,13 @@ use Rattle.model.specs.Opens.{Opens, Open}
 use Rattle.model.specs.OpensLaws.{AreOpens}
 use Rattle.model.specs.Operation.{Argument, OpenArguments, RenameArguments, NewDirectory, OtherType}
 use Rattle.model.specs.SetAttr.{sets}
-use Rattle.model.specs.StateIds.{Found, Anonymous, Refused, Names, found, is_like, open_like, joined, opened, opened_by, without_number}
+use Rattle.model.specs.StateIds.{Found, Anonymous, Refused, Names, found, is_like, open_like, upgraded, opened, opened_by, without_number}
 use Rattle.model.specs.StateIdLaws.{IsAnswered, OpenAnswersNewest, GoesOn, EveryOpenGoesOn, is_open, may_end_opens, IsJoined, HasEnded}
 use Rattle.model.specs.Step.{State, Stepped, effect, rename, target_number}
 use Rattle.model.proofs.KeyedLaws.{at-with_same, at-with_other, at-without_same, at-without_other, some≢none}
 use Rattle.model.proofs.OpensLaws.{at-filter, find-at}
 use Rattle.model.proofs.OpensSteps.{set_opens, write_opens}
 use Rattle.model.proofs.StepCases.{does_cases}
-
-some_is : {A : Type 0} (x y : A) → Some x ≡ Some y → x ≡ y
-some_is x y same = cc
 
 -- OPEN
 
@@ -32,7 +30,7 @@ module _ (limits : Limits) (state : State) (are : AreOpens limits state.tree sta
   -- what is opened stands, and is the caller's
   stands : (joins : Option (ℕ × Open)) → at (opened_by state.opens asked joins).serial (opened_by state.opens asked joins).opens.known
       ≡ Some (opened_by state.opens asked joins).state
-  stands (Some entry) = at-with_same known entry.0 (joined asked.access entry.1)
+  stands (Some entry) = at-with_same known entry.0 (upgraded asked.access entry.1)
   stands None = at-with_same known (state.opens.given + 1) asked
 
   of_caller : (joins : Option (ℕ × Open)) → open_like state.opens asked ≡ joins → (opened_by state.opens asked joins).state.client ≡ asked.client
@@ -46,16 +44,16 @@ module _ (limits : Limits) (state : State) (are : AreOpens limits state.tree sta
       → GoesOn operation state.opens (opened_by state.opens asked joins).opens
   joins_one operation opens (Some entry) like =
       let there = (find-at (is_like asked) known 0 entry are.rising like).0 in
-      let now = joined asked.access entry.1 in
+      let now = upgraded asked.access entry.1 in
       record {
         each = λ serial of stood. elim (cases_eq serial entry.0) [
           | inl one ↦
-              let same : entry.1 ≡ of = some_is entry.1 of (sym there ∙ (ap (λ k. at k known) (sym one) ∙ stood)) in
+              let same : entry.1 ≡ of = same_Some entry.1 of (sym there ∙ (ap (λ k. at k known) (sym one) ∙ stood)) in
               inr (inl (
                 opens,
                 (
                   asked.access,
-                  ap (λ k. at k (with known entry.0 now)) one ∙ (at-with_same known entry.0 now ∙ ap (λ o. Some (joined asked.access o)) same),
+                  ap (λ k. at k (with known entry.0 now)) one ∙ (at-with_same known entry.0 now ∙ ap (λ o. Some (upgraded asked.access o)) same),
                 ),
               ))
           | inr apart ↦ inl (at-with_other known entry.0 serial now apart ∙ stood)

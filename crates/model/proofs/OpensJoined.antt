@@ -5,6 +5,7 @@ use Rattle.std.specs.Int.{w32, w64, to_be_bytes, from_be_bytes}
 use Rattle.std.proofs.lemmas.Bool.{true≢false, cases_eq, and_from, or_parts, leb-false, false_from_ne_true}
 use Rattle.std.proofs.lemmas.Nat.{from_be_bytes-to_be_bytes_8}
 use Rattle.std.proofs.lemmas.Slice.Eq.{bytes_eq-Decides}
+use Rattle.std.proofs.lemmas.Option.{same_Some}
 use Rattle.model.specs.declared.status.Status.{Status}
 use Rattle.model.specs.declared.status.Status.TheVariants as status
 use Rattle.model.specs.Answer.{Answer, Outcome, OpenAnswer}
@@ -17,14 +18,15 @@ use Rattle.model.specs.Opens.{Opens, Open}
 use Rattle.model.specs.Operation.{Argument, OpenArguments, RenameArguments, NewDirectory, OtherType, StateId}
 use Rattle.model.specs.Runs.{is_done}
 use Rattle.model.specs.SetAttr.{sets}
-use Rattle.model.specs.StateIds.{Found, Anonymous, Names, found, is_like, open_like, joined, next_seqid, opened, opened_by, Opened, is_table_full, state_of}
+use Rattle.model.specs.StateIds.{Found, Anonymous, Names, found, is_like, open_like, upgraded, next_seqid, opened, opened_by, Opened, is_table_full, state_of}
 use Rattle.model.specs.StateIdLaws.{IsGiven, is_open}
 use Rattle.model.specs.StateIdRuns.{IsOpenOf, access_by, joined_by}
 use Rattle.model.specs.Step.{State, Stepped, effect, rename, does, refused}
 use Rattle.model.proofs.KeyedLaws.{at-above, at-with_same, at-with_other, at-without_same, at-without_other, IsAbove-with, IsAbove-without, some≢none}
 use Rattle.model.proofs.OpensLaws.{IsAbove-filter, at-filter, find-at}
 use Rattle.model.proofs.OpensSteps.{set_opens, write_opens}
-use Rattle.model.proofs.StepCases.{none_in_front, does_cases}
+use Rattle.model.proofs.StepCases.{does_cases}
+use Rattle.model.proofs.RefusalLaws.{none_in_front}
 
 -- The serials of a run
 
@@ -32,9 +34,6 @@ pub record AreCounted (opens : Opens) : Type 0 where
   pub rising : IsAbove 0 opens.known
   pub given : (serial : ℕ) (known : Open) → at serial opens.known ≡ Some known → serial ≤ opens.given
   pub small : opens.given < 2 ^ 64
-
-some_is : {A : Type 0} (x y : A) → Some x ≡ Some y → x ≡ y
-some_is x y same = cc
 
 is_given : (run : ℕ) (opens : Opens) → AreCounted opens → run < 2 ^ 32 → (serial : ℕ) (known : Open) → at serial opens.known ≡ Some known → IsGiven run serial
 is_given run opens are counted serial known there =
@@ -186,7 +185,7 @@ module _ (most : ℕ) (opens : Opens) (are : AreCounted opens) (asked : Open) (f
   behind_open joins = opened_by opens asked joins
 
   opened_there : (joins : Option (ℕ × Open)) → at (behind_open joins).serial (behind_open joins).opens.known ≡ Some (behind_open joins).state
-  opened_there (Some entry) = at-with_same opens.known entry.0 (joined asked.access entry.1)
+  opened_there (Some entry) = at-with_same opens.known entry.0 (upgraded asked.access entry.1)
   opened_there None = at-with_same opens.known (opens.given + 1) asked
 
   opened_like : (joins : Option (ℕ × Open)) → open_like opens asked ≡ joins → is_like asked ((behind_open joins).serial, (behind_open joins).state) ≡ true
@@ -210,7 +209,7 @@ module _ (most : ℕ) (opens : Opens) (are : AreCounted opens) (asked : Open) (f
   opened_counted : (joins : Option (ℕ × Open)) → open_like opens asked ≡ joins → is_table_full most opens asked ≡ false → AreCounted (behind_open joins).opens
   opened_counted (Some entry) like room =
       let there = (find-at (is_like asked) opens.known 0 entry are.rising like).0 in
-      let now = joined asked.access entry.1 in
+      let now = upgraded asked.access entry.1 in
       record {
         rising = IsAbove-with opens.known entry.0 0 now are.rising (at-above opens.known 0 entry.0 entry.1 are.rising there);
         given = λ serial known stands. elim (cases_eq serial entry.0) [
@@ -240,15 +239,15 @@ module _ (most : ℕ) (opens : Opens) (are : AreCounted opens) (asked : Open) (f
   -- the others stay
   opened_others : (joins : Option (ℕ × Open)) (serial : ℕ) → serial ≢ (behind_open joins).serial
       → at serial (behind_open joins).opens.known ≡ at serial opens.known
-  opened_others (Some entry) serial apart = at-with_other opens.known entry.0 serial (joined asked.access entry.1) apart
+  opened_others (Some entry) serial apart = at-with_other opens.known entry.0 serial (upgraded asked.access entry.1) apart
   opened_others None serial apart = at-with_other opens.known (opens.given + 1) serial asked apart
 
   -- and one that stood under its serial is joined
   opened_joined : (joins : Option (ℕ × Open)) → open_like opens asked ≡ joins → (serial : ℕ) (known : Open) → at serial opens.known ≡ Some known
-      → serial ≡ (behind_open joins).serial → (behind_open joins).state ≡ joined asked.access known
+      → serial ≡ (behind_open joins).serial → (behind_open joins).state ≡ upgraded asked.access known
   opened_joined (Some entry) like serial known there one =
       let was = (find-at (is_like asked) opens.known 0 entry are.rising like).0 in
-      ap (joined asked.access) (some_is entry.1 known (sym was ∙ (ap (λ (n : ℕ). at n opens.known) (sym one) ∙ there)))
+      ap (upgraded asked.access) (same_Some entry.1 known (sym was ∙ (ap (λ (n : ℕ). at n opens.known) (sym one) ∙ there)))
   opened_joined None like serial known there one = let low = are.given serial known there in absurd (omega (arith, low, one))
 
   -- one that had ended is not opened again

@@ -57,15 +57,15 @@ module _ {A : Type 0} (keeps : ℕ × A → Bool) where
 
 -- How many entries there are
 
-counted : {A : Type 0} (entries : Keyed A) → total (λ value. 1) entries ≡ length entries
-counted [] = refl
-counted (entry ∷ rest) = let others = counted rest in omega (arith, others)
+pub total-ones : {A : Type 0} (entries : Keyed A) → total (λ value. 1) entries ≡ length entries
+total-ones [] = refl
+total-ones (entry ∷ rest) = let others = total-ones rest in omega (arith, others)
 
 pub length-with_new : {A : Type 0} (entries : Keyed A) (key : ℕ) (value : A) → IsAbove 0 entries → length (with entries key value) ≤ length entries + 1
 length-with_new entries key value above =
     let sum = total-with (λ value. 1) entries key 0 value above in
-    let before = counted entries in
-    let after = counted (with entries key value) in
+    let before = total-ones entries in
+    let after = total-ones (with entries key value) in
     omega (arith, sum, before, after)
 
 pub length-with_same : {A : Type 0} (entries : Keyed A) (key : ℕ) (old value : A) → IsAbove 0 entries → at key entries ≡ Some old
@@ -73,15 +73,15 @@ pub length-with_same : {A : Type 0} (entries : Keyed A) (key : ℕ) (old value :
 length-with_same entries key old value above there =
     let sum : total (λ v. 1) (with entries key value) + 1 ≡ total (λ v. 1) entries + 1
     = ap (λ o. total (λ v. 1) (with entries key value) + worth_at (λ v. 1) o) (sym there) ∙ total-with (λ v. 1) entries key 0 value above in
-    let before = counted entries in
-    let after = counted (with entries key value) in
+    let before = total-ones entries in
+    let after = total-ones (with entries key value) in
     omega (arith, sum, before, after)
 
 pub length-without : {A : Type 0} (entries : Keyed A) (key : ℕ) → IsAbove 0 entries → length (without entries key) ≤ length entries
 length-without entries key above =
     let sum = total-without (λ v. 1) entries key 0 above in
-    let before = counted entries in
-    let after = counted (without entries key) in
+    let before = total-ones entries in
+    let after = total-ones (without entries key) in
     omega (arith, sum, before, after)
 
 -- the entry that is found stands there, and passes the test

@@ -2,7 +2,7 @@
 use Rattle.std.proofs.Common.{ℕ, Bool, true, false, List, ◌++◌, ◌≡◌, ◌≢◌, ◌+◌, ◌-◌, ◌^◌, ◌<◌, ◌≤◌, ◌&&◌, ◌||◌, ◌==◌, not, if◌then◌else◌, inl, inr, refl, sym, ap, ◌∙◌, subst, arith, is_some, length, filter, nat_le, eq-eqb}
 use Rattle.std.specs.Prelude.{Option, Some, None, is_none}
 use Rattle.std.specs.List.{list_any}
-use Rattle.std.proofs.lemmas.Bool.{true≢false, cases_eq, cases_Bool, leb-false}
+use Rattle.std.proofs.lemmas.Bool.{true≢false, cases_eq, cases_Bool, leb-false, not-false, not-true}
 use Rattle.model.specs.declared.status.Status.TheVariants as status
 use Rattle.model.specs.AclLaws.{ModesKeepLimits, InheritanceKeepsLimits}
 use Rattle.model.specs.Changes.{touched, made_edits}
@@ -18,7 +18,7 @@ use Rattle.model.specs.OpensLaws.{AreOpens, KeepsOpens, EveryStepKeepsOpens}
 use Rattle.model.specs.Operation.{Argument, RenameArguments, SetAttrArguments, WriteArguments, OpenArguments, OpenType, NoCreate, Unchecked, Guarded, ByName, ByHandle, OtherClaim, Opening, Opens as Opening_of, Exclusive, NewDirectory, OtherType}
 use Rattle.model.specs.Refusal.{first_refusal}
 use Rattle.model.specs.SetAttr.{sets, set_attributes}
-use Rattle.model.specs.StateIds.{Found, Anonymous, Refused, Names, found, is_like, open_like, joined, opened, opened_by, is_table_full, without_number, without_clients}
+use Rattle.model.specs.StateIds.{Found, Anonymous, Refused, Names, found, is_like, open_like, upgraded, opened, opened_by, is_table_full, without_number, without_clients}
 use Rattle.model.specs.Step.{State, Stepped, current, stamp_of, current_refusals, is_name_there, alters, effect, rename, target_number}
 use Rattle.model.specs.StepLaws.{IsSound}
 use Rattle.model.specs.Tree.{Tree, Node, is_directory, is_directory_node, is_directory_at}
@@ -26,8 +26,9 @@ use Rattle.model.proofs.ChangeLaws.{is_file_node}
 use Rattle.model.proofs.FileStepLaws.{named_key, current_key, opening_changed, opening_leaves}
 use Rattle.model.proofs.KeyedLaws.{at-above, at-with_same, at-with_other, at-without_same, at-without_other, IsAbove-with, IsAbove-without, some≢none}
 use Rattle.model.proofs.OpensLaws.{IsAbove-filter, length-filter, at-filter, length-with_new, length-with_same, length-without, find-at}
-use Rattle.model.proofs.StepCases.{Passes, none_in_front, none_in_both, does_cases}
+use Rattle.model.proofs.StepCases.{Passes, does_cases}
 use Rattle.model.proofs.StepProofs.{gone_by, effect_changes, outcome_cases, effect_leaves, effect_refused}
+use Rattle.model.proofs.RefusalLaws.{none_in_front, none_in_both}
 
 -- Files
 
@@ -37,11 +38,11 @@ file_node (Some node) key no_directory = ap not no_directory
 
 file_key : (o : Option Node) → is_file_node o ≡ true → (is_some o ≡ true) × (is_directory_node o ≡ false)
 file_key None file = absurd (true≢false (sym file))
-file_key (Some node) file = (refl, not_true (is_directory node.content) file)
+file_key (Some node) file = (refl, not-true (is_directory node.content) file)
   where
-    not_true : (b : Bool) → not b ≡ true → b ≡ false
-    not_true true is = sym is
-    not_true false is = refl
+    not-true : (b : Bool) → not b ≡ true → b ≡ false
+    not-true true is = sym is
+    not-true false is = refl
 
 -- The same opens over the same tree, and fewer of them over a changed one
 
@@ -140,7 +141,7 @@ opens_one : (limits : Limits) (state after : State) (asked : Open) → AreOpens 
 opens_one limits state after asked are stay file (Some entry) like room opens =
     let known = state.opens.known in
     let found = find-at (is_like asked) known 0 entry are.rising like in
-    let now = joined asked.access entry.1 in
+    let now = upgraded asked.access entry.1 in
     let each : (serial : ℕ) (of : Open) → at serial (with known entry.0 now) ≡ Some of
     → (serial ≤ state.opens.given) × (is_key of.number after.tree ≡ true) × (is_directory_at after.tree of.number ≡ false)
     = λ serial of there. elim (cases_eq serial entry.0) [
@@ -324,14 +325,6 @@ rename_fewer : (limits : Limits) (same : Bool) (state : State) (now : ℕ) (argu
 rename_fewer limits true state now arguments is are = absurd (true≢false is)
 rename_fewer limits false state now arguments is are = without_of limits state (target_number state arguments) are
 
-not_false : (b : Bool) → not b ≡ false → b ≡ true
-not_false true is = refl
-not_false false is = sym is
-
-not_true : (b : Bool) → not b ≡ true → b ≡ false
-not_true true is = sym is
-not_true false is = refl
-
 same_opens : (limits : Limits) (state : State) (now : ℕ) (operation : Argument) → is_other operation ≡ true → alters state operation ≡ false
     → (effect limits state now operation).state.opens ≡ state.opens
 unfolding effect
@@ -341,7 +334,7 @@ same_opens limits state now (Argument.Create (NewDirectory name given)) other no
 same_opens limits state now (Argument.Create (OtherType number)) other none = refl
 same_opens limits state now (Argument.Remove name) other none = absurd (true≢false none)
 same_opens limits state now (Argument.Rename arguments) other none =
-    rename_opens (is_same_name state.context arguments) state now arguments (not_false (is_same_name state.context arguments) none)
+    rename_opens (is_same_name state.context arguments) state now arguments (not-false (is_same_name state.context arguments) none)
 same_opens limits state now (Argument.SetAttr arguments) other none = set_opens (sets arguments) state now arguments
 same_opens limits state now (Argument.Write arguments) other none = write_opens (has_bytes arguments) limits state now arguments
 same_opens limits state now _ other none = refl
@@ -354,7 +347,7 @@ fewer_opens limits state now (Argument.Create (NewDirectory name given)) sound a
 fewer_opens limits state now (Argument.Create (OtherType number)) sound are other is = all_of limits state sound are
 fewer_opens limits state now (Argument.Remove name) sound are other is = without_of limits state (number_named state.tree (current state) name) are
 fewer_opens limits state now (Argument.Rename arguments) sound are other is =
-    rename_fewer limits (is_same_name state.context arguments) state now arguments (not_true (is_same_name state.context arguments) is) are
+    rename_fewer limits (is_same_name state.context arguments) state now arguments (not-true (is_same_name state.context arguments) is) are
 fewer_opens limits state now (Argument.SetAttr arguments) sound are other is =
     subst (λ (o : Opens). AreOf state.opens o 0) (sym (set_opens (sets arguments) state now arguments)) (all_of limits state sound are)
 fewer_opens limits state now (Argument.Write arguments) sound are other is =

@@ -4,7 +4,7 @@ use Rattle.std.proofs.lemmas.Bool.{leb-false}
 use Rattle.xdr.specs.Forms.{links, boolean}
 use Rattle.xdr.specs.Grammar.{number}
 use Rattle.std.specs.Int.{w32, w64}
-use Rattle.xdr.proofs.Sizes.{int_length, hyper_length}
+use Rattle.xdr.proofs.Numbers.{length-number_32, length-number_64}
 use Rattle.model.specs.Answer.{Entry}
 use Rattle.model.specs.PageLaws.{page_size, EveryPage}
 use Rattle.model.specs.ReadDir.{entry_size, fitting, all_entries, page_room, page}
@@ -17,23 +17,23 @@ sizes (entry ∷ rest) = entry_size entry + sizes rest
 
 links_length : (entries : List Entry) → length (links answers.entry.spelling entries) ≡ sizes entries + 4
 unfolding links sizes
-links_length [] = int_length 0
+links_length [] = length-number_32 0
 links_length (entry ∷ rest) =
     let whole = length-append (number w32 1) (answers.entry.spelling entry ++ links answers.entry.spelling rest) in
     let behind = length-append (answers.entry.spelling entry) (links answers.entry.spelling rest) in
-    let front = int_length 1 in
+    let front = length-number_32 1 in
     let others = links_length rest in
     omega (arith, whole, behind, front, others)
 
 bool_length : (b : Bool) → length (boolean.spelling b) ≡ 4
-bool_length true = int_length 1
-bool_length false = int_length 0
+bool_length true = length-number_32 1
+bool_length false = length-number_32 0
 
 size_is : (entries : List Entry) (is_end : Bool) → page_size entries is_end ≡ sizes entries + 16
 size_is entries is_end =
     let whole = length-append (number w64 0) (links answers.entry.spelling entries ++ boolean.spelling is_end) in
     let behind = length-append (links answers.entry.spelling entries) (boolean.spelling is_end) in
-    let front = hyper_length 0 in
+    let front = length-number_64 0 in
     let middle = links_length entries in
     let last = bool_length is_end in
     omega (arith, whole, behind, front, middle, last)

@@ -1,6 +1,6 @@
 -- An operation that comes only first in a COMPOUND is read as no later one, and each that is read is served.
 use Rattle.std.proofs.Common.{◌≡◌, ℕ, Bool, true, false, not, ◌&&◌, ◌||◌, ◌==◌, if◌then◌else◌, List, Result, Ok, Err, refl, ap, sym, subst, ◌∙◌, ◌⊎◌, inl, inr, nat_lt}
-use Rattle.std.proofs.lemmas.Bool.{eqb-true, eq-eqb}
+use Rattle.std.proofs.lemmas.Bool.{eqb-true, eq-eqb, not-false}
 use Rattle.std.specs.Int.{w32}
 use Rattle.xdr.specs.Forms.{boolean, bitmap}
 use Rattle.xdr.specs.Grammar.{Grammar, ◌>>=◌, number_at, void, unsigned_int, unsigned_hyper}
@@ -14,6 +14,7 @@ use Rattle.model.specs.WireArguments.{close_arguments, commit_arguments, create_
 use Rattle.model.specs.WireTypes.{any_opaque, file_handle, session_id}
 use Rattle.model.specs.World.{InProgress, Next, Refuses, Reads, next_operation, by_number, by_arguments, first_or, first_tests, later_tests, is_last, is_no_operation, is_sequence, stands_alone, op_illegal}
 use Rattle.model.specs.declared.status.Status.TheVariants as status
+use Rattle.model.proofs.BooleanLaws.{second_of_neither}
 
 -- The number of what is read
 
@@ -97,10 +98,6 @@ otherwise : (request : InProgress) (test : Bool) (one other : Next) → Alone re
 otherwise request true one other first second = first
 otherwise request false one other first second = second refl
 
-right_false : (left right : Bool) → (left || right) ≡ false → right ≡ false
-right_false true right is = absurd cc
-right_false false right is = is
-
 none_first : (operation : ℕ) → stands_alone operation ≡ false → is_sequence operation ≡ false → is_first operation ≡ false
 none_first operation alone sequence = ap (λ (test : Bool). test || is_sequence operation) alone ∙ sequence
 
@@ -113,10 +110,6 @@ read_alone request operation (Err fault) of first served = tt
 read_alone request operation (Ok read) of first served =
     otherwise request (is_last request && (not (looks_no_further read.0) && not (is_empty read.1))) (Refuses operation status.BadXdr) (Reads read.0 read.1) tt
     (λ enough. (λ is. first (sym (ap is_first of) ∙ is), ap is_served of ∙ served))
-
-is_not : (b : Bool) → not b ≡ false → b ≡ true
-is_not true is = refl
-is_not false is = sym is
 
 left_false : (left right : Bool) → (left || right) ≡ false → left ≡ false
 left_false true right is = is
@@ -152,7 +145,7 @@ begins_alone request operation given first of =
     otherwise request (not (is_sequence operation || stands_alone operation)) (Refuses operation status.OpNotInSession) _ tt (λ known.
     otherwise request (stands_alone operation && nat_lt 1 request.count) (Refuses operation status.NotOnlyOp) (by_arguments request operation given) tt (λ only.
     read_alone request operation given of (λ is. first)
-    (first_served operation (is_not (is_sequence operation || stands_alone operation) known)))))
+    (first_served operation (not-false (is_sequence operation || stands_alone operation) known)))))
 
 later_alone : (request : InProgress) (operation : ℕ) (given : Result (Argument × List ℕ) Refusal) → IsOf operation given
     → Alone request (first_or (later_tests operation) (by_arguments request operation given))
@@ -161,8 +154,8 @@ later_alone request operation given of =
     otherwise request (not (is_served operation) || stands_alone operation) (Refuses operation status.NotSupp) _ tt (λ served.
     otherwise request (is_sequence operation) (Refuses operation status.SequencePos) (by_arguments request operation given) tt (λ sequence.
     read_alone request operation given of
-    (λ is. true_false (sym is ∙ none_first operation (right_false (not (is_served operation)) (stands_alone operation) served) sequence))
-    (is_not (is_served operation) (left_false (not (is_served operation)) (stands_alone operation) served)))))
+    (λ is. true_false (sym is ∙ none_first operation (second_of_neither (not (is_served operation)) (stands_alone operation) served) sequence))
+    (not-false (is_served operation) (left_false (not (is_served operation)) (stands_alone operation) served)))))
 
 tests_alone : (request : InProgress) (test : Bool) (operation : ℕ) (given : Result (Argument × List ℕ) Refusal)
     → (test ≡ true → request.answered ≡ 0) → IsOf operation given
@@ -186,10 +179,6 @@ passed_tests request argument rest is = subst (Alone request) is (next_alone req
 pub first_read : (request : InProgress) (argument : Argument) (rest : List ℕ) → next_operation request ≡ Reads argument rest
     → is_first (operation_of argument) ≡ true → request.answered ≡ 0
 first_read request argument rest is = (passed_tests request argument rest is).0
-
-pub is_served_next : (request : InProgress) (argument : Argument) (rest : List ℕ) → next_operation request ≡ Reads argument rest
-    → is_served (operation_of argument) ≡ true
-is_served_next request argument rest is = (passed_tests request argument rest is).1
 
 -- What is read first of all comes first, and stands alone where it is to
 
@@ -222,7 +211,7 @@ begins_first request operation given of =
     by_either request (not (is_sequence operation || stands_alone operation)) (Refuses operation status.OpNotInSession) _ tt (λ known.
     by_either request (stands_alone operation && nat_lt 1 request.count) (Refuses operation status.NotOnlyOp) (by_arguments request operation given) tt (λ only.
     read_first request operation given of
-    (turned_round (is_sequence operation) (stands_alone operation) (is_not (is_sequence operation || stands_alone operation) known)) only)))
+    (turned_round (is_sequence operation) (stands_alone operation) (not-false (is_sequence operation || stands_alone operation) known)) only)))
 
 number_first : (request : InProgress) → request.answered ≡ 0 → (given : Result (ℕ × List ℕ) Refusal) → ComesFirst request (by_number request given)
 number_first request none (Err fault) = tt

@@ -231,9 +231,6 @@ every_cut limits pieces = each_piece limits [] pieces
 
 -- What is sent is read again
 
-if_true : {A : Type 0} (b : Bool) (x y : A) → b ≡ true → cond b x y ≡ x
-if_true b x y e = ap (λ (b : Bool). cond b x y) e
-
 if_false : {A : Type 0} (b : Bool) (x y : A) → b ≡ false → cond b x y ≡ y
 if_false b x y e = ap (λ (b : Bool). cond b x y) e
 

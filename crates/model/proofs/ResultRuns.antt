@@ -1,6 +1,7 @@
 -- At each moment of a run, what a request was answered so far are results in their spelling.
 use Rattle.std.proofs.Common.{◌≡◌, ◌≢◌, ℕ, ◌⊎◌, inl, inr, Bool, true, false, cond, List, [], ◌∷◌, ◌++◌, find, Option, None, Some, Result, Ok, Err, refl, sym, ap, ◌∙◌, subst}
 use Rattle.std.proofs.lemmas.Bool.{cases_eq}
+use Rattle.std.proofs.lemmas.Option.{same_Some}
 use Rattle.model.specs.declared.status.Status.{Status}
 use Rattle.model.specs.declared.status.Status.TheVariants as status
 use Rattle.model.specs.Answer.{Answer, Outcome, Done, Refused, ExchangeIdAnswer, CreateSessionAnswer}
@@ -16,11 +17,12 @@ use Rattle.model.specs.Session.{Session, Table, is_session, begin}
 use Rattle.model.specs.StateIds.{has_opens}
 use Rattle.model.specs.State.{current_refusals}
 use Rattle.model.specs.Tree.{Tree}
-use Rattle.model.specs.World.{ServerLimits, InProgress, Connection, Quiet, Busy, Replied, World, Entry, HasRun, Gives, Replays, Turned, exchanged, created_by, tabled, started_in, begun, reclaimed, state_of, run, with_result, result_of, behind, ends, goes_on, entry_of, one, with_connection, without_connection, arrives, arrives_at, changed, without_reply, takes, can_connect, connects, is_busy, hangs_up, mounted_world, is_last}
+use Rattle.model.specs.World.{ServerLimits, InProgress, Connection, Quiet, Busy, Replied, World, Entry, HasRun, Gives, Replays, Turned, exchanged, created_by, tabled, started_in, begun, reclaimed, state_of, run, with_result, result_of, behind, ends, goes_on, executed_entry, one, with_connection, without_connection, arrives, arrives_at, connection_changed, without_reply, takes, can_connect, connects, is_busy, hangs_up, mounted_world, is_last}
 use Rattle.model.proofs.KeyedLaws.{at-with_same, at-with_other, at-without_same, at-without_other}
 use Rattle.model.proofs.ResultLaws.{one_more}
 use Rattle.model.proofs.TableCalls.{either}
 use Rattle.model.proofs.TurnCases.{GoesWith, Begun, New, read_of, IsTurn, Idles, Says, Unread, TooBig, Gave, Repeats, turn_is, arrival_only, taking_only}
+use Rattle.model.proofs.SlotsHeld.{busy_request}
 
 abbrev AllHave : World → Type 0
 AllHave world = (number : ℕ) (request : InProgress) → at number world.connections ≡ Some (Busy request) → HasResults request
@@ -84,12 +86,6 @@ module _ (world : World) (request : InProgress) where
 read_has : (request : InProgress) (rest : List ℕ) → HasResults request → HasResults (read_of request rest)
 read_has request rest has = (has.0, record { answered = has.1.answered; spelled = has.1.spelled })
 
-some_connection : (a b : Connection) → Some a ≡ Some b → a ≡ b
-some_connection a b same = cc
-
-busy_request : (a b : InProgress) → Busy a ≡ Busy b → a ≡ b
-busy_request a b same = cc
-
 module _ (world : World) (has : AllHave world) (here : ℕ) where
   put_down : (new : Connection) (after : World) → after.connections ≡ with world.connections here new
       → ((request : InProgress) → new ≡ Busy request → HasResults request) → AllHave after
@@ -100,7 +96,7 @@ module _ (world : World) (has : AllHave world) (here : ℕ) where
 
       by_place : (number ≡ here) ⊎ (number ≢ here) → HasResults request
       by_place (inl same) =
-          mine request (some_connection new (Busy request)
+          mine request (same_Some new (Busy request)
           (sym (at-with_same world.connections here new) ∙ (ap (λ (n : ℕ). at n (with world.connections here new)) (sym same) ∙ there)))
       by_place (inr apart) = has number request (sym (at-with_other world.connections here number new apart) ∙ there)
 
@@ -152,19 +148,19 @@ module _ (world : World) (has : AllHave world) (here : ℕ) where
   turned now _ (TooBig request operation rest goes reads) =
       went (read_of request rest) (read_has request rest (goes_has request goes)) world (read_of request rest) (same world (read_of request rest))
       (Refused (operation_of operation) status.RepTooBig)
-      (Some (entry_of world (read_of request rest) operation (Refused (operation_of operation) status.RepTooBig) world))
+      (Some (executed_entry world (read_of request rest) operation (Refused (operation_of operation) status.RepTooBig) world))
   turned now _ (Gave request operation rest outcome after left goes reads is) =
       let leaves : Leaves world (read_of request rest) (Gives outcome after left) =
       subst (Leaves world (read_of request rest)) is (run_leaves world (read_of request rest) now operation) in
       went (read_of request rest) (read_has request rest (goes_has request goes)) after left leaves outcome
-      (Some (entry_of world (read_of request rest) operation outcome after))
+      (Some (executed_entry world (read_of request rest) operation outcome after))
   turned now _ (Repeats request operation rest result session slot goes reads is) =
       replied (framed (reply_text request.xid (Success result))) (with_connection world here (Replied (framed (reply_text request.xid (Success result))))) refl
 
   -- The other events: no connection becomes busy
 
   changed_has : (change : Connection → Connection) → ((c : Connection) (request : InProgress) → change c ≡ Busy request → c ≡ Busy request)
-      → (connection : Option Connection) → at here world.connections ≡ connection → AllHave (changed world here change connection)
+      → (connection : Option Connection) → at here world.connections ≡ connection → AllHave (connection_changed world here change connection)
   changed_has change only None is = has
   changed_has change only (Some connection) is =
       put_down (change connection) (with_connection world here (change connection)) refl

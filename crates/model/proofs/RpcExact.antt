@@ -1,8 +1,8 @@
 -- Calls and replies are read exactly where they are spelled.
-use Rattle.std.proofs.Common.{◌≡◌, ◌≢◌, ℕ, ◌<◌, ◌^◌, Bool, true, false, List, [], ◌∷◌, ◌++◌, Result, Ok, Err, inl, inr, refl, sym, ap, subst, ◌∙◌, append_assoc, arith, not, eqb, eqb-true, ne_eqb}
+use Rattle.std.proofs.Common.{◌≡◌, ◌≢◌, ℕ, ◌<◌, ◌^◌, List, [], ◌∷◌, ◌++◌, Result, Ok, Err, inl, inr, refl, sym, ap, subst, ◌∙◌, append_assoc, arith, not, eqb, eqb-true, ne_eqb}
 use Rattle.std.specs.Prelude.{Option, Some, None, option_map}
 use Rattle.std.specs.Int.{w32}
-use Rattle.std.proofs.lemmas.Bool.{eqb-false}
+use Rattle.std.proofs.lemmas.Bool.{eqb-false, not-false}
 use Rattle.std.proofs.lemmas.List.{append-nil}
 use Rattle.xdr.specs.declared.refusal.Refusal.{Refusal}
 use Rattle.xdr.specs.Grammar.{Grammar, number, void, unsigned_int, ◌&◌}
@@ -17,7 +17,7 @@ use Rattle.xdr.proofs.Opaques.{opaque_exact}
 use Rattle.xdr.proofs.Arrays.{array_exact}
 use Rattle.xdr.proofs.Unions.{TakesBy, AgainBy, on_takes, no_other_takes, union_exact, made_again}
 use Rattle.model.specs.Operation.{SystemCredential}
-use Rattle.model.specs.Rpc.{Call, CallRead, NoCall, OtherVersion, Calls, read_call, behind_start, behind_version, call_start, call_header, opaque_auth, Reply, reply_text, words, is_empty, credential_by, credential_in}
+use Rattle.model.specs.Rpc.{Call, NoCall, OtherVersion, Calls, read_call, behind_start, behind_version, call_start, call_header, opaque_auth, Reply, reply_text, credential_by}
 use Rattle.model.specs.Rpc as rpc
 use Rattle.model.specs.RpcGrammar.{CallHead, call_head, call_with, IsCall, IsOtherCall, OtherRpc, Unauthenticated, denial_told, denial, Tells, NoProgram, OtherProgram, NoProcedure, NoArguments, acceptance_told, accepted, Verdict, Accepts, Denies, verdict_told, ReplyHead, reply_head, verdict_of, result_of, head_of, alone, reply_of, reply_by, read_reply, ReadsCalls, ReadsReplies, ReadsCredentials}
 use Rattle.model.specs.WireTypes.{system_credential}
@@ -70,10 +70,6 @@ some_call a b same = cc
 some_version : (a b : ℕ) → OtherVersion a ≡ OtherVersion b → a ≡ b
 some_version a b same = cc
 
-not_both : (b : Bool) → not b ≡ false → b ≡ true
-not_both true is = refl
-not_both false is = sym is
-
 module _ (bytes : List ℕ) (bytes_are : IsBytes bytes) where
   -- after the first three words of a call of version 2
   by_header : (call : Call) (xid : ℕ) (behind : List ℕ) → xid < 2 ^ 32 → bytes ≡ three xid 0 2 ++ behind
@@ -99,7 +95,7 @@ module _ (bytes : List ℕ) (bytes_are : IsBytes bytes) where
     | inr right ↦ elim (chosen (eqb start.0.1.1 2) _ (OtherVersion start.0.0) (Calls call) right.1) [
       | inl two ↦
           let t = call_start_exact.takes bytes start.0 start.1 bytes_are read in
-          let type_is : start.0.1.0 ≡ 0 = eqb-true start.0.1.0 0 (not_both (eqb start.0.1.0 0) right.0) in
+          let type_is : start.0.1.0 ≡ 0 = eqb-true start.0.1.0 0 (not-false (eqb start.0.1.0 0) right.0) in
           let version_is : start.0.1.1 ≡ 2 = eqb-true start.0.1.1 2 two.0 in
           let text : bytes ≡ three start.0.0 0 2 ++ start.1 =
           t.1 ∙ (ap (λ (m : ℕ). three start.0.0 m start.0.1.1 ++ start.1) type_is ∙ ap (λ (v : ℕ). three start.0.0 0 v ++ start.1) version_is) in
@@ -127,7 +123,7 @@ module _ (bytes : List ℕ) (bytes_are : IsBytes bytes) where
       | inl two ↦ absurd (by_header_no xid start.0.0 (call_header.read start.1) two.1)
       | inr other ↦
           let t = call_start_exact.takes bytes start.0 start.1 bytes_are read in
-          let type_is : start.0.1.0 ≡ 0 = eqb-true start.0.1.0 0 (not_both (eqb start.0.1.0 0) right.0) in
+          let type_is : start.0.1.0 ≡ 0 = eqb-true start.0.1.0 0 (not-false (eqb start.0.1.0 0) right.0) in
           let xid_is : start.0.0 ≡ xid = some_version start.0.0 xid other.1 in
           record {
             version = start.0.1.1;

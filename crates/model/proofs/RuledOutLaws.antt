@@ -1,7 +1,7 @@
 -- The laws of what the definitions rule out.
-use Rattle.std.proofs.Common.{inr, get_or, ◌⊎◌, ◌≡◌, ◌≢◌, ℕ, zero, suc, ◌+◌, ◌-◌, ◌<◌, ◌≤◌, inl, Bool, true, false, cond, ◌==◌, nat_lt, List, [], ◌∷◌, ◌++◌, length, take, slice_get, find, Option, None, Some, Result, Ok, Err, refl, sym, ap, ◌∙◌, subst, arith, eq-eqb}
+use Rattle.std.proofs.Common.{inr, ◌⊎◌, ◌≡◌, ◌≢◌, ℕ, zero, suc, ◌+◌, ◌-◌, ◌<◌, ◌≤◌, inl, Bool, true, false, cond, ◌==◌, nat_lt, List, [], ◌∷◌, ◌++◌, length, take, slice_get, find, Option, None, Some, Result, Ok, Err, refl, sym, ap, ◌∙◌, subst, arith, eq-eqb}
 use borrow.Author.Tests.{eqb-false}
-use Rattle.std.proofs.lemmas.Bool.{eqb-true}
+use Rattle.std.proofs.lemmas.Bool.{eqb-true, false≢true, cond-true}
 use Rattle.model.specs.declared.status.Status.{Status}
 use Rattle.model.specs.declared.status.Status.TheVariants as status
 use Rattle.model.specs.Answer.{Answer, Outcome, ExchangeIdAnswer, CreateSessionAnswer}
@@ -11,14 +11,14 @@ use Rattle.model.specs.Record.{framed}
 use Rattle.model.specs.Rpc as calls
 use Rattle.model.specs.Rpc.{CallRead, NoCall, OtherVersion, Calls, Request, Answers, read_call, request_of, reply_text, Success}
 use Rattle.model.specs.Session as sessions
-use Rattle.model.specs.Session.{Table, Session, Slot, SlotState, Kept, Begun, Runs, begin, begin_by, begin_slot, begin_new, finish, finished_slot, changed_where, is_session, slot_at, next_number}
+use Rattle.model.specs.Session.{Table, Session, Slot, Kept, Begun, Runs, begin, begin_by, begin_slot, begin_new, finish, finished_slot, changed_where, is_session, slot_at, next_number}
 use Rattle.model.specs.Tree.{Tree}
-use Rattle.model.specs.World.{World, InProgress, Connection, Quiet, Waiting, Busy, Replied, Closed, HasRun, Gives, Replays, outcome_text, exchanged, created_by, created, tabled, started_in, begun, reclaimed, refuses, in_room, has_room, run, Turned, Entry, entry_of, behind, ends, goes_on, reply_with, status_of, requested, in_progress, called, with_result, is_last, has_run, operates, Next, Refuses, Reads, next_operation, turned, one, without_connection, hangs_up, hung_up, turns, operations_left, is_busy}
+use Rattle.model.specs.World.{World, InProgress, Connection, Quiet, Waiting, Busy, Replied, Closed, HasRun, Gives, Replays, outcome_text, exchanged, created_by, session_created, tabled, started_in, begun, reclaimed, refuses, in_room, has_room, run, Turned, Entry, executed_entry, behind, ends, goes_on, reply_with, status_of, requested, in_progress, called, with_result, is_last, has_run, operates, Next, Refuses, Reads, next_operation, turned, one, without_connection, hangs_up, hung_up, turns, operations_left, is_busy}
 use Rattle.model.specs.Runs.{tree_after, executed, executed_by, executed_of, effect_of, Event, Serving, IsAfter, is_done}
 use Rattle.model.specs.RuledOut.{NoSkip, NoEarlyReply, NoTakingBack, NoSecondRun, NoForgetting, NoGap, IsOutcome, IsBehind, IsOneFurther, OneATurn, HangsUpLast, request_by, request_in, request_at, after_turns, HangUpIsEvents, EachEventHappens}
 use Rattle.std.proofs.Common.{get_or-set_same, length-set, lt-ltb}
 use Rattle.std.specs.List.{IsAmong}
-use Rattle.model.proofs.Headline.{every_run}
+use Rattle.model.proofs.Headline.{every_run, only_start}
 use Rattle.model.proofs.RunLaws.{EntryFits, event_fits}
 use Rattle.model.proofs.KeyedLaws.{at-with_same, at-without_same}
 use Rattle.model.proofs.SlotLaw.{cond_runs, cond_never, refuses_not, replays_not, begin_runs}
@@ -85,13 +85,10 @@ found_changed id change (one ∷ others) session same e = by_test (is_session id
     by_test false is e later =
         ap (λ (b : Bool). cond b (Some one) (find (is_session id) (changed_where (is_session id) change others))) is ∙ later e
 
-if_true : {A : Type 0} (b : Bool) (x y : A) → b ≡ true → cond b x y ≡ x
-if_true b x y e = ap (λ (b : Bool). cond b x y) e
-
 kept_replays : (uid count : ℕ) (arguments : SequenceArguments) (session : Session) (slot : Slot) (reply : List ℕ) → arguments.sequence ≡ slot.last → uid ≡ slot.uid
     → begin_slot uid count arguments session slot (Kept reply) ≡ sessions.Replays reply
 kept_replays uid count arguments session slot reply same caller =
-    if_true _ _ _ (eq-eqb arguments.sequence slot.last same) ∙ if_true _ _ _ (eq-eqb uid slot.uid caller)
+    cond-true _ _ _ (eq-eqb arguments.sequence slot.last same) ∙ cond-true _ _ _ (eq-eqb uid slot.uid caller)
 
 finished_replays : (uid count : ℕ) (arguments : SequenceArguments) (session : Session) (reply : List ℕ) → arguments.slot < length session.slots
     → arguments.sequence ≡ (slot_at session arguments.slot).last → uid ≡ (slot_at session arguments.slot).uid
@@ -101,7 +98,7 @@ finished_replays uid count arguments session reply within same caller =
     let done = finished_slot arguments.slot reply session in
     let there : slot_at done arguments.slot ≡ new = get_or-set_same session.slots arguments.slot new sessions.no_slot within in
     let inside : arguments.slot < length done.slots = omega (arith, length-set session.slots arguments.slot new) in
-    if_true _ _ _ (lt-ltb arguments.slot (length done.slots) inside)
+    cond-true _ _ _ (lt-ltb arguments.slot (length done.slots) inside)
     ∙ ap (λ (slot : Slot). begin_slot uid count arguments done slot slot.state) there
     ∙ kept_replays uid count arguments done new reply same caller
 
@@ -155,7 +152,7 @@ created_by_keeps world request operation outcome (Err reason) = same_request req
 created_by_keeps world request operation outcome (Ok answer) = same_request request
 
 created_keeps : (world : World) (request : InProgress) (operation : Argument) (outcome : sessions.CreateSessionOutcome)
-    → Keeps world request operation (created world request outcome)
+    → Keeps world request operation (session_created world request outcome)
 created_keeps world request operation outcome = created_by_keeps world request operation outcome outcome.answer
 
 tabled_keeps : (world : World) (request : InProgress) (operation : Argument) (number : ℕ) (answer : Answer) (outcome : Option Status × Table)
@@ -261,7 +258,7 @@ module _ (old : World) (request : InProgress) (next : Next) (number : ℕ) where
 has_run_further : (world : World) (request : InProgress) (number : ℕ) (operation : Argument) (rest : List ℕ) (ran : HasRun) → Keeps world (record request { rest = rest }) operation ran
     → Further world request (Reads operation rest) number (has_run world number (record request { rest = rest }) operation ran)
 has_run_further world request number operation rest (Gives outcome after left) keeps =
-    behind_further world request (Reads operation rest) number left after outcome (Some (entry_of world request operation outcome after))
+    behind_further world request (Reads operation rest) number left after outcome (Some (executed_entry world request operation outcome after))
     (record { rest = rest; same = keeps; executes = refl; behind = λ done. refl })
 has_run_further world request number operation rest (Replays result session slot) keeps =
     let reply : List ℕ = framed (reply_text request.xid (Success result)) in
@@ -278,13 +275,10 @@ has_run_further world request number operation rest (Replays result session slot
       says = refl;
     }))
 
-undone : false ≡ true → ⊥
-undone e = cc
-
 operates_further : (world : World) (number now : ℕ) (request : InProgress) (next : Next) → Further world request next number (operates world number now request next)
 operates_further world number now request (Refuses operation reason) =
     behind_further world request (Refuses operation reason) number request world (Outcome.Refused operation reason) None
-    (record { rest = request.rest; same = same_request request; executes = (refl, refl); behind = λ done. absurd (undone done) })
+    (record { rest = request.rest; same = same_request request; executes = (refl, refl); behind = λ done. absurd (false≢true done) })
 operates_further world number now request (Reads operation rest) =
     has_run_further world request number operation rest _
     (in_room_keeps world (record request { rest = rest }) operation _ (run_keeps world (record request { rest = rest }) now operation))
@@ -358,7 +352,7 @@ turns_end (suc most) world number now request is left some =
         below : (after : InProgress) → after.answered ≡ request.answered + 1 → after.count ≡ request.count → request.answered + 1 ≢ request.count → after.answered < after.count
         below after answered count unequal = omega (arith, some)
 
-dropped : (world : World) (number : ℕ) → is_busy (at number world.connections) ≡ false → hangs_up world number ≡ without_connection world number
+pub dropped : (world : World) (number : ℕ) → is_busy (at number world.connections) ≡ false → hangs_up world number ≡ without_connection world number
 unfolding hangs_up
 dropped world number e = ap (λ (b : Bool). cond b world (without_connection world number)) e
 
@@ -398,13 +392,6 @@ flushed old event = record {
   is_down = false;
 }
 
-one_left : (only tree : Tree) → IsAmong (only ∷ []) tree → tree ≡ only
-one_left only tree among = by_place among.0 among.1.0 among.1.1
-  where
-    by_place : (place : ℕ) → place < length (only ∷ []) → tree ≡ get_or (only ∷ []) place tree → tree ≡ only
-    by_place zero less e = e
-    by_place (suc place) less e = absurd (omega arith)
-
 left_flushed : (old : Serving) (new tree : Tree) (made : Option Entry) → EntryFits old.world.tree new made → IsAmong old.recent old.world.tree → tree ≡ new
     → (IsAmong old.recent tree) ⊎ (IsAfter made tree)
 left_flushed old new tree None fits among same = inl (subst (IsAmong old.recent) (sym (same ∙ fits)) among)
@@ -426,9 +413,9 @@ each_event_happens old event up among =
         world = refl;
         still_up = refl;
         no_others = λ tree left. subst (λ (made : Option Entry). (IsAmong old.recent tree) ⊎ (IsAfter made tree)) (sym is)
-            (left_flushed old (effect_of old.world event).tree tree (executed_of old.world event) fits among (one_left _ tree left));
+            (left_flushed old (effect_of old.world event).tree tree (executed_of old.world event) fits among (only_start _ tree left));
         durable = λ entry e lasts tree left.
-            lasts_flushed old.world.tree (effect_of old.world event).tree tree (executed_of old.world event) entry fits (sym is ∙ e) (one_left _ tree left);
+            lasts_flushed old.world.tree (effect_of old.world event).tree tree (executed_of old.world event) entry fits (sym is ∙ e) (only_start _ tree left);
       },
       (0, (omega arith, refl)),
     )

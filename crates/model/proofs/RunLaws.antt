@@ -1,5 +1,5 @@
 -- The headline: what a stop may leave is the tree of a good prefix of what was executed.
-use Rattle.std.proofs.Common.{◌≡◌, ◌≢◌, ℕ, Bool, true, false, not, cond, List, [], ◌∷◌, ◌++◌, Option, None, Some, Result, Ok, Err, refl, sym, ap, ◌∙◌, ◌||◌, find}
+use Rattle.std.proofs.Common.{◌≡◌, ◌≢◌, ℕ, Bool, true, false, not, cond, List, ◌++◌, Option, None, Some, Result, Ok, Err, refl, sym, ap, ◌||◌, find}
 use Rattle.model.specs.declared.status.Status.{Status}
 use Rattle.model.specs.declared.status.Status.TheVariants as status
 use Rattle.model.specs.Answer.{Answer, Outcome}
@@ -11,7 +11,7 @@ use Rattle.model.specs.Files.{has_bytes, write}
 use Rattle.model.specs.Open.{makes_file, cuts_file}
 use Rattle.model.specs.SetAttr.{sets, set_attributes}
 use Rattle.model.specs.Operation.{Argument, NewDirectory}
-use Rattle.model.specs.Refusal.{Refusals, first_refusal, refused_or}
+use Rattle.model.specs.Refusal.{Refusals, first_refusal}
 use Rattle.model.specs.declared.limits.Limits.{Limits}
 use Rattle.model.specs.Step.{State, Stepped, alters, rename, effect, refusals, change_refusals, unless_refused, does}
 use Rattle.model.specs.Tree.{Tree}
@@ -20,9 +20,10 @@ use Rattle.model.specs.Operation.{SequenceArguments, operation_of}
 use Rattle.model.specs.Rpc.{CallRead, NoCall, OtherVersion, Calls, Request, Answers, Runs, read_call, request_of}
 use Rattle.model.specs.Session as sessions
 use Rattle.model.specs.Session.{Table, Session}
-use Rattle.model.specs.World.{World, InProgress, Connection, Quiet, Waiting, Busy, Replied, Closed, HasRun, Gives, Replays, exchanged, created_by, created, tabled, started_in, begun, reclaimed, stepped, state_of, refuses, in_room, has_room, run, Turned, Entry, entry_of, behind, ends, goes_on, with_result, is_last, has_run, operates, Next, Refuses, Reads, next_operation, requested, in_progress, called, turned, one, changed, arrives, arrives_at, takes, without_reply, connects, can_connect, hangs_up, is_busy}
+use Rattle.model.specs.World.{World, InProgress, Connection, Quiet, Waiting, Busy, Replied, Closed, HasRun, Gives, Replays, exchanged, created_by, session_created, tabled, started_in, begun, reclaimed, stepped, state_of, refuses, in_room, has_room, run, Turned, Entry, executed_entry, behind, ends, goes_on, with_result, is_last, has_run, operates, Next, Refuses, Reads, next_operation, requested, in_progress, called, turned, one, connection_changed, arrives, arrives_at, takes, without_reply, connects, can_connect, hangs_up, is_busy}
 use Rattle.model.specs.Keyed.{at}
 use Rattle.model.specs.Runs.{is_done, before, Event, Arrives, Turns, HangsUp, Connects, Takes, effect_of, executed_of}
+use Rattle.model.proofs.RefusalLaws.{none_before}
 
 -- One operation on the tree: where the tree differs, it was permitted, is a change by its kind, and was answered OK
 
@@ -64,27 +65,9 @@ effect_alters limits state now (Argument.Write arguments) differs = write_alters
     write_alters true differs = (refl, refl)
 effect_alters limits state now _ differs = absurd (differs refl)
 
-pub no_test : (b : Bool) (reason : Status) (others : Option Status) → refused_or b reason others ≡ None → (b ≡ false) × (others ≡ None)
-no_test true reason others e = let never : ⊥ = cc in absurd never
-no_test false reason others e = (refl, e)
-
-front_passes : (tests more : Refusals) → first_refusal (tests ++ more) ≡ None → first_refusal tests ≡ None
-front_passes [] more e = refl
-front_passes (test ∷ tests) more e =
-    let passed = no_test test.0 test.1 (first_refusal (tests ++ more)) e in
-    ap (λ (b : Bool). refused_or b test.1 (first_refusal tests)) passed.0 ∙ front_passes tests more passed.1
-
-pub back_passes : (tests more : Refusals) → first_refusal (tests ++ more) ≡ None → first_refusal more ≡ None
-back_passes [] more e = e
-back_passes (test ∷ tests) more e = back_passes tests more (no_test test.0 test.1 (first_refusal (tests ++ more)) e).1
-
-pub not_false : (b : Bool) → not b ≡ false → b ≡ true
-not_false true e = refl
-not_false false e = let never : ⊥ = cc in absurd never
-
 passes_permitted : (limits : Limits) (state : State) (operation : Argument) (more : Refusals) → first_refusal (refusals limits state operation ++ more) ≡ None
     → permitted state.tree state.context operation ≡ true
-passes_permitted limits state operation more e = (passes_tests limits state operation (front_passes (refusals limits state operation) more e)).permitted
+passes_permitted limits state operation more e = (passes_tests limits state operation (none_before (refusals limits state operation) more e)).permitted
 
 unless_lawful : (state : State) (operation : Argument) (stepped : Stepped) (refusal : Option Status)
     → (refusal ≡ None → permitted state.tree state.context operation ≡ true)
@@ -124,7 +107,7 @@ created_by_fits : (world : World) (request : InProgress) (operation : Argument) 
 created_by_fits world request operation outcome (Err reason) = λ differs. absurd (differs refl)
 created_by_fits world request operation outcome (Ok answer) = λ differs. absurd (differs refl)
 
-created_fits : (world : World) (request : InProgress) (operation : Argument) (outcome : sessions.CreateSessionOutcome) → RanFits world request operation (created world request outcome)
+created_fits : (world : World) (request : InProgress) (operation : Argument) (outcome : sessions.CreateSessionOutcome) → RanFits world request operation (session_created world request outcome)
 created_fits world request operation outcome = created_by_fits world request operation outcome outcome.answer
 
 tabled_fits : (world : World) (request : InProgress) (operation : Argument) (number : ℕ) (answer : Answer) (outcome : Option Status × Table)
@@ -192,7 +175,7 @@ behind_fits old world number request (Outcome.Done answer) executed fits =
 has_run_fits : (world : World) (number : ℕ) (request : InProgress) (operation : Argument) (ran : HasRun) → RanFits world request operation ran
     → TurnFits world.tree (has_run world number request operation ran)
 has_run_fits world number request operation (Gives outcome after left) fits =
-    behind_fits world.tree after number left outcome (Some (entry_of world request operation outcome after)) (refl, refl, fits)
+    behind_fits world.tree after number left outcome (Some (executed_entry world request operation outcome after)) (refl, refl, fits)
 has_run_fits world number request operation (Replays result session slot) fits = refl
 
 operates_fits : (world : World) (number now : ℕ) (request : InProgress) (next : Next) → TurnFits world.tree (operates world number now request next)
@@ -225,7 +208,7 @@ one_fits world number now = turned_fits world number now (at number world.connec
 
 -- Of any event
 
-changed_same : (world : World) (number : ℕ) (change : Connection → Connection) (connection : Option Connection) → (changed world number change connection).tree ≡ world.tree
+changed_same : (world : World) (number : ℕ) (change : Connection → Connection) (connection : Option Connection) → (connection_changed world number change connection).tree ≡ world.tree
 changed_same world number change None = refl
 changed_same world number change (Some connection) = refl
 

@@ -1,5 +1,6 @@
 -- A slot's numbers run in their order over every run of the whole server.
 use Rattle.std.proofs.Common.{◌≡◌, ℕ, inl, Bool, true, false, cond, List, [], ◌∷◌, ◌++◌, option_to_list, find, Option, None, Some, Result, Ok, Err, refl, sym, ap, ◌∙◌, subst, lit<, append_assoc, append-nil}
+use Rattle.std.proofs.lemmas.Bool.{false≢true}
 use Rattle.model.specs.declared.status.Status.{Status}
 use Rattle.model.specs.declared.status.Status.TheVariants as status
 use Rattle.model.specs.Answer.{Answer, Outcome, ExchangeIdAnswer, CreateSessionAnswer}
@@ -7,11 +8,11 @@ use Rattle.model.specs.Keyed.{at}
 use Rattle.model.specs.Operation.{Argument, ExchangeIdArguments, CreateSessionArguments, SequenceArguments, operation_of}
 use Rattle.model.specs.Rpc.{CallRead, NoCall, OtherVersion, Calls, Request, Answers, Runs, read_call, request_of}
 use Rattle.model.specs.Session as sessions
-use Rattle.model.specs.Session.{Table, Session, begin, is_session, empty_table, next_number}
+use Rattle.model.specs.Session.{Table, Session, begin, is_session, next_number}
 use Rattle.model.specs.SessionRuns.{CountsFrom}
 use Rattle.model.specs.Tree.{Tree}
 use Rattle.model.specs.StateIds.{has_opens}
-use Rattle.model.specs.World.{World, ServerLimits, InProgress, Connection, Quiet, Waiting, Busy, Replied, Closed, HasRun, Gives, Replays, exchanged, created_by, tabled, started_in, begun, reclaimed, refuses, in_room, has_room, run, Turned, Entry, entry_of, behind, ends, goes_on, kept_by, result_of, with_result, is_last, has_run, operates, Next, Refuses, Reads, next_operation, requested, in_progress, called, turned, one, changed, arrives, arrives_at, takes, without_reply, connects, can_connect, hangs_up, is_busy, reply_at}
+use Rattle.model.specs.World.{World, ServerLimits, InProgress, Connection, Quiet, Waiting, Busy, Replied, Closed, HasRun, Gives, Replays, exchanged, created_by, tabled, started_in, begun, reclaimed, refuses, in_room, has_room, run, Turned, Entry, executed_entry, behind, ends, goes_on, kept_by, result_of, with_result, is_last, has_run, operates, Next, Refuses, Reads, next_operation, requested, in_progress, called, turned, one, connection_changed, arrives, arrives_at, takes, without_reply, connects, can_connect, hangs_up, is_busy, reply_at}
 use Rattle.model.specs.Runs.{Event, Arrives, Turns, HangsUp, Connects, Takes, effect_of, executed_of, History, Serving, mounted, IsRun, Begins, Goes_on, Fails_at, Stays_down}
 use Rattle.model.specs.ServedOnce.{number_begun, number_by, numbers_in, EveryServedSlot}
 use Rattle.model.proofs.Headline.{Joined, done_behind, taken_done}
@@ -142,7 +143,7 @@ has_run_goes : (id : List ℕ) (slot last : ℕ) (world : World) (number : ℕ) 
     → RanGoes id slot last operation ran → TurnGoes id slot last (has_run world number request operation ran)
 unfolding TurnGoes number_of
 has_run_goes id slot last world number request operation (Gives outcome after left) stands goes =
-    behind_goes id slot last after number left outcome (Some (entry_of world request operation outcome after)) goes
+    behind_goes id slot last after number left outcome (Some (executed_entry world request operation outcome after)) goes
 has_run_goes id slot last world number request operation (Replays result session place) stands goes = stands
 
 operates_goes : (id : List ℕ) (slot last : ℕ) (world : World) (number now : ℕ) (request : InProgress) (next : Next) → Stands id slot last world.table
@@ -183,7 +184,7 @@ one_goes id slot last world number now stands = turned_goes id slot last world n
 
 -- An event
 
-changed_table : (world : World) (number : ℕ) (change : Connection → Connection) (connection : Option Connection) → (changed world number change connection).table ≡ world.table
+changed_table : (world : World) (number : ℕ) (change : Connection → Connection) (connection : Option Connection) → (connection_changed world number change connection).table ≡ world.table
 changed_table world number change None = refl
 changed_table world number change (Some connection) = refl
 
@@ -265,9 +266,6 @@ counted_by id slot last serving table numbers (Some number) counts goes same = r
   stands = λ up. subst (Stands id slot number) (sym (same up)) goes.1;
 }
 
-differ : false ≡ true → ⊥
-differ e = cc
-
 event_counted : (id : List ℕ) (slot : ℕ) (old new : Serving) (event : Event) (done : List Entry) → Counted id slot old (numbers_in id slot done) → old.is_down ≡ false
     → (new.is_down ≡ false → new.world ≡ effect_of old.world event) → Counted id slot new (numbers_in id slot (Joined done (executed_of old.world event)))
 unfolding EventGoes
@@ -288,11 +286,11 @@ counted_run limits run start id slot serving history (Goes_on {old = old} {new =
     subst (λ (done : List Entry). Counted id slot new (numbers_in id slot done)) (done_behind earlier old.world event)
     (event_counted id slot old new event earlier.done (counted_run limits run start id slot old earlier is_run) happens.up (λ up. happens.world))
 counted_run limits run start id slot serving history (Fails_at {old = old} {new = new} {history = earlier} event is_run fails) =
-    event_counted id slot old new event earlier.done (counted_run limits run start id slot old earlier is_run) fails.up (λ up. absurd (differ (sym up ∙ fails.down)))
+    event_counted id slot old new event earlier.done (counted_run limits run start id slot old earlier is_run) fails.up (λ up. absurd (false≢true (sym up ∙ fails.down)))
 counted_run limits run start id slot serving history (Stays_down {old = old} {new = new} {history = earlier} connection is_run stays) =
     let counted = counted_run limits run start id slot old earlier is_run in
     subst (λ (done : List Entry). Counted id slot new (numbers_in id slot done)) (sym (taken_done earlier connection (reply_at old.world connection)))
-    (record { last = counted.last; counts = counted.counts; stands = λ up. absurd (differ (sym up ∙ stays.still_down)) })
+    (record { last = counted.last; counts = counted.counts; stands = λ up. absurd (false≢true (sym up ∙ stays.still_down)) })
 
 pub every_served_slot : EveryServedSlot
 every_served_slot limits run start serving history is_run id slot =

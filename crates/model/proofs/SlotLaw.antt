@@ -1,18 +1,21 @@
 -- A slot's numbers run in their order over every list of calls.
-use Rattle.std.proofs.Common.{◌≡◌, ◌≢◌, ℕ, ◌+◌, ◌-◌, ◌%◌, ◌^◌, ◌<◌, ◌≤◌, ◌⊎◌, inl, inr, zero, suc, Bool, true, false, not, cond, ◌&&◌, ◌||◌, ◌==◌, nat_lt, nat_le, List, [], ◌∷◌, ◌++◌, map, filter, length, get_or, set, take, drop, replicate, Option, None, Some, refl, sym, ap, ◌∙◌, subst, arith, find, leb-false, ltb-true, eqb-true, eq-eqb, lit<, option_to_list, slice_get, bytes_eq, get_or-set_same, get_or-set_other, length-set}
+use Rattle.std.proofs.Common.{◌≡◌, ◌≢◌, ℕ, ◌+◌, ◌-◌, ◌%◌, ◌^◌, ◌<◌, ◌≤◌, ◌⊎◌, inl, inr, zero, suc, Bool, true, false, not, cond, ◌&&◌, ◌==◌, nat_lt, nat_le, List, [], ◌∷◌, ◌++◌, map, filter, length, get_or, set, take, drop, replicate, Option, None, Some, refl, sym, ap, ◌∙◌, subst, arith, find, leb-false, ltb-true, eqb-true, eq-eqb, lit<, option_to_list, slice_get, bytes_eq, get_or-set_same, get_or-set_other, length-set}
 use borrow.Author.Tests.{eqb-false}
 use Rattle.std.proofs.lemmas.List.{get_or-replicate, length-replicate}
 use Rattle.std.proofs.lemmas.Slice.Eq.{bytes_eq-Decides}
 use Rattle.std.proofs.lemmas.Nat.{from_be_bytes-to_be_bytes_8}
 use Rattle.std.specs.List.{AllByRecursion}
 use Rattle.std.specs.Int.{w64, to_be_bytes, from_be_bytes}
+use Rattle.std.proofs.lemmas.Bool.{and_parts}
 use Rattle.model.specs.declared.status.Status.{Status}
 use Rattle.model.specs.declared.status.Status.TheVariants as status
-use Rattle.model.specs.Refusal.{Refusals, first_refusal, refused_or}
+use Rattle.model.specs.Refusal.{Refusals, first_refusal}
 use Rattle.model.specs.Operation.{ExchangeIdArguments, CreateSessionArguments, SequenceArguments}
 use Rattle.model.specs.Answer.{CreateSessionAnswer}
-use Rattle.model.specs.Session.{SessionLimits, Client, Slot, Session, Table, Begun, Refuses, Replays, Runs, Free, Running, Kept, SlotState, session_id, is_session, slot_at, no_slot, empty_table, has_state, without_unconfirmed, without_client, is_full_of_clients, new_record, exchange_by, exchange_id, is_confirmed_of, exchange_flags, has_only, create_refusals, create_unless, create_again, create_by, create_session, new_session, staying, is_of_clients, replaced_by, is_full_of_sessions, fore_channel, CreateSessionOutcome, next_number, destroy_by, destroy_session, is_running, destroy_client_by, destroy_client_id, is_client, reclaim_by, reclaim_complete, begin_new, begin_slot, begin_by, begin, with_slot, started, finished_slot, finish, without}
+use Rattle.model.specs.Session.{SessionLimits, Client, Slot, Session, Table, Begun, Refuses, Replays, Runs, Free, Running, Kept, SlotState, session_id, is_session, slot_at, no_slot, empty_table, has_state, without_unconfirmed, without_client, is_full_of_clients, new_record, exchange_by, exchange_id, is_confirmed_of, exchange_flags, has_only, create_refusals, create_unless, create_again, create_by, create_session, new_session, staying, is_of_clients, replaced_by, is_full_of_sessions, fore_channel, CreateSessionOutcome, next_number, destroy_by, destroy_session, is_running, destroy_client_by, destroy_client_id, is_client, reclaim_by, reclaim_complete, begin_new, begin_slot, begin_by, begin, with_slot, started, finished_slot, finish, without_where}
 use Rattle.model.specs.SessionRuns.{Call, Exchanges, Creates, Destroys, DestroysClient, Reclaims, Begins, Finishes, after, runs_on, number_on, started_by, numbers_on, CountsFrom, OthersBetween, EverySlot}
+use Rattle.model.proofs.BooleanLaws.{second_of_neither}
+use Rattle.model.proofs.RefusalLaws.{none_in_front}
 
 -- Of both branches
 
@@ -130,7 +133,7 @@ reclaim_same number table = reclaim_by_same number table (find (is_client number
 -- DESTROY_SESSION takes sessions away
 
 Stands-fewer : (id : List ℕ) (slot last : ℕ) (table : Table) (gone : Session → Bool) → Stands id slot last table
-    → Stands id slot last (record table { sessions = without gone table.sessions })
+    → Stands id slot last (record table { sessions = without_where gone table.sessions })
 Stands-fewer id slot last table gone stands = record {
   made = All-filter (IsMade table.session_serial) (λ x. not (gone x)) table.sessions stands.made;
   small = stands.small;
@@ -150,24 +153,16 @@ destroy_stands id slot last name table stands = destroy_by_stands id slot last n
 
 -- CREATE_SESSION adds one, of a new id
 
-no_refusal : (test : Bool) (reason : Status) (others : Option Status) → refused_or test reason others ≡ None → (test ≡ false) × (others ≡ None)
-no_refusal true reason others e = cc
-no_refusal false reason others e = (refl, e)
-
-neither : (a b : Bool) → (a || b) ≡ false → b ≡ false
-neither true b e = cc
-neither false b e = e
-
 last_passes : (tests : Refusals) (test : Bool) (reason : Status) → first_refusal (tests ++ (test, reason) ∷ []) ≡ None → test ≡ false
-last_passes [] test reason e = (no_refusal test reason None e).0
+last_passes [] test reason e = (none_in_front test reason None e).0
 last_passes (first ∷ tests) test reason e =
-    last_passes tests test reason (no_refusal first.0 first.1 (first_refusal (tests ++ (test, reason) ∷ [])) e).1
+    last_passes tests test reason (none_in_front first.0 first.1 (first_refusal (tests ++ (test, reason) ∷ [])) e).1
 
 serial_left : (limits : SessionLimits) (arguments : CreateSessionArguments) (client : Client) (table : Table)
     → first_refusal (create_refusals limits arguments client table) ≡ None → table.session_serial < 2 ^ 64 - 1
 serial_left limits arguments client table e =
     leb-false (2 ^ 64 - 1) table.session_serial
-    (neither (nat_le limits.sessions (length (staying client table))) (nat_le (2 ^ 64 - 1) table.session_serial)
+    (second_of_neither (nat_le limits.sessions (length (staying client table))) (nat_le (2 ^ 64 - 1) table.session_serial)
     (last_passes (take 4 (create_refusals limits arguments client table)) (is_full_of_sessions limits client table) status.Delay e))
 
 -- the serial's bytes tell the serial
@@ -399,10 +394,6 @@ abbrev pub Goes : List ℕ → ℕ → ℕ → Table → Option ℕ → Type 0
 Goes id slot last new None = Stands id slot last new
 Goes id slot last new (Some number) = (number ≡ next_number last) × Stands id slot number new
 
-both_true : (a b : Bool) → (a && b) ≡ true → (a ≡ true) × (b ≡ true)
-both_true true b e = (refl, e)
-both_true false b e = cc
-
 -- a session that is there makes its id an old one
 old_id : (id : List ℕ) (made : ℕ) (session : Session) → made < 2 ^ 64 → IsMade made session → is_session id session ≡ true → IsOld id made
 unfolding IsOld
@@ -452,7 +443,7 @@ runs_go : (id : List ℕ) (slot last uid : ℕ) (arguments : SequenceArguments) 
     → Stands id slot last table → (b : Bool) → (bytes_eq arguments.session id && arguments.slot == slot) ≡ b
     → Goes id slot last (started uid arguments table) (cond b (Some arguments.sequence) None)
 runs_go id slot last uid arguments table runs stands true e =
-    let tests = both_true (bytes_eq arguments.session id) (arguments.slot == slot) e in
+    let tests = and_parts (bytes_eq arguments.session id) (arguments.slot == slot) e in
     runs_here id slot last uid arguments table runs ((bytes_eq-Decides arguments.session id).0 tests.0) (eqb-true arguments.slot slot tests.1) stands
 runs_go id slot last uid arguments table runs stands false e =
     runs_there id slot last uid arguments table (λ same_id same_slot. apart same_id same_slot e) stands

@@ -1,7 +1,7 @@
 -- Which slots run, after each call on the table of sessions.
 use Rattle.std.proofs.Common.{◌≡◌, ℕ, zero, suc, ◌<◌, ◌≤◌, inl, inr, Bool, true, false, not, cond, ◌&&◌, ◌||◌, ◌==◌, nat_lt, List, [], ◌∷◌, ◌++◌, map, filter, length, get_or, set, replicate, find, Option, None, Some, refl, sym, ap, ◌∙◌, subst, arith, bytes_eq, eqb-true, eq-eqb, ltb-true, get_or-set_same, get_or-set_other}
 use Rattle.std.specs.List.{list_any}
-use Rattle.std.proofs.lemmas.Bool.{cases_eq, and_parts}
+use Rattle.std.proofs.lemmas.Bool.{cases_eq, and_parts, not-false, or_parts}
 use Rattle.std.proofs.lemmas.Slice.Eq.{bytes_eq-Decides}
 use Rattle.model.specs.declared.status.Status.{Status}
 use Rattle.model.specs.declared.status.Status.TheVariants as status
@@ -11,27 +11,12 @@ use Rattle.model.specs.Refusal.{first_refusal}
 use Rattle.model.specs.Session.{SessionLimits, Client, Slot, SlotState, Free, Running, Kept, Session, Table, Refuses, Runs, no_slot, slot_at, is_session, is_client, is_running, is_running_state, with_slot, destroy_by, destroy_session, create_session, create_by, create_again, create_unless, create_refusals, CreateSessionOutcome, is_of_clients, replaced_by, staying, next_number, new_session, fore_channel, begin, begin_by, begin_slot, started, finish}
 use Rattle.model.specs.SlotsHeld.{runs_at, is_slot_running, is_on}
 use Rattle.model.proofs.SlotLaw.{id_of, cond_runs, cond_never, refuses_not}
-use Rattle.model.proofs.StepCases.{none_in_front}
 use Rattle.model.proofs.TableCalls.{either, found_passes}
 use Rattle.model.proofs.TableLaws.{size}
+use Rattle.model.proofs.BooleanLaws.{and_false, or_false}
+use Rattle.model.proofs.RefusalLaws.{none_in_front}
 
 -- Tests over lists
-
-pub or_parts : (a b : Bool) → (a || b) ≡ false → (a ≡ false) × (b ≡ false)
-or_parts true b is = absurd (cc)
-or_parts false b is = (refl, is)
-
-or_none : (a : Bool) → (a || false) ≡ a
-or_none true = refl
-or_none false = refl
-
-pub and_none : (a : Bool) → (a && false) ≡ false
-and_none true = refl
-and_none false = refl
-
-not_false : (b : Bool) → not b ≡ false → b ≡ true
-not_false true is = refl
-not_false false is = sym is
 
 pub any-map : {A : Type 0} (p q : A → Bool) (f : A → A) (xs : List A) → ((x : A) → p (f x) ≡ q x) → list_any p (map f xs) ≡ list_any q xs
 any-map p q f [] same = refl
@@ -42,7 +27,7 @@ any-none p [] none = refl
 any-none p (x ∷ xs) none = ap (λ b. b || list_any p xs) (none x) ∙ any-none p xs none
 
 pub any-append : {A : Type 0} (p : A → Bool) (xs : List A) (y : A) → p y ≡ false → list_any p (xs ++ y ∷ []) ≡ list_any p xs
-any-append p [] y none = or_none (p y) ∙ none
+any-append p [] y none = or_false (p y) ∙ none
 any-append p (x ∷ xs) y none = ap (λ b. p x || b) (any-append p xs y none)
 
 -- those that are left out do not pass
@@ -106,7 +91,7 @@ not_here : (id : List ℕ) (place : ℕ) (session : Session) → is_session id s
 not_here id place session other = ap (λ b. b && is_running_state (slot_at session place).state) other
 
 rests_here : (id : List ℕ) (place : ℕ) (session : Session) → is_running_state (slot_at session place).state ≡ false → runs_at id place session ≡ false
-rests_here id place session rests = ap (λ b. is_session id session && b) rests ∙ and_none (is_session id session)
+rests_here id place session rests = ap (λ b. is_session id session && b) rests ∙ and_false (is_session id session)
 
 other_id : (name id : List ℕ) (session : Session) → is_session name session ≡ true → bytes_eq name id ≡ false → is_session id session ≡ false
 other_id name id session named apart = ap (λ bytes. bytes_eq bytes id) (id_of name session named) ∙ apart
@@ -175,7 +160,7 @@ finished name here reply table id place = by_place (is_on (Some (name, here)) id
         → list_any (runs_at id place) (map (changed_at name here new) table.sessions) ≡ (list_any (runs_at id place) table.sessions && not b)
     by_place true is =
         any-map (runs_at id place) (λ _. false) (changed_at name here new) table.sessions (none_here is)
-        ∙ (any-none (λ _. false) table.sessions (λ x. refl) ∙ sym (and_none (list_any (runs_at id place) table.sessions)))
+        ∙ (any-none (λ _. false) table.sessions (λ x. refl) ∙ sym (and_false (list_any (runs_at id place) table.sessions)))
     by_place false is =
         any-map (runs_at id place) (runs_at id place) (changed_at name here new) table.sessions (elsewhere name here new id place is)
         ∙ sym (and_all (list_any (runs_at id place) table.sessions))
@@ -203,7 +188,7 @@ created_same limits arguments client table None is id place =
 
     ends : (session : Session) → not (is_of_clients (replaced_by client table) session) ≡ false → bad session ≡ false → runs_at id place session ≡ false
     ends session leaves rests =
-        let idle : is_running session ≡ false = ap (λ b. b && is_running session) (sym (not_false _ leaves)) ∙ rests in
+        let idle : is_running session ≡ false = ap (λ b. b && is_running session) (sym (not-false _ leaves)) ∙ rests in
         rests_here id place session (at_rest session.slots place idle)
 
 create_same : (limits : SessionLimits) (uid : ℕ) (arguments : CreateSessionArguments) (table : Table) (known : Option Client)
@@ -250,7 +235,7 @@ told_by id place (session ∷ sessions) first few found = by_test (told_by id pl
         let same : session ≡ first = cc in
         let rest : list_any (runs_at id place) sessions ≡ false = none_of id place sessions (omega (arith, few)) in
         ap (λ b. runs_at id place session || b) rest
-        ∙ (or_none (runs_at id place session)
+        ∙ (or_false (runs_at id place session)
         ∙ (ap (λ b. b && is_running_state (slot_at session place).state) is ∙ ap (λ (s : Session). is_running_state (slot_at s place).state) same))
     by_test later false is few found =
         ap (λ b. b || list_any (runs_at id place) sessions) (not_here id place session is) ∙ later few found
@@ -271,7 +256,7 @@ module _ (table : Table) (one_each : (id : List ℕ) → size (is_session id) ta
           by_id : (b : Bool) → bytes_eq name id ≡ b → list_any (runs_at id place) (filter keeps table.sessions) ≡ list_any (runs_at id place) table.sessions
           by_id false apart =
               any-filter (runs_at id place) keeps (λ _. false) table.sessions
-              (λ x leaves good. not_here id place x (other_id name id x (not_false (is_session name x) leaves) apart))
+              (λ x leaves good. not_here id place x (other_id name id x (not-false (is_session name x) leaves) apart))
               (any-none (λ _. false) table.sessions (λ x. refl))
           by_id true is =
               let same : name ≡ id = (bytes_eq-Decides name id).0 is in

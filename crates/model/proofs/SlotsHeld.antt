@@ -1,6 +1,6 @@
 -- A slot runs exactly where one connection is busy on it, at each moment of a run.
 use Rattle.std.proofs.Common.{◌≡◌, ◌≢◌, ℕ, ◌<◌, ◌≤◌, ◌⊎◌, inl, inr, Bool, true, false, not, cond, ◌&&◌, ◌||◌, nat_lt, is_some, length, List, [], ◌++◌, find, Option, None, Some, Result, Ok, Err, refl, sym, ap, ◌∙◌, subst, arith}
-use Rattle.std.proofs.lemmas.Bool.{true≢false, cases_eq}
+use Rattle.std.proofs.lemmas.Bool.{true≢false, cases_eq, and_parts, false_from_ne_true}
 use Rattle.model.specs.declared.status.Status.{Status}
 use Rattle.model.specs.declared.status.Status.TheVariants as status
 use Rattle.model.specs.Answer.{Answer, Outcome, Done, Refused, ExchangeIdAnswer, CreateSessionAnswer}
@@ -11,12 +11,12 @@ use Rattle.model.specs.Record as marks
 use Rattle.model.specs.Rpc.{CallRead, NoCall, OtherVersion, Calls, VersionRefused, read_call, is_call_read, Request, Answers, Runs, request_of, Success, reply_text}
 use Rattle.model.specs.Runs.{Serving, History, IsRun, mounted, Event, Arrives, Turns, HangsUp, Connects, Takes, effect_of, Begins, Goes_on, Fails_at, Stays_down}
 use Rattle.model.specs.Session as sessions
-use Rattle.model.specs.Session.{Session, Table, is_session, empty_table}
+use Rattle.model.specs.Session.{Session, Table, is_session}
 use Rattle.model.specs.SessionRuns as calls
 use Rattle.model.specs.SlotsHeld.{is_slot_running, is_on, is_busy_on, RunsWhereBusy, EveryRunningSlot}
 use Rattle.model.specs.StateIds.{has_opens}
 use Rattle.model.specs.Tree.{Tree}
-use Rattle.model.specs.World.{ServerLimits, InProgress, Connection, Quiet, Waiting, Busy, Replied, Closed, World, Entry, HasRun, Gives, Replays, Next, Refuses, Reads, Turned, next_operation, exchanged, created_by, tabled, started_in, begun, reclaimed, run, has_room, in_room, with_result, result_of, kept_by, ends, goes_on, behind, has_run, operates, in_progress, requested, called, turned, with_connection, entry_of, refuses, one, arrived, arrives_at, changed, arrives, without_reply, takes, can_connect, connects, is_busy, without_connection, hangs_up, is_last, mounted_world}
+use Rattle.model.specs.World.{ServerLimits, InProgress, Connection, Quiet, Waiting, Busy, Replied, Closed, World, Entry, HasRun, Gives, Replays, Next, Refuses, Reads, Turned, next_operation, exchanged, created_by, tabled, started_in, begun, reclaimed, run, has_room, in_room, with_result, result_of, kept_by, ends, goes_on, behind, has_run, operates, in_progress, requested, called, turned, with_connection, executed_entry, refuses, one, arrived, arrives_at, connection_changed, arrives, without_reply, takes, can_connect, connects, is_busy, without_connection, hangs_up, is_last, mounted_world}
 use Rattle.model.proofs.KeyedLaws.{at-with_same, at-with_other, at-without_same, at-without_other}
 use Rattle.model.proofs.ReadOperations.{is_first, first_read}
 use Rattle.model.proofs.SlotLaw.{exchange_same, destroy_client_same, reclaim_same}
@@ -31,14 +31,6 @@ pub record Held (limits : ServerLimits) (world : World) : Type 0 where
   pub begun : (number : ℕ) (request : InProgress) → at number world.connections ≡ Some (Busy request) → 0 < request.answered
   pub holds : Holds limits.sessions world.table
   pub limits_are : world.limits ≡ limits
-
-and_parts : (a b : Bool) → (a && b) ≡ true → (a ≡ true) × (b ≡ true)
-and_parts true b is = (refl, is)
-and_parts false b is = absurd (cc)
-
-is_false : (b : Bool) → (b ≡ true → ⊥) → b ≡ false
-is_false true never = absurd (never refl)
-is_false false never = refl
 
 not_true : (b : Bool) → not b ≡ true → b ≡ true → ⊥
 not_true true is on = true≢false (sym is)
@@ -101,7 +93,7 @@ module _ (before : World) (law : RunsWhereBusy before) (here : ℕ) (new : Conne
         let there : is_busy_on id place (at number before.connections) ≡ true = sym (stands_there id place number apart) ∙ is in
         let running : is_slot_running id place before.table ≡ true = law.runs id place number there in
         let idle : is_busy_on id place (at here before.connections) ≡ false =
-        is_false (is_busy_on id place (at here before.connections)) (λ mine. apart (law.one id place number here there mine)) in
+        false_from_ne_true (is_busy_on id place (at here before.connections)) (λ mine. apart (law.one id place number here there mine)) in
         exchanges.runs id place
         ∙ (ap (λ b. is_busy_on id place (Some new) || (b && not (is_busy_on id place (at here before.connections)))) running
         ∙ (ap (λ b. is_busy_on id place (Some new) || not b) idle ∙ or_true (is_busy_on id place (Some new))))
@@ -332,7 +324,7 @@ gone_fits false request running (inr apart) = all running ∙ ap (λ b. running 
 
 -- A turn
 
-busy_request : (a b : InProgress) → Busy a ≡ Busy b → a ≡ b
+pub busy_request : (a b : InProgress) → Busy a ≡ Busy b → a ≡ b
 busy_request a b same = cc
 
 module _ (limits : ServerLimits) (world : World) (held : Held limits world) (here : ℕ) where
@@ -413,16 +405,16 @@ module _ (limits : ServerLimits) (world : World) (held : Held limits world) (her
   ran : (request : InProgress) → Goes request → (operation : Argument) (left : HasRun) → HasLeft limits world request left
       → Held limits (has_run world here request operation (in_room world request (operation_of operation) left)).world
   ran request goes operation (Gives (Refused number reason) after left) leaves =
-      went request goes after left leaves (Refused number reason) (Some (entry_of world request operation (Refused number reason) after))
+      went request goes after left leaves (Refused number reason) (Some (executed_entry world request operation (Refused number reason) after))
   ran request goes operation (Gives (Done answer) after left) leaves = by_room (has_room world request (Done answer))
     where
       too_big : Held limits (has_run world here request operation (refuses world request (operation_of operation) status.RepTooBig)).world
       too_big = went request goes world request (leaves_same limits world held request (running_on request goes)) (Refused (operation_of operation) status.RepTooBig)
-          (Some (entry_of world request operation (Refused (operation_of operation) status.RepTooBig) world))
+          (Some (executed_entry world request operation (Refused (operation_of operation) status.RepTooBig) world))
 
       by_room : (room : Bool) → Held limits (has_run world here request operation
           (cond room (Gives (Done answer) after left) (refuses world request (operation_of operation) status.RepTooBig))).world
-      by_room true = went request goes after left leaves (Done answer) (Some (entry_of world request operation (Done answer) after))
+      by_room true = went request goes after left leaves (Done answer) (Some (executed_entry world request operation (Done answer) after))
       by_room false = too_big
   ran request goes operation (Replays result session slot) none =
       replied (marks.framed (reply_text request.xid (Success result)))
@@ -479,7 +471,7 @@ module _ (limits : ServerLimits) (world : World) (held : Held limits world) (her
 
   changed_held : (change : Connection → Connection) → ((c : Connection) (request : InProgress) → change c ≡ Busy request → c ≡ Busy request)
       → ((c : Connection) (id : List ℕ) (place : ℕ) → is_busy_on id place (Some (change c)) ≡ is_busy_on id place (Some c))
-      → (connection : Option Connection) → at here world.connections ≡ connection → Held limits (changed world here change connection)
+      → (connection : Option Connection) → at here world.connections ≡ connection → Held limits (connection_changed world here change connection)
   changed_held change only same None is = held
   changed_held change only same (Some connection) is =
       replaced (change connection) (λ request busy. is ∙ ap (λ (c : Connection). Some c) (only connection request busy))

@@ -1,6 +1,6 @@
 -- Each tree that may be left is one that a later run may begin with.
-use Rattle.std.proofs.Common.{ℕ, zero, suc, Bool, true, false, cond, List, [], ◌∷◌, ◌≡◌, ◌+◌, ◌^◌, ◌<◌, ◌≤◌, inl, inr, refl, sym, ap, ◌∙◌, subst, arith, find, Result, Ok, Err}
-use Rattle.std.specs.Prelude.{Option, Some, None, length, slice_index_or}
+use Rattle.std.proofs.Common.{ℕ, Bool, true, false, cond, List, [], ◌≡◌, ◌+◌, ◌^◌, ◌<◌, ◌≤◌, inl, inr, refl, sym, ap, ◌∙◌, subst, arith, find, Result, Ok, Err}
+use Rattle.std.specs.Prelude.{Option, Some, None}
 use Rattle.std.specs.List.{IsAmong}
 use Rattle.std.proofs.lemmas.Bool.{cases_eq}
 use Rattle.model.specs.declared.status.Status.{Status}
@@ -21,23 +21,16 @@ use Rattle.model.specs.Step.{does}
 use Rattle.model.specs.StepLaws.{IsSound}
 use Rattle.model.specs.Tree.{Tree}
 use Rattle.model.specs.WellFormed.{IsWellFormed, IsBefore}
-use Rattle.model.specs.World.{in_room, refuses, has_room, World, ServerLimits, InProgress, Connection, Quiet, Waiting, Busy, Replied, Closed, HasRun, Gives, Replays, with_connection, with_table, exchanged, created_by, tabled, started_in, begun, reclaimed, stepped, state_of, run as runs_operation, Turned, Entry, entry_of, replies, behind, ends, goes_on, with_result, is_last, has_run, operates, Next, Refuses, Reads, next_operation, requested, in_progress, called, turned, one, changed, arrived, arrives, arrives_at, takes, without_reply, connects, can_connect, hangs_up, is_busy, without_connection, mounted_world}
+use Rattle.model.specs.World.{in_room, refuses, has_room, World, ServerLimits, InProgress, Connection, Quiet, Waiting, Busy, Replied, Closed, HasRun, Gives, Replays, with_connection, with_table, exchanged, created_by, tabled, started_in, begun, reclaimed, stepped, state_of, run as runs_operation, Turned, Entry, executed_entry, replies, behind, ends, goes_on, with_result, is_last, has_run, operates, Next, Refuses, Reads, next_operation, requested, in_progress, called, turned, one, connection_changed, arrived, arrives, arrives_at, takes, without_reply, connects, can_connect, hangs_up, is_busy, without_connection, mounted_world}
 use Rattle.model.specs.Runs.{Event, Arrives, Turns, HangsUp, Connects, Takes, effect_of, executed_of, executed_by, executed, Serving, History, IsRun, Begins, Goes_on, Fails_at, Stays_down, IsAfter, MayLeave, mounted}
 use Rattle.model.proofs.FreshTree.{fresh_well_formed, fresh_before}
 use Rattle.model.proofs.KeyedLaws.{at-with_same, at-with_other, at-without_same, at-without_other, some≢none}
 use Rattle.model.proofs.LimitLaws.{modes_keep_limits, inheritance_keeps_limits}
 use Rattle.model.proofs.RunLaws.{EntryFits, event_fits}
 use Rattle.model.proofs.StepProofs.{every_step, before_later}
+use Rattle.model.proofs.Headline.{only_start}
 
 -- A world whose tree is sound, and whose requests all are of its run
-
--- of one tree there is only that
-only_start : (start tree : Tree) → IsAmong (start ∷ []) tree → tree ≡ start
-only_start start tree among = by_place among.0 among.1.0 among.1.1
-  where
-    by_place : (place : ℕ) → place < length (start ∷ []) → tree ≡ slice_index_or (start ∷ []) place tree → tree ≡ start
-    by_place zero less is = is
-    by_place (suc place) less is = absurd (omega arith)
 
 pub record IsSoundWorld (limits : ServerLimits) (run : ℕ) (world : World) : Type 0 where
   pub limits_are : world.limits ≡ limits
@@ -241,7 +234,7 @@ module _ (limits : ServerLimits) (run : ℕ) (room : limits.volume.aces_set + 5 
       → SoundRan ran → SoundTurned (has_run world number request operation ran)
   unfolding SoundRan SoundTurned
   has_run_sound world number request operation (Gives outcome after left) sound ran =
-      behind_sound after number left outcome (Some (entry_of world request operation outcome after)) ran.0 ran.1
+      behind_sound after number left outcome (Some (executed_entry world request operation outcome after)) ran.0 ran.1
   has_run_sound world number request operation (Replays result session slot) sound ran = connected world number (Replied _) sound (no_request _)
 
   operates_sound : (world : World) (number now : ℕ) (request : InProgress) (next : Next) → IsSoundWorld limits run world
@@ -288,7 +281,7 @@ module _ (limits : ServerLimits) (run : ℕ) (room : limits.volume.aces_set + 5 
 
   changed_sound : (world : World) (number : ℕ) (change : Connection → Connection) (connection : Option Connection)
       → at number world.connections ≡ connection → ((old : Connection) → IsOfRun old → IsOfRun (change old))
-      → IsSoundWorld limits run world → IsSoundWorld limits run (changed world number change connection)
+      → IsSoundWorld limits run world → IsSoundWorld limits run (connection_changed world number change connection)
   changed_sound world number change None is keeps sound = sound
   changed_sound world number change (Some connection) is keeps sound =
       connected world number (change connection) sound

@@ -19,9 +19,10 @@ use Rattle.model.specs.Open.{cuts, cut_or_not, with_file, makes_file, cuts_file,
 use Rattle.model.specs.SetAttr.{sets, set_attributes}
 use Rattle.model.specs.Step.{State, Stepped, current, is_name_there, rename, alters, effect, refusals, change_refusals, unless_refused, does}
 use Rattle.model.specs.Tree.{Tree}
-use Rattle.model.specs.World.{World, ServerLimits, InProgress, Connection, Quiet, Waiting, Busy, Replied, Closed, HasRun, Gives, Replays, exchanged, created_by, created, tabled, started_in, begun, reclaimed, stepped, state_of, refuses, in_room, has_room, run, Turned, Entry, entry_of, behind, ends, goes_on, with_result, is_last, has_run, operates, Next, Refuses, Reads, next_operation, requested, in_progress, called, turned, one, changed, arrives, arrives_at, takes, without_reply, connects, can_connect, hangs_up, is_busy}
+use Rattle.model.specs.World.{World, ServerLimits, InProgress, Connection, Quiet, Waiting, Busy, Replied, Closed, HasRun, Gives, Replays, exchanged, created_by, session_created, tabled, started_in, begun, reclaimed, stepped, state_of, refuses, in_room, has_room, run, Turned, Entry, executed_entry, behind, ends, goes_on, with_result, is_last, has_run, operates, Next, Refuses, Reads, next_operation, requested, in_progress, called, turned, one, connection_changed, arrives, arrives_at, takes, without_reply, connects, can_connect, hangs_up, is_busy}
 use Rattle.model.proofs.Headline.{slice_get-append, slice_get-within, slice_get-last, done_behind}
-use Rattle.model.proofs.RunLaws.{no_test, back_passes, not_false}
+use Rattle.model.proofs.RefusalLaws.{none_in_front, none_after}
+use Rattle.model.proofs.BooleanLaws.{second_held}
 
 abbrev Differs : Entry → Type 0
 Differs entry = before entry ≢ entry.after
@@ -90,18 +91,14 @@ unless_counts : (state : State) (operation : Argument) (stepped : Stepped) (refu
 unless_counts state operation stepped (Some reason) counts = (omega arith, λ differs. absurd (differs refl))
 unless_counts state operation stepped None counts = counts refl
 
-stamp_left : (b left : Bool) → (b && not left) ≡ false → b ≡ true → left ≡ true
-stamp_left true left e is = not_false left e
-stamp_left false left e is = let never : ⊥ = cc in absurd never
-
 does_counts : (limits : Limits) (state : State) (now : ℕ) (operation : Argument) → StateCounts state (does limits state now operation)
 unfolding does
 does_counts limits state now operation =
     let after = (effect limits state now operation).state.tree in
     unless_counts state operation (effect limits state now operation) _ (λ e. effect_counts limits state now operation (λ is.
-    let changes = back_passes (refusals limits state operation) (change_refusals limits state operation after) e in
-    let last = no_test (alters state operation && not (fits limits after)) status.NoSpc _ changes in
-    stamp_left (alters state operation) (is_stamp_left state.changes) (no_test (alters state operation && not (is_stamp_left state.changes)) status.ServerFault None last.1).0 is))
+    let changes = none_after (refusals limits state operation) (change_refusals limits state operation after) e in
+    let last = none_in_front (alters state operation && not (fits limits after)) status.NoSpc _ changes in
+    second_held (alters state operation) (is_stamp_left state.changes) (none_in_front (alters state operation && not (is_stamp_left state.changes)) status.ServerFault None last.1).0 is))
 
 abbrev RanCounts : World → HasRun → Type 0
 RanCounts world (Gives outcome after left) = Counts world.changes after.changes (world.tree ≢ after.tree)
@@ -118,7 +115,7 @@ created_by_counts : (world : World) (request : InProgress) (outcome : sessions.C
 created_by_counts world request outcome (Err reason) = same_counts world
 created_by_counts world request outcome (Ok answer) = same_counts world
 
-created_counts : (world : World) (request : InProgress) (outcome : sessions.CreateSessionOutcome) → RanCounts world (created world request outcome)
+created_counts : (world : World) (request : InProgress) (outcome : sessions.CreateSessionOutcome) → RanCounts world (session_created world request outcome)
 created_counts world request outcome = created_by_counts world request outcome outcome.answer
 
 tabled_counts : (world : World) (request : InProgress) (number : ℕ) (answer : Answer) (outcome : Option Status × Table) → RanCounts world (tabled world request number answer outcome)
@@ -181,7 +178,7 @@ behind_counts old world number request (Outcome.Done answer) executed counts =
 
 has_run_counts : (world : World) (number : ℕ) (request : InProgress) (operation : Argument) (ran : HasRun) → RanCounts world ran → TurnCounts world (has_run world number request operation ran)
 has_run_counts world number request operation (Gives outcome after left) counts =
-    behind_counts world after number left outcome (Some (entry_of world request operation outcome after)) (refl, counts)
+    behind_counts world after number left outcome (Some (executed_entry world request operation outcome after)) (refl, counts)
 has_run_counts world number request operation (Replays result session slot) counts = refl
 
 operates_counts : (world : World) (number now : ℕ) (request : InProgress) (next : Next) → TurnCounts world (operates world number now request next)
@@ -214,7 +211,7 @@ one_counts world number now = turned_counts world number now (at number world.co
 
 -- Any event
 
-changed_count : (world : World) (number : ℕ) (change : Connection → Connection) (connection : Option Connection) → (changed world number change connection).changes ≡ world.changes
+changed_count : (world : World) (number : ℕ) (change : Connection → Connection) (connection : Option Connection) → (connection_changed world number change connection).changes ≡ world.changes
 changed_count world number change None = refl
 changed_count world number change (Some connection) = refl
 

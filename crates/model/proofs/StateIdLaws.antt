@@ -9,8 +9,9 @@ use Rattle.model.specs.declared.status.Status.TheVariants as status
 use Rattle.model.specs.Context.{Context, current_number}
 use Rattle.model.specs.Keyed.{at}
 use Rattle.model.specs.Opens.{Opens, Open}
-use Rattle.model.specs.StateIds.{Anonymous, Refused, Names, found, by_meaning, by_open, by_seqid, carried, is_anonymous, is_current, joined, next_seqid, open_named, state_of, zeros}
+use Rattle.model.specs.StateIds.{Anonymous, Refused, Names, found, by_meaning, by_open, by_seqid, carried, is_anonymous, is_current, upgraded, next_seqid, open_named, state_of, zeros}
 use Rattle.model.specs.StateIdLaws.{IsOwn, IsGiven, Stands, NewestIsFound, LowerIsOld, JoinedIsOld, NotOwnIsBad, OtherRunIsBad, EndedIsBad}
+use Rattle.model.proofs.BooleanLaws.{and_false}
 
 -- The bytes of a stateid
 
@@ -24,10 +25,6 @@ not_zeros run serial given = false_from_ne_true (bytes_eq (other_of run serial) 
     let some = given.some in
     absurd (omega arith))
 
-first_and : (a : Bool) → (a && false) ≡ false
-first_and true = refl
-first_and false = refl
-
 -- it is neither the current stateid nor the anonymous one
 is_meant : (opens : Opens) (context : Context) (run serial seqid : ℕ) → IsGiven run serial
     → found opens context (state_of run serial seqid) ≡ by_open context (state_of run serial seqid) (open_named opens context.run (other_of run serial))
@@ -35,8 +32,8 @@ unfolding found
 is_meant opens context run serial seqid given =
     let special : bytes_eq (other_of run serial) zeros ≡ false = not_zeros run serial given in
     let state = state_of run serial seqid in
-    let current : is_current state ≡ false = ap (λ b. (seqid == 1) && b) special ∙ first_and (seqid == 1) in
-    let anonymous : is_anonymous state ≡ false = ap (λ b. (seqid == 0) && b) special ∙ first_and (seqid == 0) in
+    let current : is_current state ≡ false = ap (λ b. (seqid == 1) && b) special ∙ and_false (seqid == 1) in
+    let anonymous : is_anonymous state ≡ false = ap (λ b. (seqid == 0) && b) special ∙ and_false (seqid == 0) in
     ap (λ b. by_meaning opens context (if b then carried context.current else Some state)) current
     ∙ ap (λ b. if b then Anonymous else by_open context state (open_named opens context.run (other_of run serial))) anonymous
 
@@ -94,12 +91,12 @@ pub joined_old : JoinedIsOld
 joined_old opens context serial access known stands mine some room =
     let apart : known.seqid ≢ 2 ^ 32 - 1 = omega arith in
     let next : next_seqid known.seqid ≡ known.seqid + 1 = rw (ne_eqb known.seqid (2 ^ 32 - 1) apart) refl in
-    lower opens context serial (joined access known) stands (record { client = mine.client; file = mine.file }) known.seqid some
+    lower opens context serial (upgraded access known) stands (record { client = mine.client; file = mine.file }) known.seqid some
     (let same = next in omega arith)
 
 not_own_test : (a b : Bool) → (a ≡ false) ⊎ (b ≡ false) → (a && b) ≡ false
 not_own_test a b (inl first) = rw first refl
-not_own_test a b (inr second) = rw second (first_and a)
+not_own_test a b (inr second) = rw second (and_false a)
 
 pub not_own : NotOwnIsBad
 not_own opens context serial known stands other seqid =

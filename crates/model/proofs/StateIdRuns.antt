@@ -3,6 +3,7 @@ use Rattle.std.proofs.Common.{ℕ, Bool, true, false, List, [], ◌∷◌, ◌++
 use Rattle.std.specs.Prelude.{Option, Some, None, Result, Ok, Err, option_to_list}
 use Rattle.std.proofs.lemmas.Bool.{true≢false, cases_eq}
 use Rattle.std.proofs.lemmas.List.{append_assoc, append-nil}
+use Rattle.std.proofs.lemmas.Option.{same_Some}
 use Rattle.model.specs.declared.status.Status.{Status}
 use Rattle.model.specs.declared.status.Status.TheVariants as status
 use Rattle.model.specs.Answer.{Answer, Outcome, Done, Refused, OpenAnswer, ExchangeIdAnswer, CreateSessionAnswer}
@@ -16,13 +17,13 @@ use Rattle.model.specs.Rpc.{Success, reply_text}
 use Rattle.model.specs.Runs.{Serving, History, IsRun, mounted, Event, Arrives, Turns, HangsUp, Connects, Takes, effect_of, executed_of, executed_by, executed, Begins, Goes_on, Fails_at, Stays_down, history_after}
 use Rattle.model.specs.Session as sessions
 use Rattle.model.specs.Session.{Session, Table, is_session}
-use Rattle.model.specs.StateIds.{by_seqid, Found, Anonymous, Names, found, is_like, open_like, joined, next_seqid, opened, opened_by, Opened, is_table_full, without_clients, without_number, state_of}
+use Rattle.model.specs.StateIds.{by_seqid, Names, found, upgraded, next_seqid, opened, without_clients, state_of}
 use Rattle.model.specs.StateIds as stateids
 use Rattle.model.specs.StateIdLaws.{IsOwn, IsGiven, Stands as StandsIn, is_open}
 use Rattle.model.specs.StateIdRuns.{WasAnswered, IsOpenOf, access_by, accesses_in, joined_by, Stands, HasEnded, Verdicts, EveryStateIdGoesOn, JoinsAreCounted, EveryOtherRunRefuses}
 use Rattle.model.specs.Step.{State, does}
 use Rattle.model.specs.Tree.{Tree}
-use Rattle.model.specs.World.{ServerLimits, InProgress, Connection, Quiet, Busy, Replied, World, HasRun, Gives, Replays, Entry, entry_of, exchanged, created_by, tabled, started_in, begun, reclaimed, stepped, state_of as state_in, run as runs_operation, Turned, with_connection, with_result, result_of, behind, ends, goes_on, is_last, one, mounted_world, arrives, takes, connects, hangs_up, can_connect, changed, arrives_at, without_reply, is_busy, without_connection}
+use Rattle.model.specs.World.{ServerLimits, InProgress, Connection, Quiet, Busy, Replied, World, HasRun, Gives, Replays, Entry, executed_entry, exchanged, created_by, tabled, started_in, begun, reclaimed, stepped, state_of as state_in, run as runs_operation, Turned, with_connection, with_result, result_of, behind, ends, goes_on, is_last, one, mounted_world, arrives, takes, connects, hangs_up, can_connect, connection_changed, arrives_at, without_reply, is_busy, without_connection}
 use Rattle.model.proofs.Headline.{done_behind}
 use Rattle.model.proofs.KeyedLaws.{at-with_same, at-with_other, at-without_same, at-without_other, some≢none}
 use Rattle.model.proofs.LimitLaws.{modes_keep_limits, inheritance_keeps_limits}
@@ -115,9 +116,6 @@ module _ (run : ℕ) (small_run : run < 2 ^ 32) (world : World) (numbered : Numb
 
 -- A turn
 
-some_connection : (a b : Connection) → Some a ≡ Some b → a ≡ b
-some_connection a b same = cc
-
 module _ (run : ℕ) (small_run : run < 2 ^ 32) (world : World) (numbered : Numbered run world) (here : ℕ) where
   -- a connection is put down, whose request is of the run, if it has one
   put_down : (after : World) (new : Connection) → after.run ≡ world.run → after.connections ≡ with world.connections here new → AreCounted after.opens
@@ -131,7 +129,7 @@ module _ (run : ℕ) (small_run : run < 2 ^ 32) (world : World) (numbered : Numb
       by_place : (number : ℕ) (request : InProgress) → at number (with world.connections here new) ≡ Some (Busy request) → (number ≡ here) ⊎ (number ≢ here)
           → request.context.run ≡ run
       by_place number request there (inl same) =
-          mine request (some_connection new (Busy request)
+          mine request (same_Some new (Busy request)
           (sym (at-with_same world.connections here new) ∙ (ap (λ (n : ℕ). at n (with world.connections here new)) (sym same) ∙ there)))
       by_place number request there (inr apart) = numbered.busy number request (sym (at-with_other world.connections here number new apart) ∙ there)
 
@@ -180,9 +178,9 @@ module _ (run : ℕ) (small_run : run < 2 ^ 32) (world : World) (numbered : Numb
 
   gave : (request : InProgress) (operation : Argument) (outcome : Outcome) (after : World) (left : InProgress)
       → request.context.run ≡ run → HasLeft run world request operation (Gives outcome after left)
-      → TurnGoes (behind after here left outcome (Some (entry_of world request operation outcome after)))
+      → TurnGoes (behind after here left outcome (Some (executed_entry world request operation outcome after)))
   gave request operation outcome after left of_run has =
-      went outcome after left has.1 has.2 has.3 has.0.counted (Some (entry_of world request operation outcome after)) (has.0, refl, of_run)
+      went outcome after left has.1 has.2 has.3 has.0.counted (Some (executed_entry world request operation outcome after)) (has.0, refl, of_run)
 
   turned : (now : ℕ) (t : Turned) → IsTurn world here now t → TurnGoes t
   turned now _ Idles = (numbered, refl)
@@ -218,7 +216,7 @@ module _ (run : ℕ) (small_run : run < 2 ^ 32) (world : World) (numbered : Numb
   Kept after = Numbered run after × (after.opens ≡ world.opens)
 
   changed_goes : (change : Connection → Connection) → ((c : Connection) (request : InProgress) → change c ≡ Busy request → c ≡ Busy request)
-      → (connection : Option Connection) → at here world.connections ≡ connection → Kept (changed world here change connection)
+      → (connection : Option Connection) → at here world.connections ≡ connection → Kept (connection_changed world here change connection)
   changed_goes change only None is = (numbered, refl)
   changed_goes change only (Some connection) is = (
     kept (with world.connections here (change connection)) (in_place world.connections here (change connection)
@@ -329,7 +327,7 @@ module _ (run : ℕ) (small_run : run < 2 ^ 32) where
 
   joined-append : (accesses more : List ℕ) (known : Open) → joined_by (accesses ++ more) known ≡ joined_by more (joined_by accesses known)
   joined-append [] more known = refl
-  joined-append (access ∷ accesses) more known = joined-append accesses more (joined access known)
+  joined-append (access ∷ accesses) more known = joined-append accesses more (upgraded access known)
 
   -- the open of this serial, from `known` on, where these were executed
   abbrev IsStill : ℕ → Open → List Entry → Opens → Type 0
@@ -403,7 +401,7 @@ module _ (run : ℕ) (small_run : run < 2 ^ 32) where
 pub joins_counted : JoinsAreCounted
 joins_counted [] known = record { client = refl; owner = refl; number = refl; seqid = λ room. omega arith }
 joins_counted (access ∷ accesses) known =
-    let rest = joins_counted accesses (joined access known) in
+    let rest = joins_counted accesses (upgraded access known) in
     record {
       client = rest.client;
       owner = rest.owner;

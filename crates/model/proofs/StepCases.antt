@@ -1,7 +1,8 @@
 -- One operation is refused, or passes all its tests and has its effect.
-use Rattle.std.proofs.Common.{ℕ, Bool, true, false, [], ◌∷◌, ◌++◌, ◌≡◌, ◌⊎◌, ◌&&◌, not, inl, inr, refl, sym}
+use Rattle.std.proofs.Common.{ℕ, true, [], ◌∷◌, ◌++◌, ◌≡◌, ◌⊎◌, ◌&&◌, not, inl, inr, refl}
 use Rattle.std.specs.Prelude.{List, Option, Some, None}
 use Rattle.std.specs.List.{list_any}
+use Rattle.std.proofs.lemmas.Bool.{not-false, and_parts, and_from}
 use Rattle.model.specs.declared.status.Status.{Status}
 use Rattle.model.specs.declared.status.Status.TheVariants as status
 use Rattle.model.specs.Charge.{fits}
@@ -9,29 +10,12 @@ use Rattle.model.specs.Limits.{Limits}
 use Rattle.model.specs.Need.{Right, is_granted, need_first, need_then, are_granted, permitted}
 use Rattle.model.specs.Context.{Context}
 use Rattle.model.specs.Operation.{Argument}
-use Rattle.model.specs.Refusal.{Refusals, first_refusal, refused_or}
+use Rattle.model.specs.Refusal.{first_refusal}
 use Rattle.model.specs.Stamp.{is_stamp_left}
 use Rattle.model.specs.Tree.{Tree}
 use Rattle.model.specs.Step.{State, Stepped, early, middle, late, without_rights, refusals, alters, effect, change_refusals, refused, unless_refused, does}
-
--- Refusals one after the other
-
-some≢none : {A : Type 0} (x : A) → Some x ≡ None → ⊥
-some≢none x same = cc
-
-pub none_in_front : (test : Bool) (reason : Status) (rest : Option Status) → refused_or test reason rest ≡ None
-    → (test ≡ false) × (rest ≡ None)
-none_in_front true reason rest none = absurd (some≢none reason none)
-none_in_front false reason rest none = (refl, none)
-
--- where none of all holds, none of each part does
-pub none_in_both : (front rest : Refusals) → first_refusal (front ++ rest) ≡ None
-    → (first_refusal front ≡ None) × (first_refusal rest ≡ None)
-none_in_both [] rest none = (refl, none)
-none_in_both (test ∷ front) rest none =
-    let here = none_in_front test.0 test.1 (first_refusal (front ++ rest)) none in
-    let others = none_in_both front rest here.1 in
-    (rw here.0 others.0, others.1)
+use Rattle.model.proofs.RefusalLaws.{none_in_front, none_in_both}
+use Rattle.model.proofs.BooleanLaws.{second_held}
 
 -- What an operation passed
 pub record Passes (limits : Limits) (state : State) (now : ℕ) (operation : Argument) : Type 0 where
@@ -42,28 +26,12 @@ pub record Passes (limits : Limits) (state : State) (now : ℕ) (operation : Arg
   pub fitting : alters state operation ≡ true → fits limits (effect limits state now operation).state.tree ≡ true
   pub stamp_left : alters state operation ≡ true → is_stamp_left state.changes ≡ true
 
-held : (b : Bool) → not b ≡ false → b ≡ true
-held true not_false = refl
-held false not_false = sym not_false
-
-held_at : (a b : Bool) → (a && not b) ≡ false → a ≡ true → b ≡ true
-held_at true b not_false is = held b not_false
-held_at false b not_false is = absurd (cc)
-
-both_held : (a b : Bool) → a ≡ true → b ≡ true → (a && b) ≡ true
-both_held a b first second = rw (first, second) refl
-
-parts_held : (a b : Bool) → (a && b) ≡ true → (a ≡ true) × (b ≡ true)
-parts_held true true held = (refl, refl)
-parts_held true false held = absurd (cc)
-parts_held false b held = absurd (cc)
-
 granted_both : (tree : Tree) (context : Context) (first then : List (List Right)) → are_granted tree context first ≡ true
     → are_granted tree context then ≡ true → are_granted tree context (first ++ then) ≡ true
-granted_both tree context [] then held others = others
-granted_both tree context (one ∷ first) then held others =
-    let parts = parts_held (list_any (is_granted tree context.cred) one) (are_granted tree context first) held in
-    both_held (list_any (is_granted tree context.cred) one) (are_granted tree context (first ++ then)) parts.0
+granted_both tree context [] then not-false others = others
+granted_both tree context (one ∷ first) then not-false others =
+    let parts = and_parts (list_any (is_granted tree context.cred) one) (are_granted tree context first) not-false in
+    and_from (list_any (is_granted tree context.cred) one) (are_granted tree context (first ++ then)) parts.0
     (granted_both tree context first then parts.1 others)
 
 -- What passed every test but those of a change
@@ -88,8 +56,8 @@ passes_tests limits state operation none =
     let others = none_in_front (without_rights state then) status.Access (first_refusal (late limits state operation)) between.1 in
     record {
       early = before.0;
-      permitted = granted_both state.tree state.context first then (held (are_granted state.tree state.context first) rights.0)
-          (held (are_granted state.tree state.context then) others.0);
+      permitted = granted_both state.tree state.context first then (not-false (are_granted state.tree state.context first) rights.0)
+          (not-false (are_granted state.tree state.context then) others.0);
       middle = rights.1;
       late = others.1;
     }
@@ -110,8 +78,8 @@ passes limits state now operation none =
       permitted = tests.permitted;
       middle = tests.middle;
       late = tests.late;
-      fitting = held_at (alters state operation) (fits limits (effect limits state now operation).state.tree) room.0;
-      stamp_left = held_at (alters state operation) (is_stamp_left state.changes) stamp.0;
+      fitting = second_held (alters state operation) (fits limits (effect limits state now operation).state.tree) room.0;
+      stamp_left = second_held (alters state operation) (is_stamp_left state.changes) stamp.0;
     }
 
 unless_cases : (state : State) (operation : Argument) (reason : Option Status) (stepped : Stepped)

@@ -1,7 +1,7 @@
 -- The laws of one operation.
-use Rattle.std.proofs.Common.{ℕ, Bool, true, false, List, [], ◌++◌, ◌≡◌, ◌+◌, ◌<◌, ◌≤◌, not, inl, inr, refl, sym, ap, ◌∙◌, subst, arith, ltb-true, lt-ltb, eqb, eq-eqb, ◌^◌, ◌∷◌, ◌⊎◌, ◌&&◌, ◌||◌, is_some, length, bytes_eq, nat_lt}
+use Rattle.std.proofs.Common.{ℕ, Bool, true, false, List, [], ◌++◌, ◌≡◌, ◌+◌, ◌<◌, ◌≤◌, not, inl, inr, refl, sym, ap, ◌∙◌, subst, arith, ltb-true, lt-ltb, eqb, eq-eqb, ◌^◌, ◌∷◌, ◌⊎◌, ◌&&◌, is_some, length, bytes_eq, nat_lt}
 use Rattle.std.specs.Prelude.{Option, Some, None}
-use Rattle.std.proofs.lemmas.Bool.{true≢false, cases_Bool}
+use Rattle.std.proofs.lemmas.Bool.{true≢false, cases_Bool, not-false}
 use Rattle.std.specs.Cmp.Lexicographic.{bytes_decides}
 use Rattle.model.specs.declared.node.NodeKind.TheVariants as kind
 use Rattle.model.specs.declared.status.Status.{Status}
@@ -30,11 +30,14 @@ use Rattle.model.specs.Tree.{Tree, Node, Content, File, Directory, DirEntry, kin
 use Rattle.model.specs.WellFormed.{IsNode, IsFrom, IsWellFormed, IsBefore}
 use Rattle.model.proofs.AncestorLaws.{below_is_reached}
 use Rattle.model.proofs.ChangeLaws.{IsChanged, removal_keeps, rename_keeps, creation_keeps, entry_found, names_in}
-use Rattle.model.proofs.EditLaws.{forest_of, from_leaf, kind_of_directory}
+use Rattle.model.proofs.EditLaws.{forest_of, from_leaf, kind_of_directory, directory_at}
 use Rattle.model.proofs.FreshTree.{no_names, fresh_well_formed, fresh_before}
 use Rattle.model.proofs.AttributeLaws.{given_lists_fit}
-use Rattle.model.proofs.FileStepLaws.{is_true, second_false, list_given, write_changed, set_changed, opening_changed, opening_leaves}
-use Rattle.model.proofs.StepCases.{Passes, none_in_front, none_in_both, does_cases}
+use Rattle.model.proofs.FileStepLaws.{list_given, write_changed, set_changed, opening_changed, opening_leaves}
+use Rattle.model.proofs.StepCases.{Passes, does_cases}
+use Rattle.model.proofs.BooleanLaws.{second_of_neither, second_false}
+use Rattle.model.proofs.RefusalLaws.{none_in_front, none_in_both}
+use Rattle.model.proofs.OptionLaws.{none_by_test}
 
 -- What an operation is answered with
 
@@ -76,7 +79,7 @@ unfolding effect
 effect_leaves limits state now (Argument.Create arguments) no_change = absurd (true≢false no_change)
 effect_leaves limits state now (Argument.Remove name) no_change = absurd (true≢false no_change)
 effect_leaves limits state now (Argument.Rename arguments) no_change =
-    rename_leaves (is_same_name state.context arguments) state now arguments (is_true (is_same_name state.context arguments) no_change)
+    rename_leaves (is_same_name state.context arguments) state now arguments (not-false (is_same_name state.context arguments) no_change)
 effect_leaves limits state now (Argument.Open arguments) no_change =
     let same = opening_leaves state now arguments.opening no_change in
     (ap (λ (s : State). s.tree) same, ap (λ (s : State). s.changes) same)
@@ -111,10 +114,6 @@ pub record Creates (limits : Limits) (state : State) (name : List ℕ) (given : 
   pub new : entry_of name (names_at state.tree (current state)) ≡ None
   pub attributes : first_refusal (attribute_refusals limits kind.Directory settable_at_creation given) ≡ None
 
-is_nothing : {A : Type 0} (o : Option A) → is_some o ≡ false → o ≡ None
-is_nothing None told = refl
-is_nothing (Some x) told = absurd (true≢false told)
-
 creates : (limits : Limits) (state : State) (now : ℕ) (name : List ℕ) (given : Attributes)
     → Passes limits state now (Argument.Create (NewDirectory name given)) → Creates limits state name given
 creates limits state now name given passes =
@@ -126,15 +125,11 @@ creates limits state now name given passes =
     (first_refusal (name_refusals limits name)) named.0 in
     let there = none_in_front (is_name_there state name) status.Exist None passes.late in
     record {
-      directory = is_true (is_directory_at state.tree (current state)) place.0;
+      directory = not-false (is_directory_at state.tree (current state)) place.0;
       allowed = place.1;
       attributes = named.1;
-      new = is_nothing (entry_of name (names_at state.tree (current state))) there.0;
+      new = none_by_test (entry_of name (names_at state.tree (current state))) there.0;
     }
-
-directory_node : (o : Option Node) → is_directory_node o ≡ true → (node : Node) × (o ≡ Some node) × (is_directory node.content ≡ true)
-directory_node None is = absurd (true≢false (sym is))
-directory_node (Some node) is = (node, refl, is)
 
 -- What REMOVE passed
 
@@ -154,21 +149,17 @@ removed_changed limits state now name passes sound =
     let named = none_in_both (named_refusals limits state name) ((not (is_name_there state name), status.NoEnt) ∷ []) tests.1 in
     let place = none_in_front (not (is_directory_at state.tree (current state))) status.NotDir (first_refusal (name_refusals limits name)) named.0 in
     let there = none_in_front (not (is_name_there state name)) status.NoEnt None named.1 in
-    let found = is_something (entry_of name (names_at state.tree (current state))) (is_true (is_name_there state name) there.0) in
+    let found = is_something (entry_of name (names_at state.tree (current state))) (not-false (is_name_there state name) there.0) in
     let empty = none_in_front (has_names state.tree (number_named state.tree (current state) name)) status.NotEmpty None passes.late in
     let number : number_named state.tree (current state) name ≡ found.0.1.number = ap number_of_entry found.1 in
     subst (IsChanged limits (stamp_of state) state.tree (edited (removed_edits state.tree (current state) name (stamp_of state) now) state.tree)) (sym number)
     (removal_keeps limits state.tree sound.well_formed (stamp_of state) sound.before now (current state) name found.0
-    (is_true (is_directory_at state.tree (current state)) place.0) found.1
+    (not-false (is_directory_at state.tree (current state)) place.0) found.1
     (sym (ap (names_at state.tree) number) ∙ no_names_there (names_at state.tree (number_named state.tree (current state) name)) empty.0))
 
 -- What RENAME passed
 
-neither : (a b : Bool) → (a || b) ≡ false → b ≡ false
-neither true b none = absurd (true≢false none)
-neither false b none = none
-
-other_way : (a b : List ℕ) → bytes_eq a b ≡ false → bytes_eq b a ≡ false
+pub other_way : (a b : List ℕ) → bytes_eq a b ≡ false → bytes_eq b a ≡ false
 other_way a b apart = elim (cases_Bool (bytes_eq b a)) [
   | inl same ↦ absurd (true≢false (sym ((bytes_decides a b).1 (sym ((bytes_decides b a).0 same))) ∙ apart))
   | inr off ↦ off
@@ -202,26 +193,26 @@ renamed_changed limits state now arguments passes sound another =
     let new_tests = none_in_both (name_refusals limits arguments.new_name)
     ((not (is_named tree from arguments.old_name), status.NoEnt) ∷ []) old_tests.1 in
     let there = none_in_front (not (is_named tree from arguments.old_name)) status.NoEnt None new_tests.1 in
-    let directory = is_true (is_directory_at tree to) is_to.0 in
-    let found = is_something (entry_of arguments.old_name (names_at tree from)) (is_true (is_named tree from arguments.old_name) there.0) in
+    let directory = not-false (is_directory_at tree to) is_to.0 in
+    let found = is_something (entry_of arguments.old_name (names_at tree from)) (not-false (is_named tree from arguments.old_name) there.0) in
     let number : moved_number state arguments ≡ found.0.1.number = ap number_of_entry found.1 in
     let stands = entry_found arguments.old_name (names_at tree from) 0 (names_in limits tree (forest_of limits tree well) from).rising found.0 found.1 in
     let late : first_refusal (late_at_rename state arguments) ≡ None = rw another at passes.late in
     let below = none_in_front (is_directory_at tree (moved_number state arguments) && is_below tree (moved_number state arguments) to) status.Inval _ late in
     let exists = none_in_front _ status.Exist None below.1 in
     rename_keeps limits tree well (stamp_of state) sound.before now from to arguments.old_name arguments.new_name found.0
-    (is_true (is_directory_at tree from) is_from.0) directory found.1 (omega arith) new_tests.0
+    (not-false (is_directory_at tree from) is_from.0) directory found.1 (omega arith) new_tests.0
     (λ same. subst (λ n. bytes_eq arguments.new_name n ≡ false) ((bytes_decides arguments.old_name found.0.1.name).0 stands.1)
     (other_way arguments.old_name arguments.new_name
     (second_false (eqb from to) (bytes_eq arguments.old_name arguments.new_name) another (eq-eqb from to same))))
     (λ target is. sym (ap (λ (o : Option (ℕ × DirEntry)). names_at tree (number_of_entry o)) is)
-    ∙ no_names_there (names_at tree (target_number state arguments)) (neither _ (has_names tree (target_number state arguments))
+    ∙ no_names_there (names_at tree (target_number state arguments)) (second_of_neither _ (has_names tree (target_number state arguments))
     (second_false (is_name_there state arguments.new_name) _ exists.0 (ap is_some is))))
     (λ from_moved.
     let reached : IsFrom tree (moved_number state arguments) to = subst (λ n. IsFrom tree n to) (sym number) from_moved in
     elim (cases_Bool (is_directory_at tree (moved_number state arguments))) [
       | inl is_directory_moved ↦ true≢false
-          (sym ((below_is_reached limits tree well (moved_number state arguments) to (ap is_some (directory_node (at to tree) directory).1)).1 reached)
+          (sym ((below_is_reached limits tree well (moved_number state arguments) to (ap is_some (directory_at (at to tree) directory).1)).1 reached)
           ∙ second_false _ (is_below tree (moved_number state arguments) to) below.0 is_directory_moved)
       | inr is_file ↦
           let same : to ≡ moved_number state arguments
@@ -287,7 +278,7 @@ module _ (modes : ModesKeepLimits) (inheritance : InheritanceKeepsLimits) where
   unfolding effect
   effect_changes limits state now (Argument.Create (NewDirectory name given)) passes sound is answer done =
       let passed = creates limits state now name given passes in
-      let parent = directory_node (at (current state) state.tree) passed.directory in
+      let parent = directory_at (at (current state) state.tree) passed.directory in
       (made_changed limits state now name given sound passed parent.0 parent.1 parent.2, refl)
   effect_changes limits state now (Argument.Create (OtherType number)) passes sound is answer done =
       absurd (not_both answer 6 status.BadType (sym done))

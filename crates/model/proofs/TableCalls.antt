@@ -1,9 +1,9 @@
 -- Each call keeps what holds of the tables of clients and sessions.
-use Rattle.std.proofs.Common.{◌≡◌, ℕ, ◌-◌, ◌^◌, ◌<◌, ◌≤◌, Bool, true, false, not, cond, ◌||◌, ◌==◌, nat_lt, nat_le, List, [], ◌∷◌, map, filter, length, min, replicate, Option, None, Some, Result, refl, sym, ap, ◌∙◌, arith, find, leb-false, leb-true, eqb-true, eq-eqb, length-set}
+use Rattle.std.proofs.Common.{◌≡◌, ℕ, ◌-◌, ◌^◌, ◌<◌, ◌≤◌, Bool, true, false, not, cond, ◌==◌, nat_lt, nat_le, List, [], ◌∷◌, map, filter, length, min, replicate, Option, None, Some, Result, refl, sym, ap, ◌∙◌, arith, find, leb-false, leb-true, eqb-true, eq-eqb, length-set}
 use Rattle.std.specs.Prelude.{count_by}
 use Rattle.std.specs.List.{list_all, AllByRecursion}
 use Rattle.std.proofs.Math.Nat.{min-le_right}
-use Rattle.std.proofs.lemmas.Bool.{and_parts}
+use Rattle.std.proofs.lemmas.Bool.{and_parts, or_parts}
 use Rattle.std.proofs.lemmas.List.{length-replicate}
 use Rattle.std.proofs.lemmas.List.Sums.{length-filter}
 use Rattle.model.specs.declared.status.Status.{Status}
@@ -11,12 +11,12 @@ use Rattle.model.specs.declared.status.Status.TheVariants as status
 use Rattle.model.specs.Refusal.{first_refusal}
 use Rattle.model.specs.Operation.{ExchangeIdArguments, CreateSessionArguments, SequenceArguments}
 use Rattle.model.specs.Answer.{CreateSessionAnswer, ExchangeIdAnswer}
-use Rattle.model.specs.Session.{SessionLimits, Client, Slot, Session, Table, Begun, Refuses, Replays, Runs, Running, Kept, slot_at, no_slot, empty_table, without_unconfirmed, without_client, is_full_of_clients, new_record, exchange_by, exchange_id, is_confirmed_of, is_unconfirmed_of, exchange_flags, has_only, has_state, is_client, is_session, created, create_refusals, create_unless, create_again, create_by, create_session, new_session, staying, is_full_of_sessions, is_too_small, is_of_clients, replaced_by, session_flags, is_running, CreateSessionOutcome, next_number, destroy_by, destroy_session, destroy_client_by, destroy_client_id, reclaim_by, reclaim_complete, begin, with_slot, started, finish}
+use Rattle.model.specs.Session.{SessionLimits, Client, Slot, Session, Table, Begun, Refuses, Replays, Runs, Running, Kept, slot_at, no_slot, empty_table, without_unconfirmed, without_client, is_full_of_clients, new_record, exchange_by, exchange_id, is_confirmed_of, is_unconfirmed_of, exchange_flags, has_only, has_state, is_client, is_session, create_session_answer, create_refusals, create_unless, create_again, create_by, create_session, new_session, staying, is_full_of_sessions, is_too_small, is_of_clients, replaced_by, session_flags, is_running, CreateSessionOutcome, next_number, destroy_by, destroy_session, destroy_client_by, destroy_client_id, reclaim_by, reclaim_complete, begin, with_slot, started, finish}
 use Rattle.model.specs.SessionRuns.{Call, Exchanges, Creates, Destroys, DestroysClient, Reclaims, Begins, Finishes, after, started_by}
 use Rattle.model.specs.SessionTables.{has_serial, IsTable, after_calls, EveryTable}
-use Rattle.model.proofs.AttributeLaws.{front_passed}
 use Rattle.model.proofs.SlotLaw.{session_id-serial, id_of}
 use Rattle.model.proofs.TableLaws.{size, size_changed, size-without, all_mono, map-same, keep_all, Clients, Sessions, given_serial, fewer_clients, further_client, confirmed_clients, changed_clients, fewer_sessions, further_session, changed_sessions}
+use Rattle.model.proofs.RefusalLaws.{none_in_front}
 
 abbrev pub Holds : SessionLimits → Table → Type 0
 Holds limits table = Clients limits table.run table.client_serial table.clients × Sessions limits table.session_serial table.sessions
@@ -25,10 +25,6 @@ Holds limits table = Clients limits table.run table.client_serial table.clients 
 pub either : {A : Type 0} (P : A → Type 0) (b : Bool) (x y : A) → (b ≡ true → P x) → (b ≡ false → P y) → P (cond b x y)
 either P true x y p q = p refl
 either P false x y p q = q refl
-
-none_holds : (a b : Bool) → (a || b) ≡ false → (a ≡ false) × (b ≡ false)
-none_holds true b is = absurd (cc)
-none_holds false b is = (refl, is)
 
 pub found_passes : {A : Type 0} (p : A → Bool) (xs : List A) (y : A) → find p xs ≡ Some y → p y ≡ true
 found_passes p [] y found = absurd (cc)
@@ -49,7 +45,7 @@ new_record_holds limits uid arguments table cleared before holds =
     either (λ (r : Result ExchangeIdAnswer Status × Table). Holds limits r.1) (is_full_of_clients limits room) _ _
     (λ full. before)
     (λ free.
-    let parts = none_holds (nat_le limits.clients (length room.clients)) (nat_le (2 ^ 32 - 1) room.client_serial) free in (
+    let parts = or_parts (nat_le limits.clients (length room.clients)) (nat_le (2 ^ 32 - 1) room.client_serial) free in (
       further_client limits uid arguments room kept (size-without (is_unconfirmed_of arguments.owner) cleared.clients)
           (leb-false limits.clients (length room.clients) parts.0) (leb-false (2 ^ 32 - 1) room.client_serial parts.1),
       holds.1,
@@ -86,13 +82,13 @@ created_holds limits arguments client table holds found (Some reason) is = holds
 created_holds limits arguments client table holds found None none =
     let slots : length (replicate (min arguments.fore.max_requests limits.slots) no_slot) ≤ limits.slots =
     omega (arith, length-replicate (min arguments.fore.max_requests limits.slots) no_slot, min-le_right arguments.fore.max_requests limits.slots) in
-    let behind_number = front_passed (not (arguments.sequence == client.sequence)) status.SeqMisordered _ none in
-    let behind_flags = front_passed (not (has_only session_flags arguments.flags)) status.Inval _ behind_number.1 in
-    let behind_size = front_passed (is_too_small limits arguments.fore) status.TooSmall _ behind_flags.1 in
-    let behind_slots = front_passed _ status.Delay _ behind_size.1 in
-    let behind_room = front_passed (is_full_of_sessions limits client table) status.Delay None behind_slots.1 in
-    let parts = none_holds (nat_le limits.sessions (length (staying client table))) (nat_le (2 ^ 64 - 1) table.session_serial) behind_room.0 in (
-      confirmed_clients client (created limits arguments client table) limits table.run table.client_serial table.clients holds.0 found,
+    let behind_number = none_in_front (not (arguments.sequence == client.sequence)) status.SeqMisordered _ none in
+    let behind_flags = none_in_front (not (has_only session_flags arguments.flags)) status.Inval _ behind_number.1 in
+    let behind_size = none_in_front (is_too_small limits arguments.fore) status.TooSmall _ behind_flags.1 in
+    let behind_slots = none_in_front _ status.Delay _ behind_size.1 in
+    let behind_room = none_in_front (is_full_of_sessions limits client table) status.Delay None behind_slots.1 in
+    let parts = or_parts (nat_le limits.sessions (length (staying client table))) (nat_le (2 ^ 64 - 1) table.session_serial) behind_room.0 in (
+      confirmed_clients client (create_session_answer limits arguments client table) limits table.run table.client_serial table.clients holds.0 found,
       further_session limits table.session_serial (staying client table) (new_session limits arguments client table)
           (fewer_sessions limits table.session_serial table.sessions (λ x. not (is_of_clients (replaced_by client table) x)) holds.1)
           refl slots (leb-false limits.sessions (length (staying client table)) parts.0) (leb-false (2 ^ 64 - 1) table.session_serial parts.1),

@@ -1,12 +1,12 @@
 -- No client id and no session's serial is given twice.
 use Rattle.std.proofs.Common.{◌≡◌, ℕ, ◌<◌, Bool, true, false, not, cond, ◌||◌, ◌==◌, nat_lt, List, [], ◌∷◌, map, filter, Option, None, Some, Result, refl, ap, ◌∙◌, arith, find, eq-eqb, lt-ltb}
 use Rattle.std.specs.List.{list_all, list_any}
-use Rattle.std.proofs.lemmas.Bool.{and_from, or_right}
+use Rattle.std.proofs.lemmas.Bool.{and_from, or_right, or_left}
 use Rattle.model.specs.declared.status.Status.{Status}
 use Rattle.model.specs.Refusal.{first_refusal}
 use Rattle.model.specs.Operation.{ExchangeIdArguments, CreateSessionArguments, SequenceArguments}
 use Rattle.model.specs.Answer.{CreateSessionAnswer, ExchangeIdAnswer}
-use Rattle.model.specs.Session.{SessionLimits, Client, Slot, Session, Table, Begun, Refuses, Replays, Runs, Running, Kept, slot_at, client_number, with_clients, with_sessions, without_unconfirmed, without_client, new_client, with_new_client, is_full_of_clients, new_record, exchange_by, exchange_id, is_confirmed_of, is_unconfirmed_of, exchange_flags, has_only, has_state, is_client, is_session, confirmed_with, created, create_refusals, create_unless, create_again, create_by, create_session, new_session, staying, is_of_clients, replaced_by, is_running, CreateSessionOutcome, next_number, destroy_by, destroy_session, destroy_client_by, destroy_client_id, reclaim_by, reclaim_complete, begin, started, finish}
+use Rattle.model.specs.Session.{SessionLimits, Client, Slot, Session, Table, Begun, Refuses, Replays, Runs, Running, Kept, slot_at, client_number, with_clients, with_sessions, without_unconfirmed, without_client, new_client, with_new_client, is_full_of_clients, new_record, exchange_by, exchange_id, is_confirmed_of, is_unconfirmed_of, exchange_flags, has_only, has_state, is_client, is_session, confirmed_with, create_session_answer, create_refusals, create_unless, create_again, create_by, create_session, new_session, staying, is_of_clients, replaced_by, is_running, CreateSessionOutcome, next_number, destroy_by, destroy_session, destroy_client_by, destroy_client_id, reclaim_by, reclaim_complete, begin, started, finish}
 use Rattle.model.specs.SessionRuns.{Exchanges, Creates, Destroys, DestroysClient, Reclaims, Begins, Finishes, started_by}
 use Rattle.model.specs.SessionTables.{has_serial, was_there, is_new, session_was_there, is_new_session, GivesNew, EveryCallGivesNew}
 use Rattle.model.proofs.TableLaws.{all-filter, all-append, all-map, all-weaker, confirms, stays}
@@ -21,19 +21,15 @@ each_there t self (x ∷ xs) =
     (ap (λ b. b || list_any (t x) xs) (self x))
     (all-weaker (λ y. list_any (t y) xs) (λ y. t y x || list_any (t y) xs) xs (λ y is. or_right (t y x) (list_any (t y) xs) is) (each_there t self xs))
 
-left_holds : (a b : Bool) → a ≡ true → (a || b) ≡ true
-left_holds true b is = refl
-left_holds false b is = absurd (cc)
-
 unchanged : (table : Table) → GivesNew table table
 unchanged table = record {
   run = refl;
   clients = all-weaker (was_there table) (λ c. was_there table c || is_new table c) table.clients
-      (λ c. left_holds (was_there table c) (is_new table c))
+      (λ c. or_left (was_there table c) (is_new table c))
       (each_there (λ c d. is_client c.number d) (λ c. eq-eqb c.number c.number refl) table.clients);
   client_serial = omega arith;
   sessions = all-weaker (session_was_there table) (λ s. session_was_there table s || is_new_session table s) table.sessions
-      (λ s. left_holds (session_was_there table s) (is_new_session table s))
+      (λ s. or_left (session_was_there table s) (is_new_session table s))
       (each_there (λ s d. has_serial s.serial d) (λ s. eq-eqb s.serial s.serial refl) table.sessions);
   session_serial = omega arith;
 }
@@ -136,7 +132,7 @@ module _ (before : Table) where
       → GivesNew before (create_unless limits arguments client table first).table
   created_gives limits arguments client table (Some reason) gives = gives
   created_gives limits arguments client table None gives =
-      let answer = created limits arguments client table in
+      let answer = create_session_answer limits arguments client table in
       let fewer = fewer_clients table (stays client answer) gives in
       let changed = changed_clients (with_clients (filter (stays client answer) table.clients) table) (confirms client answer)
       (λ c. number_same answer c (is_client client.number c)) fewer in

@@ -2,7 +2,7 @@
 use Rattle.std.proofs.Common.{◌≡◌, ℕ, ◌+◌, ◌-◌, ◌^◌, ◌<◌, ◌≤◌, suc, Bool, true, false, not, cond, ◌&&◌, ◌==◌, nat_lt, nat_le, List, [], ◌∷◌, ◌++◌, map, filter, length, Some, refl, sym, ap, ◌∙◌, subst, arith, find, leb-true, lt-ltb, le-leb, eqb-true, bytes_eq}
 use Rattle.std.specs.List.{list_all, AllByRecursion}
 use Rattle.std.specs.Cmp.Lexicographic.{bytes_decides}
-use Rattle.std.proofs.lemmas.Bool.{and_parts, and_from}
+use Rattle.std.proofs.lemmas.Bool.{and_parts, and_from, false≢true}
 use Rattle.std.proofs.lemmas.List.{length-append, length-map}
 use Rattle.std.proofs.lemmas.List.Elements.{filter-append}
 use Rattle.model.specs.Operation.{ExchangeIdArguments}
@@ -25,7 +25,7 @@ one_more true false x xs y ys step le = absurd (no (step refl))
 one_more false true x xs y ys step le = omega arith
 one_more false false x xs y ys step le = le
 
-size-le : {A : Type 0} (p : A → Bool) (xs : List A) → size p xs ≤ length xs
+pub size-le : {A : Type 0} (p : A → Bool) (xs : List A) → size p xs ≤ length xs
 size-le p [] = omega arith
 size-le p (x ∷ xs) = at_most (p x) (size-le p xs)
   where
@@ -56,7 +56,7 @@ pub map-same : {A : Type 0} (xs : List A) → map (λ (x : A). x) xs ≡ xs
 map-same [] = refl
 map-same (x ∷ xs) = ap (λ l. x ∷ l) (map-same xs)
 
-size-filter : {A : Type 0} (p q : A → Bool) (xs : List A) → size p (filter q xs) ≤ size p xs
+pub size-filter : {A : Type 0} (p q : A → Bool) (xs : List A) → size p (filter q xs) ≤ size p xs
 size-filter {A = A} p q xs =
     subst (λ (l : List A). size p l ≤ size p xs) (map-same (filter q xs))
     (size_changed p p q (λ x. x) xs (always _ (λ x kept is. is) xs))
@@ -240,9 +240,6 @@ further_client limits uid arguments table old none room left =
 
 -- a record that is confirmed, in place of the other one of its owner
 
-no_way : false ≡ true → ⊥
-no_way same = cc
-
 module _ (client : Client) (answer : CreateSessionAnswer) where
   abbrev pub confirms : Client → Client
   confirms x = cond (is_client client.number x) (confirmed_with answer x) x
@@ -263,12 +260,12 @@ module _ (client : Client) (answer : CreateSessionAnswer) where
       → is_confirmed_of owner x ≡ true
   other_one owner other x true named same confirmed =
       let is = ap (λ (c : Client). bytes_eq c.owner owner) (same named) in
-      absurd (no_way (sym other ∙ (sym is ∙ confirmed)))
+      absurd (false≢true (sym other ∙ (sym is ∙ confirmed)))
   other_one owner other x false named same confirmed = confirmed
 
   unconfirmed_before : (owner : List ℕ) (x : Client) (b : Bool) → is_unconfirmed_of owner (cond b (confirmed_with answer x) x) ≡ true
       → is_unconfirmed_of owner x ≡ true
-  unconfirmed_before owner x true is = absurd (no_way is)
+  unconfirmed_before owner x true is = absurd (false≢true is)
   unconfirmed_before owner x false is = is
 
   same_number : (p : ℕ → Bool) (x : Client) (b : Bool) → p (cond b (confirmed_with answer x) x).number ≡ p x.number

@@ -10,7 +10,7 @@ use Rattle.model.specs.Keyed.{at}
 use Rattle.model.specs.Operation.{Argument, operation_of}
 use Rattle.model.specs.Record.{RecordLimits, Front, Partial, Refused as BadRecord, Whole, front, framed}
 use Rattle.model.specs.Rpc.{CallRead, NoCall, OtherVersion, Calls, VersionRefused, read_call, is_call_read, Call, Request, Answers, Runs, request_of, by_head, by_cred, compound_request, is_empty, cred_of, compound_head, Compound, Reply, Success, reply_text}
-use Rattle.model.specs.World.{World, InProgress, Connection, Quiet, Waiting, Busy, Replied, Closed, HasRun, Gives, Replays, Next, Refuses, Reads, next_operation, run, has_room, in_room, Turned, Answered, idle, replies, behind, has_run, operates, entry_of, in_progress, requested, called, turned, one, with_connection, arrived, arrives_at, without_reply}
+use Rattle.model.specs.World.{World, InProgress, Connection, Quiet, Waiting, Busy, Replied, Closed, HasRun, Gives, Replays, Next, Refuses, Reads, next_operation, run, has_room, in_room, Turned, Answered, idle, replies, behind, has_run, operates, executed_entry, in_progress, requested, called, turned, one, with_connection, arrived, arrives_at, without_reply}
 
 -- the request that a turn of this connection goes on with: one that has begun, or that begins
 pub data GoesWith (world : World) (here : ℕ) : InProgress → Type 0 where
@@ -29,10 +29,10 @@ pub data IsTurn (world : World) (here now : ℕ) : Turned → Type 0 where
       → IsTurn world here now (behind world here request (Refused operation reason) None)
   TooBig : (request : InProgress) (operation : Argument) (rest : List ℕ) → GoesWith world here request → next_operation request ≡ Reads operation rest
       → IsTurn world here now (behind world here (read_of request rest) (Refused (operation_of operation) status.RepTooBig)
-      (Some (entry_of world (read_of request rest) operation (Refused (operation_of operation) status.RepTooBig) world)))
+      (Some (executed_entry world (read_of request rest) operation (Refused (operation_of operation) status.RepTooBig) world)))
   Gave : (request : InProgress) (operation : Argument) (rest : List ℕ) (outcome : Outcome) (after : World) (left : InProgress) → GoesWith world here request
       → next_operation request ≡ Reads operation rest → run world (read_of request rest) now operation ≡ Gives outcome after left
-      → IsTurn world here now (behind after here left outcome (Some (entry_of world (read_of request rest) operation outcome after)))
+      → IsTurn world here now (behind after here left outcome (Some (executed_entry world (read_of request rest) operation outcome after)))
   Repeats : (request : InProgress) (operation : Argument) (rest result session : List ℕ) (slot : ℕ) → GoesWith world here request
       → next_operation request ≡ Reads operation rest → run world (read_of request rest) now operation ≡ Replays result session slot
       → IsTurn world here now (record {

@@ -17,8 +17,8 @@ abbrev pub meets : ℕ → ℕ → Bool
 meets a b = not (bit_and a b == 0)
 
 -- the bits of a that b lacks
-abbrev pub without : ℕ → ℕ → ℕ
-without a b = bit_and a (2 ^ 32 - 1 - b)
+abbrev pub bits_without : ℕ → ℕ → ℕ
+bits_without a b = bit_and a (2 ^ 32 - 1 - b)
 
 -- whether a number has no bit but those
 abbrev pub is_within : (number bits : ℕ) → Bool

@@ -2,7 +2,7 @@
 use Rattle.std.specs.Prelude.{◌≡◌, ℕ, ◌+◌, ◌≤◌, Bool, true, false, ◌&&◌, not, Option, None, IfSome, List, All}
 use Rattle.model.specs.Acl.{meets, counts, is_allow, is_special, is_list_for}
 use Rattle.model.specs.Mode.{group_bits, rights_lacking, mode_of, moded}
-use Rattle.model.specs.Inherit.{created, first_refused, inherited}
+use Rattle.model.specs.Inherit.{created_list, first_refused, inherited}
 use Rattle.model.specs.declared.acl.Ace.{Ace}
 use Rattle.model.specs.declared.node.NodeKind.{NodeKind}
 use Rattle.model.specs.declared.node.NodeKind.TheVariants as node
@@ -39,4 +39,4 @@ abbrev pub CreationKeepsLimits : Type 0
 CreationKeepsLimits = (max_set max_stored : ℕ) → max_set + 5 ≤ max_stored
     → (of : NodeKind) (parent : List Ace) (is_empty : Bool) (mode : Option ℕ) (acl : Option (List Ace))
     → is_list_for max_set max_stored node.Directory parent ≡ true → IfSome acl (λ list. first_refused max_set of list ≡ None)
-    → is_list_for max_set max_stored of (created parent of is_empty mode acl) ≡ true
+    → is_list_for max_set max_stored of (created_list parent of is_empty mode acl) ≡ true

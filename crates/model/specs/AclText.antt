@@ -8,7 +8,7 @@ use Rattle.model.specs.declared.acl.AceKind.{AceKind}
 use Rattle.model.specs.declared.acl.AceKind.TheVariants as kind
 use Rattle.model.specs.declared.acl.Who.{Who}
 use Rattle.model.specs.declared.acl.Who.TheVariants as who
-use Rattle.model.specs.Acl.{meets, without}
+use Rattle.model.specs.Acl.{meets, bits_without}
 use Rattle.model.specs.AttributeValue.{AclEntry}
 
 -- What is written
@@ -70,7 +70,7 @@ kind_in number = if number == 0 then Some kind.Allow else (if number == 1 then S
 
 abbrev pub ace_of : AclEntry → AceKind → Who → Ace
 ace_of entry of name =
-    record { kind = of; flags = record { 0 = without entry.flags identifier_group }; mask = record { 0 = entry.mask }; who = name }
+    record { kind = of; flags = record { 0 = bits_without entry.flags identifier_group }; mask = record { 0 = entry.mask }; who = name }
 
 abbrev pub named_in : AclEntry → Option Who
 named_in entry = who_in (meets entry.flags identifier_group) entry.who
@@ -107,7 +107,7 @@ ReadsNames = (is_group : Bool) (text : List ℕ) (name : Who) → (who_in is_gro
 -- The entry on the wire stands for the other, whose flags are without IDENTIFIER_GROUP.
 pub record StandsFor (entry : AclEntry) (ace : Ace) : Type 0 where
   pub kind : entry.kind ≡ kind_number ace.kind
-  pub flags : ace.flags.0 ≡ without entry.flags identifier_group
+  pub flags : ace.flags.0 ≡ bits_without entry.flags identifier_group
   pub mask : entry.mask ≡ ace.mask.0
   pub who : Means (meets entry.flags identifier_group) entry.who ace.who
 
@@ -122,6 +122,6 @@ HasWidth _ = Unit {0}
 
 -- what is written is read again, and the flag stands exactly on named groups
 pub record WritesEntries : Type 0 where
-  pub again : (ace : Ace) → without ace.flags.0 identifier_group ≡ ace.flags.0 → HasWidth ace.who → ace_in (entry_text ace) ≡ Some ace
-  pub flag : (ace : Ace) → without ace.flags.0 identifier_group ≡ ace.flags.0
+  pub again : (ace : Ace) → bits_without ace.flags.0 identifier_group ≡ ace.flags.0 → HasWidth ace.who → ace_in (entry_text ace) ≡ Some ace
+  pub flag : (ace : Ace) → bits_without ace.flags.0 identifier_group ≡ ace.flags.0
       → meets (entry_text ace).flags identifier_group ≡ is_named_group ace.who

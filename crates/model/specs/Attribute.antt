@@ -6,7 +6,7 @@ use Rattle.std.specs.Int.{bit_at}
 use Rattle.model.specs.declared.acl.Ace.{Ace}
 use Rattle.model.specs.declared.node.NodeKind.{NodeKind}
 use Rattle.model.specs.declared.status.Status.TheVariants as status
-use Rattle.model.specs.Acl.{without, is_within, every_right, inheritance, are_flags_for, is_list_for}
+use Rattle.model.specs.Acl.{bits_without, is_within, every_right, inheritance, are_flags_for, is_list_for}
 use Rattle.model.specs.AclText.{identifier_group, aces_in, named_in, number_in}
 use Rattle.model.specs.AttributeValue.{AclEntry, Value, Size, Acl, Mode, Owner, OwnerGroup, whole_values}
 use Rattle.model.specs.Limits.{Limits}
@@ -139,7 +139,7 @@ entry_refusals kind entry =
     ∷ (not (is_within entry.flags (inheritance + identifier_group)), status.AttrNotSupp)
     ∷ (not (is_within entry.mask every_right), status.AttrNotSupp)
     ∷ (is_none (named_in entry), status.BadOwner)
-    ∷ (not (are_flags_for kind (without entry.flags identifier_group)), status.AttrNotSupp)
+    ∷ (not (are_flags_for kind (bits_without entry.flags identifier_group)), status.AttrNotSupp)
     ∷ []
 
 -- a mode has nine bits: SUID, SGID and SVTX are left out

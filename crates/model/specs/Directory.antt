@@ -4,7 +4,7 @@ use Rattle.model.specs.declared.acl.Ace.{Ace}
 use Rattle.model.specs.declared.acl.Cred.{Cred}
 use Rattle.model.specs.declared.node.NodeKind.TheVariants as kind
 use Rattle.model.specs.Attribute.{is_empty, mode_given, acl_given}
-use Rattle.model.specs.Inherit.{created}
+use Rattle.model.specs.Inherit.{created_list}
 use Rattle.model.specs.Operation.{Attributes}
 use Rattle.model.specs.Tree.{Tree, Node, DirEntry, Directory, names_at, entry_of}
 
@@ -35,7 +35,7 @@ abbrev pub new_directory : Cred → (parent : List Ace) → Attributes → (stam
 new_directory cred parent given stamp now = record {
   owner = cred.uid;
   group = cred.gid;
-  acl = created parent kind.Directory (is_empty given.bitmap) (mode_given given) (acl_given given);
+  acl = created_list parent kind.Directory (is_empty given.bitmap) (mode_given given) (acl_given given);
   change = stamp;
   time_modify = now;
   content = Directory [];

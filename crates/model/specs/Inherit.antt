@@ -2,7 +2,7 @@
 use Rattle.std.specs.Prelude.{ℕ, Bool, true, false, ◌&&◌, ◌||◌, not, nat_lt, if◌then◌else◌, Option, Some, None, List, [], filter, map, min, length}
 use Rattle.std.specs.List.{position_or_len}
 use Rattle.std.specs.Int.RustNames.{bit_or}
-use Rattle.model.specs.Acl.{meets, without, file_inherit, directory_inherit, no_propagate, inherit_only, inheritance, is_entry_for}
+use Rattle.model.specs.Acl.{meets, bits_without, file_inherit, directory_inherit, no_propagate, inherit_only, inheritance, is_entry_for}
 use Rattle.model.specs.Mode.{moded}
 use Rattle.model.specs.declared.acl.Ace.{Ace}
 use Rattle.model.specs.declared.node.NodeKind.{NodeKind}
@@ -17,9 +17,9 @@ is_inherited_by node.Directory ace =
 -- the flags it takes it with: a file none of the four; a directory none of them where the entry is not to go further, else
 -- the same ones, and it counts on a directory exactly where the entry is for directories
 abbrev pub inherited_flags : NodeKind → ℕ → ℕ
-inherited_flags node.File flags = without flags inheritance
+inherited_flags node.File flags = bits_without flags inheritance
 inherited_flags node.Directory flags =
-    if meets flags directory_inherit then (if meets flags no_propagate then without flags inheritance else without flags inherit_only)
+    if meets flags directory_inherit then (if meets flags no_propagate then bits_without flags inheritance else bits_without flags inherit_only)
     else bit_or flags inherit_only
 
 abbrev pub as_inherited : NodeKind → Ace → Ace
@@ -34,9 +34,9 @@ created_without_list parent of is_empty (Some mode) = moded of (inherited parent
 created_without_list parent of true None = []
 created_without_list parent of false None = inherited parent of
 
-abbrev pub created : List Ace → NodeKind → Bool → Option ℕ → Option (List Ace) → List Ace
-created parent of is_empty mode (Some acl) = acl
-created parent of is_empty mode None = created_without_list parent of is_empty mode
+abbrev pub created_list : List Ace → NodeKind → Bool → Option ℕ → Option (List Ace) → List Ace
+created_list parent of is_empty mode (Some acl) = acl
+created_list parent of is_empty mode None = created_without_list parent of is_empty mode
 
 -- the place of the first entry that a client may not set: one that the node's kind may not have, or one too many
 unfoldable pub first_refused : ℕ → NodeKind → List Ace → Option ℕ

@@ -31,14 +31,14 @@ pub record IsShort (world : World) : Type 0 where
       → length (reply_so_far request) ≤ world.limits.reply_bytes
 
 -- there is room for a COMPOUND without results
-abbrev pub HasRoom : ServerLimits → Type 0
-HasRoom limits = 300 ≤ limits.reply_bytes
+abbrev pub HasReplyRoom : ServerLimits → Type 0
+HasReplyRoom limits = 300 ≤ limits.reply_bytes
 
 -- The law: it holds when a run begins, and each event keeps it
 pub record KeepsShort : Type 0 where
   pub begins : (limits : ServerLimits) (run : ℕ) (tree : Tree) → IsShort (mounted_world limits run tree)
-  pub turn : (world : World) (number now : ℕ) → HasRoom world.limits → IsShort world → IsShort (one world number now).world
+  pub turn : (world : World) (number now : ℕ) → HasReplyRoom world.limits → IsShort world → IsShort (one world number now).world
   pub arrival : (world : World) (number : ℕ) (piece : List ℕ) → IsShort world → IsShort (arrives world number piece)
   pub taking : (world : World) (number : ℕ) → IsShort world → IsShort (takes world number)
   pub connecting : (world : World) (number : ℕ) → IsShort world → IsShort (connects world number)
-  pub hang_up : (world : World) (number now : ℕ) → HasRoom world.limits → IsShort world → IsShort (hung_up world number now)
+  pub hang_up : (world : World) (number now : ℕ) → HasReplyRoom world.limits → IsShort world → IsShort (hung_up world number now)

@@ -1,7 +1,7 @@
 -- The mode of a list, and the list of a mode: RFC 8881, sections 6.3.2 and 6.4.1.
 use Rattle.std.specs.Prelude.{ℕ, ◌+◌, ◌*◌, ◌/◌, ◌%◌, Bool, true, false, ◌&&◌, ◌||◌, ◌==◌, not, if◌then◌else◌, List, [], ◌∷◌, ◌++◌, filter, map}
 use Rattle.std.specs.Int.RustNames.{bit_or}
-use Rattle.model.specs.Acl.{meets, without, read_data, write_data, append_data, execute, delete_child, file_inherit, directory_inherit, inherit_only, counts, first_of, allows, is_special}
+use Rattle.model.specs.Acl.{meets, bits_without, read_data, write_data, append_data, execute, delete_child, file_inherit, directory_inherit, inherit_only, counts, first_of, allows, is_special}
 use Rattle.model.specs.declared.acl.Ace.{Ace}
 use Rattle.model.specs.declared.acl.AceKind.{AceKind}
 use Rattle.model.specs.declared.acl.AceKind.TheVariants as kind
@@ -65,7 +65,7 @@ rights_of of bits =
 
 -- the rights of read, write and execute that three bits lack
 abbrev pub rights_lacking : NodeKind → ℕ → ℕ
-rights_lacking of bits = without (rights_of of 7) (rights_of of bits)
+rights_lacking of bits = bits_without (rights_of of 7) (rights_of of bits)
 
 -- an entry without flags
 abbrev pub entry : AceKind → Who → ℕ → Ace
@@ -73,7 +73,7 @@ entry of name mask = record { kind = of; flags = record { 0 = 0 }; mask = record
 
 -- an entry of a number in a list of a mode: an ALLOW loses what the group's bits lack
 abbrev pub limited_kind : AceKind → ℕ → ℕ → ℕ
-limited_kind kind.Allow mask lacking = without mask lacking
+limited_kind kind.Allow mask lacking = bits_without mask lacking
 limited_kind kind.Deny mask lacking = mask
 
 abbrev pub limited : NodeKind → ℕ → Ace → Ace

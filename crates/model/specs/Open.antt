@@ -11,7 +11,7 @@ use Rattle.model.specs.Changes.{touch, made_edits}
 use Rattle.model.specs.Context.{Context, without_stateid}
 use Rattle.model.specs.Directory.{number_named, change_of, acl_of}
 use Rattle.model.specs.Edit.{SetSize}
-use Rattle.model.specs.Inherit.{created}
+use Rattle.model.specs.Inherit.{created_list}
 use Rattle.model.specs.Keyed.{at}
 use Rattle.model.specs.Limits.{Limits}
 use Rattle.model.specs.Opens.{Open, Opens}
@@ -137,7 +137,7 @@ abbrev pub new_file : Cred → (parent : List Ace) → Attributes → (stamp now
 new_file cred parent given stamp now = record {
   owner = cred.uid;
   group = cred.gid;
-  acl = created parent kind.File (is_empty given.bitmap) (mode_given given) (acl_given given);
+  acl = created_list parent kind.File (is_empty given.bitmap) (mode_given given) (acl_given given);
   change = stamp;
   time_modify = now;
   content = File (replicate (unwrap_or (size_given given) 0) 0);

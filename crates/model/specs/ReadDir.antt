@@ -45,8 +45,8 @@ abbrev pub entry_attributes : Limits → Cred → (bitmap : List ℕ) → (numbe
 entry_attributes limits cred bitmap number node =
     if asks_lists bitmap && not (may_read_list cred node) then unreadable else attributes_at limits bitmap number node
 
-abbrev pub entry_of : Limits → Tree → Cred → (bitmap : List ℕ) → ℕ × DirEntry → Entry
-entry_of limits tree cred bitmap name = record {
+abbrev pub listed_entry : Limits → Tree → Cred → (bitmap : List ℕ) → ℕ × DirEntry → Entry
+listed_entry limits tree cred bitmap name = record {
   cookie = name.0;
   name = name.1.name;
   attributes = entry_attributes limits cred bitmap name.1.number (at name.1.number tree);
@@ -65,7 +65,7 @@ fitting room (entry ∷ rest) =
 
 abbrev pub all_entries : Limits → State → ReadDirArguments → List Entry
 all_entries limits state arguments =
-    map (entry_of limits state.tree state.context.cred arguments.bitmap) (names_after arguments.cookie (names_at state.tree (current state)))
+    map (listed_entry limits state.tree state.context.cred arguments.bitmap) (names_after arguments.cookie (names_at state.tree (current state)))
 
 -- the bytes that were asked, a page of no entries, and what that leaves: beside the entries stand the verifier, the bool that
 -- ends them and the one that tells the end

@@ -7,7 +7,7 @@ use Rattle.xdr.specs.Forms.{always}
 use Rattle.xdr.specs.Laws.{IsBytes}
 use Rattle.xdr.specs.Union.{Told, tells, on, no_other, union}
 use Rattle.model.specs.Operation.{SystemCredential}
-use Rattle.model.specs.Rpc.{Call, CallRead, OtherVersion, Calls, read_call, call_start, opaque_auth, Reply, reply_text, is_empty, credential_in}
+use Rattle.model.specs.Rpc.{Call, OtherVersion, Calls, read_call, call_start, opaque_auth, Reply, reply_text, is_empty, credential_in}
 use Rattle.model.specs.Rpc as rpc
 use Rattle.model.specs.WireTypes.{system_credential}
 

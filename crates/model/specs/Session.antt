@@ -65,8 +65,8 @@ empty_table run = record { run = run; client_serial = 0; session_serial = 0; cli
 
 -- Words
 
-abbrev pub without : {A : Type 0} → (A → Bool) → List A → List A
-without test = filter (λ x. not (test x))
+abbrev pub without_where : {A : Type 0} → (A → Bool) → List A → List A
+without_where test = filter (λ x. not (test x))
 
 -- the list with `change` made where the test holds
 abbrev pub changed_where : {A : Type 0} → (A → Bool) → (A → A) → List A → List A
@@ -144,10 +144,10 @@ abbrev pub is_unconfirmed_of : List ℕ → Client → Bool
 is_unconfirmed_of owner client = not client.is_confirmed && bytes_eq client.owner owner
 
 abbrev pub without_unconfirmed : List ℕ → Table → Table
-without_unconfirmed owner table = with_clients (without (is_unconfirmed_of owner) table.clients) table
+without_unconfirmed owner table = with_clients (without_where (is_unconfirmed_of owner) table.clients) table
 
 abbrev pub without_client : ℕ → Table → Table
-without_client number table = with_clients (without (is_client number) table.clients) table
+without_client number table = with_clients (without_where (is_client number) table.clients) table
 
 -- A client id is the run and a serial, 4 bytes each.
 abbrev pub client_number : ℕ → ℕ → ℕ
@@ -223,7 +223,7 @@ is_too_small limits fore =
 
 -- the sessions that stay, and whether one more finds no place or no serial
 abbrev pub staying : Client → Table → List Session
-staying client table = without (is_of_clients (replaced_by client table)) table.sessions
+staying client table = without_where (is_of_clients (replaced_by client table)) table.sessions
 
 abbrev pub is_full_of_sessions : SessionLimits → Client → Table → Bool
 is_full_of_sessions limits client table =
@@ -250,8 +250,8 @@ fore_channel limits asked = record {
   rdma_ird = None;
 }
 
-abbrev pub created : SessionLimits → CreateSessionArguments → Client → Table → CreateSessionAnswer
-created limits arguments client table = record {
+abbrev pub create_session_answer : SessionLimits → CreateSessionArguments → Client → Table → CreateSessionAnswer
+create_session_answer limits arguments client table = record {
   session = session_id client.number (table.session_serial + 1);
   sequence = arguments.sequence;
   flags = 0;
@@ -274,8 +274,8 @@ confirmed_with answer client = record client { is_confirmed = true; sequence = n
 abbrev pub with_new_session : SessionLimits → CreateSessionArguments → Client → Table → Table
 with_new_session limits arguments client table = record table {
   session_serial = table.session_serial + 1;
-  clients = changed_where (is_client client.number) (confirmed_with (created limits arguments client table))
-      (without (is_replaced_by client) table.clients);
+  clients = changed_where (is_client client.number) (confirmed_with (create_session_answer limits arguments client table))
+      (without_where (is_replaced_by client) table.clients);
   sessions = staying client table ++ new_session limits arguments client table ∷ [];
 }
 
@@ -292,7 +292,7 @@ create_refused reason table = record { answer = Err reason; ended_clients = []; 
 abbrev pub create_unless : SessionLimits → CreateSessionArguments → Client → Table → Option Status → CreateSessionOutcome
 create_unless limits arguments client table (Some reason) = create_refused reason table
 create_unless limits arguments client table None = record {
-  answer = Ok (created limits arguments client table);
+  answer = Ok (create_session_answer limits arguments client table);
   ended_clients = replaced_by client table;
   table = with_new_session limits arguments client table;
 }
@@ -322,7 +322,7 @@ abbrev pub destroy_by : List ℕ → Table → Option Session → Option Status 
 destroy_by id table None = (Some status.BadSession, table)
 destroy_by id table (Some session) =
     if is_running session then (Some status.Delay, table)
-    else (None, with_sessions (without (is_session id) table.sessions) table)
+    else (None, with_sessions (without_where (is_session id) table.sessions) table)
 
 -- the refusal, if there is one
 unfoldable pub destroy_session : List ℕ → Table → Option Status × Table

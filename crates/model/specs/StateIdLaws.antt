@@ -8,7 +8,7 @@ use Rattle.model.specs.Limits.{Limits}
 use Rattle.model.specs.Opens.{Opens, Open}
 use Rattle.model.specs.OpensLaws.{AreOpens}
 use Rattle.model.specs.Operation.{Argument, OpenArguments}
-use Rattle.model.specs.StateIds.{Refused, Names, found, joined, state_of}
+use Rattle.model.specs.StateIds.{Refused, Names, found, upgraded, state_of}
 use Rattle.model.specs.Step.{State, does}
 
 -- Where it is used
@@ -43,7 +43,7 @@ LowerIsOld = (opens : Opens) (context : Context) (serial : ℕ) (known : Open) �
 -- and so is what was the newest once the open is joined, unless seqids begin again at 1
 abbrev pub JoinedIsOld : Type 0
 JoinedIsOld = (opens : Opens) (context : Context) (serial access : ℕ) (known : Open)
-    → Stands opens context serial (joined access known) → IsOwn context known
+    → Stands opens context serial (upgraded access known) → IsOwn context known
     → 0 < known.seqid → known.seqid < 2 ^ 32 - 1
     → found opens context (state_of context.run serial known.seqid) ≡ Refused status.OldStateId
 
@@ -91,7 +91,7 @@ may_end_opens _ = false
 
 abbrev pub IsJoined : Argument → Open → Option Open → Type 0
 IsJoined operation known left =
-    (is_open operation ≡ true) × ((access : ℕ) × (left ≡ Some (joined access known)))
+    (is_open operation ≡ true) × ((access : ℕ) × (left ≡ Some (upgraded access known)))
 
 abbrev pub HasEnded : Argument → Option Open → Type 0
 HasEnded operation left = (may_end_opens operation ≡ true) × (left ≡ None)

@@ -10,7 +10,7 @@ use Rattle.model.specs.Opens.{Open}
 use Rattle.model.specs.Operation.{Argument, OpenArguments, StateId}
 use Rattle.model.specs.Runs.{Event, Serving, History, IsRun, Happens, executed, mounted}
 use Rattle.model.specs.StateIdLaws.{IsOwn, IsGiven}
-use Rattle.model.specs.StateIds.{Refused, Names, by_seqid, found, is_like, joined, state_of}
+use Rattle.model.specs.StateIds.{Refused, Names, by_seqid, found, is_like, upgraded, state_of}
 use Rattle.model.specs.Step.{State}
 use Rattle.model.specs.Tree.{Tree}
 use Rattle.model.specs.World.{ServerLimits, Entry}
@@ -55,7 +55,7 @@ accesses_in other (entry ∷ done) =
 
 abbrev pub joined_by : (accesses : List ℕ) → Open → Open
 joined_by [] known = known
-joined_by (access ∷ accesses) known = joined_by accesses (joined access known)
+joined_by (access ∷ accesses) known = joined_by accesses (upgraded access known)
 
 abbrev pub Stands : Serving → (serial : ℕ) → Open → Type 0
 Stands serving serial known = at serial serving.world.opens.known ≡ Some known

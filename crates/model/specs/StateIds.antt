@@ -113,8 +113,8 @@ abbrev pub next_seqid : ℕ → ℕ
 next_seqid seqid = if seqid == 2 ^ 32 - 1 then 1 else seqid + 1
 
 -- opening again joins the access
-abbrev pub joined : (access : ℕ) → Open → Open
-joined access known = record known { access = bit_or known.access access; seqid = next_seqid known.seqid }
+abbrev pub upgraded : (access : ℕ) → Open → Open
+upgraded access known = record known { access = bit_or known.access access; seqid = next_seqid known.seqid }
 
 abbrev pub new_open : (client : ℕ) → (owner : List ℕ) → (number access : ℕ) → Open
 new_open client owner number access = record { client = client; owner = owner; number = number; access = access; seqid = 1 }
@@ -134,8 +134,8 @@ pub record Opened : Type 0 where
 abbrev pub opened_by : Opens → Open → Option (ℕ × Open) → Opened
 opened_by opens asked (Some entry) = record {
   serial = entry.0;
-  state = joined asked.access entry.1;
-  opens = record opens { known = with opens.known entry.0 (joined asked.access entry.1) };
+  state = upgraded asked.access entry.1;
+  opens = record opens { known = with opens.known entry.0 (upgraded asked.access entry.1) };
 }
 opened_by opens asked None = record {
   serial = opens.given + 1;

@@ -171,8 +171,8 @@ created_by world request outcome (Err reason) = refuses world request OP_CREATE_
 created_by world request outcome (Ok answer) =
     gives (record world { table = outcome.table; opens = without_clients outcome.ended_clients world.opens }) request (Answer.CreateSession answer)
 
-abbrev pub created : World → InProgress → sessions.CreateSessionOutcome → HasRun
-created world request outcome = created_by world request outcome outcome.answer
+abbrev pub session_created : World → InProgress → sessions.CreateSessionOutcome → HasRun
+session_created world request outcome = created_by world request outcome outcome.answer
 
 -- an operation that answers nothing: its refusal, if there is one, and the table after it
 abbrev pub tabled : World → InProgress → (operation : ℕ) → Answer → Option Status × Table → HasRun
@@ -216,7 +216,7 @@ unfoldable pub run : World → InProgress → (now : ℕ) → Argument → HasRu
 run world request now (Argument.ExchangeId arguments) =
     exchanged world request (sessions.exchange_id world.limits.sessions (has_opens world.opens) request.context.cred.uid arguments world.table)
 run world request now (Argument.CreateSession arguments) =
-    created world request (sessions.create_session world.limits.sessions request.context.cred.uid arguments world.table)
+    session_created world request (sessions.create_session world.limits.sessions request.context.cred.uid arguments world.table)
 run world request now (Argument.DestroySession id) =
     tabled world request OP_DESTROY_SESSION Answer.DestroySession (sessions.destroy_session id world.table)
 run world request now (Argument.DestroyClientId client) =
@@ -327,8 +327,8 @@ behind world number request (Outcome.Done answer) executed =
     if is_last request then ends world number (with_result request (Outcome.Done answer)) status.Ok executed
     else goes_on world number (with_result request (Outcome.Done answer)) executed
 
-abbrev pub entry_of : World → InProgress → Argument → Outcome → World → Entry
-entry_of before request operation outcome after = record {
+abbrev pub executed_entry : World → InProgress → Argument → Outcome → World → Entry
+executed_entry before request operation outcome after = record {
   state = state_of before request;
   operation = operation;
   outcome = outcome;
@@ -337,7 +337,7 @@ entry_of before request operation outcome after = record {
 
 abbrev pub has_run : World → (number : ℕ) → InProgress → Argument → HasRun → Turned
 has_run world number request operation (Gives outcome after left) =
-    behind after number left outcome (Some (entry_of world request operation outcome after))
+    behind after number left outcome (Some (executed_entry world request operation outcome after))
 has_run world number request operation (Replays result session slot) = record {
   turn = Answered;
   world = with_connection world number (Replied (framed (reply_text request.xid (Success result))));
@@ -399,12 +399,12 @@ abbrev pub arrives_at : RecordLimits → (piece : List ℕ) → Connection → C
 arrives_at limits piece (Quiet bytes) = arrived (bytes ++ piece) (front limits (bytes ++ piece))
 arrives_at limits piece connection = connection
 
-abbrev pub changed : World → (number : ℕ) → (Connection → Connection) → Option Connection → World
-changed world number change None = world
-changed world number change (Some connection) = with_connection world number (change connection)
+abbrev pub connection_changed : World → (number : ℕ) → (Connection → Connection) → Option Connection → World
+connection_changed world number change None = world
+connection_changed world number change (Some connection) = with_connection world number (change connection)
 
 unfoldable pub arrives : World → (number : ℕ) → (piece : List ℕ) → World
-arrives world number piece = changed world number (arrives_at world.limits.records piece) (at number world.connections)
+arrives world number piece = connection_changed world number (arrives_at world.limits.records piece) (at number world.connections)
 
 -- how many bytes of the piece are taken; none where the connection is closed, then or before
 abbrev pub taken_of : (piece : List ℕ) → Front → Connection → Option ℕ
@@ -431,7 +431,7 @@ without_reply (Replied reply) = Quiet []
 without_reply connection = connection
 
 unfoldable pub takes : World → (number : ℕ) → World
-takes world number = changed world number without_reply (at number world.connections)
+takes world number = connection_changed world number without_reply (at number world.connections)
 
 -- a number that no connection has, as long as there are fewer than the limit
 abbrev pub can_connect : World → (number : ℕ) → Bool

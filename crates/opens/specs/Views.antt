@@ -48,8 +48,8 @@ pub record IsAt (serial : ℕ) (opens : model.Opens) (entry : Entry) : Type 0 wh
   pub serial_is : entry.serial ≡ serial
 
 -- there is memory for one open more
-unfoldable pub HasRoom : Opens → Type 0
-HasRoom opens = vec_len opens.list < vec_capacity opens.list
+unfoldable pub HasMemory : Opens → Type 0
+HasMemory opens = vec_len opens.list < vec_capacity opens.list
 
 -- some number of opens has room for this one
 abbrev pub CanOpen : model.Opens → model.Open → Type 0

@@ -1,7 +1,7 @@
 //! One open.
 
 ghost use Rattle.std.specs.Prelude.{◌≡◌, ◌==◌, ◌&&◌, IfOk};
-ghost use Rattle.model.specs.StateIds.{is_like, joined, new_open};
+ghost use Rattle.model.specs.StateIds.{is_like, upgraded, new_open};
 ghost use Rattle.opens.specs.Views.{entry_of, open_of};
 
 use crate::access::Access;
@@ -51,7 +51,7 @@ impl Open {
 
     /// Adds the access that is asked for once more.
     pub(crate) fn join(&mut self, access: Access)
-        ensures { open_of self.new ≡ joined access.0 (open_of self.old) }
+        ensures { open_of self.new ≡ upgraded access.0 (open_of self.old) }
     {
         self.access = self.access.union(access);
         self.seqid = if self.seqid == u32::MAX {

@@ -19,7 +19,7 @@ pub struct Opens {
     ghost made: { All (λ entry. entry.serial ≤ given) list.items },
 }
 
-#[tactic(auto, unfolding(crate::specs::Views::opens_of, crate::specs::Views::HasRoom, model::specs::StateIds::found, model::specs::StateIds::opened))]
+#[tactic(auto, unfolding(crate::specs::Views::opens_of, crate::specs::Views::HasMemory, model::specs::StateIds::found, model::specs::StateIds::opened))]
 impl Opens {
     ghost use Rattle.std.specs.Prelude.{◌≡◌, None, map, IfOk, OnOk, IfSome, IfNone};
     ghost use Rattle.model.specs.Context.{Context};
@@ -27,7 +27,7 @@ impl Opens {
     ghost use Rattle.model.specs.Opens.{no_opens};
     ghost use Rattle.model.specs.StateIds.{found, is_table_full, open_like, open_named, opened, without_clients, without_number, without_open};
     ghost use Rattle.wire.specs.SmallViews.{state_view};
-    ghost use Rattle.opens.specs.Views.{found_of, named_by, open_of, opens_of, CanOpen, HasRoom, IsAt, IsLike, IsNamed, StandsAt};
+    ghost use Rattle.opens.specs.Views.{found_of, named_by, open_of, opens_of, CanOpen, HasMemory, IsAt, IsLike, IsNamed, StandsAt};
 
     /// A run begins with none.
     pub fn new(alloc: Global) -> Opens
@@ -41,7 +41,7 @@ impl Opens {
 
     /// Takes the memory for one open more.
     pub fn reserve(&mut self) -> Result<(), AllocError>
-        ensures room { OnOk result (HasRoom self.new) }
+        ensures room { OnOk result (HasMemory self.new) }
         ensures same { opens_of self.new ≡ opens_of self.old }
     {
         self.list.reserve(1)
@@ -73,7 +73,7 @@ impl Opens {
     /// OPEN (RFC 8881, section 18.16): joins the open of the same client and owner on the same file, or makes a new one. Returns
     /// its stateid.
     pub fn open(&mut self, run: u32, asked: Open) -> StateId
-        requires room { HasRoom self.old }
+        requires room { HasMemory self.old }
         requires serial { CanOpen (opens_of self.old) (open_of asked) }
         ensures opens { opens_of self.new ≡ (opened (opens_of self.old) (open_of asked)).opens }
         ensures state { state_view result

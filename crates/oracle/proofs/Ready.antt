@@ -1,5 +1,5 @@
 -- What holds where no test of an operation does.
-use Rattle.std.proofs.Common.{ℕ, Bool, true, false, [], ◌∷◌, ◌++◌, ◌≡◌, ◌<◌, ◌-◌, ◌^◌, ◌||◌, nat_le, not, length, refl}
+use Rattle.std.proofs.Common.{ℕ, Bool, true, false, [], ◌∷◌, ◌≡◌, ◌<◌, ◌-◌, ◌^◌, nat_le, not, length}
 use Rattle.std.specs.Prelude.{Option, Some, None, IsTrue, IsFalse}
 use Rattle.std.proofs.lemmas.Bool.{leb-false}
 use Rattle.model.specs.Opens.{Open, Opens}
@@ -14,6 +14,8 @@ use Rattle.model.specs.Keyed.{is_key}
 use Rattle.model.specs.Need.{need_first}
 use Rattle.model.specs.State.{State, current}
 use Rattle.model.specs.Step.{refusals, early, middle, without_rights}
+use Rattle.model.proofs.BooleanLaws.{second_of_neither}
+use Rattle.model.proofs.RefusalLaws.{none_in_front, none_before, none_after}
 use Rattle.oracle.specs.Ready.{IsReady}
 use Rattle.oracle_refusals.specs.Computed.{is_computed}
 
@@ -21,23 +23,6 @@ behind : (holds : Bool) (reason : Status) (others : Option Status) {A : Type 0} 
     → refused_or holds reason others ≡ None → A
 behind true reason others next none = cc
 behind false reason others next none = next none
-
--- tests of which none holds have no other one after them
-pub none_behind : (front rest : Refusals) → first_refusal (front ++ rest) ≡ None → first_refusal rest ≡ None
-none_behind [] rest none = none
-none_behind (test ∷ front) rest none = behind test.0 test.1 (first_refusal (front ++ rest)) (none_behind front rest) none
-
-pub none_first : (holds : Bool) (reason : Status) (others : Option Status) → refused_or holds reason others ≡ None
-    → (holds ≡ false) × (others ≡ None)
-none_first true reason others none = cc
-none_first false reason others none = (refl, none)
-
--- and none of a front holds
-pub none_before : (front rest : Refusals) → first_refusal (front ++ rest) ≡ None → first_refusal front ≡ None
-none_before [] rest none = refl
-none_before (test ∷ front) rest none =
-    let parts = none_first test.0 test.1 (first_refusal (front ++ rest)) none in
-    rw parts.0 (none_before front rest parts.1)
 
 never : (reason : Status) {A : Type 0} → Some reason ≡ None → A
 never reason none = absurd (elim_never reason none)
@@ -50,9 +35,9 @@ pub ready : (limits : Limits) (state : State) (operation : Argument) → IsTrue 
 unfolding refusals
 ready limits state (Argument.Open arguments) is none =
     let operation = Argument.Open arguments in
-    let behind = none_behind (early limits state operation) _ none in
-    let then = none_behind ((_, _) ∷ middle limits state operation) _ behind in
-    (none_first _ _ _ (none_first _ _ _ then).1).0
+    let behind = none_after (early limits state operation) _ none in
+    let then = none_after ((_, _) ∷ middle limits state operation) _ behind in
+    (none_in_front _ _ _ (none_in_front _ _ _ then).1).0
 ready limits state (Argument.Create (OtherType number)) is none =
     let operation = Argument.Create (OtherType number) in
     let rest : Refusals = (without_rights state (need_first state.tree state.context operation), status.Access)
@@ -60,16 +45,12 @@ ready limits state (Argument.Create (OtherType number)) is none =
     let before = none_before (early limits state operation) rest none in
     let known : Bool = not (is_key (current state) state.tree) in
     let last : Option Status = Some status.BadType in
-    never status.BadType (none_first known status.Stale last
-    (none_first (not (has_current state.context)) status.NoFileHandle (refused_or known status.Stale last) before).1).1
+    never status.BadType (none_in_front known status.Stale last
+    (none_in_front (not (has_current state.context)) status.NoFileHandle (refused_or known status.Stale last) before).1).1
 ready limits state _ is none = tt
-
-second : (a b : Bool) → (a || b) ≡ false → b ≡ false
-second true b none = cc
-second false b none = none
 
 -- where the table is not full, an open that joins no other one has a serial left
 pub serial_left : (most : ℕ) (opens : Opens) (asked : Open) → IsFalse (is_table_full most opens asked) → open_like opens asked ≡ None
     → opens.given < 2 ^ 64 - 1
 serial_left most opens asked room none =
-    leb-false (2 ^ 64 - 1) opens.given (second (nat_le most (length opens.known)) (nat_le (2 ^ 64 - 1) opens.given) (rw none at room))
+    leb-false (2 ^ 64 - 1) opens.given (second_of_neither (nat_le most (length opens.known)) (nat_le (2 ^ 64 - 1) opens.given) (rw none at room))

@@ -1,26 +1,13 @@
 -- A step by what its tests say.
-use Rattle.std.proofs.Common.{Bool, true, false, ℕ, [], ◌∷◌, ◌++◌, ◌≡◌, refl, sym, ap, ◌∙◌}
+use Rattle.std.proofs.Common.{ℕ, ◌≡◌, refl, sym, ap, ◌∙◌}
 use Rattle.std.specs.Prelude.{Option, Some, None}
 use Rattle.model.specs.declared.status.Status.{Status}
 use Rattle.model.specs.declared.limits.Limits.{Limits}
 use Rattle.model.specs.Operation.{Argument}
-use Rattle.model.specs.Refusal.{Refusals, first_refusal, refused_or}
+use Rattle.model.specs.Refusal.{first_refusal}
 use Rattle.model.specs.State.{State, Stepped, refused}
 use Rattle.model.specs.Step.{change_refusals, does, effect, refusals, unless_refused}
-
--- the first of two answers
-abbrev or_else : Option Status → Option Status → Option Status
-or_else None second = second
-or_else (Some first) second = Some first
-
-first_append : (front rest : Refusals) → first_refusal (front ++ rest) ≡ or_else (first_refusal front) (first_refusal rest)
-first_append [] rest = refl
-first_append (test ∷ front) rest = head test.0 test.1 (first_append front rest)
-  where
-    head : (test : Bool) (reason : Status) → first_refusal (front ++ rest) ≡ or_else (first_refusal front) (first_refusal rest)
-        → refused_or test reason (first_refusal (front ++ rest)) ≡ or_else (refused_or test reason (first_refusal front)) (first_refusal rest)
-    head true reason same = refl
-    head false reason same = same
+use Rattle.model.proofs.RefusalLaws.{first-append, or_else}
 
 module _ (limits : Limits) (state : State) (now : ℕ) (operation : Argument) where
   by_tests : (o : Option Status)
@@ -30,7 +17,7 @@ module _ (limits : Limits) (state : State) (now : ℕ) (operation : Argument) wh
   unfolding does
   by_tests o is =
       ap (λ (p : Option Status). unless_refused state operation p (effect limits state now operation))
-      (first_append (refusals limits state operation)
+      (first-append (refusals limits state operation)
       (change_refusals limits state operation (effect limits state now operation).state.tree) ∙ is)
 
   pub refused_first : (reason : Status) → first_refusal (refusals limits state operation) ≡ Some reason

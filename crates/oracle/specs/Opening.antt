@@ -13,6 +13,6 @@ opened_of opened = record { serial = opened.serial; state = opened.state; opens 
 abbrev pub joined_by : Opens → (serial : ℕ) → Open → (access : ℕ) → stateids.Opened
 joined_by opens serial known access = record {
   serial = serial;
-  state = stateids.joined access known;
-  opens = record opens { known = with opens.known serial (stateids.joined access known) };
+  state = stateids.upgraded access known;
+  opens = record opens { known = with opens.known serial (stateids.upgraded access known) };
 }

@@ -4,7 +4,7 @@ use Rattle.model.specs.declared.limits.Limits.{Limits}
 use Rattle.model.specs.Answer.{Entry}
 use Rattle.model.specs.Keyed.{Keyed}
 use Rattle.model.specs.Operation.{ReadDirArguments}
-use Rattle.model.specs.ReadDir.{entry_of, names_after}
+use Rattle.model.specs.ReadDir.{listed_entry, names_after}
 use Rattle.model.specs.State.{State}
 use Rattle.model.specs.Acl.{read_acl}
 use Rattle.model.specs.Need.{Right}
@@ -12,7 +12,7 @@ use Rattle.model.specs.Tree.{DirEntry}
 
 abbrev pub listed_names : Limits → State → ReadDirArguments → Keyed DirEntry → List Entry
 listed_names limits state arguments names =
-    map (entry_of limits state.tree state.context.cred arguments.bitmap) (names_after arguments.cookie names)
+    map (listed_entry limits state.tree state.context.cred arguments.bitmap) (names_after arguments.cookie names)
 
 -- the right to read the list of each
 abbrev pub reading_rights : (cookie : ℕ) → Keyed DirEntry → List (List Right)

@@ -5,9 +5,9 @@ use Rattle.std.proofs.lemmas.Bool.{lt-ltb, le-ltb}
 use Rattle.std.proofs.Common.{cond}
 use Rattle.std.specs.Prelude.{filter, not}
 use Rattle.std.proofs.Common.{length-append}
-use Rattle.std.proofs.lemmas.List.{length-take, length-replicate}
 use Rattle.model.specs.Edit.{resized, overwritten}
 use Rattle.model.specs.Keyed.{Keyed, with, without, kept_or_not}
+use Rattle.model.proofs.NodeChangeLaws.{length-resized}
 
 module _ {A : Type 0} (key : ℕ) (value : A) where
   -- one entry more is passed
@@ -66,10 +66,6 @@ without_is key (entry ∷ rest) = here (key == entry.0) (without_is key rest)
         ≡ cond (not is_same) (entry ∷ filter (λ entry. not (key == entry.0)) rest) (filter (λ entry. not (key == entry.0)) rest)
     here true same = same
     here false same = ap (λ l. entry ∷ l) same
-
--- bytes have the size that they are cut or filled up to
-pub length-resized : (bytes : List ℕ) (size : ℕ) → length (resized bytes size) ≡ size
-length-resized bytes size = simp (length-append, length-take, length-replicate) (omega arith)
 
 -- what follows a part that is written over bytes
 pub overwritten_is : (bytes : List ℕ) (offset : ℕ) (part : List ℕ) (end : ℕ) → end ≡ length (resized bytes offset ++ part)

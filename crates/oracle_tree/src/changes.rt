@@ -5,7 +5,7 @@ ghost use Rattle.std.specs.Option.{option_copied};
 ghost use Rattle.model.specs.Changes.{touched, touch, made_edits, removal, removed_edits, moving, renamed_edits};
 ghost use Rattle.model.specs.Directory.{acl_of};
 ghost use Rattle.model.specs.Edit.{edited};
-ghost use Rattle.model.specs.Inherit.{created};
+ghost use Rattle.model.specs.Inherit.{created_list};
 ghost use Rattle.model.specs.Keyed.{at};
 ghost use Rattle.model.specs.Mode.{moded};
 ghost use Rattle.oracle_tree.specs.View.{shown_of};
@@ -211,7 +211,7 @@ pub fn created(
     mode: Option<u32>,
     acl: Option<Acl>,
 ) -> Result<Acl, AllocError>
-    ensures { IfOk result (λ list. list ≡ created parent.now kind is_empty mode acl) }
+    ensures { IfOk result (λ list. list ≡ created_list parent.now kind is_empty mode acl) }
 {
     if let Some(acl) = acl {
         return Ok(acl);

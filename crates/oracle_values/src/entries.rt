@@ -7,7 +7,7 @@ ghost use Rattle.xdr.specs.Grammar.{number};
 ghost use Rattle.std.specs.Int.{w32};
 ghost use Rattle.std.specs.List.{flat_map};
 ghost use Rattle.model.specs.NodeAttributes.{unreadable};
-ghost use Rattle.model.specs.ReadDir.{asks_lists, entry_attributes, entry_of, entry_size, fitting, may_read_list};
+ghost use Rattle.model.specs.ReadDir.{asks_lists, entry_attributes, listed_entry, entry_size, fitting, may_read_list};
 ghost use Rattle.model.specs.WireAnswers.{entry};
 ghost use Rattle.oracle_values.specs.Shown.{shown_attributes};
 
@@ -77,7 +77,7 @@ pub fn entry_of(
     name: &(u128, DirEntry),
 ) -> Result<Entry, AllocError>
     ensures { IfOk result (λ listed. listed
-        ≡ entry_of limits.now tree.now cred.now asked.now name.now) }
+        ≡ listed_entry limits.now tree.now cred.now asked.now name.now) }
 {
     let entry = &name.1;
     let number = entry.number;

@@ -2,6 +2,7 @@
 use Rattle.std.proofs.Common.{◌≡◌, ◌≢◌, ◌<◌, ℕ, List, Option, Some, length, get_or, set, sym, ap, subst, ◌∙◌, arith, inl, inr}
 use Rattle.std.proofs.lemmas.Bool.{cases_eq}
 use Rattle.std.proofs.lemmas.List.{length-set, get_or-set_same, get_or-set_other}
+use Rattle.std.proofs.lemmas.Option.{same_Some}
 use Rattle.cards.specs.Tables.{number_at, HaveOwnPlaces}
 use Rattle.cards.proofs.TableLaws.{within-numbered}
 use Rattle.layout.specs.Cards.{Card}
@@ -9,7 +10,7 @@ use Rattle.model.specs.Tree.{root}
 use Rattle.shape.specs.Trees.{IsOneTree}
 use Rattle.parents.specs.ParentLaws.{MovesName, EachMove, EachKept}
 use Rattle.parents.specs.Parents.{LeadsTo, HasName, AreParents}
-use Rattle.parents.proofs.LinkLaws.{some_is, no_root, one_name}
+use Rattle.parents.proofs.LinkLaws.{no_root, one_name}
 
 module _ (old new : List (Option Card)) (parents : List ℕ) (moved place directory : ℕ) (are : AreParents old parents) (own : HaveOwnPlaces new) (tree : IsOneTree new)
     (moves : MovesName old new moved place directory) where
@@ -21,7 +22,7 @@ module _ (old new : List (Option Card)) (parents : List ℕ) (moved place direct
 
   elsewhere : (p n : ℕ) → number_at new p ≡ Some n → n ≢ moved → get_or (set parents place directory) p 0 ≡ get_or parents p 0
   elsewhere p n there off =
-      get_or-set_other parents place p directory 0 (λ same. off (some_is n moved (sym there ∙ ap (number_at new) same ∙ moves.node)))
+      get_or-set_other parents place p directory 0 (λ same. off (same_Some n moved (sym there ∙ ap (number_at new) same ∙ moves.node)))
 
   named : (p n of : ℕ) → number_at new p ≡ Some n → HasName new of n → get_or (set parents place directory) p 0 ≡ of
   named p n of there has = elim (cases_eq n moved) [

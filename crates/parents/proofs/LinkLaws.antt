@@ -1,37 +1,19 @@
 -- Of one tree each number has one name at most, and the root has none.
-use Rattle.std.proofs.Common.{◌≡◌, ◌≢◌, ◌≤◌, ◌<◌, ◌+◌, ℕ, zero, suc, List, [], ◌∷◌, Option, Some, None, get_or, refl, sym, ap, ◌∙◌, arith, inl, inr, eqb, eq-eqb, ne_eqb}
+use Rattle.std.proofs.Common.{◌≡◌, ◌≢◌, ◌≤◌, ◌<◌, ◌+◌, ℕ, zero, suc, List, [], ◌∷◌, Option, Some, None, get_or, refl, sym, ap, ◌∙◌, arith, inl, inr, eq-eqb, ne_eqb}
 use Rattle.std.proofs.lemmas.Bool.{cases_eq}
+use Rattle.std.proofs.lemmas.Option.{same_Some}
 use Rattle.cards.specs.Tables.{number_at, number_of, HaveOwnPlaces, HasNot}
 use Rattle.layout.specs.Cards.{Card}
-use Rattle.layout.specs.Marks.{once_if, times}
+use Rattle.layout.specs.Marks.{times}
 use Rattle.layout.specs.Laid.{AreNumbered}
 use Rattle.layout.specs.SumLaws.{entry_numbers, other_numbers, numbers_of}
+use Rattle.layout.proofs.NumberLaws.{once-off, once-at, times-append}
 use Rattle.model.specs.Tree.{root}
+use Rattle.model.proofs.OptionLaws.{some≢none}
 use Rattle.shape.specs.Trees.{led_at, led_by, IsOneTree}
-use Rattle.shape.proofs.Sums.{times-append}
+use Rattle.shape.proofs.TreeLaws.{numbered}
+use Rattle.shape.proofs.Counting.{root-others}
 use Rattle.parents.specs.Parents.{LeadsTo, HasName}
-
-pub some_is : {A : Type 0} (x y : A) → Some x ≡ Some y → x ≡ y
-some_is x y e = cc
-
-pub some_none : {A : Type 0} (x : A) → Some x ≡ None → ⊥
-some_none x e = cc
-
-once-here : (n m : ℕ) → n ≡ m → once_if (eqb n m) ≡ 1
-once-here n m e = rw (eq-eqb n m e) refl
-
-once-off : (n m : ℕ) → n ≢ m → once_if (eqb n m) ≡ 0
-once-off n m off = rw (ne_eqb n m off) refl
-
--- the card of a number
-pub numbered : (cards : List (Option Card)) (place number : ℕ) → number_at cards place ≡ Some number
-    → (card : Card) × ((get_or cards place None ≡ Some card) × (card.fields.number ≡ number))
-numbered cards place number is = from (get_or cards place None) refl is
-  where
-    from : (found : Option Card) → get_or cards place None ≡ found → number_of found ≡ Some number
-        → (card : Card) × ((get_or cards place None ≡ Some card) × (card.fields.number ≡ number))
-    from None e none = absurd (some_none number (sym none))
-    from (Some card) e some = (card, (e, some_is card.fields.number number some))
 
 -- Names at places, and all names
 
@@ -65,14 +47,6 @@ led-where n (Some card ∷ cards) some = elim (cases_eq (times n (numbers_of car
 
 -- The numbers of the nodes but the root
 
-others-root : (cards : List (Option Card)) → times root (other_numbers cards) ≡ 0
-others-root [] = refl
-others-root (None ∷ cards) = others-root cards
-others-root (Some card ∷ cards) = elim (cases_eq card.fields.number root) [
-  | inl is ↦ rw (eq-eqb card.fields.number root is) (others-root cards)
-  | inr off ↦ rw (ne_eqb card.fields.number root off) (omega (arith, once-off root card.fields.number (λ e. off (sym e)), others-root cards))
-]
-
 others-lack : (n : ℕ) (cards : List (Option Card)) → HasNot cards n → times n (other_numbers cards) ≡ 0
 others-lack n [] lack = refl
 others-lack n (None ∷ cards) lack = others-lack n cards (λ p. lack (suc p))
@@ -97,18 +71,18 @@ others-few n (Some card ∷ cards) own =
       | inr off ↦ elim (cases_eq n card.fields.number) [
         | inl same ↦
             let none = others-lack n cards (λ p there. let e : 0 ≡ suc p = own 0 (suc p) n (ap Some (sym same)) there in omega arith) in
-            rw (ne_eqb card.fields.number root off) (omega (arith, once-here n card.fields.number same, none))
+            rw (ne_eqb card.fields.number root off) (omega (arith, once-at n card.fields.number same, none))
         | inr apart ↦ rw (ne_eqb card.fields.number root off) (omega (arith, once-off n card.fields.number apart, rest))
       ]
     ]
 
 others-have : (n : ℕ) (cards : List (Option Card)) (p : ℕ) → n ≢ root → number_at cards p ≡ Some n → 0 < times n (other_numbers cards)
-others-have n [] p off there = absurd (some_none n (sym there))
-others-have n (None ∷ cards) zero off there = absurd (some_none n (sym there))
+others-have n [] p off there = absurd (some≢none n (sym there))
+others-have n (None ∷ cards) zero off there = absurd (some≢none n (sym there))
 others-have n (None ∷ cards) (suc p) off there = others-have n cards p off there
 others-have n (Some card ∷ cards) zero off there =
-    let same : card.fields.number ≡ n = some_is card.fields.number n there in
-    rw (ne_eqb card.fields.number root (λ e. off (sym same ∙ e))) (omega (arith, once-here n card.fields.number (sym same)))
+    let same : card.fields.number ≡ n = same_Some card.fields.number n there in
+    rw (ne_eqb card.fields.number root (λ e. off (sym same ∙ e))) (omega (arith, once-at n card.fields.number (sym same)))
 others-have n (Some card ∷ cards) (suc p) off there =
     let rest = others-have n cards p off there in
     elim (cases_eq card.fields.number root) [
@@ -136,7 +110,7 @@ own-places cards apart p q n here there = elim (cases_eq p q) [
 
 module _ (cards : List (Option Card)) (tree : IsOneTree cards) where
   pub no_root : (p : ℕ) → LeadsTo cards p root → ⊥
-  no_root p leads = omega (arith, leads, led-one root cards p, tree.linked root, others-root cards)
+  no_root p leads = omega (arith, leads, led-one root cards p, tree.linked root, root-others cards)
 
   -- no name leads to no node
   pub no_other : (n p : ℕ) → HasNot cards n → LeadsTo cards p n → ⊥
@@ -159,4 +133,4 @@ module _ (cards : List (Option Card)) (tree : IsOneTree cards) where
     pub one_name : (n a b : ℕ) → HasName cards a n → HasName cards b n → a ≡ b
     one_name n a b first second =
         let same = one_place n first.place second.place first.leads second.leads in
-        some_is a b (sym first.there ∙ ap (number_at cards) same ∙ second.there)
+        same_Some a b (sym first.there ∙ ap (number_at cards) same ∙ second.there)

@@ -2,6 +2,7 @@
 use Rattle.std.proofs.Common.{◌≡◌, ◌≢◌, ◌<◌, ◌+◌, ◌++◌, ℕ, suc, List, [], ◌∷◌, Option, Some, length, get_or, map, set, take, refl, sym, ap, subst, ◌∙◌, arith, inl, inr, eqb, eq-eqb, ne_eqb}
 use Rattle.std.proofs.lemmas.Bool.{cases_eq}
 use Rattle.std.proofs.lemmas.List.{length-set, get_or-set_same, get_or-set_other, get_or-map, length-map}
+use Rattle.std.proofs.lemmas.Option.{same_Some}
 use Rattle.directory.specs.declared.entry.Entry.{Entry}
 use Rattle.directory.specs.Records.{Record, record_of}
 use Rattle.cards.specs.Tables.{number_at, HasNot, HaveOwnPlaces}
@@ -9,12 +10,13 @@ use Rattle.cards.proofs.TableLaws.{within-numbered}
 use Rattle.layout.specs.Cards.{Card}
 use Rattle.layout.specs.Marks.{once_if, times}
 use Rattle.layout.specs.SumLaws.{numbers_of}
+use Rattle.layout.proofs.NumberLaws.{times-append}
 use Rattle.model.specs.Tree.{root}
 use Rattle.shape.specs.Trees.{led_at, IsOneTree}
-use Rattle.shape.proofs.Sums.{times-append, take-one}
+use Rattle.shape.proofs.Sums.{take-one}
 use Rattle.parents.specs.Notes.{IsNoted}
 use Rattle.parents.specs.Parents.{LeadsTo, AreParents}
-use Rattle.parents.proofs.LinkLaws.{some_is, no_root, one_place}
+use Rattle.parents.proofs.LinkLaws.{no_root, one_place}
 
 -- One name
 
@@ -37,13 +39,13 @@ module _ (cards : List (Option Card)) (old now numbers : List ℕ) (directory nu
           let at : p ≡ place = own p place number (there ∙ ap Some same) is in
           ap (λ k. get_or (set now place directory) k 0) at ∙ get_or-set_same now place directory 0 inside
       | inr apart ↦
-          get_or-set_other now place p directory 0 (λ at. apart (some_is n number (sym there ∙ ap (number_at cards) at ∙ is)))
+          get_or-set_other now place p directory 0 (λ at. apart (same_Some n number (sym there ∙ ap (number_at cards) at ∙ is)))
           ∙ noted.led p n there (omega (arith, some, times-one n, off n apart))
     ];
     others = λ p n there none. elim (cases_eq n number) [
       | inl same ↦ absurd (omega (arith, none, times-one n, here n same))
       | inr apart ↦
-          get_or-set_other now place p directory 0 (λ at. apart (some_is n number (sym there ∙ ap (number_at cards) at ∙ is)))
+          get_or-set_other now place p directory 0 (λ at. apart (same_Some n number (sym there ∙ ap (number_at cards) at ∙ is)))
           ∙ noted.others p n there (omega (arith, none, times-one n, off n apart))
     ];
   }
@@ -121,7 +123,7 @@ module _ (cards : List (Option Card)) (tree : IsOneTree cards) (own : HaveOwnPla
       | inr some ↦
           let led : times n (led_at cards front) ≡ times n numbers = ap (times n) led_is in
           let same : front ≡ of = one_place cards tree own n front of (omega (arith, led, some)) leads in
-          one.led p n there (omega (arith, some)) ∙ some_is directory of_number (sym there_is ∙ ap (number_at cards) same ∙ at)
+          one.led p n there (omega (arith, some)) ∙ same_Some directory of_number (sym there_is ∙ ap (number_at cards) same ∙ at)
     ];
     nameless = λ p n there all.
         (let empty : times n numbers ≡ 0 = ap (times n) (sym led_is) ∙ all front (omega arith) in

@@ -1,13 +1,15 @@
 -- What is told by place is told of the tree, whatever the sectors hold.
-use Rattle.std.proofs.Common.{◌≡◌, ◌<◌, ℕ, Bool, true, false, List, [], ◌∷◌, Option, Some, length, get_or, refl, sym, ap, subst, ◌∙◌, arith, inl, inr, lt-ltb, le-ltb}
-use Rattle.std.specs.Prelude.{if◌then◌else◌}
+use Rattle.std.proofs.Common.{◌≡◌, ◌<◌, ℕ, List, [], ◌∷◌, Option, Some, length, get_or, refl, sym, ap, subst, ◌∙◌, arith, inl, inr, lt-ltb, le-ltb}
 use Rattle.std.proofs.lemmas.Bool.{cases_eq, cases_lt}
+use Rattle.std.proofs.lemmas.Option.{same_Some}
 use Rattle.disk.specs.Moments.{Image}
 use Rattle.model.specs.Ancestors.{parent_of}
 use Rattle.model.specs.Keyed.{at, IsAbove}
 use Rattle.model.specs.Tree.{Tree, Node, root}
 use Rattle.model.specs.WellFormed.{links_from}
 use Rattle.model.proofs.KeyedLaws.{at-first, at-rest, at-above}
+use Rattle.model.proofs.OptionLaws.{some≢none}
+use Rattle.model.proofs.BooleanLaws.{if_true, if_false}
 use Rattle.cards.specs.Tables.{number_at, number_of, HasNot, count_of_all}
 use Rattle.layout.specs.Cards.{Card, tree_of, node_of}
 use Rattle.layout.specs.Known.{AreCards}
@@ -18,18 +20,12 @@ use Rattle.layout.proofs.Changing.{tree-above, tree-lacks}
 use Rattle.layout.proofs.Knowing.{AreEach, each_above, each_card}
 use Rattle.layout.proofs.Summing.{known_sum, links-card}
 use Rattle.shape.specs.Trees.{led_at, led_by, IsOneTree}
-use Rattle.shape.proofs.TreeLaws.{find, There, Nowhere}
+use Rattle.shape.proofs.TreeLaws.{find, There, Nowhere, numbered}
 use Rattle.parents.specs.ParentLaws.{EachParent}
 use Rattle.parents.specs.Parents.{LeadsTo, HasName, AreParents}
-use Rattle.parents.proofs.LinkLaws.{some_is, some_none, no_root, no_other, has_name, numbered}
+use Rattle.parents.proofs.LinkLaws.{no_root, no_other, has_name}
 
 -- A tree's parents
-
-if_true : {A : Type 0} (b : Bool) (x y : A) → b ≡ true → (if b then x else y) ≡ x
-if_true b x y is = rw is refl
-
-if_false : {A : Type 0} (b : Bool) (x y : A) → b ≡ false → (if b then x else y) ≡ y
-if_false b x y is = rw is refl
 
 -- each node with a name of the number has this number
 Only : Tree → (number parent : ℕ) → Type 0
@@ -44,14 +40,14 @@ only-rest entry rest number parent above only key node is leads =
 parent_found : (tree : Tree) (least number parent key : ℕ) (node : Node) → IsAbove least tree → Only tree number parent → at key tree ≡ Some node → 0 < links_from number node
     → parent_of tree number ≡ parent
 unfolding Only
-parent_found [] least number parent key node above only is leads = absurd (some_none node (sym is))
+parent_found [] least number parent key node above only is leads = absurd (some≢none node (sym is))
 parent_found (entry ∷ rest) least number parent key node above only is leads = elim (cases_lt 0 (links_from number entry.1)) [
   | inl first ↦
       if_true _ entry.0 (parent_of rest number) (lt-ltb 0 (links_from number entry.1) first)
       ∙ only entry.0 entry.1 (at-first entry.0 entry.0 entry.1 rest refl) first
   | inr none ↦ elim (cases_eq key entry.0) [
     | inl one ↦
-        let same : entry.1 ≡ node = some_is entry.1 node (sym (at-first entry.0 key entry.1 rest one) ∙ is) in
+        let same : entry.1 ≡ node = same_Some entry.1 node (sym (at-first entry.0 key entry.1 rest one) ∙ is) in
         let worths : links_from number entry.1 ≡ links_from number node = ap (links_from number) same in
         absurd (omega arith)
     | inr apart ↦
@@ -83,11 +79,11 @@ module _ (nodes : ℕ) (mark : ℕ → ℕ) (cards : List (Option Card)) (known 
     pub name_of_card : (key : ℕ) (node : Node) → at key (tree_of image cards) ≡ Some node → 0 < links_from number node → HasName cards key number
     name_of_card key node is leads = elim (find cards key) [
       | There p card there same ↦
-          let node_is : node_of image card ≡ node = some_is (node_of image card) node (sym (tree-has image cards p card known.apart there) ∙ ap (λ n. at n (tree_of image cards)) same ∙ is) in
+          let node_is : node_of image card ≡ node = same_Some (node_of image card) node (sym (tree-has image cards p card known.apart there) ∙ ap (λ n. at n (tree_of image cards)) same ∙ is) in
           let links : links_from number node ≡ times number (numbers_of card.names) = ap (links_from number) (sym node_is) ∙ links-card number image card (is_card p card there) in
           let led : times number (led_at cards p) ≡ times number (numbers_of card.names) = ap (λ (found : Option Card). times number (led_by found)) there in
           record { place = p; there = ap number_of there ∙ ap Some same; leads = omega arith }
-      | Nowhere none ↦ absurd (some_none node (sym is ∙ tree-lacks image cards key none))
+      | Nowhere none ↦ absurd (some≢none node (sym is ∙ tree-lacks image cards key none))
     ]
 
     -- and the other way

@@ -58,9 +58,11 @@ fn read_block<S: Sectors>(
 ) -> Result<(), ReadingFault>
     requires within { AreWithin (S.size (S.kept base.old)) blocks.now }
     requires room { from + count ≤ SECTOR }
+    // What it appends
     ensures bytes { OnOk result (Appends S.keeps_word (S.image (S.kept base.old)) blocks.now
         (SECTOR * block + from) count out.old.items out.new.items) }
     ensures err { OnErr result (out.new.items ≡ out.old.items) }
+    // It only reads the base
     ensures kept { S.kept base.new ≡ S.kept base.old }
     ensures health { Reads (S.health base.old) (S.health base.new)
         (IsErrOf result ReadingFault.Device) }
@@ -85,9 +87,11 @@ fn read_blocks<S: Sectors>(
 ) -> Result<(), ReadingFault>
     requires within { AreWithin (S.size (S.kept base.old)) blocks.now }
     requires room { offset + count < 2 ^ 64 }
+    // What it appends
     ensures bytes { OnOk result (Appends S.keeps_word (S.image (S.kept base.old)) blocks.now
         offset count out.old.items out.new.items) }
     ensures front { IsFront out.old.items out.new.items }
+    // It only reads the base
     ensures kept { S.kept base.new ≡ S.kept base.old }
     ensures health { Reads (S.health base.old) (S.health base.new)
         (IsErrOf result ReadingFault.Device) }
@@ -127,6 +131,7 @@ pub fn read_bytes<S: Sectors>(
         (min len (card.now.fields.size - offset))) }
     ensures err { OnErr result (out.new.items ≡ out.old.items) }
     // It only reads
+    // It only reads the base
     ensures kept { S.kept base.new ≡ S.kept base.old }
     ensures health { Reads (S.health base.old) (S.health base.new)
         (IsErrOf result ReadingFault.Device) }

@@ -7,7 +7,7 @@ use Rattle.rpc.specs.declared.fault.RecordFault.{RecordFault}
 use Rattle.rpc.specs.declared.fault.RecordFault.TheVariants as faults
 use Rattle.rpc.specs.declared.receive.Progress.TheVariants as progress
 use Rattle.rpc.specs.declared.state.State.TheVariants as states
-use Rattle.rpc.specs.Assembly.{record_limits, max_received, Stands, Assembly, Gathers, Holds, Refuses, connection_of, fault_in, fault_at, is_partial, IsRefused, Receives}
+use Rattle.rpc.specs.Assembly.{record_limits, max_received, Stands, Assembly, Gathers, Holds, Refuses, connection_of, fault_in, fault_at, is_partial, RefusesPiece, Receives}
 
 pub nothing_yet : is_partial (front record_limits []) ≡ true
 unfolding front_from
@@ -65,7 +65,7 @@ none_by piece Partial = refl
 none_by piece (Refused why) = refl
 none_by piece (Whole request rest) = refl
 
-pub refused_by : (old : Assembly) (bytes piece : List ℕ) (fault : RecordFault) → old ≡ Gathers bytes → fault_in (front record_limits (bytes ++ piece)) ≡ Some fault → IsRefused piece old (Refuses fault) fault
+pub refused_by : (old : Assembly) (bytes piece : List ℕ) (fault : RecordFault) → old ≡ Gathers bytes → fault_in (front record_limits (bytes ++ piece)) ≡ Some fault → RefusesPiece piece old (Refuses fault) fault
 unfolding taken_at
 refused_by old bytes piece fault is why =
     let shut : arrived (bytes ++ piece) (front record_limits (bytes ++ piece)) ≡ Closed = closes (bytes ++ piece) (front record_limits (bytes ++ piece)) fault why in
@@ -78,7 +78,7 @@ refused_by old bytes piece fault is why =
       closes = ap (λ (a : Assembly). arrives_at record_limits piece (connection_of a)) is ∙ shut;
     }
 
-pub refused_before : (old : Assembly) (piece : List ℕ) (fault : RecordFault) → old ≡ Refuses fault → IsRefused piece old (Refuses fault) fault
+pub refused_before : (old : Assembly) (piece : List ℕ) (fault : RecordFault) → old ≡ Refuses fault → RefusesPiece piece old (Refuses fault) fault
 unfolding taken_at
 refused_before old piece fault is = record {
   reason = ap (fault_at piece) is;

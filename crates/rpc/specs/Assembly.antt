@@ -64,7 +64,7 @@ fault_at piece (Holds request) = None
 fault_at piece (Refuses fault) = Some fault
 
 -- the piece is refused for good, for this reason
-pub record IsRefused (piece : List ℕ) (old new : Assembly) (fault : RecordFault) : Type 0 where
+pub record RefusesPiece (piece : List ℕ) (old new : Assembly) (fault : RecordFault) : Type 0 where
   pub reason : fault_at piece old ≡ Some fault
   pub lasts : new ≡ Refuses fault
   pub none_taken : taken_at record_limits piece (connection_of old) ≡ None

@@ -4,7 +4,7 @@ ghost use Rattle.std.specs.Prelude.{⊤, ◌≡◌, ◌↔◌, ℕ, List, [], tr
 ghost use Rattle.model.specs.Feeding.{let_go};
 ghost use Rattle.model.specs.Rpc.{read_call, is_call_read};
 ghost use Rattle.model.specs.World.{Closed, arrives_at, taken_at};
-ghost use Rattle.rpc.specs.Assembly.{record_limits, Gathers, Holds, connection_of, released, IsRefused};
+ghost use Rattle.rpc.specs.Assembly.{record_limits, Gathers, Holds, connection_of, released, RefusesPiece};
 
 use crate::fault::RecordFault;
 use crate::fragment::MAX_RECEIVED;
@@ -54,7 +54,7 @@ impl Assembler {
             ≡ arrives_at record_limits piece.now (connection_of self.old)) }
         ensures taken { IfOk result
             (λ n. taken_at record_limits piece.now (connection_of self.old) ≡ Some n) }
-        ensures refused { IfErr result (λ fault. IsRefused piece.now self.old self.new fault) }
+        ensures refused { IfErr result (λ fault. RefusesPiece piece.now self.old self.new fault) }
     {
         match self.state {
             State::Gathers => match receive_piece(&mut self.buffer, piece) {

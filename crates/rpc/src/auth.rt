@@ -2,7 +2,6 @@
 
 ghost use Rattle.std.specs.Prelude.{◌≡◌, Some, None, MatchOption};
 ghost use Rattle.model.specs.Rpc.{cred_told, credential_in};
-ghost use Rattle.model.specs.WireTypes.{system_credential};
 ghost use Rattle.wire.specs.SmallViews.{credential_view};
 
 use model::acl::Cred;

@@ -1,7 +1,7 @@
 //! Fragments of a record (RFC 5531, section 11): a header, whose top bit says that it is the last one and whose other
 //! bits are its size, and so many bytes.
 
-ghost use Rattle.std.specs.Prelude.{◌≡◌, ℕ, ◌+◌, ◌<◌, ◌≤◌, ◌^◌, ◌++◌, length, take, drop, slice_index};
+ghost use Rattle.std.specs.Prelude.{◌≡◌, ◌+◌, ◌<◌, ◌≤◌, ◌^◌, ◌++◌, length, take, drop, slice_index};
 ghost use Rattle.std.specs.Int.{w32, from_be_bytes};
 ghost use Rattle.model.specs.Record.{Gathered};
 ghost use Rattle.rpc.specs.Assembly.{Finds};

@@ -15,7 +15,10 @@ use Rattle.inode.proofs.ReadBack.{one_node}
 use Rattle.layout.specs.Cards.{Card, node_sector}
 use Rattle.layout.specs.Laid.{runs_of_sector}
 use Rattle.layout.specs.Marks.{times, times_set, named_by, mark_by}
-use Rattle.layout.proofs.Frame.{times-at, times_set-at}
+use Rattle.layout.proofs.Frame.{times_set-at}
+use Rattle.layout.proofs.NumberLaws.{times-at}
+use Rattle.layout.proofs.ChargeLaws.{named-none}
+use Rattle.layout.proofs.FileLaws.{zero_sector-at}
 use Rattle.scan.specs.Cards.{uses, FindsBlocks, FindsRest, FindsPlace}
 use Rattle.scan.specs.Marking.{max_marks, CanMark, AreMarked}
 use Rattle.scan.specs.Names.{AreSetWithin, FindsContent}
@@ -24,7 +27,6 @@ use Rattle.scan.specs.Runs.{AreWithin, FindsRuns}
 use Rattle.scan.proofs.MarkingLaws.{most-some, can_more, can_marked}
 use Rattle.scan.proofs.NameLaws.{same_at}
 use Rattle.scan.proofs.RunLaws.{all-take, all-drop}
-use Rattle.scan.proofs.SectorLaws.{zero-at}
 
 -- One list of runs, and one of blocks, is found at most
 
@@ -75,10 +77,6 @@ named-is : (n : ℕ) (card : Card) → named_by n (Some card) ≡ uses card.fiel
 unfolding named_by
 named-is n card = refl
 
-named-none : (n : ℕ) → named_by n None ≡ 0
-unfolding named_by
-named-none n = refl
-
 pub marked_card : (first : ℕ) (old new : List Bool) (card : Card) → AreMarked first old new (uses card.fields card.blocks) → AreMarked first old new (λ n. named_by n (Some card))
 marked_card first old new card marked = record { len = marked.len; marks = λ n. omega (arith, marked.marks n, named-is n card) }
 
@@ -90,7 +88,7 @@ unfolding inode_sector
 starts fields = refl
 
 not_both : (content : List ℕ) (fields : Fields) → content ≡ zero_sector → content ≡ inode_sector One fields → ⊥
-not_both content fields free used = absurd (let e : 0 ≡ 78 = sym (zero-at 0) ∙ ap (λ (l : List ℕ). get_or l 0 0) (sym free ∙ used) ∙ starts fields in omega arith)
+not_both content fields free used = absurd (let e : 0 ≡ 78 = sym (zero_sector-at 0) ∙ ap (λ (l : List ℕ). get_or l 0 0) (sym free ∙ used) ∙ starts fields in omega arith)
 
 pub fields_there : Option Card → Option Fields
 fields_there None = None

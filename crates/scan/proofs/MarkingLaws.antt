@@ -4,8 +4,8 @@ use Rattle.std.proofs.lemmas.Bool.{cases_lt, lt-leb, le-leb}
 use Rattle.std.proofs.lemmas.List.{length-set}
 use Rattle.freemap.specs.Places.{bit_from}
 use Rattle.layout.specs.Marks.{once_if, times, times_set, mark_by}
-use Rattle.layout.proofs.Frame.{once_same}
 use Rattle.layout.proofs.MarkProofs.{mark-front, mark-back, each_mark}
+use Rattle.layout.proofs.NumberLaws.{once-here}
 use Rattle.scan.specs.Marking.{max_marks, CanMark, AreMarked}
 
 most-front : (first count n : ℕ) → n < first → max_marks first count n ≡ 0
@@ -37,7 +37,7 @@ most-le first count n = elim (cases_lt n first) [
 
 -- where a sector has all its marks it cannot be marked once more
 cannot : (first : ℕ) (places : List Bool) (sector : ℕ) → max_marks first (length places) sector ≤ mark_by first places sector → CanMark first places (λ n. once_if (eqb n sector)) → ⊥
-cannot first places sector full can = omega (arith, can sector, once_same sector)
+cannot first places sector full can = omega (arith, can sector, once-here sector)
 
 pub cannot_front : (first : ℕ) (places : List Bool) (sector : ℕ) → sector < first → CanMark first places (λ n. once_if (eqb n sector)) → ⊥
 cannot_front first places sector low = cannot first places sector (omega (arith, most-front first (length places) sector low))
@@ -96,12 +96,6 @@ times_set-take n blocks i h = let e : i + 1 ≡ suc i = omega arith in ap (λ (k
     step n (Some s ∷ blocks) zero h = omega arith
     step n (None ∷ blocks) (suc i) h = step n blocks i (omega arith)
     step n (Some s ∷ blocks) (suc i) h = omega (arith, step n blocks i (omega arith))
-
-pub times_set-front : (n : ℕ) (blocks : List (Option ℕ)) (i : ℕ) → times_set n (take i blocks) ≤ times_set n blocks
-times_set-front n blocks zero = omega arith
-times_set-front n [] (suc i) = omega arith
-times_set-front n (None ∷ blocks) (suc i) = times_set-front n blocks i
-times_set-front n (Some s ∷ blocks) (suc i) = omega (arith, times_set-front n blocks i)
 
 pub times_set-one : (n : ℕ) (block : Option ℕ) (sector : ℕ) → block ≡ Some sector → times_set n (block ∷ []) ≡ once_if (eqb n sector)
 times_set-one n block sector is = ap (λ (b : Option ℕ). times_set n (b ∷ [])) is ∙ plus (once_if (eqb n sector))

@@ -1,9 +1,9 @@
 -- A sector of zeros, and what a refusal of a part was.
-use Rattle.std.proofs.Common.{◌≡◌, ℕ, List, Option, Some, None, length, get_or, replicate, refl, sym, ap, ◌∙◌, arith, inl, inr}
-use Rattle.std.proofs.lemmas.Bool.{cases_lt}
-use Rattle.std.proofs.lemmas.List.{ext_get_or, length-replicate, get_or-replicate, get_or_past}
+use Rattle.std.proofs.Common.{◌≡◌, ℕ, List, Option, Some, None, length, get_or, refl, sym, ap, ◌∙◌, arith}
+use Rattle.std.proofs.lemmas.List.{ext_get_or, length-replicate}
 use Rattle.std.specs.Prelude.{Result, Err, IsErrAnd}
 use Rattle.std.proofs.lemmas.Result.{err_from_is_err_and}
+use Rattle.layout.proofs.FileLaws.{zero_sector-at}
 use Rattle.inode.specs.declared.fault.InodeFault.{InodeFault}
 use Rattle.inode.specs.declared.fault.InodeFault.TheVariants as inode
 use Rattle.scan.specs.declared.fault.ScanFault.{ScanFault}
@@ -18,18 +18,11 @@ pub length-zero : length zero_sector ≡ 4096
 unfolding zero_sector
 length-zero = length-replicate {A = ℕ} 4096 0
 
-pub zero-at : (k : ℕ) → get_or zero_sector k 0 ≡ 0
-unfolding zero_sector
-zero-at k = elim (cases_lt k 4096) [
-  | inl low ↦ get_or-replicate 4096 k 0 0 low
-  | inr high ↦ get_or_past (replicate 4096 0) k 0 (omega (arith, length-replicate {A = ℕ} 4096 0))
-]
-
 pub zero-is : (content : List ℕ) → length content ≡ 4096 → AreZeroFrom content 0 → content ≡ zero_sector
-zero-is content long zeros = ext_get_or 0 content zero_sector (long ∙ sym length-zero) (λ k h. zeros k (omega arith) ∙ sym (zero-at k))
+zero-is content long zeros = ext_get_or 0 content zero_sector (long ∙ sym length-zero) (λ k h. zeros k (omega arith) ∙ sym (zero_sector-at k))
 
 pub zero-all : (content : List ℕ) (from : ℕ) → content ≡ zero_sector → AreZeroFrom content from
-zero-all content from is at h = ap (λ (bytes : List ℕ). get_or bytes at 0) is ∙ zero-at at
+zero-all content from is at h = ap (λ (bytes : List ℕ). get_or bytes at 0) is ∙ zero_sector-at at
 
 -- what is found in an image's sector is found in the same content
 pub finds-here : (word : Type 0) (content there : List ℕ) (fields : Option Fields) → word → content ≡ there → FindsFields word there fields → FindsFields (Unit {0}) content fields

@@ -3,6 +3,7 @@ use Rattle.std.proofs.Common.{◌≡◌, ◌≢◌, ◌≤◌, ◌<◌, ◌+◌,
 use Rattle.std.proofs.lemmas.Bool.{cases_lt, cases_eq}
 use Rattle.std.proofs.lemmas.List.{length-replicate, get_or-replicate, get_or_past, get_or_append_left}
 use Rattle.std.proofs.Math.Seq.{get_or-append_seam}
+use Rattle.std.proofs.lemmas.Option.{none-some}
 use Rattle.disk.specs.Moments.{Image}
 use Rattle.freemap.specs.Places.{bit_from}
 use Rattle.inode.specs.declared.node.Form.{Form}
@@ -147,24 +148,21 @@ numbers-take cards p h = let e : p + 1 ≡ suc p = omega arith in ap (λ (k : �
     step (None ∷ cards) (suc p) h = step cards p (omega arith)
     step (Some card ∷ cards) (suc p) h = ap (λ (l : List ℕ). card.fields.number ∷ l) (step cards p (omega arith))
 
-none_some : (card : Card) → (let none : Option Card = None in none ≡ Some card) → ⊥
-none_some card e = cc
-
 same_number : (a b : Card) → (let one : Option Card = Some a in one ≡ Some b) → a.fields.number ≡ b.fields.number
 same_number a b e = let same : a ≡ b = cc in ap (λ (card : Card). card.fields.number) same
 
 number-at : (n : ℕ) (cards : List (Option Card)) (i : ℕ) (card : Card) → get_or cards i None ≡ Some card → card.fields.number ≡ n → 1 ≤ times n (numbers_of cards)
-number-at n [] i card is same = absurd (none_some card is)
-number-at n (None ∷ cards) zero card is same = absurd (none_some card is)
+number-at n [] i card is same = absurd (none-some card is)
+number-at n (None ∷ cards) zero card is same = absurd (none-some card is)
 number-at n (None ∷ cards) (suc i) card is same = number-at n cards i card is same
 number-at n (Some one ∷ cards) zero card is same =
     let here : once_if (eqb n one.fields.number) ≡ 1 = rw (eq-eqb n one.fields.number (sym same ∙ sym (same_number one card is))) refl in omega arith
 number-at n (Some one ∷ cards) (suc i) card is same = omega (arith, number-at n cards i card is same)
 
 number-twice : (n : ℕ) (cards : List (Option Card)) (i j : ℕ) (a b : Card) → i < j → get_or cards i None ≡ Some a → get_or cards j None ≡ Some b → a.fields.number ≡ n → b.fields.number ≡ n → 2 ≤ times n (numbers_of cards)
-number-twice n [] i j a b before first second x y = absurd (none_some a first)
+number-twice n [] i j a b before first second x y = absurd (none-some a first)
 number-twice n (card ∷ cards) i zero a b before first second x y = absurd (omega arith)
-number-twice n (None ∷ cards) zero (suc j) a b before first second x y = absurd (none_some a first)
+number-twice n (None ∷ cards) zero (suc j) a b before first second x y = absurd (none-some a first)
 number-twice n (Some one ∷ cards) zero (suc j) a b before first second x y =
     let here : once_if (eqb n one.fields.number) ≡ 1 = rw (eq-eqb n one.fields.number (sym x ∙ sym (same_number one a first))) refl in omega (arith, number-at n cards j b second y)
 number-twice n (None ∷ cards) (suc i) (suc j) a b before first second x y = number-twice n cards i j a b (omega arith) first second x y

@@ -1,6 +1,6 @@
 //! Marks of the sectors that nodes name.
 
-ghost use Rattle.std.specs.Prelude.{◌≡◌, ◌==◌, ◌≤◌, ◌<◌, ◌+◌, ℕ, true, false, length};
+ghost use Rattle.std.specs.Prelude.{◌≡◌, ◌==◌, true, false};
 ghost use Rattle.scan.specs.Marking.{CanMark, AreMarked};
 ghost use Rattle.layout.specs.Marks.{once_if, times, times_set};
 

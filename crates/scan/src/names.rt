@@ -1,11 +1,11 @@
 //! What the blocks of a node hold: a directory's names, and the zeros after a file's last byte.
 
-ghost use Rattle.std.specs.Prelude.{◌≡◌, ◌↔◌, ◌<◌, ◌≤◌, ◌+◌, ◌/◌, ℕ, List, length, map, IfOk, OnOk};
+ghost use Rattle.std.specs.Prelude.{◌≡◌, ◌↔◌, ◌<◌, ◌≤◌, ◌+◌, ◌/◌, List, length, map, IfOk, OnOk};
 ghost use Rattle.std.specs.Prelude.{IsErrOf, IsTrue};
 ghost use Rattle.std.specs.List.{AllByRecursion};
 ghost use Rattle.model.specs.Charge.{blocks_of};
 ghost use Rattle.model.specs.declared.node.NodeKind.TheVariants as kind;
-ghost use Rattle.directory.specs.Records.{Record, record_of, IsRecord, IsDirectory, AreStamped};
+ghost use Rattle.directory.specs.Records.{Record, record_of, IsDirectory, AreStamped};
 ghost use Rattle.layout.specs.Health.{Reads};
 ghost use Rattle.scan.specs.Names.{AreSetWithin, FindsPart, FindsRecords, FindsContent, HasTail};
 

@@ -1,6 +1,6 @@
 //! The sector of a place of the node table.
 
-ghost use Rattle.std.specs.Prelude.{◌≡◌, ◌<◌, ◌+◌, ◌^◌, ℕ, Option, option_map, IfOk, IsErrOf};
+ghost use Rattle.std.specs.Prelude.{◌≡◌, ◌<◌, ◌+◌, ◌^◌, Option, option_map, IfOk, IsErrOf};
 ghost use Rattle.inode.specs.Fields.{Fields, fields_of};
 ghost use Rattle.scan.specs.Places.{FindsFields};
 ghost use Rattle.layout.specs.Cards.{node_sector};

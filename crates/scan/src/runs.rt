@@ -1,7 +1,7 @@
 //! Runs in their sectors, and the blocks that they are runs of.
 
 ghost use Rattle.std.specs.Prelude.{◌≡◌, ◌<◌, ◌≤◌, ◌+◌, ◌-◌, ◌/◌, ◌*◌, ℕ, List, Option, length};
-ghost use Rattle.std.specs.Prelude.{min, slice_index_or, vec_len, IfOk, IfSome, IfNone, IsErrOf};
+ghost use Rattle.std.specs.Prelude.{min, IfOk, IfSome, IfNone, IsErrOf};
 ghost use Rattle.extents.specs.declared.run.Run.{Run};
 ghost use Rattle.extents.specs.Runs.{AreRunsOf};
 ghost use Rattle.model.specs.Charge.{blocks_of};

@@ -1,7 +1,7 @@
 //! One sector.
 
-ghost use Rattle.std.specs.Prelude.{◌≡◌, ◌<◌, ◌≤◌, ℕ, IfOk, OnErr, IsErrOf, Err, IsTrue, ◌↔◌};
-ghost use Rattle.std.specs.Prelude.{slice_index, length};
+ghost use Rattle.std.specs.Prelude.{◌≡◌, ◌<◌, IfOk, OnErr, IsErrOf, Err, IsTrue, ◌↔◌};
+ghost use Rattle.std.specs.Prelude.{length};
 ghost use Rattle.freemap.specs.Places.{IsBytes};
 ghost use Rattle.scan.specs.Sectors.{AreZeroFrom};
 ghost use Rattle.layout.specs.Health.{Reads};

@@ -1,7 +1,7 @@
 //! The card of a place, and those of a table.
 
-ghost use Rattle.std.specs.Prelude.{◌≡◌, ◌≤◌, ◌<◌, ◌+◌, ◌^◌, ℕ, List, Option, Some, length, map};
-ghost use Rattle.std.specs.Prelude.{replicate, false, IfOk, OnOk, IsErrOf, None, IsTrue, ◌↔◌};
+ghost use Rattle.std.specs.Prelude.{◌≡◌, ◌<◌, ◌+◌, ◌^◌, ℕ, List, Option, Some, length};
+ghost use Rattle.std.specs.Prelude.{replicate, false, IfOk, IsErrOf, None, IsTrue, ◌↔◌};
 ghost use Rattle.extents.specs.declared.run.Run.{Run};
 ghost use Rattle.inode.specs.Fields.{fields_of, IsInode};
 ghost use Rattle.layout.specs.Cards as layout;

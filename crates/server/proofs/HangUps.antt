@@ -1,8 +1,6 @@
 -- The turns of a hang-up.
-use Rattle.std.proofs.Common.{◌≡◌, ◌≤◌, ◌<◌, ◌-◌, ℕ, true, suc, Option, Some, None, refl, sym, ◌∙◌, inl, inr, arith}
-use Rattle.std.proofs.lemmas.Bool.{cases_lt}
+use Rattle.std.proofs.Common.{◌≡◌, ◌≤◌, ◌<◌, ◌-◌, ℕ, true, suc, Option, Some, None, refl, arith}
 use Rattle.slab.specs.Slab.{Slab}
-use Rattle.disk.specs.Cause.{IsCounted}
 use Rattle.model.specs.Keyed.{at}
 use Rattle.model.specs.Runs.{Turns}
 use Rattle.model.specs.World as world
@@ -61,13 +59,3 @@ fewer_left slab n (Some (world.Waiting bytes)) busy further = let never : ⊥ = 
 fewer_left slab n (Some (Busy request)) busy further = fewer slab n request (at n (connections_of slab)) refl further
 fewer_left slab n (Some (world.Replied reply)) busy further = let never : ⊥ = cc in absurd never
 fewer_left slab n (Some world.Closed) busy further = let never : ⊥ = cc in absurd never
-
--- A failure in a later call
-pub counted_since : (first before after : ℕ) → first ≤ before → IsCounted before after → IsCounted first after
-counted_since first before after later (inl grew) = inl (omega (arith, grew))
-counted_since first before after later (inr full) = elim (cases_lt first before) [
-  | inl low ↦ inl (omega (arith, full.1))
-  | inr high ↦
-      let same : first ≡ before = omega arith in
-      inr (same ∙ full.0, full.1 ∙ sym same)
-]

@@ -3,13 +3,13 @@ use Rattle.std.proofs.Common.{◌≡◌, ◌≤◌, ℕ, true, false, Result, Ok
 use Rattle.disk.specs.Cause.{IsCounted}
 use Rattle.model.specs.World.{is_busy}
 use Rattle.std.specs.Result.{IsErrAnd}
+use Rattle.volume.proofs.KeepLaws.{counted_later}
 use Rattle.compound.specs.declared.fault.Fault.{Fault}
 use Rattle.compound.specs.declared.fault.Fault.TheVariants as turns
 use Rattle.server.specs.declared.fault.ServerFault.{ServerFault}
 use Rattle.server.specs.declared.fault.ServerFault.TheVariants as faults
 use Rattle.server.specs.Faults.{turn_fault}
 use Rattle.server.specs.Refused.{View, IsUntouched, KeepsWorld, HasCause, RefusesTurn, RefusesHangUp, connection_at}
-use Rattle.server.proofs.HangUps.{counted_since}
 
 -- what a `?` hands on
 pub told_by : {T : Type 0} (result : Result T ServerFault) (fault : ServerFault) → IsErrAnd result (λ told. told ≡ fault) → result ≡ Err fault
@@ -19,10 +19,6 @@ told_by (Err told) fault is = ap Err is
 pub device_told : (fault : Fault) → turn_fault fault ≡ faults.Device → fault ≡ turns.Device
 device_told turns.Memory is = let never : ⊥ = cc in absurd never
 device_told turns.Device is = refl
-
-pub told_err : {T E : Type 0} (result : Result T E) (fault : E) → IsErrAnd result (λ told. told ≡ fault) → result ≡ Err fault
-told_err (Ok done) fault is = absurd is
-told_err (Err told) fault is = ap Err is
 
 -- a turn that a connection does not do
 pub turn_refused : (old new : View) (number : ℕ) (fault : Fault) → (fault ≡ turns.Memory → IsUntouched old new)
@@ -43,5 +39,5 @@ hang_up_refused first old new number faults.Memory up later busy refused = tt
 hang_up_refused first old new number faults.Full up later busy refused = refused
 hang_up_refused first old new number faults.Device up later busy refused = ⊎_elim
     (λ (down : old.volume.is_down ≡ true). let never : ⊥ = cc in absurd never)
-    (λ (counted : IsCounted old.failures new.failures). inr (counted_since first.failures old.failures new.failures later counted))
+    (λ (counted : IsCounted old.failures new.failures). inr (counted_later first.failures old.failures new.failures later counted))
     refused.1

@@ -9,10 +9,10 @@ use Rattle.model.specs.Rpc.{CallRead, NoCall, OtherVersion, Calls, Request, Answ
 use Rattle.model.specs.Runs as runs
 use Rattle.model.specs.Tree.{Tree}
 use Rattle.model.specs.World as world
-use Rattle.model.specs.World.{World, Turn, Idle, Ran, Answered, InProgress, Next, Refuses, Reads, HasRun, Gives, Replays, Entry, Connection, Quiet, Waiting, Busy, Replied, Closed, one, turned, called, operates, behind, has_run, is_last, next_operation, in_room, run}
+use Rattle.model.specs.World.{World, Idle, InProgress, Next, Refuses, Reads, HasRun, Gives, Replays, Entry, Connection, Quiet, Waiting, Busy, Replied, Closed, one, turned, called, operates, behind, has_run, is_last, next_operation, in_room, run}
 use Rattle.disk.specs.Moments.{seen}
 use Rattle.server.specs.RunLaws.{IsReady, HangUpIsCalls, NeverEmpty, IsIdle, OnlyIdle}
-use Rattle.server.specs.Seen.{Seen, Call, Did, IsServed, IsTurned, Stays, LeavesNow}
+use Rattle.server.specs.Seen.{Seen, Call, Did, IsServed, IsTurned, Stays}
 use Rattle.server.specs.Seen as served
 use Rattle.server.proofs.Stops.{joined}
 
@@ -50,7 +50,7 @@ behind_runs old number request (Outcome.Refused operation reason) executed idle 
 behind_runs old number request (Outcome.Done answer) executed idle = ends_or_goes old number request answer executed (is_last request) idle
 
 has_runs : (old : World) (number : ℕ) (request : InProgress) (operation : Argument) (ran : HasRun) → (has_run old number request operation ran).turn ≡ Idle → ⊥
-has_runs old number request operation (Gives outcome after left) idle = behind_runs after number left outcome (Some (world.entry_of old request operation outcome after)) idle
+has_runs old number request operation (Gives outcome after left) idle = behind_runs after number left outcome (Some (world.executed_entry old request operation outcome after)) idle
 has_runs old number request operation (Replays result session slot) idle = let never : ⊥ = cc in never
 
 operates_runs : (old : World) (number now : ℕ) (request : InProgress) (next : Next) → (operates old number now request next).turn ≡ Idle → ⊥

@@ -7,7 +7,7 @@ use Rattle.volume.proofs.OneTree.{one_tree_stands}
 use Rattle.model.proofs.Headline.{every_run}
 use Rattle.model.proofs.StampLaws.{every_stamp}
 use Rattle.model.specs.Runs as runs
-use Rattle.model.specs.Runs.{Serving, Event, Takes, Happens, Fails, StaysDown, MayLeave, History, IsRun, IsGoodPrefix, AreStamped, no_history, history_after, history_failing, effect_of, mounted, executed, done_with}
+use Rattle.model.specs.Runs.{Serving, Event, Takes, MayLeave, IsRun, AreStamped, history_after, history_failing, effect_of, mounted}
 use Rattle.model.specs.World.{World}
 use Rattle.volume.proofs.RemountLaws.{every_remount}
 use Rattle.server.specs.Headline.{IsGoodTree, EveryStop, EveryRun, EveryTrace, Stopped, executed_in, Follows, IsLater, Next, Then, EveryLife, EveryStamping}

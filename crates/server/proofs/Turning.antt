@@ -1,6 +1,7 @@
 -- What a turn of a connection is, by what the connection does.
 use Rattle.std.proofs.Common.{◌≡◌, ℕ, false, List, [], ◌∷◌, Option, Some, None, Result, Ok, Err, IfOk, inl, inr, refl, ap, ap₂, sym, subst, ◌∙◌, arith, eq-eqb, ne_eqb, le-ltb}
 use Rattle.std.proofs.lemmas.Bool.{cases_order}
+use Rattle.std.proofs.lemmas.Option.{same_Some}
 use Rattle.compound.specs.States.{SharedState, HasState, with_state}
 use Rattle.compound.specs.declared.fault.Fault.{Fault}
 use Rattle.compound.specs.Volumes.{TurnGives}
@@ -10,11 +11,12 @@ use Rattle.volume.specs.Changes.{Ending, Done}
 use Rattle.fs.specs.FileSystem.{FileSystem}
 use Rattle.fs.proofs.ChangeLaws.{changes_by}
 use Rattle.compound.proofs.QuietLaws.{answers_quietly}
+use Rattle.compound.proofs.Rooms.{state_same}
 use Rattle.model.proofs.KeyedLaws.{at-below, at-first, at-rest, some≢none}
 use Rattle.model.specs.Keyed.{Keyed, at, with, IsAbove}
 use Rattle.model.specs.Rpc.{read_call}
 use Rattle.model.specs.World as world
-use Rattle.model.specs.World.{World, Connection, InProgress, Turned, Waiting, Busy, Replied, one, called, turned, idle, is_busy, with_connection}
+use Rattle.model.specs.World.{World, Connection, Turned, Waiting, Busy, Replied, one, called, turned, idle, is_busy, with_connection}
 use Rattle.rpc.specs.Assembly.{Assembly, Gathers, Holds, Refuses, connection_of}
 use Rattle.server.specs.Connections.{IsRising, Leads, Turns, HasGoneOn, turn_view}
 use Rattle.server.specs.declared.turn.Turn.{Turn}
@@ -26,15 +28,12 @@ rising_rest : (least : ℕ) (entries : Keyed Connection) → IsAbove least entri
 rising_rest least [] above = tt
 rising_rest least (entry ∷ rest) above = above.1
 
-same_value : (x y : Connection) → Some x ≡ Some y → x ≡ y
-same_value x y same = cc
-
 pub with-held : (entries : Keyed Connection) (number : ℕ) (held : Connection) → IsRising entries → at number entries ≡ Some held
     → with entries number held ≡ entries
 with-held [] number held rising is = absurd (some≢none held (sym is))
 with-held (entry ∷ rest) number held rising is = elim (cases_order number entry.0) [
   | inl one ↦
-      let value : entry.1 ≡ held = same_value entry.1 held (sym (at-first entry.0 number entry.1 rest one) ∙ is) in
+      let value : entry.1 ≡ held = same_Some entry.1 held (sym (at-first entry.0 number entry.1 rest one) ∙ is) in
       rw (eq-eqb number entry.0 one) (ap₂ (λ (n : ℕ) (v : Connection). (n, v) ∷ rest) one (sym value))
   | inr apart ↦ elim apart [
     | inl low ↦ absurd (some≢none held (sym is ∙ at-below (entry ∷ rest) number number (low, rising) (omega arith)))
@@ -45,9 +44,6 @@ with-held (entry ∷ rest) number held rising is = elim (cases_order number entr
   ]
 ]
 
-state_still : (world : World) (state : SharedState) → HasState world state → with_state world state ≡ world
-state_still world state has = rw (← has.tree, ← has.changes, ← has.table_is, ← has.opens) refl
-
 connection_still : (world : World) (number : ℕ) (held : Connection) → IsRising world.connections
     → at number world.connections ≡ Some held → with_connection world number held ≡ world
 connection_still world number held rising is =
@@ -57,7 +53,7 @@ still : (world : World) (state : SharedState) (number : ℕ) (held : Connection)
     → IsRising world.connections → at number world.connections ≡ Some held
     → with_connection (with_state world state) number held ≡ world
 still world state number held has rising is =
-    ap (λ (w : World). with_connection w number held) (state_still world state has) ∙ connection_still world number held rising is
+    ap (λ (w : World). with_connection w number held) (state_same world state has) ∙ connection_still world number held rising is
 
 -- A turn by what it comes to
 

@@ -8,14 +8,15 @@ use Rattle.model.specs.Rpc.{is_call_read, read_call}
 use Rattle.model.specs.Runs.{Serving, Event, Happens, Fails, StaysDown, MayLeave, effect_of, executed_of, executed_by}
 use Rattle.model.specs.Tree.{Tree}
 use Rattle.model.specs.World as world
-use Rattle.model.specs.World.{World, Quiet, Closed, arrives, arrives_at, arrived, taken_at, takes, without_reply, connects, can_connect, changed, with_connection, without_connection, hangs_up, is_busy, one, idle, reply_in}
+use Rattle.model.specs.World.{World, Quiet, Closed, arrives, arrives_at, arrived, taken_at, takes, without_reply, connects, can_connect, connection_changed, with_connection, hangs_up, is_busy}
 use Rattle.model.proofs.KeyedLaws.{at-with_same, at-with_other, at-without_same, at-without_other}
 use Rattle.compound.specs.States.{SharedState}
 use Rattle.compound.specs.Volumes.{lasts}
 use Rattle.volume.specs.Changes.{Leaves}
 use Rattle.volume.specs.Held.{Held}
-use Rattle.model.proofs.RuledOutLaws.{each_event_happens}
+use Rattle.model.proofs.RuledOutLaws.{each_event_happens, dropped}
 use Rattle.model.proofs.RunLaws.{EntryFits, event_fits}
+use Rattle.model.proofs.Headline.{only_start}
 use Rattle.rpc.specs.Assembly.{record_limits}
 use Rattle.slab.specs.Slab.{Slab, slab_len, Updates}
 use Rattle.server.specs.declared.connection.Connection.{Connection}
@@ -24,13 +25,6 @@ use Rattle.server.proofs.SlabLaws.{with_slot, grew, grew_count}
 use Rattle.server.specs.Views.{world_by}
 
 -- Events
-
-among_one : (only tree : Tree) → IsAmong (only ∷ []) tree → tree ≡ only
-among_one only tree among = by_place among.0 among.1.0 among.1.1
-  where
-    by_place : (place : ℕ) → place < length (only ∷ []) → tree ≡ get_or (only ∷ []) place tree → tree ≡ only
-    by_place zero less e = e
-    by_place (suc place) less e = absurd (omega arith)
 
 -- a server whose file system is up, before and after
 abbrev served : World → Serving
@@ -45,8 +39,8 @@ happened old new event is =
       up = refl;
       world = is;
       still_up = refl;
-      no_others = λ tree left. made.1.no_others tree (subst (IsAmong made.0.recent) (same ∙ sym (among_one new.tree tree left)) made.2);
-      durable = λ entry e lasts tree left. made.1.durable entry e lasts tree (subst (IsAmong made.0.recent) (same ∙ sym (among_one new.tree tree left)) made.2);
+      no_others = λ tree left. made.1.no_others tree (subst (IsAmong made.0.recent) (same ∙ sym (only_start new.tree tree left)) made.2);
+      durable = λ entry e lasts tree left. made.1.durable entry e lasts tree (subst (IsAmong made.0.recent) (same ∙ sym (only_start new.tree tree left)) made.2);
     }
 
 -- what a stop within the event may leave: the tree after it
@@ -164,12 +158,12 @@ stays_down old new old_down new_down recent connection was down is = record {
 pub arrives_is : (old : World) (number : ℕ) (piece : List ℕ) (connection : world.Connection) → at number old.connections ≡ Some connection
     → arrives old number piece ≡ with_connection old number (arrives_at old.limits.records piece connection)
 unfolding arrives
-arrives_is old number piece connection is = ap (changed old number (arrives_at old.limits.records piece)) is
+arrives_is old number piece connection is = ap (connection_changed old number (arrives_at old.limits.records piece)) is
 
 pub takes_is : (old : World) (number : ℕ) (connection : world.Connection) → at number old.connections ≡ Some connection
     → takes old number ≡ with_connection old number (without_reply connection)
 unfolding takes
-takes_is old number connection is = ap (changed old number without_reply) is
+takes_is old number connection is = ap (connection_changed old number without_reply) is
 
 pub can_connect_by : (old : World) (number : ℕ) → at number old.connections ≡ None → length old.connections < old.limits.connections → can_connect old number ≡ true
 can_connect_by old number free few = rw (free, lt-ltb _ _ few)
@@ -177,10 +171,6 @@ can_connect_by old number free few = rw (free, lt-ltb _ _ few)
 pub connects_is : (old : World) (number : ℕ) → can_connect old number ≡ true → connects old number ≡ with_connection old number (Quiet [])
 unfolding connects
 connects_is old number can = ap (λ (b : Bool). cond b (with_connection old number (Quiet [])) old) can
-
-pub hangs_up_is : (old : World) (number : ℕ) → is_busy (at number old.connections) ≡ false → hangs_up old number ≡ without_connection old number
-unfolding hangs_up
-hangs_up_is old number quiet = ap (λ (b : Bool). cond b old (without_connection old number)) quiet
 
 -- A request that has begun is of this run
 
@@ -255,7 +245,7 @@ module _ (state : SharedState) (old new : Keyed world.Connection) (number : ℕ)
       ap (world_by state) (written ∙ ap (with old number) gives) ∙ sym (connects_is (world_by state old) number can)
 
   pub hung_up : is_busy (at number old) ≡ false → new ≡ without old number → world_by state new ≡ hangs_up (world_by state old) number
-  hung_up quiet written = ap (world_by state) written ∙ sym (hangs_up_is (world_by state old) number quiet)
+  hung_up quiet written = ap (world_by state) written ∙ sym (dropped (world_by state old) number quiet)
 
 -- What a feed leaves of a connection
 pub feeds_of_run : {E : Type 0} (run : ℕ) (piece : List ℕ) (before after : world.Connection) (result : Result ℕ E)

@@ -13,7 +13,7 @@ impl<D: Device> Server<D> {
     ghost use Rattle.std.specs.Prelude.{◌≤◌, IfOk, IfErr};
     ghost use Rattle.fs.specs.FileSystem.{IsNew};
     ghost use Rattle.fs.specs.Formatting.{Formats};
-    ghost use Rattle.volume.specs.MountAnswers.{HasMounted, IsRefused, ComesBack};
+    ghost use Rattle.volume.specs.MountAnswers.{HasMounted, IsMountRefused, ComesBack};
     ghost use Rattle.server.specs.Headline.{Begins};
     ghost use Rattle.server.specs.Views.{BeginsEmpty, files_of, volume_of, failures_of};
 
@@ -41,7 +41,7 @@ impl<D: Device> Server<D> {
         // Refused
         ensures back { IfErr result (ComesBack D.size D.failed (D.size device) (D.failed device)) }
         ensures refused { D.keeps_word → IfErr result (λ refused.
-            IsRefused (D.size device) (D.history device) (D.history refused.device) refused.fault) }
+            IsMountRefused (D.size device) (D.history device) (D.history refused.device) refused.fault) }
     {
         let connections = match Slab::with_capacity(alloc, MAX_CONNECTIONS) {
             Ok(connections) => connections,

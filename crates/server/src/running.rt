@@ -77,9 +77,11 @@ impl Connection {
         opens: &mut Opens,
         now: u64,
     ) -> Result<Turn, Fault>
+        // A request that can go on, in the run in which it began
         requires held { can_go_on (asked_held self.old.assembler) progress ≡ true }
         requires up { (fs_of fs.old).volume.is_down ≡ false }
         requires run { progress.run ≡ (fs_of fs.old).volume.run }
+        // What it answers
         ensures turn { D.keeps_word → IfOk result (λ done. Leads (λ world number.
             turned world number now (Some (begun (asked_held self.old.assembler) progress)))
             (shared_of fs.old table.old opens.old) (shared_of fs.new table.new opens.new)
@@ -88,10 +90,12 @@ impl Connection {
             (Some (begun (asked_held self.old.assembler) progress))
             (Some (connection_view self.new))) }
         ensures run { IsOfRun (fs_of fs.old).volume.run (connection_view self.new) }
+        // Refused
         ensures back { OnErr result
             ((connection_view self.new ≡ begun (asked_held self.old.assembler) progress)
             × (table_of table.new ≡ table_of table.old)
             × (opens_of opens.new ≡ opens_of opens.old)) }
+        // In any case
         ensures volume { Alters fs.old fs.new (TurnGives (shared_of fs.old table.old opens.old)
             (λ world number. turned world number now
             (Some (begun (asked_held self.old.assembler) progress)))) (ending result) }

@@ -1,5 +1,5 @@
 -- CREATE_SESSION by its cases.
-use Rattle.std.proofs.Common.{◌≡◌, ℕ, ◌-◌, ◌<◌, ◌^◌, Bool, true, false, cond, ◌&&◌, ◌||◌, ◌==◌, nat_le, [], ◌∷◌, ◌++◌, length, Option, None, Some, Ok, refl, ap, ◌∙◌, find, leb-false}
+use Rattle.std.proofs.Common.{◌≡◌, ℕ, ◌-◌, ◌<◌, ◌^◌, Bool, true, false, cond, ◌&&◌, ◌==◌, nat_le, [], ◌∷◌, ◌++◌, length, Option, None, Some, Ok, refl, ap, ◌∙◌, find, leb-false}
 use Rattle.std.specs.Option.{option_map}
 use Rattle.model.specs.declared.status.Status.{Status}
 use Rattle.model.specs.declared.status.Status.TheVariants as status
@@ -7,6 +7,7 @@ use Rattle.model.specs.Operation.{CreateSessionArguments}
 use Rattle.model.specs.Answer.{CreateSessionAnswer}
 use Rattle.model.specs.Refusal.{Refusals, first_refusal, refused_or}
 use Rattle.model.specs.Session.{Client, Table, CreateSessionOutcome, create_session, create_by, create_again, create_unless, create_refused, create_refusals, is_client, next_number, is_full_of_sessions, staying, replaced_by, is_of_clients, is_running}
+use Rattle.model.proofs.BooleanLaws.{second_of_neither}
 use Rattle.std.specs.List.{list_any}
 use Rattle.session.specs.Limits.{served}
 use Rattle.session.specs.Rooms.{argument_refusals, room_refusals}
@@ -42,15 +43,11 @@ two_head true b s t e = cc
 two_head false true s t e = cc
 two_head false false s t e = refl
 
-or_right : (a b : Bool) → (a || b) ≡ false → b ≡ false
-or_right true b e = cc
-or_right false b e = e
-
 -- where there is room, a serial is left
 pub serial_left : (client : Client) (table : Table) → first_refusal (room_refusals client table) ≡ None → table.session_serial < 2 ^ 64 - 1
 serial_left client table e =
     leb-false (2 ^ 64 - 1) table.session_serial
-    (or_right (nat_le 32 (length (staying client table))) (nat_le (2 ^ 64 - 1) table.session_serial)
+    (second_of_neither (nat_le 32 (length (staying client table))) (nat_le (2 ^ 64 - 1) table.session_serial)
     (two_head (list_any (λ session. is_of_clients (replaced_by client table) session && is_running session) table.sessions) (is_full_of_sessions served client table) status.Delay status.Delay e))
 
 -- The cases of CREATE_SESSION

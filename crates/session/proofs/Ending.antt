@@ -2,11 +2,13 @@
 use Rattle.std.proofs.Common.{◌≡◌, ℕ, ◌<◌, not, ◌&&◌, ◌==◌, List, map, filter, length, get_or, refl, sym, ap, ◌∙◌}
 use Rattle.std.proofs.lemmas.List.{get_or_default}
 use Rattle.std.proofs.lemmas.Bool.{eqb-true, ne_eqb, eq-eqb}
-use Rattle.model.specs.Session.{is_client, is_replaced_by, without, Client as Known}
+use Rattle.model.specs.Session.{is_client, is_replaced_by, without_where, Client as Known}
+use Rattle.model.proofs.BooleanLaws.{and_false, and_true}
+use Rattle.model.proofs.NodeAttributeLaws.{filter-map}
 use Rattle.session.specs.declared.client.Client.{Client}
 use Rattle.session.specs.Views.{client_of, among}
 use Rattle.session.specs.Rooms.{ended_by}
-use Rattle.session.proofs.Lists.{Rises, OneKey, same_place, list_any-map, any_filtered, any_one, and_true, and_false, filter_agree_at, filter-map}
+use Rattle.session.proofs.Lists.{Rises, OneKey, same_place, list_any-map, any_filtered, any_one, filter_agree_at}
 
 abbrev pub number_of : Client → ℕ
 number_of client = client.number
@@ -32,7 +34,7 @@ ends client clients rises k d within =
 
 pub ended_out : (client : Known) (clients left : List Client) (ended : List ℕ) → Rises number_of clients → ended ≡ ended_by client (map client_of clients)
     → left ≡ filter (λ (known : Client). not (among ended known.number)) clients
-    → map client_of left ≡ without (is_replaced_by client) (map client_of clients)
+    → map client_of left ≡ without_where (is_replaced_by client) (map client_of clients)
 ended_out client clients left ended rises e kept =
     ap (map client_of)
     (kept ∙ ap (λ numbers. filter (λ (known : Client). not (among numbers known.number)) clients) e

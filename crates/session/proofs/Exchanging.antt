@@ -6,10 +6,11 @@ use Rattle.model.specs.declared.status.Status.TheVariants as status
 use Rattle.model.specs.Operation.{ExchangeIdArguments}
 use Rattle.model.specs.Answer.{ExchangeIdAnswer}
 use Rattle.model.specs.Session.{Client, Table, exchange_id, exchange_by, new_record, exchange_answer, exchange_flags, has_only, is_confirmed_of, is_unconfirmed_of, is_client, is_full_of_clients, without_unconfirmed, without_client, with_clients, with_new_client, has_state, client_number, use_non_pnfs, confirmed_flag}
+use Rattle.model.proofs.BooleanLaws.{and_true}
 use Rattle.session.specs.Limits.{served}
 use Rattle.session.specs.Rooms.{stays, records_staying, is_full_beside}
 use Rattle.session.specs.Views.{cleared_of}
-use Rattle.session.proofs.Lists.{and_true, filter_twice}
+use Rattle.session.proofs.Lists.{filter_twice}
 
 -- A new record
 

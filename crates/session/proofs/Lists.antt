@@ -5,30 +5,16 @@ use Rattle.std.specs.List.{list_any, position, position_or_len, AllPairs}
 use Rattle.std.proofs.lemmas.List.{length-map, length-set, map-set, get_or-map, get_or-set_same, get_or-set_other, ext_get_or}
 use Rattle.std.proofs.lemmas.List.Quantifiers.{position-Some}
 use Rattle.std.proofs.lemmas.List.Sums.{fails_before_first}
-use Rattle.std.proofs.lemmas.Bool.{cases_eq, cases_lt, ltb-false}
+use Rattle.std.proofs.lemmas.Bool.{cases_eq, cases_lt, ltb-false, false_from_ne_true}
 use Rattle.model.specs.Session.{changed_where}
+use Rattle.model.proofs.BooleanLaws.{and_false, and_true, or_same}
+use Rattle.model.proofs.NodeAttributeLaws.{filter-map}
 
 -- Tests and filters
 
 pub list_any-map : {A B : Type 0} (p : B → Bool) (f : A → B) (xs : List A) → list_any p (map f xs) ≡ list_any (λ x. p (f x)) xs
 list_any-map p f [] = refl
 list_any-map p f (x ∷ xs) = ap (λ b. p (f x) || b) (list_any-map p f xs)
-
-filter_cons : {A B : Type 0} (b : Bool) (f : A → B) (x : A) (ys : List B) (zs : List A) → ys ≡ map f zs → cond b (f x ∷ ys) ys ≡ map f (cond b (x ∷ zs) zs)
-filter_cons true f x ys zs e = ap (λ rest. f x ∷ rest) e
-filter_cons false f x ys zs e = e
-
-pub filter-map : {A B : Type 0} (p : B → Bool) (f : A → B) (xs : List A) → filter p (map f xs) ≡ map f (filter (λ x. p (f x)) xs)
-filter-map p f [] = refl
-filter-map p f (x ∷ xs) = filter_cons (p (f x)) f x (filter p (map f xs)) (filter (λ y. p (f y)) xs) (filter-map p f xs)
-
-pub and_true : (b : Bool) → (b && true) ≡ b
-and_true true = refl
-and_true false = refl
-
-pub and_false : (b : Bool) → (b && false) ≡ false
-and_false true = refl
-and_false false = refl
 
 filter_twice_cons : {A : Type 0} (p : A → Bool) (b : Bool) (x : A) (ys zs : List A) → filter p ys ≡ zs → filter p (cond b (x ∷ ys) ys) ≡ cond (p x && b) (x ∷ zs) zs
 filter_twice_cons p true x ys zs e =
@@ -77,10 +63,6 @@ same_place key xs rises j k d within within' e other =
 abbrev pub OneKey : {A B : Type 0} → (A → B) → (A → ℕ) → (B → Bool) → List A → Type 0
 OneKey {A} f key test xs = (j k : ℕ) (d : A) → j < length xs → k < length xs → test (f (get_or xs j d)) ≡ true → test (f (get_or xs k d)) ≡ true → key (get_or xs j d) ≡ key (get_or xs k d)
 
-false_from : (b : Bool) → (b ≡ true → ⊥) → b ≡ false
-false_from true fails = absurd (fails refl)
-false_from false fails = refl
-
 changed_value : {B : Type 0} (test : B → Bool) (change : B → B) (z : B) (b : Bool) → test z ≡ b → b ≡ false → cond b (change z) z ≡ z
 changed_value test change z true e fails = cc
 changed_value test change z false e fails = refl
@@ -105,7 +87,7 @@ changed_one {A} {B} f key test change xs i d y rises one within here made =
           ∙ sym (ap (λ n. cond (test (f (get_or xs n d))) (change (f (get_or xs n d))) (f (get_or xs n d))) same)
       | inr other ↦ ap f (get_or-set_other xs i k y d other)
           ∙ sym (changed_value test change (f (get_or xs k d)) (test (f (get_or xs k d))) refl
-          (false_from (test (f (get_or xs k d))) (λ t. same_place key xs rises k i d inside' within (one k i d inside' within t here) other)))
+          (false_from_ne_true (test (f (get_or xs k d))) (λ t. same_place key xs rises k i d inside' within (one k i d inside' within t here) other)))
     ] ∙ sym right)
 
 pub mapped_set : {A B : Type 0} (f : A → B) (g : B → B) (xs : List A) (i : ℕ) (x y : A) (d : B) → i < length xs → x ≡ get_or xs i x → f y ≡ g (f x)
@@ -150,10 +132,6 @@ filter_agree_at p q [] same = refl
 filter_agree_at p q (x ∷ xs) same =
     agree_cons (p x) (q x) x (filter p xs) (filter q xs) (same 0 x (omega arith)) (filter_agree_at p q xs (λ k d h. same (suc k) d (omega arith)))
 
-or_false : (a b : Bool) → b ≡ false → (a || b) ≡ a
-or_false true b e = refl
-or_false false b e = e
-
 false_or : (a b c : Bool) → a ≡ false → b ≡ c → (a || b) ≡ c
 false_or true b c e h = cc
 false_or false b c e h = h
@@ -165,7 +143,7 @@ none_pass q (x ∷ xs) fails = false_or (q x) (list_any q xs) false (fails 0 x (
 -- where no other element passes
 pub any_one : {A : Type 0} (q : A → Bool) (xs : List A) (i : ℕ) (d : A) → i < length xs → ((k : ℕ) (e : A) → k < length xs → (k ≡ i → ⊥) → q (get_or xs k e) ≡ false) → list_any q xs ≡ q (get_or xs i d)
 any_one q [] i d within others = absurd (omega arith)
-any_one q (x ∷ xs) zero d within others = or_false (q x) (list_any q xs) (none_pass q xs (λ k e h. others (suc k) e (omega arith) (λ same. omega arith)))
+any_one q (x ∷ xs) zero d within others = or_same (q x) (list_any q xs) (none_pass q xs (λ k e h. others (suc k) e (omega arith) (λ same. omega arith)))
 any_one q (x ∷ xs) (suc i) d within others =
     false_or (q x) (list_any q xs) (q (get_or xs i d)) (others 0 x (omega arith) (λ same. omega arith))
     (any_one q xs i d (omega arith) (λ k e h other. others (suc k) e (omega arith) (λ same. other (omega arith))))

@@ -1,19 +1,12 @@
 -- A session's id tells its serial.
-use Rattle.std.proofs.Common.{◌≡◌, ℕ, ◌<◌, ◌≤◌, ◌^◌, true, List, get_or, drop, sym, ap, ◌∙◌, arith}
-use Rattle.std.specs.Int.{w64, to_be_bytes, from_be_bytes}
+use Rattle.std.proofs.Common.{◌≡◌, ℕ, ◌<◌, ◌≤◌, ◌^◌, true, List, get_or, sym, ◌∙◌, arith}
 use Rattle.std.proofs.lemmas.Slice.Eq.{bytes_eq-Decides}
-use Rattle.std.proofs.lemmas.Nat.{from_be_bytes-to_be_bytes_8}
 use Rattle.model.specs.Session.{session_id, is_session}
+use Rattle.model.proofs.SlotLaw.{session_id-serial}
 use Rattle.session.specs.declared.session.Session.{Session}
 use Rattle.session.specs.Views.{session_of}
 use Rattle.session.proofs.Kept.{UpTo}
 use Rattle.session.proofs.Lists.{OneKey}
-
-serial_told : (client serial client' serial' : ℕ) → serial < 2 ^ 64 → serial' < 2 ^ 64 → session_id client serial ≡ session_id client' serial' → serial ≡ serial'
-unfolding session_id
-serial_told client serial client' serial' small small' e =
-    let tails : to_be_bytes w64 serial ≡ to_be_bytes w64 serial' = ap (drop 8) e in
-    sym (from_be_bytes-to_be_bytes_8 serial small) ∙ ap (from_be_bytes w64) tails ∙ from_be_bytes-to_be_bytes_8 serial' small'
 
 id_told : (id : List ℕ) (session : Session) → is_session id (session_of session) ≡ true → session_id session.client session.serial ≡ id
 id_told id session e = (bytes_eq-Decides (session_id session.client session.serial) id).0 e
@@ -28,4 +21,4 @@ one_session id last sessions small made j k d within within' here here' =
     let second = get_or sessions k d in
     let below : first.serial ≤ last = made j d within in
     let below' : second.serial ≤ last = made k d within' in
-    serial_told first.client first.serial second.client second.serial (omega arith) (omega arith) (id_told id first here ∙ sym (id_told id second here'))
+    session_id-serial first.client first.serial second.client second.serial (omega arith) (omega arith) (id_told id first here ∙ sym (id_told id second here'))

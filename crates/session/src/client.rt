@@ -1,7 +1,6 @@
 //! A client record (RFC 8881, section 18.35.4).
 
 ghost use Rattle.std.specs.Prelude.{◌≡◌, ◌==◌, if◌then◌else◌, None};
-ghost use Rattle.std.specs.Option.{option_map};
 ghost use Rattle.model.specs.Session.{is_confirmed_of, is_unconfirmed_of, is_replaced_by, confirmed_with, next_number};
 ghost use Rattle.wire.specs.AnswerViews.{create_session_view};
 ghost use Rattle.session.specs.Rooms.{stays};
@@ -37,7 +36,7 @@ impl Client {
         !self.is_confirmed && self.owner.as_slice() == owner
     }
 
-    /// Whether a session of `client` ends this record: it is the confirmed one of the same owner id.
+    /// Whether confirming `client` ends this record: it is another one, the confirmed one of the same owner id.
     pub fn is_replaced_by(&self, client: &Client) -> bool
         ensures { result ≡ is_replaced_by (client_of client.now) (client_of self.now) }
     {

@@ -24,10 +24,10 @@ impl Clients {
     ghost use Rattle.std.specs.Prelude.{◌≡◌, ◌==◌, ◌+◌, ◌≤◌, [], length, IfOk, None, Some};
     ghost use Rattle.std.specs.List.{list_any, find, position};
     ghost use Rattle.std.specs.Option.{option_map, option_copied};
-    ghost use Rattle.model.specs.Session.{Client as Known, is_client, is_confirmed_of, is_unconfirmed_of, is_replaced_by, without, changed_where, confirmed_with};
+    ghost use Rattle.model.specs.Session.{Client as Known, is_client, is_confirmed_of, is_unconfirmed_of, is_replaced_by, without_where, changed_where, confirmed_with};
     ghost use Rattle.wire.specs.ArgumentViews.{exchange_id_view};
     ghost use Rattle.wire.specs.AnswerViews.{create_session_view};
-    ghost use Rattle.session.specs.Views.{client_of, clients_of, roll_of, roll_with, among};
+    ghost use Rattle.session.specs.Views.{client_of, clients_of, roll_of, roll_with};
     ghost use Rattle.session.specs.Rooms.{records_staying, Adds, ended_by, reclaimed};
 
     /// No record.
@@ -70,7 +70,8 @@ impl Clients {
     /// Drops the unconfirmed record of this owner id.
     pub fn remove_unconfirmed(&mut self, owner: &[u8])
         ensures { roll_of self.new
-            ≡ roll_with self.old (without (is_unconfirmed_of owner.now) (clients_of self.old)) }
+            ≡ roll_with self.old
+            (without_where (is_unconfirmed_of owner.now) (clients_of self.old)) }
     {
         self.list.retain(|client| !client.is_unconfirmed_of(owner));
     }
@@ -78,7 +79,7 @@ impl Clients {
     /// Drops the record of this client id.
     pub fn remove(&mut self, number: u64)
         ensures { roll_of self.new
-            ≡ roll_with self.old (without (is_client number) (clients_of self.old)) }
+            ≡ roll_with self.old (without_where (is_client number) (clients_of self.old)) }
     {
         self.list.retain(|client| client.number != number);
     }
@@ -172,7 +173,7 @@ impl Clients {
             → ended.now ≡ ended_by client (clients_of self.old)
             → roll_of self.new ≡ roll_with self.old
             (changed_where (is_client number) (confirmed_with (create_session_view answer))
-            (without (is_replaced_by client) (clients_of self.old))) }
+            (without_where (is_replaced_by client) (clients_of self.old))) }
     {
         self.list.retain(|client| !ended.contains(&client.number));
         if let Some(at) = self.position(number) {

@@ -2,7 +2,7 @@
 
 ghost use Rattle.std.specs.Prelude.{◌≡◌, IfOk, IfErr};
 ghost use Rattle.model.specs.Answer.{Answer};
-ghost use Rattle.model.specs.Session.{exchange_id, exchange_answer, new_record, without_client};
+ghost use Rattle.model.specs.Session.{exchange_id, exchange_answer, new_record};
 ghost use Rattle.wire.specs.AnswerViews.{exchange_id_view as answer_view};
 ghost use Rattle.wire.specs.ArgumentViews.{exchange_id_view};
 ghost use Rattle.wire.specs.Short.{IsShortAnswer};

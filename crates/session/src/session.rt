@@ -32,7 +32,7 @@ pub fn session_id(client: u64, serial: u64) -> [u8; 16]
 }
 
 impl Session {
-    ghost use Rattle.std.specs.Prelude.{◌≡◌, ◌≤◌, ◌-◌, Some, IfOk, IfSome, IfErr, length, map, replicate};
+    ghost use Rattle.std.specs.Prelude.{◌≡◌, ◌≤◌, ◌-◌, Some, IfOk, IfSome, IfErr, length, replicate};
     ghost use Rattle.std.specs.Option.{option_map};
     ghost use Rattle.std.specs.Vec.{vec_len};
     ghost use Rattle.model.specs.Session.{is_session, is_of_clients, is_running, no_slot, begin_by, begin_new, with_slot, finished_slot};

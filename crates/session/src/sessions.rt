@@ -22,7 +22,7 @@ impl Sessions {
     ghost use Rattle.std.specs.Prelude.{◌≡◌, ◌≤◌, ◌<◌, ◌++◌, [], ◌∷◌, length, OnOk, OnErr};
     ghost use Rattle.std.specs.List.{list_any, find, position};
     ghost use Rattle.std.specs.Option.{option_map, option_copied};
-    ghost use Rattle.model.specs.Session.{is_session, is_of_client, is_of_clients, without, changed_where, with_slot, finished_slot};
+    ghost use Rattle.model.specs.Session.{is_session, is_of_client, is_of_clients, without_where, changed_where, with_slot, finished_slot};
     ghost use Rattle.session.specs.Slots.{running_slot};
     ghost use Rattle.session.specs.Views.{session_of, sessions_of, book_of, book_with};
 
@@ -90,7 +90,7 @@ impl Sessions {
     /// Ends the session of this id.
     pub fn remove(&mut self, id: &[u8; 16])
         ensures { book_of self.new
-            ≡ book_with self.old (without (is_session id.now) (sessions_of self.old)) }
+            ≡ book_with self.old (without_where (is_session id.now) (sessions_of self.old)) }
     {
         self.list.retain(|session| !session.has_id(id));
     }
@@ -98,7 +98,7 @@ impl Sessions {
     /// A new session, of a later serial than those before, in place of those of the ended clients. Without memory nothing changes.
     pub fn add(&mut self, ended: &[u64], session: Session) -> Result<(), AllocError>
         requires { self.old.serial < session.serial }
-        ensures ok { let staying = without (is_of_clients ended.now) (sessions_of self.old) in
+        ensures ok { let staying = without_where (is_of_clients ended.now) (sessions_of self.old) in
             OnOk result (book_of self.new ≡ (session.serial, staying ++ session_of session ∷ [])) }
         ensures err { OnErr result (book_of self.new ≡ book_of self.old) }
     {

@@ -6,7 +6,7 @@ use Rattle.std.proofs.lemmas.List.{drop_more}
 use Rattle.std.proofs.lemmas.List.Concat.{flat_map-cons}
 use Rattle.model.specs.declared.status.Status.{Status}
 use Rattle.model.specs.Refusal.{Refusals, first_refusal}
-use Rattle.settings.proofs.Refusing.{or_else, first-append}
+use Rattle.model.proofs.RefusalLaws.{first-append, or_else}
 
 module _ {X V : Type 0} (view : X → V) (tests : V → Refusals) where
   -- the first refusal of all

@@ -1,3 +1,2 @@
 mod EachTest
-pub mod Refusing
 mod Values

@@ -9,12 +9,12 @@ use Rattle.model.specs.Attribute.{first_said, size_said, acl_said, mode_said, ow
 use Rattle.model.specs.AttributeValue as value
 use Rattle.model.specs.Operation as operation
 use Rattle.model.specs.Refusal.{Refusals, first_refusal}
-use Rattle.settings.specs.declared.attributes.Attributes.{Attributes}
+use Rattle.settings.specs.declared.attributes.GivenAttributes.{GivenAttributes}
 use Rattle.model.specs.declared.not_done.NotDone.{NotDone}
 use Rattle.model.specs.declared.not_done.NotDone.TheVariants as refusal
 use Rattle.settings.specs.declared.said.Settings.{Settings}
 
-abbrev pub given_of : Attributes → operation.Attributes
+abbrev pub given_of : GivenAttributes → operation.Attributes
 given_of given = record { bitmap = given.bitmap.now; values = given.values.now }
 
 -- what these values set, of attributes of these numbers

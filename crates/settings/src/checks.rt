@@ -9,7 +9,7 @@ ghost use Rattle.model.specs.AttributeValue.{Acl};
 ghost use Rattle.wire_attributes.specs.Views.{entry_view, value_view};
 ghost use Rattle.settings.specs.Given.{given_of, AreSettings, AreWithin, IsChecked, IsCheckedInMemory};
 
-use crate::attributes::Attributes;
+use crate::attributes::GivenAttributes;
 use crate::numbers::{SUPPORTED, has_one_outside};
 use crate::said::{Settings, settings_in};
 use acl_set::are_flags_for;
@@ -109,7 +109,7 @@ pub fn check_attributes(
     limits: &Limits,
     kind: NodeKind,
     settable: &[u32],
-    given: Attributes,
+    given: GivenAttributes,
 ) -> Result<Settings, NotDone>
     requires { length given.bitmap.now ≤ 8 }
     ensures tests { IsCheckedInMemory

@@ -6,7 +6,7 @@ mod checks;
 mod numbers;
 mod said;
 
-pub use attributes::Attributes;
+pub use attributes::GivenAttributes;
 pub use checks::check_attributes;
 pub use numbers::{
     ACL, MODE, OWNER, OWNER_GROUP, SETTABLE_AT_CREATION, SETTABLE_AT_OPEN, SETTABLE_AT_SETATTR,

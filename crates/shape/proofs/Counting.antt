@@ -1,5 +1,5 @@
 -- A walk that has visited all that it met, or is stuck, decides whether the nodes make one tree.
-use Rattle.std.proofs.Common.{◌≡◌, ◌≢◌, ◌≤◌, ◌<◌, ◌+◌, if◌then◌else◌, true≢false, ℕ, suc, Bool, true, false, List, [], ◌∷◌, Option, Some, None, length, take, get_or, refl, sym, ap, subst, ◌∙◌, arith, inl, inr, eqb, eq-eqb, ne_eqb}
+use Rattle.std.proofs.Common.{◌≡◌, ◌≢◌, ◌≤◌, ◌<◌, ◌+◌, if◌then◌else◌, true≢false, ℕ, suc, Bool, true, false, List, [], ◌∷◌, Option, Some, None, length, take, get_or, refl, sym, ap, subst, ◌∙◌, arith, inl, inr, eqb, eq-eqb}
 use Rattle.std.proofs.lemmas.Bool.{cases_eq, eqb-true}
 use Rattle.std.proofs.lemmas.List.{get_or-map, length-map, get_or_past}
 use Rattle.cards.specs.Tables.{number_of, number_at, HaveOwnPlaces, count_of_all}
@@ -7,21 +7,15 @@ use Rattle.cards.proofs.TableLaws.{within-numbered}
 use Rattle.layout.specs.Cards.{Card}
 use Rattle.layout.specs.Marks.{once_if, times}
 use Rattle.layout.specs.SumLaws.{entry_numbers, other_numbers, numbers_of}
-use Rattle.layout.proofs.NumberLaws.{place-of}
+use Rattle.layout.proofs.NumberLaws.{place-of, once-here, once-off, times-append, times-at}
 use Rattle.model.specs.Tree.{root}
 use Rattle.shape.specs.Trees.{led_at, led_by, IsReached, Root, Named, IsOneTree}
 use Rattle.shape.specs.Walks.{number_or, number_in, numbers_at, led_from, IsWalk, IsStuck}
-use Rattle.shape.proofs.Sums.{sum_below, sum_of, many, sum-same, sum-zero, sum-ones, sum-each, AreBelow, sum_of-below, sum_of-le, sum_of-all, length-sum, times-append, times-split, times-at, sum_of-at}
+use Rattle.shape.proofs.Sums.{sum_below, sum_of, many, sum-same, sum-zero, sum-ones, sum-each, AreBelow, sum_of-below, sum_of-le, sum_of-all, length-sum, times-split, sum_of-at}
 
 once-le : (b : Bool) → once_if b ≤ 1
 once-le true = omega arith
 once-le false = omega arith
-
-once-here : (x : ℕ) → once_if (eqb x x) ≡ 1
-once-here x = rw (eq-eqb x x refl) refl
-
-once-off : (n x : ℕ) → n ≢ x → once_if (eqb n x) ≡ 0
-once-off n x off = rw (ne_eqb n x off) refl
 
 -- One place
 
@@ -82,7 +76,7 @@ root-step number rest true e = refl
 root-step number rest false e =
     omega (arith, once-off root number (λ same. true≢false (sym (eq-eqb number root (sym same)) ∙ e)))
 
-root-others : (cards : List (Option Card)) → times root (other_numbers cards) ≡ 0
+pub root-others : (cards : List (Option Card)) → times root (other_numbers cards) ≡ 0
 root-others [] = refl
 root-others (None ∷ cards) = root-others cards
 root-others (Some card ∷ cards) = root-step card.fields.number (other_numbers cards) (eqb card.fields.number root) refl ∙ root-others cards

@@ -11,12 +11,12 @@ use Rattle.model.specs.Charge.{fits, few_names}
 use Rattle.model.specs.Keyed.{at, IsAbove}
 use Rattle.model.specs.Tree.{Tree, Node, names_of}
 use Rattle.model.proofs.KeyedLaws.{at-above, at-first, at-rest}
+use Rattle.model.proofs.OpensLaws.{total-ones}
 use Rattle.directory.specs.Listing.{by_stamp}
 use Rattle.layout.specs.Cards.{Card, tree_of, node_of, content_of}
 use Rattle.layout.specs.Known.{HasContent, AreCards}
 use Rattle.layout.proofs.Answering.{tree_answers}
 use Rattle.layout.proofs.Changing.{tree-above}
-use Rattle.layout.proofs.ChargeLaws.{total-ones}
 use Rattle.layout.proofs.Knowing.{each_above, laid_are_cards}
 use Rattle.layout.proofs.Summing.{known_sum, names_total}
 use Rattle.shape.specs.ShapeLaws.{EachFit}

@@ -6,11 +6,10 @@ use Rattle.cards.specs.Tables.{number_at}
 use Rattle.cards.proofs.TableLaws.{within-numbered}
 use Rattle.layout.specs.Cards.{Card}
 use Rattle.layout.specs.Marks.{once_if, times}
-use Rattle.layout.proofs.NumberLaws.{place-of}
+use Rattle.layout.proofs.NumberLaws.{place-of, times-append, times-at}
 use Rattle.model.specs.Tree.{root}
 use Rattle.shape.specs.Trees.{IsReached, Root}
 use Rattle.shape.specs.Walks.{number_or, number_in, numbers_at, IsWalk, Meets}
-use Rattle.shape.proofs.Sums.{times-append, times-at}
 
 module _ (cards : List (Option Card)) (seen : List Bool) (order : List ℕ) (walk : IsWalk cards seen order) (number place : ℕ)
     (there : number_at cards place ≡ Some number) where

@@ -6,12 +6,9 @@ use Rattle.directory.specs.declared.entry.Entry.{Entry}
 use Rattle.directory.specs.Records.{record_of}
 use Rattle.layout.specs.Cards.{Card}
 use Rattle.layout.specs.Marks.{once_if, times}
-use Rattle.layout.proofs.NumberLaws.{times-moved, rising, once-each}
+use Rattle.layout.proofs.NumberLaws.{times-moved, rising, once-each, once-here, times-append}
 use Rattle.shape.specs.Stamps.{stamps_of, stamped_by, entry_stamps, AreDifferent, AreStampsApart}
-use Rattle.shape.proofs.Sums.{times-append, times-split, take-one}
-
-once-here : (x : ℕ) → once_if (eqb x x) ≡ 1
-once-here x = rw (eq-eqb x x refl) refl
+use Rattle.shape.proofs.Sums.{times-split, take-one}
 
 pub apart_sorted : (cards : List (Option Card)) (sorted : List ℕ) → IsPermutation (entry_stamps cards) sorted → IsNonDecreasing sorted → AreDifferent sorted → AreStampsApart cards
 apart_sorted cards sorted moved up differ stamp =

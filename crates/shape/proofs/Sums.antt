@@ -2,6 +2,7 @@
 use Rattle.std.proofs.Common.{◌≡◌, ◌≢◌, ◌≤◌, ◌<◌, ◌+◌, ◌++◌, ℕ, zero, suc, Bool, true, false, List, [], ◌∷◌, length, take, get_or, refl, sym, ap, ◌∙◌, arith, inl, inr, eqb, eq-eqb, ne_eqb}
 use Rattle.std.proofs.lemmas.Bool.{cases_eq, cases_lt}
 use Rattle.layout.specs.Marks.{once_if, times}
+use Rattle.layout.proofs.NumberLaws.{once-here}
 
 -- f 0 + .. + f (n - 1)
 abbrev pub sum_below : (ℕ → ℕ) → ℕ → ℕ
@@ -85,9 +86,6 @@ sum-pick f (suc n) (suc x) h =
       sum-pick (λ i. f (suc i)) n x (omega arith),
     )
 
-once-here : (x : ℕ) → once_if (eqb x x) ≡ 1
-once-here x = rw (eq-eqb x x refl) refl
-
 -- places that are not below n stand nowhere in the list
 abbrev pub AreBelow : (n : ℕ) → List ℕ → Type 0
 AreBelow n ps = (p : ℕ) → n ≤ p → times p ps ≡ 0
@@ -127,18 +125,11 @@ length-sum (p ∷ ps) = omega (arith, length-sum ps)
 
 -- How often lists have a number
 
-pub times-append : (n : ℕ) (xs ys : List ℕ) → times n (xs ++ ys) ≡ times n xs + times n ys
-times-append n [] ys = omega arith
-times-append n (x ∷ xs) ys = omega (arith, times-append n xs ys)
-
 -- the element at a place counts beside those in front of it
 pub times-split : (n : ℕ) (xs : List ℕ) (i d : ℕ) → i < length xs → times n (take i xs) + once_if (eqb n (get_or xs i d)) ≤ times n xs
 times-split n [] i d h = absurd (omega arith)
 times-split n (x ∷ xs) zero d h = omega arith
 times-split n (x ∷ xs) (suc i) d h = omega (arith, times-split n xs i d (omega arith))
-
-pub times-at : (xs : List ℕ) (i d : ℕ) → i < length xs → 0 < times (get_or xs i d) xs
-times-at xs i d h = omega (arith, times-split (get_or xs i d) xs i d h, once-here (get_or xs i d))
 
 pub sum_of-at : (f : ℕ → ℕ) (ps : List ℕ) (i : ℕ) → i < length ps → f (get_or ps i 0) ≤ sum_of f ps
 sum_of-at f [] i h = absurd (omega arith)

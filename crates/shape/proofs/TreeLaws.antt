@@ -3,6 +3,7 @@ use Rattle.std.proofs.Common.{◌≡◌, ◌≢◌, ◌≤◌, ◌<◌, ◌↔�
 use Rattle.std.proofs.lemmas.Bool.{cases_eq}
 use Rattle.std.proofs.lemmas.List.{get_or-map, length-map}
 use Rattle.std.specs.Prelude.{is_some}
+use Rattle.std.proofs.lemmas.Option.{same_Some, none-some}
 use Rattle.disk.specs.Moments.{Image}
 use Rattle.model.specs.declared.node.NodeKind.{NodeKind}
 use Rattle.model.specs.declared.node.NodeKind.TheVariants as kind
@@ -22,12 +23,11 @@ use Rattle.layout.proofs.ChargeLaws.{stamped-rest}
 use Rattle.layout.proofs.Knowing.{AreEach, each_card, laid_are_cards}
 use Rattle.layout.proofs.Linking.{known_link}
 use Rattle.layout.proofs.Summing.{known_sum}
-use Rattle.layout.proofs.NumberLaws.{place-of}
+use Rattle.layout.proofs.NumberLaws.{place-of, times-append}
 use Rattle.shape.specs.ShapeLaws.{IsLinked, EachWalk, EachStamp}
 use Rattle.shape.specs.Stamps.{stamps_of, entry_stamps, AreStampsApart}
 use Rattle.shape.specs.Trees.{led_at, led_by, IsOneTree, IsReached}
 use Rattle.shape.specs.Trees as shape
-use Rattle.shape.proofs.Sums.{times-append}
 
 -- Names of one directory by their stamps
 
@@ -86,25 +86,19 @@ pub data Finds (cards : List (Option Card)) (number : ℕ) : Type 0 where
   There : (place : ℕ) (card : Card) → get_or cards place None ≡ Some card → card.fields.number ≡ number → Finds cards number
   Nowhere : ((place : ℕ) (card : Card) → get_or cards place None ≡ Some card → card.fields.number ≢ number) → Finds cards number
 
-none_some : (card : Card) → (let none : Option Card = None in none ≡ Some card) → ⊥
-none_some card e = cc
-
-some_one : (a b : Card) → (let one : Option Card = Some a in one ≡ Some b) → a ≡ b
-some_one a b e = cc
-
 abbrev HaveNone : List (Option Card) → ℕ → Type 0
 HaveNone cards number = (place : ℕ) (card : Card) → get_or cards place None ≡ Some card → card.fields.number ≢ number
 
 none-front : (cards : List (Option Card)) (number : ℕ) → HaveNone cards number → HaveNone (None ∷ cards) number
-none-front cards number none zero card e = absurd (none_some card e)
+none-front cards number none zero card e = absurd (none-some card e)
 none-front cards number none (suc place) card e = none place card e
 
 some-front : (one : Card) (cards : List (Option Card)) (number : ℕ) → one.fields.number ≢ number → HaveNone cards number → HaveNone (Some one ∷ cards) number
-some-front one cards number off none zero card e = λ same. off (ap (λ (c : Card). c.fields.number) (some_one one card e) ∙ same)
+some-front one cards number off none zero card e = λ same. off (ap (λ (c : Card). c.fields.number) (same_Some one card e) ∙ same)
 some-front one cards number off none (suc place) card e = none place card e
 
 pub find : (cards : List (Option Card)) (number : ℕ) → Finds cards number
-find [] number = Nowhere (λ place card e. absurd (none_some card e))
+find [] number = Nowhere (λ place card e. absurd (none-some card e))
 find (None ∷ cards) number = elim (find cards number) [
   | There place card e is ↦ There (suc place) card e is
   | Nowhere none ↦ Nowhere (none-front cards number none)
@@ -117,7 +111,7 @@ find (Some one ∷ cards) number = elim (cases_eq one.fields.number number) [
   ]
 ]
 
-numbered : (cards : List (Option Card)) (place number : ℕ) → number_at cards place ≡ Some number → (card : Card) × ((get_or cards place None ≡ Some card) × (card.fields.number ≡ number))
+pub numbered : (cards : List (Option Card)) (place number : ℕ) → number_at cards place ≡ Some number → (card : Card) × ((get_or cards place None ≡ Some card) × (card.fields.number ≡ number))
 numbered cards place number is = from (get_or cards place None) refl is
   where
     number_is : (a b : ℕ) → (let one : Option ℕ = Some a in one ≡ Some b) → a ≡ b

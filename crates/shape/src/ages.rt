@@ -1,7 +1,6 @@
 //! Whether no stamp of a volume is past a last one.
 
-ghost use Rattle.std.specs.Prelude.{◌≡◌, ◌+◌, ◌↔◌, IsTrue, map};
-ghost use Rattle.std.specs.List.{AllByRecursion};
+ghost use Rattle.std.specs.Prelude.{◌+◌, ◌↔◌, IsTrue, map};
 ghost use Rattle.directory.specs.Records.{record_of};
 ghost use Rattle.shape.specs.Ages.{AreBefore, AreNamesBefore, IsCardBefore};
 

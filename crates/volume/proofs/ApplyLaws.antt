@@ -21,7 +21,7 @@ use Rattle.volume.specs.Held.{Held, IsRecent, AddsTrees, fronts_from}
 use Rattle.volume.specs.Known.{IsServing}
 use Rattle.volume.specs.Refusals.{fault_of}
 use Rattle.volume.specs.Stands.{Stands}
-use Rattle.volume.specs.Volumes.{held_by}
+use Rattle.volume.specs.Views.{held_by}
 use Rattle.volume.proofs.FrontLaws.{among_more, applied_recent, front_among}
 use Rattle.volume.proofs.ServeLaws.{flush_adds, still_serving, tree_same}
 use Rattle.volume.proofs.OneTree.{Tree-set}

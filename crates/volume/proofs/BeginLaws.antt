@@ -15,7 +15,7 @@ use Rattle.volume.specs.Known.{IsServing}
 use Rattle.volume.specs.Loads.{IsLoaded}
 use Rattle.volume.specs.Mounts.{StandsOn, IsRaised, AddsRaised}
 use Rattle.volume.specs.Stands.{Stands}
-use Rattle.volume.specs.Volumes.{held_by}
+use Rattle.volume.specs.Views.{held_by}
 use Rattle.volume.specs.declared.mount.Superblock.{Superblock}
 use Rattle.volume.proofs.OneTree.{Tree-set}
 use Rattle.volume.proofs.ServeLaws.{holds_base}

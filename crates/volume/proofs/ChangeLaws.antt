@@ -43,7 +43,7 @@ use Rattle.volume.specs.Formed.{IsFormed}
 use Rattle.volume.specs.Held.{Held}
 use Rattle.volume.specs.Known.{IsKnown, IsServing}
 use Rattle.volume.specs.Stands.{Stands}
-use Rattle.volume.specs.Volumes.{held_by}
+use Rattle.volume.specs.Views.{held_by}
 use Rattle.volume.proofs.ApplyLaws.{StandsWith}
 use Rattle.volume.proofs.EditLaws.{can_settle, edited_alike, outline_alike}
 use Rattle.volume.proofs.SoundLaws.{edited_bytes, formed_sound, well_formed_bytes}

@@ -14,6 +14,7 @@ use Rattle.edits.proofs.BlankLaws.{each_outline, edits_blanked}
 use Rattle.edits.proofs.DoableLaws.{doable_alike, few_alike}
 use Rattle.edits.proofs.DoingLaws.{outline_fixed}
 use Rattle.edits.proofs.PlaceLaws.{there_at}
+use Rattle.edits.proofs.FitLaws.{fits-blanked}
 use Rattle.draft.proofs.KnownLaws.{card_at}
 use Rattle.layout.specs.Cards.{Card, tree_of}
 use Rattle.layout.specs.Known.{AreCards}
@@ -28,7 +29,6 @@ use Rattle.model.specs.Limits.{limits_of}
 use Rattle.model.specs.Tree.{Tree}
 use Rattle.volume.specs.Edits.{edited_by, front_of, named_by, IsChange}
 use Rattle.volume.specs.Held.{Held}
-use Rattle.volume.proofs.SoundLaws.{fits_blanked}
 
 -- Trees that are blanked alike are edited alike and fit alike
 
@@ -36,7 +36,7 @@ pub edited_alike : (edits : List model.Edit) (tree other : Tree) → blanked oth
 edited_alike edits tree other alike = sym (edits_blanked edits other) ∙ ap (λ (t : Tree). blanked (edited edits t)) alike ∙ edits_blanked edits tree
 
 pub fits_alike : (limits : Limits) (tree other : Tree) → blanked other ≡ blanked tree → fits limits other ≡ fits limits tree
-fits_alike limits tree other alike = sym (fits_blanked limits other) ∙ ap (fits limits) alike ∙ fits_blanked limits tree
+fits_alike limits tree other alike = sym (fits-blanked limits other) ∙ ap (fits limits) alike ∙ fits-blanked limits tree
 
 -- all trees of these cards are blanked alike
 pub outline_alike : (image : Image) (cards : List (Option Card)) → blanked (outline_of cards) ≡ blanked (tree_of image cards)

@@ -10,7 +10,7 @@ use Rattle.volume.specs.declared.fault.MountFault.TheVariants as mounts
 use Rattle.volume.specs.declared.mount.Superblock.{Superblock}
 use Rattle.volume.specs.declared.superblock.Verdict.TheVariants as verdicts
 use Rattle.volume.specs.Held.{Held}
-use Rattle.volume.specs.MountAnswers.{first_verdict, HasMounted, OnlyReplays, HasReason, IsRefused}
+use Rattle.volume.specs.MountAnswers.{first_verdict, HasMounted, OnlyReplays, HasReason, IsMountRefused}
 use Rattle.volume.specs.Mounts.{HasBegun, IsNotBegun}
 use Rattle.volume.specs.Refusals.{gate_fault}
 use Rattle.volume.specs.Remounts.{AddsMount}
@@ -28,7 +28,7 @@ untouched_mount : (sectors : ℕ) (old new : History) → new ≡ old → AddsMo
 untouched_mount sectors old new same nodes run tree base = subst (AddsOnly _ old) (sym same) (AddsOnly-same _ old)
 
 -- nothing was asked of the device
-pub refused_untouched : (sectors : ℕ) (old new : History) (fault : MountFault) → new ≡ old → HasReason sectors old new fault → IsRefused sectors old new fault
+pub refused_untouched : (sectors : ℕ) (old new : History) (fault : MountFault) → new ≡ old → HasReason sectors old new fault → IsMountRefused sectors old new fault
 refused_untouched sectors old new fault same reason = record {
   moments = untouched_mount sectors old new same;
   replays = λ other. untouched_replays sectors old new same;
@@ -61,11 +61,11 @@ module _ (sectors : ℕ) (old new : History) (sound : first_verdict sectors old 
   settled_mount : AddsMount sectors old new
   settled_mount nodes run tree base = settled_moments sectors nodes run tree (seen old.now) base old new replays
 
-  failed : IsRefused sectors old new mounts.Device
+  failed : IsMountRefused sectors old new mounts.Device
   failed = record { moments = settled_mount; replays = λ other. absurd (other refl); reason = tt }
 
   pub gate_refused : (fault : JournalFault) → (fault ≡ journals.Damaged → LeavesOnlySynced sectors old new) → (fault ≡ journals.Memory → new ≡ old)
-      → IsRefused sectors old new (gate_fault fault)
+      → IsMountRefused sectors old new (gate_fault fault)
   gate_refused journals.Memory damaged memory = refused_untouched sectors old new mounts.Memory (memory refl) tt
   gate_refused journals.Damaged damaged memory = record {
     moments = settled_mount;
@@ -95,7 +95,7 @@ module _ (sectors : ℕ) (old mid : History) (found : Superblock) (base : Image)
     holds = begun.holds;
   }
 
-  pub begin_refused : (new : History) (fault : MountFault) → IsNotBegun found base mid new fault → IsRefused sectors old new fault
+  pub begin_refused : (new : History) (fault : MountFault) → IsNotBegun found base mid new fault → IsMountRefused sectors old new fault
   begin_refused new fault refused = record {
     moments = λ nodes run tree stands. found_moments sectors nodes run tree (seen old.now) stands base settles found.sectors found.nodes found.run sectors_is few counted first
         old mid new replays (refused.moments tree);

@@ -4,6 +4,7 @@ use Rattle.std.proofs.lemmas.Bool.{cases_eq}
 use Rattle.std.proofs.Math.Logic.{∥∥₁_elim}
 use Rattle.std.proofs.Props.{props}
 use Rattle.std.specs.List.{IsAmong}
+use Rattle.std.proofs.lemmas.Option.{same_Some}
 use Rattle.cards.specs.Tables.{number_of, number_at, HasNot}
 use Rattle.disk.specs.Moments.{Image}
 use Rattle.draft.specs.Nodes.{no_content, shown_of}
@@ -27,10 +28,10 @@ use Rattle.model.proofs.KeyedLaws.{at-with_same, at-with_other, at-without_same,
 use Rattle.parents.specs.ParentLaws.{KeepsNames, MovesName}
 use Rattle.parents.specs.Parents.{HasName, AreParents}
 use Rattle.parents.proofs.ChangeLaws.{each_kept, each_move}
-use Rattle.parents.proofs.LinkLaws.{some_is, numbered, own-places, no_other}
+use Rattle.parents.proofs.LinkLaws.{own-places, no_other}
 use Rattle.parents.proofs.TreeLaws.{name_of_card, card_of_name}
 use Rattle.shape.specs.Trees.{IsOneTree}
-use Rattle.shape.proofs.TreeLaws.{find, Finds, There, Nowhere}
+use Rattle.shape.proofs.TreeLaws.{find, Finds, There, Nowhere, numbered}
 use Rattle.volume.specs.Edits.{edited_by, named_by, put_by, HasPut, IsChange}
 use Rattle.volume.specs.Parents.{PutsParent}
 use Rattle.volume.specs.Formed.{IsFormed}
@@ -162,7 +163,7 @@ pair_is : (a b c d : ℕ) → (let one : Option (ℕ × ℕ) = Some (a, b) in on
 pair_is a b c d is =
     let left : ℕ × ℕ = (a, b) in
     let right : ℕ × ℕ = (c, d) in
-    let same : left ≡ right = some_is left right is in
+    let same : left ≡ right = same_Some left right is in
     (ap (λ (pair : ℕ × ℕ). pair.0) same, ap (λ (pair : ℕ × ℕ). pair.1) same)
 
 -- its number is among those that are named, and the directory has it

@@ -1,32 +1,18 @@
 -- A volume between two runs of a server.
-use Rattle.std.proofs.Common.{◌≡◌, ◌+◌, ◌⊎◌, ℕ, List, [], ◌∷◌, Bool, true, false, eqb, cond, refl, sym, subst, inl, inr, ⊎_elim, arith}
-use Rattle.std.proofs.lemmas.Bool.{eqb-true}
+use Rattle.std.proofs.Common.{◌≡◌, ◌+◌, ◌⊎◌, ℕ, [], sym, subst, inl, ⊎_elim, arith}
 use Rattle.std.proofs.Props.{props}
 use Rattle.std.proofs.Math.Logic.{∥∥₁_elim}
 use Rattle.std.proofs.Math.Path.{fun_ext}
-use Rattle.disk.specs.declared.update.Update.{Update}
-use Rattle.disk.specs.Moments.{Image, Moment, History, Among, Left, LeftSince, LeftWithin, at_rest, seen, newest}
+use Rattle.journal.proofs.Moments.{seen-may_hold}
+use Rattle.disk.specs.Moments.{Image, Moment, History, Left, LeftSince, LeftWithin, at_rest, seen}
 use Rattle.model.specs.Tree.{Tree}
 use Rattle.volume.specs.Stands.{StandsFor}
 use Rattle.volume.specs.Held.{Held}
 use Rattle.volume.specs.Remounts.{AddsMount, Remounts, Powers, Mounts, Stops, ServesSame, EveryRemount, StillStands}
 use Rattle.volume.proofs.OneTree.{one_tree_stands}
 
--- what a read gives may be left
-newest_held : (updates : List Update) (fixed : Image) (n : ℕ) → (newest updates fixed n ≡ fixed n) ⊎ Among updates n (newest updates fixed n)
-newest_held [] fixed n = inl refl
-newest_held (update ∷ updates) fixed n = by_target (newest_held updates fixed n) (eqb n update.target) refl
-  where
-    by_target : (newest updates fixed n ≡ fixed n) ⊎ Among updates n (newest updates fixed n) → (b : Bool) → eqb n update.target ≡ b
-        → (cond b update.content (newest updates fixed n) ≡ fixed n) ⊎ Among (update ∷ updates) n (cond b update.content (newest updates fixed n))
-    by_target rest true is = inr (inl (sym (eqb-true n update.target is), refl))
-    by_target rest false is = ⊎_elim
-        (λ (same : newest updates fixed n ≡ fixed n). inl same)
-        (λ (among : Among updates n (newest updates fixed n)). inr (inr among))
-        rest
-
 pub seen_left : (m : Moment) → Left m (seen m)
-seen_left m n = newest_held m.unsynced m.fixed n
+seen_left m n = seen-may_hold m.unsynced m.fixed n
 
 -- of a device at rest a stop leaves what it holds
 rests_left : (first image : Image) → LeftSince (at_rest first) 0 image → image ≡ first

@@ -4,6 +4,7 @@ use Rattle.std.proofs.Math.Logic.{∥∥₁_map, ∥∥₁_elim, ∥∥₁_prop}
 use Rattle.std.specs.List.{IsAmong}
 use Rattle.std.specs.Result.{IsErrAnd}
 use Rattle.std.specs.Prelude.{IfSome, IfErr, OnOk, Result, Ok, Err, get_or}
+use Rattle.std.proofs.lemmas.Bool.{false_from_ne_true}
 use Rattle.disk.specs.Cause.{IsCounted}
 use Rattle.disk.specs.Moments.{Image}
 use Rattle.disk.proofs.MomentLemmas.{AddsOnly-weaken}
@@ -23,7 +24,7 @@ use Rattle.volume.specs.Refusals.{fault_of}
 use Rattle.volume.specs.Held.{Held, IsSameVolume, Holds, MayAdd, StandsForOne, AddsTrees, fronts_from}
 use Rattle.volume.specs.Known.{IsServing}
 use Rattle.volume.specs.Stands.{Stands}
-use Rattle.volume.specs.Volumes.{held_by}
+use Rattle.volume.specs.Views.{held_by}
 use Rattle.volume.proofs.FrontLaws.{front_among}
 use Rattle.volume.proofs.OneTree.{Tree-set}
 use Rattle.volume.proofs.StandLaws.{sized, stands_same}
@@ -117,12 +118,12 @@ module _ (keeps_word : Type 0) (limits : Limits) (run : ℕ) (cards : List (Opti
 
   module _ (safe : IsSafe keeps_word old new) (later : before ≤ after) where
     pub flush_done : new.is_down ≡ false → HasFlushed keeps_word old new → IsUp → Changes keeps_word (IsTree was.tree) was is before after Done
-    flush_done up flushed serves = record {
+    flush_done false_from_ne_true flushed serves = record {
       same = same_volume safe.size;
       later = later;
       moments = λ k tree lasts given. flush_adds limits run cards old new tree (safe.moments k);
       ends = record {
-        still_up = up;
+        still_up = false_from_ne_true;
         leaves = λ k tree lasts given recent ready. (
           is.tree ∷ [],
           record {
@@ -139,8 +140,8 @@ module _ (keeps_word : Type 0) (limits : Limits) (run : ℕ) (cards : List (Opti
 
         holds : keeps_word → Holds is
         holds k = holds_base limits run cards new flushed.emptied
-            (∥∥₁_elim (serves k) ∥∥₁_prop (λ serving. ∥∥₁_elim (still_serving limits.nodes run cards old new (flushed.contents k) safe.size (safe.settled k up) serving) ∥∥₁_prop (λ now. now.stands)))
-            (safe.settled k up)
+            (∥∥₁_elim (serves k) ∥∥₁_prop (λ serving. ∥∥₁_elim (still_serving limits.nodes run cards old new (flushed.contents k) safe.size (safe.settled k false_from_ne_true) serving) ∥∥₁_prop (λ now. now.stands)))
+            (safe.settled k false_from_ne_true)
 
     pub flush_broken : new.is_down ≡ true → IsCounted before after → Changes keeps_word (IsTree was.tree) was is before after Broken
     flush_broken down counted = record {
@@ -160,11 +161,7 @@ module _ (keeps_word : Type 0) (limits : Limits) (run : ℕ) (cards : List (Opti
 
     -- and it serves on
     pub flush_serves : keeps_word → new.is_down ≡ false → AreSame old.size (contents old) (contents new) → IsUp → ∥ IsServing new limits.nodes run cards ∥₁
-    flush_serves k up same serves = ∥∥₁_elim (serves k) ∥∥₁_prop (still_serving limits.nodes run cards old new same safe.size (safe.settled k up))
-
-up : (b : Bool) → (b ≡ true → ⊥) → b ≡ false
-up true never = absurd (never refl)
-up false never = refl
+    flush_serves k false_from_ne_true same serves = ∥∥₁_elim (serves k) ∥∥₁_prop (still_serving limits.nodes run cards old new same safe.size (safe.settled k false_from_ne_true))
 
 down_up : (b : Bool) → b ≡ true → b ≡ false → ⊥
 down_up b down is_up = cc
@@ -172,7 +169,7 @@ down_up b down is_up = cc
 -- a call that answered found the journal up and left it up
 pub found_up : (old new : Log) (before after : ℕ) (done : Unit {0}) → Answers old new before after (Ok done) → (old.is_down ≡ false) × (new.is_down ≡ false)
 found_up old new before after done answers =
-    let found : old.is_down ≡ false = up old.is_down (λ down. let told = answers.down.1 down in cc) in
+    let found : old.is_down ≡ false = false_from_ne_true old.is_down (λ down. let told = answers.down.1 down in cc) in
     (found, answers.stays_up found (λ fault. cc))
 
 -- a flush that leaves it up has flushed

@@ -1,21 +1,22 @@
 -- A tree whose files hold bytes is well formed where it is so with zeros for them; and which edits keep bytes.
 use Rattle.std.proofs.Common.{◌≡◌, ◌+◌, ◌<◌, ◌&&◌, not, ℕ, Bool, List, [], ◌∷◌, Option, Some, None, All, length, refl, sym, ap, ap₂, ◌∙◌, arith, inl, inr, subst}
-use Rattle.std.specs.Prelude.{option_map, nat_le, ◌==◌, IsTrue}
+use Rattle.std.specs.Prelude.{option_map, ◌==◌, IsTrue}
 use Rattle.std.proofs.Math.Logic.{∥∥₁_map}
 use Rattle.std.proofs.lemmas.Bool.{cases_eq}
 use Rattle.std.proofs.lemmas.List.Elements.{All-nil}
+use Rattle.std.proofs.lemmas.Option.{same_Some}
 use Rattle.edits.specs.declared.edit.Edit.{Edit}
 use Rattle.edits.specs.declared.edit.Edit.TheVariants as declared
 use Rattle.edits.specs.Edits.{edits_of, fresh_node}
 use Rattle.edits.specs.Outlines.{blank, blank_node, blanked}
 use Rattle.edits.specs.Parts.{PartsAreBytes}
-use Rattle.edits.proofs.BlankLaws.{length-zeros, at-blanked, length-blanked, key-blanked, directory-blanked, names-blanked, charge-blanked, few-blanked}
+use Rattle.edits.proofs.BlankLaws.{length-zeros, at-blanked, key-blanked, directory-blanked, names-blanked}
+use Rattle.edits.proofs.FitLaws.{fits-blanked}
 use Rattle.draft.specs.Nodes.{shown_of}
 use Rattle.model.specs.declared.limits.Limits.{Limits}
 use Rattle.model.specs.declared.node.NodeKind.{NodeKind}
 use Rattle.model.specs.declared.node.NodeKind.TheVariants as kind
 use Rattle.model.specs.Acl.{is_list_for}
-use Rattle.model.specs.Charge.{fits}
 use Rattle.model.specs.Edit.{PutNode, DropNode, Show, PutName, DropName, PutBytes, SetSize, done, edited, altered, altered_at, showing, with_content, name_put, name_dropped, resized, overwritten}
 use Rattle.model.specs.Edit as model
 use Rattle.model.specs.Keyed.{Keyed, at, with, without, is_key, IsAbove, total}
@@ -36,9 +37,6 @@ AreBytes tree = (number : ℕ) (node : Node) → at number tree ≡ Some node �
 no_bytes : All (λ byte. byte < 256) []
 no_bytes = All-nil (λ byte. byte < 256)
 
-some_is : {A : Type 0} (x y : A) → Some x ≡ Some y → x ≡ y
-some_is x y e = cc
-
 none_some : {A : Type 0} (found : Option A) (x : A) → found ≡ None → found ≡ Some x → ⊥
 none_some found x none some = cc
 
@@ -56,7 +54,7 @@ well_formed_bytes limits tree well number node there = (let is = well.nodes numb
 bytes_with : (tree : Tree) (number : ℕ) (node : Node) → AreBytes tree → HasBytes node.content → AreBytes (with tree number node)
 bytes_with tree number node are has other is there = elim (cases_eq other number) [
   | inl e ↦ subst (λ (n : Node). HasBytes n.content)
-      (some_is node is (sym (at-with_same tree number node) ∙ ap (λ (n : ℕ). at n (with tree number node)) (sym e) ∙ there)) has
+      (same_Some node is (sym (at-with_same tree number node) ∙ ap (λ (n : ℕ). at n (with tree number node)) (sym e) ∙ there)) has
   | inr off ↦ are other is (sym (at-with_other tree number other node off) ∙ there)
 ]
 
@@ -135,12 +133,7 @@ stamped_blanked tree stamp = total_blanked (is_stamped stamp) (λ node. ap (λ (
 owed_blanked : (tree : Tree) (number : ℕ) → links_owed (blanked tree) number ≡ links_owed tree number
 owed_blanked tree number = ap (λ (is : Bool). one_if (is && not (number == root))) (key-blanked tree number)
 
-pub fits_blanked : (limits : Limits) (tree : Tree) → fits limits (blanked tree) ≡ fits limits tree
-unfolding fits
-fits_blanked limits tree = ap₂ (λ (charges : ℕ) (rest : Bool). nat_le charges limits.data_sectors && rest) (charge-blanked tree)
-    (ap₂ (λ (nodes : ℕ) (few : Bool). nat_le nodes limits.nodes && few) (length-blanked tree) (few-blanked limits.names tree))
-
-kind_blank : (content : Content) → kind_of (blank content) ≡ kind_of content
+pub kind_blank : (content : Content) → kind_of (blank content) ≡ kind_of content
 kind_blank (File bytes) = refl
 kind_blank (Directory names) = refl
 
@@ -169,7 +162,7 @@ module _ (tree : Tree) where
           (well.reached number (subst IsTrue (sym (key-blanked tree number)) key));
       stamped = λ stamp. (let once = well.stamped stamp in omega (arith, once, stamped_blanked tree stamp));
       nodes = λ number node there. node_blank limits node (well.nodes number (blank_node node) (there_blanked number node there)) (are number node there);
-      fitting = subst IsTrue (fits_blanked limits tree) well.fitting;
+      fitting = subst IsTrue (fits-blanked limits tree) well.fitting;
     }
 
   before : (stamp : ℕ) → IsBefore stamp (blanked tree) → IsBefore stamp tree

@@ -18,4 +18,4 @@ pub mod Refusals
 pub mod Remounts
 pub mod Stands
 pub mod Superblock
-pub mod Volumes
+pub mod Views

@@ -66,7 +66,7 @@ HasReason sectors old new mounts.Device = ⊤
 
 -- A mount that is refused: the tree stands as it stood, and its count is raised only where the
 -- device failed
-pub record IsRefused (sectors : ℕ) (old new : History) (fault : MountFault) : Type 0 where
+pub record IsMountRefused (sectors : ℕ) (old new : History) (fault : MountFault) : Type 0 where
   pub moments : AddsMount sectors old new
   pub replays : (fault ≡ mounts.Device → ⊥) → OnlyReplays sectors old new
   pub reason : HasReason sectors old new fault

@@ -22,7 +22,7 @@ impl From<DraftFault> for VolumeFault {
     }
 }
 
-#[tactic(auto, unfolding(crate::specs::Volumes::held_of, crate::specs::Volumes::volume_failures))]
+#[tactic(auto, unfolding(crate::specs::Views::held_of, crate::specs::Views::volume_failures))]
 impl<D: Device> Volume<D> {
     ghost use Rattle.std.specs.Prelude.{◌≡◌, ◌↔◌, true, false, OnOk, IsErrOf};
     ghost use Rattle.edits.specs.Edits.{AreDoable};
@@ -30,7 +30,7 @@ impl<D: Device> Volume<D> {
     ghost use Rattle.volume.specs.Changes.{IsTree, ending_of};
     ghost use Rattle.volume.specs.Edits.{IsChange, IsEdited, edited_by};
     ghost use Rattle.volume.specs.Formed.{Shows};
-    ghost use Rattle.volume.specs.Volumes.{held_of, Alters};
+    ghost use Rattle.volume.specs.Views.{held_of, Alters};
 
     /// Whether the tree after edits has room: what [`Volume::change`] asks first. Each must be one
     /// that can be done in the tree that those before it give.

@@ -19,14 +19,14 @@ impl From<ReadingFault> for VolumeFault {
     }
 }
 
-#[tactic(auto, unfolding(crate::specs::Volumes::held_of, crate::specs::Volumes::volume_failures))]
+#[tactic(auto, unfolding(crate::specs::Views::held_of, crate::specs::Views::volume_failures))]
 impl<D: Device> Volume<D> {
     ghost use Rattle.std.specs.Prelude.{◌≡◌, ◌++◌, ◌⊎◌, ◌↔◌, true, take, drop};
     ghost use Rattle.std.specs.Prelude.{OnOk, OnErr, IfErr, IsErrOf};
     ghost use Rattle.model.specs.Files.{bytes_at};
     ghost use Rattle.volume.specs.Changes.{IsTree};
     ghost use Rattle.volume.specs.Reading.{HasFile, ending_of_reading};
-    ghost use Rattle.volume.specs.Volumes.{held_of, Alters};
+    ghost use Rattle.volume.specs.Views.{held_of, Alters};
 
     /// Appends to `out` the bytes of a file from `offset` on: `len` of them, or as many as there
     /// are up to its end.

@@ -1,6 +1,6 @@
 //! Making a new volume.
 
-ghost use Rattle.std.specs.Prelude.{◌≡◌, ◌≤◌, ◌⊎◌, ◌↔◌, [], ◌∷◌, false, IfOk, OnOk, IsErrOf};
+ghost use Rattle.std.specs.Prelude.{◌≡◌, ◌≤◌, ◌⊎◌, ◌↔◌, false, IfOk, OnOk, IsErrOf};
 ghost use Rattle.disk.specs.Cause.{IsCounted};
 ghost use Rattle.inode.specs.Fields.{fields_of};
 ghost use Rattle.layout.specs.FreshLaws.{root_fields};
@@ -15,7 +15,7 @@ use inode::{Form, Inode, to_sector};
 use journal::Journal;
 use layout::places::NODES;
 use model::acl::{Ace, AceFlags, AceKind, Acl, Mask, Who};
-use model::node::NodeKind;
+use model::node::{NodeKind, ROOT};
 use std::alloc::{AllocError, Global};
 use std::slice;
 
@@ -31,7 +31,7 @@ fn fresh_root(alloc: Global) -> Result<Inode, AllocError>
     };
     Ok(Inode {
         kind: NodeKind::Directory,
-        number: 1,
+        number: ROOT,
         owner: 0,
         group: 0,
         change: 1,

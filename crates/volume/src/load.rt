@@ -1,13 +1,12 @@
 //! Reading the nodes of a volume into memory.
 
-ghost use Rattle.std.specs.Prelude.{◌≡◌, ◌⊎◌, IfOk, IfErr, IsErrOf, OnOk, false, is_err};
+ghost use Rattle.std.specs.Prelude.{◌≡◌, ◌⊎◌, IfOk, IfErr, IsErrOf};
 ghost use Rattle.journal.specs.Journal.{log_of, failures_of};
 ghost use Rattle.model.specs.Tree.{Tree as NumberedTree};
 ghost use Rattle.parents.specs.Parents.{AreParents};
 ghost use Rattle.layout.specs.Health.{Reads};
 ghost use Rattle.volume.specs.Loads.{AreLoaded, HoldsBase, HoldsVolume, IsLoaded, Loads};
 ghost use Rattle.volume.specs.Mounts.{HasSize, IsVolumeOf, IsAtRest, StandsOn};
-ghost use Rattle.volume.specs.Superblock.{superblock};
 
 use crate::fault::MountFault;
 use crate::mount::Superblock;

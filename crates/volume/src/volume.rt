@@ -55,9 +55,9 @@ pub struct Unmounted<D: Device> {
     pub device: D,
 }
 
-#[tactic(auto, unfolding(crate::specs::Volumes::held_of, crate::specs::Volumes::volume_failures))]
+#[tactic(auto, unfolding(crate::specs::Views::held_of, crate::specs::Views::volume_failures))]
 impl<D: Device> Volume<D> {
-    ghost use Rattle.std.specs.Prelude.{◌≡◌, ◌≤◌, ◌↔◌, ◌⊎◌, true, Some, None};
+    ghost use Rattle.std.specs.Prelude.{◌≡◌, ◌≤◌, ◌↔◌, ◌⊎◌, true, None};
     ghost use Rattle.std.specs.Prelude.{IfSome, IfNone, IfOk, IfErr, OnOk, IsErrOf};
     ghost use Rattle.journal.specs.Journal.{log_of, failures_of};
     ghost use Rattle.layout.specs.Known.{IsCard};
@@ -66,10 +66,10 @@ impl<D: Device> Volume<D> {
     ghost use Rattle.volume.specs.Formed.{Shows};
     ghost use Rattle.volume.specs.Held.{IsNew};
     ghost use Rattle.volume.specs.Loads.{HoldsBase};
-    ghost use Rattle.volume.specs.MountAnswers.{HasMounted, IsRefused, ComesBack};
+    ghost use Rattle.volume.specs.MountAnswers.{HasMounted, IsMountRefused, ComesBack};
     ghost use Rattle.volume.specs.Mounts.{IsVolumeOf, IsAtRest, HasBegun, IsNotBegun};
     ghost use Rattle.volume.specs.Nodes.{IsNodeOf};
-    ghost use Rattle.volume.specs.Volumes.{held_of, volume_failures, Alters};
+    ghost use Rattle.volume.specs.Views.{held_of, volume_failures, Alters};
 
     /// Mounts the volume: finds it by its first sector, copies home what an open gate shows, reads
     /// its nodes, and raises the restart count. Every map that a stop leaves from then on has the
@@ -88,7 +88,7 @@ impl<D: Device> Volume<D> {
         // Refused
         ensures back { IfErr result (ComesBack D.size D.failed (D.size device) (D.failed device)) }
         ensures refused { D.keeps_word → IfErr result (λ refused.
-            IsRefused (D.size device) (D.history device) (D.history refused.device) refused.fault) }
+            IsMountRefused (D.size device) (D.history device) (D.history refused.device) refused.fault) }
     {
         let mut device = device;
         let found = match find(&mut device) {

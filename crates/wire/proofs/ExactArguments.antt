@@ -9,7 +9,6 @@ use Rattle.xdr.specs.Clauses.{Reads, Accepts}
 use Rattle.xdr.proofs.Accepting.{accepts}
 use Rattle.wire.specs.declared.argument.Argument.{Argument as Argument'}
 use Rattle.wire.specs.ArgumentView.{argument_view}
-use Rattle.xdr.specs.Union.{on, no_other, any_other, other_below}
 use Rattle.xdr.proofs.Numbers.{int_exact, hyper_exact}
 use Rattle.xdr.proofs.Sequences.{void_exact, then_exact, of_exact, one_spelling}
 use Rattle.xdr.proofs.Passing.{boolean_exact, below_exact, always_exact}

@@ -4,7 +4,7 @@ ghost use Rattle.std.specs.Prelude.{◌≡◌, ◌+◌, ◌<◌, ◌≤◌, ◌^
 ghost use Rattle.model.specs.WireTypes.{attributes, channel};
 ghost use Rattle.model.specs.WireAnswers.{answer_told, behind_refusal, entry, outcome};
 ghost use Rattle.wire.specs.SmallViews.{attributes_view, channel_view};
-ghost use Rattle.wire.specs.AnswerViews.{entry_view, links_of, chain_of, EntryFits};
+ghost use Rattle.wire.specs.AnswerViews.{entry_view, chain_of, EntryFits};
 ghost use Rattle.wire.specs.OutcomeView.{answer_view, outcome_view};
 
 use crate::answers::Entry;
@@ -108,7 +108,7 @@ impl Outcome<'_> {
     }
 }
 
-#[tactic(auto, using(xdr::proofs::Sizes::int_length))]
+#[tactic(auto, using(crate::proofs::Sizes::int_length))]
 fn refused_size(operation: u32) -> usize
     ensures { result ≡ 8 + length (behind_refusal operation) }
 {

@@ -1,7 +1,6 @@
 //! The small types (RFC 8881, section 3.3).
 
 ghost use Rattle.std.specs.Prelude.{◌≡◌, ◌≤◌, ◌<◌, ◌^◌, length};
-ghost use Rattle.std.specs.Option.{option_map};
 ghost use Rattle.xdr.specs.Clauses.{Scans, Wrote};
 ghost use Rattle.xdr.specs.Grammar.{unsigned_int};
 ghost use Rattle.xdr.specs.Forms.{is_trimmed, optional, trimmed_bitmap};

@@ -7,7 +7,8 @@ use Rattle.std.proofs.lemmas.Grind.{flat_map-append}
 use Rattle.std.proofs.lemmas.List.{append-nil, length-append, take_more}
 use Rattle.xdr.specs.Grammar.{number}
 use Rattle.xdr.specs.Forms.{counted, elements}
-use Rattle.xdr.proofs.Sizes.{int_length, hyper_length, counted_length, elements_length}
+use Rattle.xdr.proofs.Sizes.{counted_length, elements_length}
+use Rattle.xdr.proofs.Numbers.{length-number_32, length-number_64}
 use Rattle.model.specs.declared.acl.Ace.{Ace}
 use Rattle.model.specs.declared.node.NodeKind.{NodeKind}
 use Rattle.model.specs.declared.node.NodeKind.TheVariants as kind
@@ -43,9 +44,9 @@ entry_length ace n is =
       length-append kind (flags ++ (mask ++ name)),
       length-append flags (mask ++ name),
       length-append mask name,
-      int_length (kind_number ace.kind),
-      int_length (entry_flags ace.flags.0 ace.who),
-      int_length ace.mask.0,
+      length-number_32 (kind_number ace.kind),
+      length-number_32 (entry_flags ace.flags.0 ace.who),
+      length-number_32 ace.mask.0,
     )
 
 each_text : (acl : List Ace) → flat_map acl_entry.spelling (map entry_text acl) ≡ flat_map ace_text acl
@@ -62,7 +63,7 @@ list_text acl = rw (each_text acl, count acl) refl
 
 pub list_length : (acl : List Ace) (n : ℕ) → n ≡ length (flat_map ace_text acl) → 4 + n ≡ length (elements acl_entry.spelling (map entry_text acl))
 list_length acl n is =
-    omega (arith, is, ap length (list_text acl), length-append (number w32 (length acl)) (flat_map ace_text acl), int_length (length acl))
+    omega (arith, is, ap length (list_text acl), length-append (number w32 (length acl)) (flat_map ace_text acl), length-number_32 (length acl))
 
 -- values of one length
 
@@ -70,13 +71,13 @@ pub bitmap_length : length (elements (λ n. number w32 n) supported_bitmap) ≡ 
 bitmap_length = elements_length supported_bitmap
 
 pub fsid_length : length (file_system_id.spelling (record { major = 1; minor = 0 })) ≡ 16
-fsid_length = omega (arith, length-append (number w64 1) (number w64 0), hyper_length 1, hyper_length 0)
+fsid_length = omega (arith, length-append (number w64 1) (number w64 0), length-number_64 1, length-number_64 0)
 
 pub time_length : (moment : ℕ) → length (time.spelling (time_of moment)) ≡ 12
 time_length moment =
     let seconds = number w64 (moment / 1000000000) in
     let nanoseconds = number w32 (moment % 1000000000) in
-    omega (arith, length-append seconds nanoseconds, hyper_length (moment / 1000000000), int_length (moment % 1000000000))
+    omega (arith, length-append seconds nanoseconds, length-number_64 (moment / 1000000000), length-number_32 (moment % 1000000000))
 
 pub handle_length : (n : ℕ) → length (counted (filehandle_of n)) ≡ 12
 handle_length n =
@@ -84,8 +85,8 @@ handle_length n =
     omega (arith, counted_length (filehandle_of n), eight)
 
 pub kind_length : (of : NodeKind) → length (node_kind.spelling of) ≡ 4
-kind_length kind.File = ap (length {A = ℕ}) (append-nil (number w32 1)) ∙ int_length 1
-kind_length kind.Directory = ap (length {A = ℕ}) (append-nil (number w32 2)) ∙ int_length 2
+kind_length kind.File = ap (length {A = ℕ}) (append-nil (number w32 1)) ∙ length-number_32 1
+kind_length kind.Directory = ap (length {A = ℕ}) (append-nil (number w32 2)) ∙ length-number_32 2
 
 pub none_length : length (elements (λ n. number w32 n) []) ≡ 4
 none_length = elements_length []

@@ -1,14 +1,9 @@
 -- Bytes that are exactly the values of attributes, and bytes that are none.
 use Rattle.std.proofs.Common.{◌≡◌, ◌≢◌, ℕ, List, [], length, Result, Ok, Err, refl, sym, ap, ◌∙◌, eq-eqb, ne_eqb}
 use Rattle.std.specs.Prelude.{Some, None}
-use Rattle.std.proofs.lemmas.List.{append-nil}
 use Rattle.xdr.specs.declared.refusal.Refusal.{Refusal}
 use Rattle.model.specs.AttributeValue.{Value, values, values_at, whole, whole_values}
-use Rattle.model.proofs.AttributeExact.{values_exact}
-
-again : (attributes : List ℕ) (vs : List Value) (bytes : List ℕ) → (values attributes).Fits vs → bytes ≡ (values attributes).spelling vs → values_at attributes bytes ≡ Ok (vs, [])
-again attributes vs bytes fits is =
-    ap (values_at attributes) (is ∙ sym (append-nil ((values attributes).spelling vs))) ∙ (values_exact attributes).again vs [] fits
+use Rattle.model.proofs.AttributeExact.{again}
 
 pub no_values : (attributes bytes : List ℕ) (e : Refusal) → values_at attributes bytes ≡ Err e → (vs : List Value) → (values attributes).Fits vs → bytes ≢ (values attributes).spelling vs
 no_values attributes bytes e refused vs fits = λ is.

@@ -1,7 +1,7 @@
 //! Entries of the definitions as entries on the wire, and back (RFC 8881, section 6.2.1).
 
 ghost use Rattle.std.specs.Prelude.{◌≡◌};
-ghost use Rattle.model.specs.Acl.{without};
+ghost use Rattle.model.specs.Acl.{bits_without};
 ghost use Rattle.model.specs.AclText.{ace_in, entry_flags, entry_text, identifier_group, kind_in, kind_number, who_text};
 ghost use Rattle.wire_attributes.specs.Views.{entry_view};
 
@@ -29,7 +29,7 @@ pub fn ace_of(entry: &AclEntry<'_>) -> Option<Ace>
 
 /// The entry on the wire that stands for this one, whose name the text is.
 pub fn entry_of<'a>(ace: &Ace, text: &'a [u8]) -> AclEntry<'a>
-    requires flags { without ace.now.flags.0 identifier_group ≡ ace.now.flags.0 }
+    requires flags { bits_without ace.now.flags.0 identifier_group ≡ ace.now.flags.0 }
     requires text { text.now ≡ who_text ace.now.who }
     ensures { entry_view result ≡ entry_text ace.now }
 {

@@ -195,7 +195,7 @@ fn kind_number(kind: NodeKind) -> u32
 
 impl NodeAttributes<'_> {
     /// How many bytes an attribute's value takes.
-    #[tactic(auto, using(xdr::proofs::Sizes::int_length, xdr::proofs::Sizes::hyper_length, crate::proofs::NodeSizes::bitmap_length, crate::proofs::NodeSizes::fsid_length, crate::proofs::NodeSizes::handle_length, crate::proofs::NodeSizes::kind_length, crate::proofs::NodeSizes::none_length, crate::proofs::NodeSizes::time_length, crate::proofs::NodeSizes::list_length))]
+    #[tactic(auto, using(wire::proofs::Sizes::int_length, wire::proofs::Sizes::hyper_length, crate::proofs::NodeSizes::bitmap_length, crate::proofs::NodeSizes::fsid_length, crate::proofs::NodeSizes::handle_length, crate::proofs::NodeSizes::kind_length, crate::proofs::NodeSizes::none_length, crate::proofs::NodeSizes::time_length, crate::proofs::NodeSizes::list_length))]
     pub(crate) fn value_size(&self, attribute: Attribute) -> usize
         requires { HasFewEntries self.now }
         ensures value { result ≡ length (value_spelled self.now attribute) }

@@ -1,7 +1,6 @@
 //! The values of attributes (RFC 8881, sections 5.6 to 5.8).
 
-ghost use Rattle.std.specs.Prelude.{◌≡◌, ◌<◌, ◌^◌, length, map, All};
-ghost use Rattle.std.specs.List.{flat_map};
+ghost use Rattle.std.specs.Prelude.{◌≡◌, ◌<◌};
 ghost use Rattle.xdr.specs.Clauses.{Scans, Reads, Wrote};
 ghost use Rattle.model.specs.AttributeValue.{attribute_of, file_system_id, node_kind, time, value_at};
 ghost use Rattle.wire_attributes.specs.Views.{ValueFits, file_system_view, time_view, value_spelling, value_view};

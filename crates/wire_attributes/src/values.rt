@@ -2,10 +2,9 @@
 
 ghost use Rattle.std.specs.Prelude.{◌≡◌, OnErr, All};
 ghost use Rattle.std.specs.List.{flat_map};
-ghost use Rattle.xdr.specs.Clauses.{Reads, Wrote};
+ghost use Rattle.xdr.specs.Clauses.{Wrote};
 ghost use Rattle.xdr.specs.Laws.{IsBytes};
 ghost use Rattle.model.specs.Attribute.{attributes_of};
-ghost use Rattle.model.specs.AttributeValue.{values_at};
 ghost use Rattle.wire_attributes.specs.Views.{ValueFits, value_spelling};
 ghost use Rattle.wire_attributes.specs.Clauses.{AreRead, AreValues, ReadsValues};
 

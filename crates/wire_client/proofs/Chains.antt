@@ -1,16 +1,12 @@
 -- Reading a chain one element after the other, as a loop does.
-use Rattle.std.proofs.Common.{◌≡◌, ℕ, suc, ◌-◌, ◌+◌, ◌≤◌, ◌<◌, true, false, List, [], ◌∷◌, ◌++◌, Result, Ok, Err, refl, sym, ap, ◌∙◌, append_assoc, arith}
+use Rattle.std.proofs.Common.{◌≡◌, ℕ, suc, ◌-◌, ◌+◌, ◌≤◌, ◌<◌, true, false, List, [], ◌∷◌, ◌++◌, Result, Ok, Err, refl, sym, ap, ◌∙◌, arith}
 use Rattle.std.proofs.lemmas.List.{append-nil}
 use Rattle.std.specs.Int.{w32}
 use Rattle.xdr.specs.declared.refusal.Refusal.{Refusal}
 use Rattle.xdr.specs.declared.refusal.Refusal.TheVariants.{Short}
 use Rattle.xdr.specs.Grammar.{◌>>=◌, number_at}
 use Rattle.xdr.specs.Forms.{links_at, truth_at}
-use Rattle.xdr.proofs.Loops.{with_front}
-
-regroup : {V : Type 0} (front : List V) (v : V) (read : Result (List V × List ℕ) Refusal) → with_front front (read >>= λ x. Ok (v ∷ x.0, x.1)) ≡ with_front (front ++ v ∷ []) read
-regroup {V = V} front v (Ok x) = ap (λ (vs : List V). Ok (vs, x.1)) (simp append_assoc)
-regroup front v (Err e) = refl
+use Rattle.xdr.proofs.Loops.{with_front, regroup}
 
 -- an element more
 pub chain_on : {V : Type 0} (read : List ℕ → Result (V × List ℕ) Refusal) (front : List V) (n i : ℕ) (bytes behind after : List ℕ) (v : V) (total : Result (List V × List ℕ) Refusal)

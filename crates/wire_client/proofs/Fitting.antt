@@ -1,5 +1,5 @@
 -- An argument that has a spelling can be written.
-use Rattle.std.proofs.Common.{◌≡◌, ℕ, suc, ◌≤◌, List, [], ◌∷◌, length, Option, None, Some, refl, ap, arith}
+use Rattle.std.proofs.Common.{ℕ, ◌≤◌, List, [], ◌∷◌, length, Option, None, Some, arith}
 use Rattle.std.specs.Prelude.{map}
 use Rattle.std.specs.Option.{option_map}
 use Rattle.std.specs.List.{AllByRecursion}
@@ -24,6 +24,7 @@ use Rattle.wire.specs.SmallViews.{implementation_view, security_view}
 use Rattle.wire.specs.ArgumentViews.{claim_view, create_view, opening_view}
 use Rattle.wire.specs.ArgumentView.{argument_view}
 use Rattle.wire_client.specs.ArgumentFits.{HasLength, MaybeImplementationFits, SecurityFits, CreateFits, ClaimFits, OpeningFits, ArgumentFits}
+use Rattle.wire_client.proofs.Securities.{count}
 
 has_length : (bytes : List ℕ) → length bytes ≤ 4294967295 → HasLength bytes
 has_length bytes le = omega arith
@@ -39,10 +40,6 @@ security_fits (security.System c) fits = fits.1.1.0
 securities_fit : (list : List CallbackSecurity) → AllByRecursion callback_security.Fits (map security_view list) → AllByRecursion SecurityFits list
 securities_fit [] fits = tt
 securities_fit (s ∷ list) fits = (security_fits s fits.0, securities_fit list fits.1)
-
-count : (list : List CallbackSecurity) → length (map security_view list) ≡ length list
-count [] = refl
-count (s ∷ list) = ap suc (count list)
 
 create_fits : (a : CreateArguments) → create_arguments.Fits (create_view a) → CreateFits a
 create_fits (create.NewDirectory name attributes) fits = (has_length name.now fits.1.0, has_length attributes.values.now fits.1.1.1)

@@ -14,7 +14,7 @@ each_text : (list : List CallbackSecurity) → flat_map callback_security.spelli
 each_text [] = refl
 each_text (s ∷ list) = ap (λ (t : List ℕ). security_text s ++ t) (each_text list)
 
-count : (list : List CallbackSecurity) → length (map security_view list) ≡ length list
+pub count : (list : List CallbackSecurity) → length (map security_view list) ≡ length list
 count [] = refl
 count (s ∷ list) = ap suc (count list)
 

@@ -1,6 +1,6 @@
 //! Results of the operations, where they ended well (RFC 8881, section 18).
 
-ghost use Rattle.std.specs.Prelude.{◌≡◌, map};
+ghost use Rattle.std.specs.Prelude.{map};
 ghost use Rattle.xdr.specs.Clauses.{Scans, Reads};
 ghost use Rattle.xdr.specs.Forms.{chain};
 ghost use Rattle.model.specs.WireAnswers.{access_answer, create_answer, open_answer, read_answer, entry, read_dir_answer, rename_answer, write_answer, exchange_id_answer, create_session_answer, sequence_answer};

@@ -9,7 +9,7 @@ use Rattle.xdr.specs.Forms.{each_at}
 abbrev pub with_front : {V : Type 0} → List V → Result (List V × List ℕ) Refusal → Result (List V × List ℕ) Refusal
 with_front front read = read >>= λ x. Ok (front ++ x.0, x.1)
 
-regroup : {V : Type 0} (front : List V) (v : V) (read : Result (List V × List ℕ) Refusal) → with_front front (read >>= λ x. Ok (v ∷ x.0, x.1)) ≡ with_front (front ++ v ∷ []) read
+pub regroup : {V : Type 0} (front : List V) (v : V) (read : Result (List V × List ℕ) Refusal) → with_front front (read >>= λ x. Ok (v ∷ x.0, x.1)) ≡ with_front (front ++ v ∷ []) read
 regroup {V = V} front v (Ok x) = ap (λ (vs : List V). Ok (vs, x.1)) (simp append_assoc)
 regroup front v (Err e) = refl
 

@@ -3,8 +3,7 @@ use Rattle.std.proofs.Common.{◌≡◌, ℕ, ◌+◌, ◌-◌, ◌<◌, ◌≤�
 use Rattle.std.specs.Int.{w32, w64, from_be_bytes}
 use Rattle.std.proofs.lemmas.Bool.{lt-ltb, le-ltb}
 use Rattle.std.proofs.lemmas.List.{length-drop, drop-drop}
-use Rattle.byteorder.specs.Endian.{big_number, big_from}
-use Rattle.byteorder.specs.Numbers.{big_from-take}
+use Rattle.byteorder.specs.Endian.{big_number}
 use Rattle.xdr.specs.declared.refusal.Refusal.TheVariants.{Short, Value}
 use Rattle.xdr.specs.Grammar.{number_at}
 use Rattle.xdr.specs.Forms.{padding, are_zeros, padded_at}
@@ -17,12 +16,6 @@ short_int bytes lt = rw (lt-ltb (length bytes) 4 lt) refl
 pub short_hyper : (bytes : List ℕ) → length bytes < 8 → number_at w64 bytes ≡ Err Short
 unfolding number_at
 short_hyper bytes lt = rw (lt-ltb (length bytes) 8 lt) refl
-
-int_is : (bytes : List ℕ) → big_number 4 bytes ≡ from_be_bytes w32 (take 4 bytes)
-int_is bytes = sym (big_from-take 0 4 4 bytes (omega arith)) ∙ (let e : big_from 0 4 (take 4 bytes) ≡ from_be_bytes w32 (take 4 bytes) = omega arith in e)
-
-hyper_is : (bytes : List ℕ) → big_number 8 bytes ≡ from_be_bytes w64 (take 8 bytes)
-hyper_is bytes = sym (big_from-take 0 8 8 bytes (omega arith)) ∙ (let e : big_from 0 8 (take 8 bytes) ≡ from_be_bytes w64 (take 8 bytes) = omega arith in e)
 
 pub found_int : (bytes rest : List ℕ) (n : ℕ) → 4 ≤ length bytes → n ≡ big_number 4 (take 4 bytes) → rest ≡ drop 4 bytes → number_at w32 bytes ≡ Ok (n, rest)
 unfolding number_at

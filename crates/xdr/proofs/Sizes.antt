@@ -1,17 +1,11 @@
 -- How long spellings are.
 use Rattle.std.proofs.Common.{◌≡◌, ℕ, ◌+◌, ◌*◌, List, [], ◌∷◌, length, replicate, refl, ap, ◌∙◌, arith}
-use Rattle.std.specs.Int.{w32, w64}
+use Rattle.std.specs.Int.{w32}
 use Rattle.std.specs.List.{flat_map}
 use Rattle.std.proofs.lemmas.List.{length-append, length-replicate}
 use Rattle.xdr.specs.Grammar.{number}
 use Rattle.xdr.specs.Forms.{padding, padded, counted, elements}
-use Rattle.xdr.proofs.Numbers.{length-number_32, length-number_64}
-
-pub int_length : (n : ℕ) → length (number w32 n) ≡ 4
-int_length n = length-number_32 n
-
-pub hyper_length : (n : ℕ) → length (number w64 n) ≡ 8
-hyper_length n = length-number_64 n
+use Rattle.xdr.proofs.Numbers.{length-number_32}
 
 pub padded_length : (s : List ℕ) → length (padded s) ≡ length s + padding (length s)
 unfolding padded
@@ -19,14 +13,14 @@ padded_length s = length-append s (replicate (padding (length s)) 0) ∙ ap (λ 
 
 pub counted_length : (s : List ℕ) → length (counted s) ≡ 4 + length s + padding (length s)
 unfolding counted
-counted_length s = omega (arith, length-append (number w32 (length s)) (padded s), int_length (length s), padded_length s)
+counted_length s = omega (arith, length-append (number w32 (length s)) (padded s), length-number_32 (length s), padded_length s)
 
 numbers_length : (ws : List ℕ) → length (flat_map (λ n. number w32 n) ws) ≡ 4 * length ws
 numbers_length [] = refl
 numbers_length (n ∷ ws) =
-    omega (arith, length-append (number w32 n) (flat_map (λ m. number w32 m) ws), int_length n, numbers_length ws)
+    omega (arith, length-append (number w32 n) (flat_map (λ m. number w32 m) ws), length-number_32 n, numbers_length ws)
 
 pub elements_length : (ws : List ℕ) → length (elements (λ n. number w32 n) ws) ≡ 4 + 4 * length ws
 unfolding elements
 elements_length ws =
-    omega (arith, length-append (number w32 (length ws)) (flat_map (λ n. number w32 n) ws), int_length (length ws), numbers_length ws)
+    omega (arith, length-append (number w32 (length ws)) (flat_map (λ n. number w32 n) ws), length-number_32 (length ws), numbers_length ws)

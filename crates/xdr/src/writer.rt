@@ -1,9 +1,9 @@
 //! Writing to the right.
 
-ghost use Rattle.std.specs.Prelude.{◌≡◌, ◌++◌, ◌≤◌, ◌<◌, ◌^◌, ◌+◌, length, take, IfOk, OnOk, OnErr};
+ghost use Rattle.std.specs.Prelude.{◌≡◌, ◌≤◌, ◌<◌, ◌^◌, ◌+◌, length, take, IfOk, OnOk, OnErr};
 ghost use Rattle.std.specs.Int.{w32, w64};
 ghost use Rattle.xdr.specs.Grammar.{number};
-ghost use Rattle.xdr.specs.Forms.{padding, padded, counted, code_of};
+ghost use Rattle.xdr.specs.Forms.{padded, counted, code_of};
 ghost use Rattle.xdr.specs.Clauses.{Wrote};
 
 use crate::reader::pad_len;

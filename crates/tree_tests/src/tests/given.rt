@@ -6,7 +6,7 @@ use model::not_done::NotDone;
 use model::status::Status;
 use names::check_name;
 use settings::{
-    Attributes, SETTABLE_AT_CREATION, SETTABLE_AT_SETATTR, SUPPORTED, check_attributes,
+    GivenAttributes, SETTABLE_AT_CREATION, SETTABLE_AT_SETATTR, SUPPORTED, check_attributes,
     has_one_outside,
 };
 use std::alloc::Global;
@@ -49,7 +49,7 @@ fn attributes_by_rising_number(rt: HostRuntime) -> Result<(), Fail> {
 
 #[test]
 fn attributes_are_checked(rt: HostRuntime) -> Result<(), Fail> {
-    let given = Attributes {
+    let given = GivenAttributes {
         bitmap: &[0, 2],
         values: b"\0\0\x01\xED",
     };
@@ -123,7 +123,7 @@ fn refusal_of(alloc: Global, bitmap: &[u32], values: &[u8]) -> Result<Option<Not
         &Limits::of_volume(256, 16),
         NodeKind::File,
         &SETTABLE_AT_SETATTR,
-        Attributes { bitmap, values },
+        GivenAttributes { bitmap, values },
     );
     Ok(checked.err())
 }

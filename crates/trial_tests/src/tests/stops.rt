@@ -449,7 +449,7 @@ impl<'a> Trial<'a> {
     }
 }
 
-/// The first half of twenty operations. The trees after three unstable writes are never alone on the device.
+/// The first half of the operations. The trees after three unstable writes are never alone on the device.
 #[test]
 fn stops_of_unstable_writes(rt: HostRuntime) -> Result<(), Fail> {
     let rounds = unstable_rounds();

@@ -1,7 +1,5 @@
 //! A client over readers and writers: in one piece, in pieces of one byte, in fragments, cut short and garbled.
 
-ghost use Rattle.std.specs.Prelude.{◌≤◌, length, IfOk};
-
 use super::asking::{
     Ask, EXCHANGE_ID, EXCHANGED, Told, bytes_of, exchange, kept, new_client, request, resend,
 };

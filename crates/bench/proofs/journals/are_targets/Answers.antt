@@ -1,4 +1,4 @@
-use Rattle.std.proofs.Common.{◌≡◌, ◌≤◌, ◌<◌, arith, sym, ◌∙◌, refl}
+use Rattle.std.proofs.Common.{arith, sym, ◌∙◌, refl}
 use Rattle.journal.proofs.GateWords.{AreTargets-more}
 use Rattle.bench.proofs.journals.are_targets.Goals as goal
 

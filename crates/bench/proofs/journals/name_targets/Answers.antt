@@ -1,7 +1,5 @@
-use Rattle.std.proofs.Common.{◌≡◌, ◌<◌, length, vec_len, vec_capacity, arith, ap, ◌∙◌, sym, take, List, ℕ, ◌++◌, ◌∷◌, [], get_or}
+use Rattle.std.proofs.Common.{length, arith, ap, ◌∙◌, sym, take, List, ℕ, ◌++◌, ◌∷◌, [], get_or}
 use Rattle.std.proofs.lemmas.List.{length-take}
-use Rattle.disk.specs.declared.update.Update.{Update}
-use Rattle.journal.specs.Layout.{targets}
 use Rattle.journal.proofs.Images.{length-targets}
 use Rattle.journal.proofs.Journals.{targets_more}
 use Rattle.bench.proofs.journals.name_targets.Goals as goal

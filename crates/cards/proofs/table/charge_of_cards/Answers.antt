@@ -6,6 +6,7 @@ use Rattle.cards.specs.Tables.{charge_of}
 use Rattle.cards.proofs.FillingLaws.{sum-step, worth_of}
 use Rattle.cards.proofs.table.charge_of_cards.Goals as goal
 use Rattle.cards.proofs.table.charge_of_cards.Goals.{in-Some, in_default}
+use Rattle.cards.proofs.TableLaws.{charge-most}
 
 some_none : (card : Card) → Some card ≡ None → ⊥
 some_none card e = cc
@@ -20,9 +21,6 @@ few-more cards done before here place card low is = elim (cases_eq place done) [
   | inr off ↦ before place card (omega arith) is
 ]
 
-most-one : (card : Card) → length card.blocks ≤ 4096 → charge_of card ≤ 4105
-most-one card few = omega arith
-
 pub loop-card-preserved : goal.loop-card-preserved
 loop-card-preserved c =
     let inv = c.loop-card.invariant in
@@ -36,7 +34,7 @@ loop-card-preserved c =
           let charge : w.blocks_charge-charge.result ≡ charge_of one = w.blocks_charge-charge.ensures.charge ∙ ap charge_of w.card.view_is in
           rw w.charge-is (record {
             charge = omega (arith, inv.charge, charge, sum, ap (worth_of charge_of) w.in-Some.is);
-            most = omega (arith, inv.most, charge, most-one one few);
+            most = omega (arith, inv.most, charge, charge-most one few);
             few = few-more cards c.loop-card.card-index inv.few (λ card is. subst (λ (card : Card). length card.blocks ≤ 4096) (some_is one card (sym w.in-Some.is ∙ sym there ∙ is)) few);
           })
       | in_default w ↦

@@ -3,7 +3,6 @@ use Rattle.byteorder.specs.Endian.{big_number}
 use Rattle.journal.specs.Layout.{AreTargets, gate}
 use Rattle.journal.proofs.GateWords.{count_in, names_one, pointwise_same}
 use Rattle.journal.proofs.gate.decode.Goals as goal
-use Rattle.journal.proofs.gate.decode.Goals.{After-are_targets}
 
 pub returns-then-not-read_words-clause-missing : goal.returns-then-not-read_words-clause-missing
 returns-then-not-read_words-clause-missing c = λ f to names.

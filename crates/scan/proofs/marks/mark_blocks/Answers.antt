@@ -2,8 +2,9 @@ use Rattle.std.proofs.Common.{◌≡◌, ◌<◌, ◌+◌, ◌∙◌, ℕ, List,
 use Rattle.std.proofs.lemmas.List.{take_all}
 use Rattle.freemap.specs.declared.bitmap.Bitmap.{Bitmap}
 use Rattle.layout.specs.Marks.{once_if, times_set}
+use Rattle.layout.proofs.NumberLaws.{times_set-front}
 use Rattle.scan.specs.Marking.{AreMarked}
-use Rattle.scan.proofs.MarkingLaws.{marked_none, marked_more, can_more, times_set-take, times_set-front, times_set-one}
+use Rattle.scan.proofs.MarkingLaws.{marked_none, marked_more, can_more, times_set-take, times_set-one}
 use Rattle.scan.proofs.marks.mark_blocks.Goals as goal
 use Rattle.scan.proofs.marks.mark_blocks.Goals.{in-Some+else-not-mark_sector, in_default}
 

@@ -8,7 +8,7 @@ use Rattle.model.specs.Opens.{no_opens}
 use Rattle.model.specs.Step.{State}
 use Rattle.model.specs.declared.status.Status.{Status}
 use Rattle.compound.specs.Files.{committed_answer}
-use Rattle.compound.specs.Operates.{GivesIn, HasRoom, ChangesOpens, IsAnswered, IsKept}
+use Rattle.compound.specs.Operates.{GivesIn, HasRoom, ChangesTreeAndOpens, IsAnswered, IsKept}
 use Rattle.compound.specs.States.{shared}
 use Rattle.compound.specs.Trees.{IsHere}
 use Rattle.compound.specs.Volumes.{OperationGives, ending}
@@ -95,7 +95,7 @@ returns-in-Err-commit-clause-gives g c = λ arguments now opens keeps.
     let new = fs_of c.commit.new.self in
     let request = in_progress_of c.args.self.now in
     let kind = Argument.Commit arguments in
-    subst (λ (r : Result Operated Fault). IfOk r (ChangesOpens fs new opens opens now request kind)) (sym c.tell_fault.ensures)
+    subst (λ (r : Result Operated Fault). IfOk r (ChangesTreeAndOpens fs new opens opens now request kind)) (sym c.tell_fault.ensures)
     (told_gives now fs request kind (commit_on_tree now fs request arguments) _ (commit_sized now fs request arguments _ c.has_committed_room-has_room.ensures)
     g.D.Device.keeps_word _ new _ _ c.requires.up _ opens opens c.in-Err-commit.fault refl
     (λ state there known. commit_not_done g.D.Device.keeps_word fs (fs_of c.commit.new.self) state now arguments c.in-Err-commit.fault (c.in-Err-commit.ensures.step state now arguments (is_on fs request _ state c.requires.run c.in-Ok.ensures.ok.0 c.in-Ok.ensures.ok.1 there)))

@@ -15,7 +15,7 @@ use Rattle.opens.specs.Views.{open_of, opens_of}
 use Rattle.wire.specs.ArgumentViews.{open_type_view, open_view}
 use Rattle.wire.specs.SmallViews.{change_view}
 use Rattle.compound.specs.Beside.{has_opened_room, OpensTo}
-use Rattle.compound.specs.Operates.{GivesIn, Operates, ChangesOpens, IsAnswered}
+use Rattle.compound.specs.Operates.{GivesIn, Operates, ChangesTreeAndOpens, IsAnswered}
 use Rattle.compound.specs.States.{shared}
 use Rattle.compound.specs.Volumes.{OperationGives, ending}
 use Rattle.compound.specs.Views.{in_progress_of}
@@ -157,7 +157,7 @@ returns-in-Err-open_file-clause-gives g c = λ keeps.
     let new = fs_of c.open_file.new.self in
     let how = open_type_view c.args.how.now in
     let left = opens_of c.reserve.new.self in
-    subst (λ (r : Result Operated Fault). IfOk r (ChangesOpens fs new opens left c.args.now request kind)) (sym c.tell_fault.ensures)
+    subst (λ (r : Result Operated Fault). IfOk r (ChangesTreeAndOpens fs new opens left c.args.now request kind)) (sym c.tell_fault.ensures)
     (told_gives c.args.now fs request kind (on_tree c.args.now request arguments) _ (sized c.args.now fs request arguments how c.args.name.now c.in-Ok.number c.requires.opening c.in-Ok.ensures.ok.1 (has_room fs (record { directory = c.in-Ok.number; name = c.args.name; share = c.share_of.result; how = c.how_of.result }) c.open_room-room.result)
     (c.open_room-room.ensures (effect_of fs.volume.tree c.in-Ok.number c.args.name.now (type_of c.how_of.result))
     ∙ ap (λ (of : OpenType). has_opened_room request (set_by (effect_of fs.volume.tree c.in-Ok.number c.args.name.now of) how)) c.how_of.ensures.is))

@@ -8,7 +8,7 @@ use Rattle.opens.specs.Views.{opens_of}
 use Rattle.session.specs.Views.{table_of, reply_kept}
 use Rattle.wire.specs.ArgumentView.{argument_view}
 use Rattle.fs.specs.FileSystem.{FileSystem}
-use Rattle.compound.specs.Operates.{Operates, OnlyReads, ChangesClients, ChangesOpens, IsKept}
+use Rattle.compound.specs.Operates.{Operates, OnlyReads, ChangesTableAndOpens, ChangesTreeAndOpens, IsKept}
 use Rattle.compound.specs.States.{SharedState, shared, shared_of}
 use Rattle.compound.specs.declared.fault.Fault.{Fault}
 use Rattle.compound.specs.declared.operated.Operated.{Operated}
@@ -146,7 +146,7 @@ told_kept now files table opens request operation (Ok done) reads = kept_of now 
 told_kept now files table opens request operation (Err fault) reads = tt
 
 changed_if : (now : ℕ) (old new : FileSystem) (table : Table) (before after : Opens) (request : InProgress) (operation : Argument) (result : Result Operated Fault)
-    → IfOk result (ChangesOpens old new before after now request operation) → IfOk result (Operates now (shared old table before) (shared new table after) request operation)
+    → IfOk result (ChangesTreeAndOpens old new before after now request operation) → IfOk result (Operates now (shared old table before) (shared new table after) request operation)
 changed_if now old new table before after request operation (Ok done) changes = changes table
 changed_if now old new table before after request operation (Err fault) changes = tt
 
@@ -213,7 +213,7 @@ returns-in-ReclaimComplete-clause-gives g c = λ keeps. rw c.in-ReclaimComplete.
 -- A reply that is sent again is there
 
 kept_if : (now : ℕ) (files : FileSystem) (old new : Table) (before after : Opens) (request : InProgress) (operation : Argument) (result : Result Operated Fault)
-    → IfOk result (ChangesClients old new before after request operation) → IfOk result (IsKept new)
+    → IfOk result (ChangesTableAndOpens old new before after request operation) → IfOk result (IsKept new)
 kept_if now files old new before after request operation (Ok done) runs = kept_of now (shared files old before) (shared files new after) request operation done (runs now files)
 kept_if now files old new before after request operation (Err fault) runs = tt
 

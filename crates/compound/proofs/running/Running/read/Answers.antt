@@ -10,7 +10,7 @@ use Rattle.model.specs.Operation.{Argument}
 use Rattle.model.specs.declared.status.Status.{Status}
 use Rattle.opens.specs.Views.{opens_of}
 use Rattle.wire.specs.ArgumentViews.{read_view}
-use Rattle.compound.specs.Operates.{Operates, GivesIn, ChangesOpens, IsAnswered}
+use Rattle.compound.specs.Operates.{Operates, GivesIn, ChangesTreeAndOpens, IsAnswered}
 use Rattle.compound.specs.States.{shared}
 use Rattle.compound.specs.Views.{in_progress_of}
 use Rattle.compound.specs.Volumes.{OperationGives, ending}
@@ -104,7 +104,7 @@ returns-in-Err-read-clause-gives g c = λ now keeps.
     let opens = opens_of c.args.opens.now in
     let request = in_progress_of c.args.self.now in
     let arguments = read_view c.args.arguments.now in
-    subst (λ (r : Result Operated Fault). IfOk r (ChangesOpens fs new opens opens now request (Argument.Read arguments))) (sym c.tell_fault.ensures)
+    subst (λ (r : Result Operated Fault). IfOk r (ChangesTreeAndOpens fs new opens opens now request (Argument.Read arguments))) (sym c.tell_fault.ensures)
     (told_reads now fs opens request arguments g.D.Device.keeps_word new _ _ Bool c.in-Err-read.fault
     (λ state there known. c.in-Err-read.ensures.step state now arguments.state (is_on fs request c.in-Ok.number state c.requires.run c.in-Ok.ensures.ok.0 c.in-Ok.ensures.ok.1 there)
     (c.verdict-verdict.ensures state known there.context_is)) c.in-Err-read.ensures.volume)

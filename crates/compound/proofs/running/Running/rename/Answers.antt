@@ -4,7 +4,7 @@ use Rattle.fs.proofs.ChangeLaws.{changes_by}
 use Rattle.model.specs.Answer.{Outcome}
 use Rattle.model.specs.Operation.{Argument}
 use Rattle.opens.specs.Views.{opens_of}
-use Rattle.compound.specs.Operates.{GivesIn, HasRoom, ChangesOpens, IsAnswered, IsKept}
+use Rattle.compound.specs.Operates.{GivesIn, HasRoom, ChangesTreeAndOpens, IsAnswered, IsKept}
 use Rattle.compound.specs.States.{shared}
 use Rattle.compound.specs.Volumes.{OperationGives, ending}
 use Rattle.compound.specs.Views.{in_progress_of}
@@ -102,7 +102,7 @@ returns-in-Err-rename-clause-gives g c = λ keeps.
     let new = fs_of c.rename.new.self in
     let request = in_progress_of c.args.self.now in
     let arguments = rename_view c.args.arguments.now in
-    subst (λ (r : Result Operated Fault). IfOk r (ChangesOpens fs new (opens_of c.args.opens.now) (opens_of c.args.opens.now) c.args.now request (Argument.Rename arguments))) (sym c.tell_fault.ensures)
+    subst (λ (r : Result Operated Fault). IfOk r (ChangesTreeAndOpens fs new (opens_of c.args.opens.now) (opens_of c.args.opens.now) c.args.now request (Argument.Rename arguments))) (sym c.tell_fault.ensures)
     (told_gives c.args.now fs request (Argument.Rename arguments) (on_tree c.args.now fs request arguments) _ (sized c.args.now fs request arguments _ c.has_renamed_room-has_room.ensures)
     g.D.Device.keeps_word _ new _ _ c.requires.up _ (opens_of c.args.opens.now) (opens_of c.args.opens.now) c.in-Err-rename.fault refl
     (λ state there known. c.in-Err-rename.ensures.step state (is_on_both c.args.now fs request arguments c.in-Ok.numbers c.requires.run c.in-Ok.ensures.ok state there))

@@ -10,7 +10,7 @@ use Rattle.model.specs.Step.{State}
 use Rattle.model.specs.declared.status.Status.{Status}
 use Rattle.opens.specs.Views.{opens_of}
 use Rattle.wire.specs.ArgumentViews.{set_attr_view}
-use Rattle.compound.specs.Operates.{GivesIn, HasRoom, ChangesOpens, IsAnswered, IsKept}
+use Rattle.compound.specs.Operates.{GivesIn, HasRoom, ChangesTreeAndOpens, IsAnswered, IsKept}
 use Rattle.compound.specs.States.{shared}
 use Rattle.compound.specs.Trees.{IsHere}
 use Rattle.compound.specs.Volumes.{OperationGives, ending}
@@ -112,7 +112,7 @@ returns-in-Err-set_attributes-clause-gives g c = λ keeps.
     let request = in_progress_of c.args.self.now in
     let arguments = set_attr_view c.args.arguments.now in
     let kind = Argument.SetAttr arguments in
-    subst (λ (r : Result Operated Fault). IfOk r (ChangesOpens fs new opens opens c.args.now request kind)) (sym c.tell_fault.ensures)
+    subst (λ (r : Result Operated Fault). IfOk r (ChangesTreeAndOpens fs new opens opens c.args.now request kind)) (sym c.tell_fault.ensures)
     (told_gives c.args.now fs request kind (on_tree c.args.now fs request arguments) _ (sized c.args.now fs request arguments _ c.has_set_room-has_room.ensures)
     g.D.Device.keeps_word _ new _ _ c.requires.up _ opens opens c.in-Err-set_attributes.fault refl
     (λ state there known. c.in-Err-set_attributes.ensures.step state arguments (is_on fs request _ state c.requires.run c.in-Ok.ensures.ok.0 c.in-Ok.ensures.ok.1 there)

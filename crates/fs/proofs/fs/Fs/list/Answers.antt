@@ -8,7 +8,7 @@ use Rattle.directory.specs.Rest.{rest_of}
 use Rattle.layout.specs.Cards.{Card}
 use Rattle.model.specs.declared.limits.Limits.{Limits}
 use Rattle.model.specs.Keyed.{Keyed}
-use Rattle.model.specs.ReadDir.{entry_of, names_after, page_bytes, page_room}
+use Rattle.model.specs.ReadDir.{listed_entry, names_after, page_bytes, page_room}
 use Rattle.model.specs.Tree.{DirEntry, names_at}
 use Rattle.fs.specs.Views.{fs_of}
 use Rattle.fs.specs.Listing.{list_arguments, page_of, page_view}
@@ -45,7 +45,7 @@ returns-then-not-page-clause-step g c state now dir_count on =
     let held = (fs_of c.args.self.now).volume in
     let listing = c.args.listing in
     let arguments = list_arguments listing dir_count in
-    let listed = entry_of held.limits held.tree c.args.cred.now listing.asked.now in
+    let listed = listed_entry held.limits held.tree c.args.cred.now listing.asked.now in
     let bytes : c.min-bytes.result ≡ page_bytes held.limits arguments = omega (arith, c.min-bytes.ensures, ap (λ (l : Limits). l.transfer_bytes) c.limits.ensures.limits) in
     let enough : 16 ≤ page_bytes held.limits arguments = omega (arith, bytes, c.if-bytes-lt-EMPTY_PAGE.false) in
     let behind : rest_of c.list_after-names.result ≡ names_after listing.cookie (names_at held.tree listing.directory) =
@@ -64,7 +64,7 @@ returns-clause-step g c state now dir_count on =
     let held = (fs_of c.args.self.now).volume in
     let listing = c.args.listing in
     let arguments = list_arguments listing dir_count in
-    let listed = entry_of held.limits held.tree c.args.cred.now listing.asked.now in
+    let listed = listed_entry held.limits held.tree c.args.cred.now listing.asked.now in
     let bytes : c.min-bytes.result ≡ page_bytes held.limits arguments = omega (arith, c.min-bytes.ensures, ap (λ (l : Limits). l.transfer_bytes) c.limits.ensures.limits) in
     let enough : 16 ≤ page_bytes held.limits arguments = omega (arith, bytes, c.if-bytes-lt-EMPTY_PAGE.false) in
     let behind : rest_of c.list_after-names.result ≡ names_after listing.cookie (names_at held.tree listing.directory) =

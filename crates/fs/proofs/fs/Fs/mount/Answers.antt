@@ -1,6 +1,6 @@
 use Rattle.std.proofs.Common.{arith}
 use Rattle.model.specs.Stamp.{stamp, next_stamp}
-use Rattle.volume.specs.Volumes.{held_of}
+use Rattle.volume.specs.Views.{held_of}
 use Rattle.volume.proofs.FormedLaws.{formed_later}
 use Rattle.fs.proofs.fs.Fs.mount.Goals as goal
 

@@ -2,8 +2,8 @@ use Rattle.std.proofs.Common.{◌≡◌, ap, sym, subst, arith, rules}
 use Rattle.model.specs.declared.limits.Limits.{Limits}
 use Rattle.fs.specs.Views.{fs_of}
 use Rattle.fs.specs.Planned.{IsList, list_by}
-use Rattle.fs.proofs.EntryLaws.{small_list, created_list}
-use Rattle.volume.specs.Volumes.{held_of}
+use Rattle.fs.proofs.EntryLaws.{small_list, given_list_fits}
+use Rattle.volume.specs.Views.{held_of}
 use Rattle.fs.proofs.fs.Fs.new_node.Goals as goal
 
 pub returns-clause-entries : goal.returns-clause-entries
@@ -12,7 +12,7 @@ returns-clause-entries g c =
     let held = (fs_of c.args.self.now).volume in
     let is : c.in_ok-acl.acl ≡ list_by c.args.kind c.args.parent.now.fields.acl c.args.settings = search rules in
     let list : IsList held.limits c.args.kind c.in_ok-acl.acl = subst (IsList held.limits c.args.kind) (sym is)
-    (created_list held.limits held.sectors held.limits.nodes c.args.self.now.volume.limited c.args.kind c.args.parent.now.fields.acl c.requires.listed c.args.settings c.requires.within) in
+    (given_list_fits held.limits held.sectors held.limits.nodes c.args.self.now.volume.limited c.args.kind c.args.parent.now.fields.acl c.requires.listed c.args.settings c.requires.within) in
     let small = small_list held.limits c.args.kind c.in_ok-acl.acl list in
     let few = small.few in
     let most : held.limits.aces ≡ 40 = ap (λ (l : Limits). l.aces) c.args.self.now.volume.limited in

@@ -7,7 +7,7 @@ use Rattle.fs.specs.Opening.{tree_cut}
 use Rattle.fs.proofs.NodePlans.{no_room, no_stamp, has_room}
 use Rattle.fs.proofs.SizePlans as plans
 use Rattle.volume.specs.Edits.{edited_by}
-use Rattle.volume.specs.Volumes.{held_of}
+use Rattle.volume.specs.Views.{held_of}
 use Rattle.fs.proofs.fs.Fs.plan_cut.Goals as goal
 
 pub fits-requires : goal.fits-requires

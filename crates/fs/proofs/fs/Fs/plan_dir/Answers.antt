@@ -14,7 +14,7 @@ use Rattle.fs.specs.Operations.{IsNotDone, created, new_directory}
 use Rattle.fs.specs.Refusals.{fault_of}
 use Rattle.fs.proofs.CreatedLaws as laws
 use Rattle.fs.specs.Making.{first_node, room_tests, tree_with}
-use Rattle.volume.specs.Volumes.{held_of}
+use Rattle.volume.specs.Views.{held_of}
 use Rattle.fs.proofs.fs.Fs.plan_dir.Goals as goal
 
 pub returns-in_err-parent-clause-refused : goal.returns-in_err-parent-clause-refused

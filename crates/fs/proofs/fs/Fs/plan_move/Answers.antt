@@ -9,7 +9,7 @@ use Rattle.fs.specs.Renaming.{arguments_of}
 use Rattle.fs.proofs.RenamePlans as plans
 use Rattle.fs.proofs.RenamedLaws as laws
 use Rattle.volume.specs.Edits.{edited_by}
-use Rattle.volume.specs.Volumes.{held_of}
+use Rattle.volume.specs.Views.{held_of}
 use Rattle.fs.proofs.fs.Fs.plan_move.Goals as goal
 
 pub returns-in_err-permit_rename-clause-refused : goal.returns-in_err-permit_rename-clause-refused

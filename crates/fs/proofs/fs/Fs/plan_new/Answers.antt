@@ -20,7 +20,7 @@ use Rattle.fs.proofs.CreatedLaws as created
 use Rattle.fs.proofs.FirstFiles as files
 use Rattle.fs.proofs.NamedOpens as laws
 use Rattle.fs.proofs.RemovalPlans.{change_shown}
-use Rattle.volume.specs.Volumes.{held_of}
+use Rattle.volume.specs.Views.{held_of}
 use Rattle.fs.proofs.fs.Fs.plan_new.Goals as goal
 
 pub returns-in_err-settings-clause-refused : goal.returns-in_err-settings-clause-refused

@@ -7,7 +7,7 @@ use Rattle.fs.specs.Views.{fs_of}
 use Rattle.fs.specs.Making.{first_node, tree_with}
 use Rattle.fs.proofs.NodePlans as plans
 use Rattle.volume.specs.Edits.{edited_by}
-use Rattle.volume.specs.Volumes.{held_of}
+use Rattle.volume.specs.Views.{held_of}
 use Rattle.fs.proofs.fs.Fs.plan_node.Goals as goal
 
 pub fits-requires : goal.fits-requires

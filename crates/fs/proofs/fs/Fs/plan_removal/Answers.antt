@@ -6,7 +6,7 @@ use Rattle.layout.specs.Cards.{Card}
 use Rattle.fs.specs.Views.{fs_of}
 use Rattle.fs.proofs.RemovalPlans as plans
 use Rattle.fs.proofs.RemovedLaws as laws
-use Rattle.volume.specs.Volumes.{held_of}
+use Rattle.volume.specs.Views.{held_of}
 use Rattle.fs.proofs.fs.Fs.plan_removal.Goals as goal
 
 pub returns-in_err-removal-clause-refused : goal.returns-in_err-removal-clause-refused

@@ -7,7 +7,7 @@ use Rattle.fs.specs.Views.{fs_of}
 use Rattle.fs.proofs.SettingLaws as laws
 use Rattle.fs.proofs.SettingPlans as plans
 use Rattle.volume.specs.Edits.{edited_by}
-use Rattle.volume.specs.Volumes.{held_of}
+use Rattle.volume.specs.Views.{held_of}
 use Rattle.fs.proofs.fs.Fs.plan_setting.Goals as goal
 
 pub returns-in_err-card-clause-refused : goal.returns-in_err-card-clause-refused

@@ -7,7 +7,7 @@ use Rattle.fs.specs.Views.{fs_of}
 use Rattle.fs.specs.Writing.{bytes_taken}
 use Rattle.fs.proofs.WrittenLaws.{early, too_big, doable, planned, plan_full, plan_used_up, plan_goes_on}
 use Rattle.volume.specs.Edits.{edited_by}
-use Rattle.volume.specs.Volumes.{held_of}
+use Rattle.volume.specs.Views.{held_of}
 use Rattle.fs.proofs.fs.Fs.plan_write.Goals as goal
 
 pub returns-in_err-card-clause-refused : goal.returns-in_err-card-clause-refused

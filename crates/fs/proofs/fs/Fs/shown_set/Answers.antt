@@ -4,7 +4,7 @@ use Rattle.model.specs.SetAttr.{list_set}
 use Rattle.fs.specs.Views.{fs_of}
 use Rattle.fs.specs.Planned.{IsList}
 use Rattle.fs.proofs.EntryLaws.{small_list, set_list}
-use Rattle.volume.specs.Volumes.{held_of}
+use Rattle.volume.specs.Views.{held_of}
 use Rattle.fs.proofs.fs.Fs.shown_set.Goals as goal
 
 pub returns-clause-entries : goal.returns-clause-entries

@@ -2,13 +2,13 @@ use Rattle.std.proofs.Common.{refl, ap, ◌∙◌}
 use Rattle.fs.specs.Views.{fs_of}
 use Rattle.volume.specs.declared.fault.MountFault.TheVariants as mounts
 use Rattle.volume.proofs.MountedLaws.{refused_untouched}
+use Rattle.volume.proofs.ServeLaws.{told_err}
 use Rattle.model.specs.Session.{empty_table}
 use Rattle.session.specs.Views.{table_of}
 use Rattle.server.specs.Connections.{connections_of}
 use Rattle.server.specs.Views.{world_of, files_of, volume_of, failures_of}
 use Rattle.opens.specs.Views.{opens_of}
 use Rattle.server.proofs.Moves.{mounted_by, world_mounted}
-use Rattle.server.proofs.Refusals.{told_err}
 use Rattle.server.proofs.server.Server.mount.Goals as goal
 
 pub returns-clause-begins : goal.returns-clause-begins

@@ -2,7 +2,7 @@ use Rattle.std.proofs.Common.{◌≡◌, ℕ, List, [], ◌∷◌, ◌++◌, Non
 use Rattle.std.proofs.lemmas.Result.{err_from_is_err_and}
 use Rattle.model.specs.Operation.{Channel}
 use Rattle.model.specs.Answer.{CreateSessionAnswer}
-use Rattle.model.specs.Session.{Session, is_client, is_replaced_by, is_of_clients, confirmed_with, changed_where, without}
+use Rattle.model.specs.Session.{Session, is_client, is_replaced_by, is_of_clients, confirmed_with, changed_where, without_where}
 use Rattle.wire.specs.ArgumentViews.{create_session_view}
 use Rattle.wire.specs.SmallViews.{channel_view}
 use Rattle.session.specs.Views.{table_of, table_by, roll_of, book_of, sessions_of, clients_of}
@@ -34,11 +34,11 @@ returns-clause-answered c client named ended =
     ap (λ (id : List ℕ). record (answer_at arguments old.sessions.serial number fore) { session = id }) c.session_id.ensures in
     let ends = c.deref.ensures.value ∙ ended in
     let made = c.in_ok-session.ensures in
-    let book = c.in_ok-add.ensures.ok ∙ ap (λ (s : Session). (s.serial, without (is_of_clients c.deref.result.now) (sessions_of old.sessions) ++ s ∷ [])) made in
+    let book = c.in_ok-add.ensures.ok ∙ ap (λ (s : Session). (s.serial, without_where (is_of_clients c.deref.result.now) (sessions_of old.sessions) ++ s ∷ [])) made in
     let roll = c.confirm.ensures client named (c.deref-2.ensures.value ∙ ended) in (
       ap Ok (created_is arguments client (table_of old) number fore named channel ∙ sym answered),
       sym ended,
       table_is arguments client (table_of old) number fore c.deref.result.now answer (session_at old.sessions.serial number fore) named channel ends answered refl
-          ∙ ap (λ book. table_by (old.clients.run, old.clients.serial, changed_where (is_client number) (confirmed_with answer) (without (is_replaced_by client) (clients_of old.clients))) book) (sym book)
+          ∙ ap (λ book. table_by (old.clients.run, old.clients.serial, changed_where (is_client number) (confirmed_with answer) (without_where (is_replaced_by client) (clients_of old.clients))) book) (sym book)
           ∙ ap (λ roll. table_by roll (book_of c.add.new.self)) (sym roll),
     )

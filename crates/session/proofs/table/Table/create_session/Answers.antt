@@ -4,13 +4,13 @@ use Rattle.std.specs.Result.{result_err}
 use Rattle.std.proofs.lemmas.Result.{err_from_is_err_and}
 use Rattle.std.proofs.lemmas.Bool.{eqb-true}
 use Rattle.model.specs.Session.{Client as Known, CreateSessionOutcome, create_unless, is_client}
+use Rattle.model.proofs.TableCalls.{found_passes}
 use Rattle.wire.specs.ArgumentViews.{create_session_view}
 use Rattle.wire.specs.AnswerViews.{create_session_view as answer_view}
 use Rattle.session.specs.Calls.{Created}
 use Rattle.session.specs.Limits.{served}
 use Rattle.session.specs.Views.{table_of, client_of, clients_of}
 use Rattle.session.proofs.Creating.{create_unknown, create_other, create_same, repeats, counts, refused_by_arguments, refused_by_room, serial_left}
-use Rattle.session.proofs.Opening.{found_passes}
 use Rattle.session.proofs.table.Table.create_session.Goals as goal
 
 pub returns-in_default-clause-answered : goal.returns-in_default-clause-answered

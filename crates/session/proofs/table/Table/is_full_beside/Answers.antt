@@ -4,10 +4,10 @@ use Rattle.std.proofs.lemmas.List.{length-map}
 use Rattle.std.proofs.lemmas.Iterator.{YieldsList-from_slice}
 use Rattle.std.proofs.lemmas.Iterator.Consumers.{YieldsList-from_filter, count_from_yields_List}
 use Rattle.model.specs.Session.{is_of_clients, Session as Known}
+use Rattle.model.proofs.NodeAttributeLaws.{filter-map}
 use Rattle.session.specs.declared.session.Session.{Session}
 use Rattle.session.specs.Rooms.{ended_by}
 use Rattle.session.specs.Views.{table_of, client_of, clients_of, session_of, sessions_of}
-use Rattle.session.proofs.Lists.{filter-map}
 use Rattle.session.proofs.table.Table.is_full_beside.Goals as goal
 
 no_place : (count stay serial : ℕ) → count ≡ stay → 32 ≤ count → nat_le 32 count ≡ (nat_le 32 stay || nat_le (2 ^ 64 - 1) serial)

@@ -10,7 +10,7 @@ use Rattle.model.specs.Stamp.{stamp}
 use Rattle.model.specs.Tree.{Tree}
 use Rattle.volume.specs.Known.{IsKnown, IsServing}
 use Rattle.volume.specs.Mounts.{IsRaised, StandsOn}
-use Rattle.volume.specs.Volumes.{held_of}
+use Rattle.volume.specs.Views.{held_of}
 use Rattle.volume.proofs.BeginLaws.{begun_serving, begun_holds, same_tree, raised_from}
 use Rattle.volume.proofs.FormatLaws.{on_ok}
 use Rattle.volume.proofs.FormedLaws.{formed_later, loaded_formed, tree_formed}

@@ -18,7 +18,7 @@ use Rattle.volume.specs.Parents.{PutsParent}
 use Rattle.volume.specs.Formed.{IsFormed, Shows}
 use Rattle.volume.specs.Known.{IsKnown, IsServing}
 use Rattle.volume.specs.Refusals.{fault_of}
-use Rattle.volume.specs.Volumes.{held_by, held_of, volume_failures}
+use Rattle.volume.specs.Views.{held_by, held_of, volume_failures}
 use Rattle.volume.proofs.ApplyLaws.{applied_serves, applied_tree, apply_done, apply_refused}
 use Rattle.volume.proofs.ChangeLaws.{behind_serving, formed_after, journal_targets, known_after, log_same, may_settle, outline_after, parents_behind}
 use Rattle.volume.proofs.EditLaws.{front_room, outline_doable, outline_few}

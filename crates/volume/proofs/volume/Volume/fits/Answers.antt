@@ -4,7 +4,7 @@ use Rattle.edits.proofs.DoableLaws.{doable_alike}
 use Rattle.journal.specs.Journal.{log_of}
 use Rattle.journal.specs.Log.{Log, contents}
 use Rattle.layout.specs.Cards.{tree_of}
-use Rattle.volume.specs.Volumes.{held_of}
+use Rattle.volume.specs.Views.{held_of}
 use Rattle.volume.proofs.EditLaws.{fits_outline, outline_alike}
 use Rattle.volume.proofs.volume.Volume.fits.Goals as goal
 

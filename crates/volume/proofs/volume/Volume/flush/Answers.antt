@@ -6,7 +6,7 @@ use Rattle.layout.specs.Superblock.{is_size}
 use Rattle.model.specs.Limits.{limits_of}
 use Rattle.volume.specs.Known.{IsKnown}
 use Rattle.volume.specs.Refusals.{fault_of}
-use Rattle.volume.specs.Volumes.{held_of, volume_failures}
+use Rattle.volume.specs.Views.{held_of, volume_failures}
 use Rattle.volume.proofs.FormedLaws.{shows_same}
 use Rattle.volume.proofs.ServeLaws.{flush_done, flush_keeps, flush_serves, flush_refused, found_up, up_flushed, told_err}
 use Rattle.volume.proofs.volume.Volume.flush.Goals as goal

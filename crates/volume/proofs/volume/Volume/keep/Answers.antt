@@ -1,5 +1,5 @@
 use Rattle.volume.specs.Edits.{edited_by}
-use Rattle.volume.specs.Volumes.{held_of, volume_failures}
+use Rattle.volume.specs.Views.{held_of, volume_failures}
 use Rattle.volume.proofs.KeepLaws.{keep_flushed, refused_unchanged}
 use Rattle.volume.proofs.ServeLaws.{told_err}
 use Rattle.volume.proofs.volume.Volume.keep.Goals as goal

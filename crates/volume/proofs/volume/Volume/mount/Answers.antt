@@ -3,8 +3,8 @@ use Rattle.disk.specs.Moments.{History, AddsOnly, seen, synced}
 use Rattle.journal.specs.Journal.{log_of}
 use Rattle.journal.specs.Recover.{LeavesOnlySynced}
 use Rattle.journal.specs.Settled.{Settles, SettlesAs}
-use Rattle.volume.specs.Volumes.{held_of}
-use Rattle.volume.specs.MountAnswers.{IsRefused}
+use Rattle.volume.specs.Views.{held_of}
+use Rattle.volume.specs.MountAnswers.{IsMountRefused}
 use Rattle.journal.proofs.First.{first_kept}
 use Rattle.volume.proofs.FoundLaws.{if_ok_so, if_err_so}
 use Rattle.volume.proofs.MountedLaws.{refused_untouched, first_reason, gate_refused, begun_found, begin_refused}
@@ -36,7 +36,7 @@ returns-in-Err-mount-clause-refused g c = λ k.
     let old = D.history c.args.device in
     let new = D.history c.in-Err-mount.refused.device in
     let fault = c.in-Err-mount.refused.fault in
-    subst (IsRefused sectors old new) (sym c.into.ensures)
+    subst (IsMountRefused sectors old new) (sym c.into.ensures)
     (gate_refused sectors old new (c.in-Ok.ensures.told k).0
     (subst (λ (n : ℕ). AddsOnly (SettlesAs n (seen old.now)) old new) c.find.ensures.same_size
     (subst (λ (h : History). AddsOnly (SettlesAs (D.size c.find.new.device) (seen h.now)) h new) c.find.ensures.history ((c.in-Err-mount.ensures.refused k).refused)))

@@ -3,7 +3,7 @@ use Rattle.journal.specs.Journal.{log_of}
 use Rattle.journal.specs.Log.{contents}
 use Rattle.draft.proofs.KnownLaws.{card_at}
 use Rattle.layout.specs.Marks.{mark_by}
-use Rattle.volume.specs.Volumes.{held_of}
+use Rattle.volume.specs.Views.{held_of}
 use Rattle.volume.proofs.NodeLaws.{node_there, none_there}
 use Rattle.volume.proofs.ServeLaws.{if_some_so}
 use Rattle.volume.proofs.volume.Volume.node.Goals as goal
