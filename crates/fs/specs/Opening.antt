@@ -1,5 +1,5 @@
 -- OPEN, but for the table of opens, of which a call is told whether it is full.
-use Rattle.std.specs.Prelude.{ℕ, Bool, List, [], ◌∷◌, ◌++◌, ◌+◌, Result, Ok, Err, None, ◌≡◌, ◌&&◌, ◌||◌, true, false, not, if◌then◌else◌}
+use Rattle.std.specs.Prelude.{ℕ, Bool, List, [], ◌∷◌, ◌++◌, ◌+◌, Result, Ok, Err, None, MatchOption, ◌≡◌, ◌&&◌, ◌||◌, true, false, not, if◌then◌else◌}
 use Rattle.edits.specs.declared.edit.Edit.{Edit}
 use Rattle.model.specs.declared.acl.Cred.{Cred}
 use Rattle.model.specs.declared.limits.Limits.{Limits}
@@ -32,6 +32,7 @@ use Rattle.fs.specs.declared.opening.OpenRoom.{OpenRoom}
 use Rattle.fs.specs.declared.opening.Opened.{Opened}
 use Rattle.fs.specs.declared.opening.Opening.{Opening}
 use Rattle.fs.specs.declared.opening.Share.{Share}
+use Rattle.fs.specs.declared.open_file.Planned.{Planned}
 use Rattle.fs.specs.FileSystem.{FileSystem}
 use Rattle.fs.specs.Operations.{IsOn, does_on, IsNotDone, IsRefused}
 use Rattle.fs.specs.Renaming.{info_of}
@@ -213,6 +214,13 @@ abbrev pub OpensBy : FileSystem → State → (now : ℕ) → OpenArguments → 
     → Type 0
 OpensBy fs state now arguments of edits opened = does_on fs state now (Argument.Open arguments)
     ≡ after_open (edited_by fs.volume edits) (fs.changes + 1) state arguments of opened
+
+-- an open that passed its tests comes to its edits, or to none
+abbrev pub OpensAsPlanned : FileSystem → State → (now : ℕ) → OpenArguments → OpenType → Planned
+    → Type 0
+OpensAsPlanned fs state now arguments of planned = MatchOption planned.edits
+    (StaysOpen fs state now arguments of planned.opened)
+    (λ edits. OpensBy fs state now arguments of edits.items planned.opened)
 
 -- What its rights come to, on the file itself
 

@@ -21,13 +21,11 @@ pub struct Fs<D: Device> {
 
 #[tactic(auto, unfolding(crate::specs::Views::fs_of, crate::specs::Views::fs_failures))]
 impl<D: Device> Fs<D> {
-    ghost use Rattle.std.specs.Prelude.{◌≡◌, ◌≤◌, IfOk, IfErr, IsErrOf};
-    ghost use Rattle.disk.specs.Cause.{IsCounted};
-    ghost use Rattle.fs.specs.FileSystem.{IsNew};
+    ghost use Rattle.std.specs.Prelude.{◌≡◌, IfOk, IfErr};
     ghost use Rattle.fs.specs.Views.{fs_of, fs_failures};
     ghost use Rattle.fs.specs.Formatting.{Formats};
-    ghost use Rattle.volume.specs.Checks.{FailsCheck, HasChecked};
-    ghost use Rattle.volume.specs.MountAnswers.{HasMounted, IsMountRefused, ComesBack};
+    ghost use Rattle.volume.specs.Checks.{Checks};
+    ghost use Rattle.volume.specs.MountAnswers.{MountServes, MountGivesBack};
 
     /// Makes the device a new volume of this many nodes, with an empty root: `volume::format`.
     ///
@@ -51,14 +49,11 @@ impl<D: Device> Fs<D> {
     /// nothing was written; then Damaged exactly where no tree stands; Device where the device
     /// failed, and Memory.
     pub fn mount(alloc: Global, device: D) -> Result<Fs<D>, Unmounted<D>>
-        ensures new { IfOk result (λ fs. IsNew (D.size device) (fs_of fs)) }
-        ensures later { IfOk result (λ fs. D.failed device ≤ fs_failures fs) }
-        ensures mounted { D.keeps_word → IfOk result (λ fs.
-            HasMounted (D.size device) (D.history device) (fs_of fs).volume) }
-        // Refused
-        ensures back { IfErr result (ComesBack D.size D.failed (D.size device) (D.failed device)) }
-        ensures refused { D.keeps_word → IfErr result (λ refused.
-            IsMountRefused (D.size device) (D.history device) (D.history refused.device) refused.fault) }
+        ensures serves { IfOk result (λ fs. MountServes D.keeps_word D.size D.failed D.history
+            device (fs_of fs).volume (fs_failures fs)) }
+        ensures no_change { IfOk result (λ fs. (fs_of fs).changes ≡ 0) }
+        ensures gives_back { IfErr result (MountGivesBack D.keeps_word D.size D.failed D.history
+            device) }
     {
         let volume = Volume::mount(alloc, device)?;
         Ok(Fs {
@@ -75,18 +70,8 @@ impl<D: Device> Fs<D> {
     /// NotVolume, by the first sector, as a mount; then Damaged exactly where no tree stands; Device
     /// where the device failed, and Memory; never Worn.
     pub fn check(alloc: Global, device: &mut D) -> Result<Checked, MountFault>
-        ensures checked { D.keeps_word → IfOk result
-            (HasChecked (D.size device.old) (D.history device.old)) }
-        // It only reads, on any device
-        ensures untouched { D.history device.new ≡ D.history device.old }
-        ensures same_size { D.size device.new ≡ D.size device.old }
-        // Refused
-        ensures refused { D.keeps_word → IfErr result
-            (FailsCheck (D.size device.old) (D.history device.old)) }
-        ensures never_worn { IsErrOf result MountFault.Worn → ⊥ }
-        ensures later { D.failed device.old ≤ D.failed device.new }
-        ensures cause { IsErrOf result MountFault.Device
-            → IsCounted (D.failed device.old) (D.failed device.new) }
+        ensures { Checks D.keeps_word D.size D.failed D.history
+            device.old device.new result }
     {
         volume::check(alloc, device)
     }

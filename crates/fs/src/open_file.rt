@@ -42,7 +42,7 @@ impl<D: Device> Fs<D> {
     ghost use Rattle.fs.specs.Views.{fs_of, Alters};
     ghost use Rattle.fs.specs.Making.{IsDirectoryOf, room_tests};
     ghost use Rattle.fs.specs.OnTree.{IsState};
-    ghost use Rattle.fs.specs.Opening.{IsOpened, IsOpening, IsPlaced, LeadsTo, OpensBy, OpensFile, OpensTree, StaysOpen};
+    ghost use Rattle.fs.specs.Opening.{IsOpened, IsOpening, IsPlaced, LeadsTo, OpensAsPlanned, OpensFile, OpensTree};
     ghost use Rattle.fs.specs.Opening.{file_tests, has_room, place_tests, tree_cut, type_of};
     ghost use Rattle.fs.specs.Operations.{IsOn, IsNotDone};
     ghost use Rattle.fs.specs.Planned.{IsPlanned};
@@ -122,11 +122,8 @@ impl<D: Device> Fs<D> {
         ensures step { (state : State) (arguments : OpenArguments)
             → IsOn (fs_of self.now) cred.now asked.entry.directory state
             → IsOpening (fs_of self.now) state asked.entry is_full arguments
-            → IfOk result (λ planned. MatchOption planned.edits
-            (StaysOpen (fs_of self.now) state now arguments
-            (type_of asked.entry.how) planned.opened)
-            (λ edits. OpensBy (fs_of self.now) state now arguments (type_of asked.entry.how)
-            edits.items planned.opened)) }
+            → IfOk result (OpensAsPlanned (fs_of self.now) state now arguments
+            (type_of asked.entry.how)) }
         ensures opened { IfOk result (λ planned.
             IsOpened (fs_of self.now) asked.entry planned.opened) }
         ensures full { OnOk result (is_full ≡ false) }
@@ -191,11 +188,8 @@ impl<D: Device> Fs<D> {
             IsPlanned (fs_of self.now) edits.items)) }
         ensures step { (state : State) (arguments : OpenArguments)
             → IsPlaced (fs_of self.now) cred.now asked.entry is_full state arguments
-            → IfOk result (λ planned. MatchOption planned.edits
-            (StaysOpen (fs_of self.now) state now arguments
-            (type_of asked.entry.how) planned.opened)
-            (λ edits. OpensBy (fs_of self.now) state now arguments (type_of asked.entry.how)
-            edits.items planned.opened)) }
+            → IfOk result (OpensAsPlanned (fs_of self.now) state now arguments
+            (type_of asked.entry.how)) }
         ensures opened { IfOk result (λ planned.
             IsOpened (fs_of self.now) asked.entry planned.opened) }
         ensures full { OnOk result (is_full ≡ false) }
@@ -366,11 +360,8 @@ impl<D: Device> Fs<D> {
             IsPlanned (fs_of self.now) edits.items)) }
         ensures step { (state : State) (arguments : OpenArguments)
             → IsPlaced (fs_of self.now) cred.now asked.entry is_full state arguments
-            → IfOk result (λ planned. MatchOption planned.edits
-            (StaysOpen (fs_of self.now) state now arguments
-            (type_of asked.entry.how) planned.opened)
-            (λ edits. OpensBy (fs_of self.now) state now arguments (type_of asked.entry.how)
-            edits.items planned.opened)) }
+            → IfOk result (OpensAsPlanned (fs_of self.now) state now arguments
+            (type_of asked.entry.how)) }
         ensures opened { IfOk result (λ planned. (is_full ≡ false)
             × IsOpened (fs_of self.now) asked.entry planned.opened) }
         // Refused

@@ -3,7 +3,7 @@
 
 mod connection;
 mod fault;
-pub mod laws;
+mod laws;
 mod mounting;
 mod receiving;
 mod request;

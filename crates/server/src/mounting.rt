@@ -8,14 +8,13 @@ use session::Table;
 use slab::Slab;
 use std::alloc::Global;
 
-#[tactic(auto, unfolding(crate::specs::Views::world_of, crate::specs::Views::files_of, crate::specs::Views::volume_of, crate::specs::Views::failures_of, crate::specs::Connections::connections_of))]
+#[tactic(auto, unfolding(crate::specs::Views::world_of, crate::specs::Views::volume_of, crate::specs::Views::failures_of, crate::specs::Connections::connections_of))]
 impl<D: Device> Server<D> {
-    ghost use Rattle.std.specs.Prelude.{◌≤◌, IfOk, IfErr};
-    ghost use Rattle.fs.specs.FileSystem.{IsNew};
+    ghost use Rattle.std.specs.Prelude.{IfOk, IfErr};
     ghost use Rattle.fs.specs.Formatting.{Formats};
-    ghost use Rattle.volume.specs.MountAnswers.{HasMounted, IsMountRefused, ComesBack};
+    ghost use Rattle.volume.specs.MountAnswers.{MountServes, MountGivesBack};
     ghost use Rattle.server.specs.Headline.{Begins};
-    ghost use Rattle.server.specs.Views.{BeginsEmpty, files_of, volume_of, failures_of};
+    ghost use Rattle.server.specs.Views.{BeginsEmpty, volume_of, failures_of};
 
     /// Makes the device a new volume of this many nodes, with an empty root: `Fs::format`.
     pub fn format(alloc: Global, device: &mut D, nodes: u32) -> Result<(), FormatFault>
@@ -33,15 +32,11 @@ impl<D: Device> Server<D> {
     /// Damaged exactly where no tree stands; Device where the device failed, and Memory.
     pub fn mount(alloc: Global, device: D) -> Result<Server<D>, Unmounted<D>>
         ensures world { IfOk result BeginsEmpty }
-        ensures new { IfOk result (λ server. IsNew (D.size device) (files_of server)) }
-        ensures later { IfOk result (λ server. D.failed device ≤ failures_of server) }
-        ensures mounted { D.keeps_word → IfOk result (λ server.
-            HasMounted (D.size device) (D.history device) (volume_of server)) }
+        ensures serves { IfOk result (λ server. MountServes D.keeps_word D.size D.failed D.history
+            device (volume_of server) (failures_of server)) }
         ensures begins { D.keeps_word → IfOk result Begins }
-        // Refused
-        ensures back { IfErr result (ComesBack D.size D.failed (D.size device) (D.failed device)) }
-        ensures refused { D.keeps_word → IfErr result (λ refused.
-            IsMountRefused (D.size device) (D.history device) (D.history refused.device) refused.fault) }
+        ensures gives_back { IfErr result (MountGivesBack D.keeps_word D.size D.failed D.history
+            device) }
     {
         let connections = match Slab::with_capacity(alloc, MAX_CONNECTIONS) {
             Ok(connections) => connections,

@@ -1,6 +1,7 @@
 -- How a check answers, by what its parts find.
-use Rattle.std.proofs.Common.{◌≡◌, ◌≢◌, ◌<◌, ◌⊎◌, ◌^◌, ℕ, Bool, List, Option, Err, ⊎_elim, refl, sym, ◌∙◌, subst}
+use Rattle.std.proofs.Common.{◌≡◌, ◌≢◌, ◌<◌, ◌≤◌, ◌⊎◌, ◌^◌, ℕ, Bool, List, Option, Err, ⊎_elim, refl, sym, ◌∙◌, subst}
 use Rattle.std.proofs.Math.Logic.{∥∥₁_map}
+use Rattle.disk.specs.Cause.{IsCounted}
 use Rattle.disk.specs.Moments.{Image, History, seen}
 use Rattle.journal.specs.Log.{Log}
 use Rattle.journal.specs.Settled.{Settles}
@@ -10,7 +11,7 @@ use Rattle.journal.specs.declared.fault.JournalFault.TheVariants as journals
 use Rattle.journal.proofs.First.{first_kept}
 use Rattle.layout.specs.Cards.{Card, tree_of}
 use Rattle.model.specs.Tree.{Tree}
-use Rattle.volume.specs.Checks.{IsSeen, HasChecked, FailsCheck}
+use Rattle.volume.specs.Checks.{IsSeen, HasChecked, FailsCheck, Checks}
 use Rattle.volume.specs.Loads.{AreLoaded, HoldsVolume}
 use Rattle.volume.specs.MountAnswers.{first_verdict}
 use Rattle.volume.specs.Mounts.{StandsOn}
@@ -24,6 +25,20 @@ use Rattle.volume.specs.declared.mount.Superblock.{Superblock}
 use Rattle.volume.specs.declared.superblock.Verdict.TheVariants as verdicts
 use Rattle.volume.proofs.FirstLaws.{not_volume_on_few}
 use Rattle.volume.proofs.FoundLaws.{found_stands, is_volume_there, spelled}
+
+-- what a check that is refused says by its fault
+pub check_refused : {D : Type 0} (keeps_word : Type 0) (size failed : D → ℕ) (history : D → History) (old new : D) (fault : MountFault)
+    → (keeps_word → FailsCheck (size old) (history old) fault) → (fault ≡ mounts.Worn → ⊥) → (fault ≡ mounts.Device → IsCounted (failed old) (failed new))
+    → history new ≡ history old → failed old ≤ failed new → size new ≡ size old → Checks keeps_word size failed history old new (Err fault)
+check_refused keeps_word size failed history old new fault err never_worn cause untouched later same_size = record {
+  ok = λ k. tt;
+  err = err;
+  never_worn = λ is. never_worn (cc);
+  cause = λ is. cause (cc);
+  untouched = untouched;
+  later = later;
+  same_size = same_size;
+}
 
 -- the first sector was not read
 pub first_seen : (sectors : ℕ) (sector : List ℕ) (fault : MountFault) → (fault ≡ mounts.NotVolume → sectors < 256)

@@ -22,13 +22,16 @@ use Rattle.volume.proofs.StandLaws.{sized, large, stands_same}
 
 -- Results
 
-pub if_ok_so : {T E : Type 0} (r : Result T E) (P Q : T → Type 0) → ((x : T) → P x → Q x) → IfOk r P → IfOk r Q
-if_ok_so (Ok x) P Q so is = so x is
-if_ok_so (Err e) P Q so is = tt
+-- several facts of one result, the last of them where the word is kept
+pub if_ok_all : {T E : Type 0} (r : Result T E) (keeps_word : Type 0) (P Q R S : T → Type 0) → ((x : T) → P x → Q x → (keeps_word → R x) → S x)
+    → IfOk r P → IfOk r Q → (keeps_word → IfOk r R) → IfOk r S
+if_ok_all (Ok x) keeps_word P Q R S so first second kept = so x first second kept
+if_ok_all (Err e) keeps_word P Q R S so first second kept = tt
 
-pub if_err_so : {T E : Type 0} (r : Result T E) (P Q : E → Type 0) → ((x : E) → P x → Q x) → IfErr r P → IfErr r Q
-if_err_so (Ok x) P Q so is = tt
-if_err_so (Err e) P Q so is = so e is
+pub if_err_all : {T E : Type 0} (r : Result T E) (keeps_word : Type 0) (P Q S : E → Type 0) → ((x : E) → P x → (keeps_word → Q x) → S x)
+    → IfErr r P → (keeps_word → IfErr r Q) → IfErr r S
+if_err_all (Ok x) keeps_word P Q S so first kept = tt
+if_err_all (Err e) keeps_word P Q S so first kept = so e first kept
 
 -- The first sector
 

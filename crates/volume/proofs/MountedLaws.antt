@@ -1,5 +1,6 @@
 -- How a mount answers, by what its parts find.
-use Rattle.std.proofs.Common.{◌≡◌, ◌<◌, ◌⊎◌, ◌^◌, ℕ, inl, inr, ⊎_elim, refl, sym, subst}
+use Rattle.std.proofs.Common.{◌≡◌, ◌≤◌, ◌<◌, ◌⊎◌, ◌^◌, ◌∙◌, ℕ, inl, inr, ⊎_elim, refl, sym, ap, subst, arith}
+use Rattle.disk.specs.Cause.{IsCounted}
 use Rattle.disk.specs.Moments.{Image, History, AddsOnly, seen, synced}
 use Rattle.journal.specs.declared.fault.JournalFault.{JournalFault}
 use Rattle.journal.specs.declared.fault.JournalFault.TheVariants as journals
@@ -8,14 +9,16 @@ use Rattle.journal.specs.Settled.{Settles, SettlesAs}
 use Rattle.volume.specs.declared.fault.MountFault.{MountFault}
 use Rattle.volume.specs.declared.fault.MountFault.TheVariants as mounts
 use Rattle.volume.specs.declared.mount.Superblock.{Superblock}
+use Rattle.volume.specs.declared.volume.Unmounted.{Unmounted}
 use Rattle.volume.specs.declared.superblock.Verdict.TheVariants as verdicts
 use Rattle.volume.specs.Held.{Held}
-use Rattle.volume.specs.MountAnswers.{first_verdict, HasMounted, OnlyReplays, HasReason, IsMountRefused}
+use Rattle.volume.specs.MountAnswers.{first_verdict, HasMounted, OnlyReplays, HasReason, IsMountRefused, ComesBack}
 use Rattle.volume.specs.Mounts.{HasBegun, IsNotBegun}
 use Rattle.volume.specs.Refusals.{gate_fault}
 use Rattle.volume.specs.Remounts.{AddsMount}
 use Rattle.volume.specs.Superblock.{superblock}
 use Rattle.disk.proofs.MomentLemmas.{AddsOnly-same}
+use Rattle.volume.proofs.KeepLaws.{counted_later}
 use Rattle.volume.proofs.FoundLaws.{not_damaged, is_volume_there, count_full, settled_moments, found_stands, found_moments, seen_stands}
 
 untouched_replays : (sectors : ℕ) (old new : History) → new ≡ old → OnlyReplays sectors old new
@@ -56,7 +59,24 @@ module _ (sectors : ℕ) (old new : History) (same : new ≡ old) where
   first_reason mounts.Memory none worn damaged = tt
   first_reason mounts.Device none worn damaged = tt
 
+-- the device comes back that was handed on, of the same size and of no fewer failures
+pub back_since : {D : Type 0} (size failed : D → ℕ) (was failures sectors between : ℕ) (unmounted : Unmounted D) → sectors ≡ was → failures ≤ between
+    → ComesBack size failed sectors between unmounted → ComesBack size failed was failures unmounted
+back_since size failed was failures sectors between unmounted same later back = record {
+  same_size = back.same_size ∙ same;
+  later = omega (arith, later, back.later);
+  cause = λ is. counted_later failures between (failed unmounted.device) later (back.cause is);
+}
+
 -- refused by the gate
+pub gate_counted : (before after : ℕ) (fault : JournalFault) → (fault ≡ journals.Fault) ⊎ ((fault ≡ journals.Damaged) ⊎ (fault ≡ journals.Memory))
+    → (fault ≡ journals.Fault → IsCounted before after) → gate_fault fault ≡ mounts.Device → IsCounted before after
+gate_counted before after fault reasons counted is = ⊎_elim counted
+    (⊎_elim
+    (λ (damaged : fault ≡ journals.Damaged). let other : mounts.Damaged ≡ mounts.Device = sym (ap gate_fault damaged) ∙ is in let never : ⊥ = cc in absurd never)
+    (λ (memory : fault ≡ journals.Memory). let other : mounts.Memory ≡ mounts.Device = sym (ap gate_fault memory) ∙ is in let never : ⊥ = cc in absurd never))
+    reasons
+
 module _ (sectors : ℕ) (old new : History) (sound : first_verdict sectors old ≡ verdicts.Sound) (replays : AddsOnly (SettlesAs sectors (seen old.now)) old new) where
   settled_mount : AddsMount sectors old new
   settled_mount nodes run tree base = settled_moments sectors nodes run tree (seen old.now) base old new replays

@@ -4,7 +4,7 @@ use Rattle.disk.specs.Cause.{IsCounted}
 use Rattle.disk.specs.Moments.{Image, History, AddsOnly, seen, synced}
 use Rattle.journal.specs.Settled.{Settles, SettlesAs}
 use Rattle.model.specs.Tree.{Tree}
-use Rattle.volume.specs.Held.{Held, Holds}
+use Rattle.volume.specs.Held.{Held, Holds, IsNew}
 use Rattle.volume.specs.Remounts.{AddsMount, IsFound}
 use Rattle.volume.specs.Stands.{IsBase}
 use Rattle.volume.specs.Superblock.{verdict}
@@ -78,3 +78,18 @@ pub record ComesBack {D : Type 0} (size failed : D → ℕ) (sectors failures : 
   pub same_size : size refused.device ≡ sectors
   pub later : failures ≤ failed refused.device
   pub cause : refused.fault ≡ mounts.Device → IsCounted failures (failed refused.device)
+
+-- What a mount says after an `Ok`, and each layer above hands on: what it serves, and how often its
+-- device has failed
+pub record MountServes {D : Type 0} (keeps_word : Type 0) (size failed : D → ℕ)
+    (history : D → History) (device : D) (held : Held) (failures : ℕ) : Type 0 where
+  pub new : IsNew (size device) held
+  pub later : failed device ≤ failures
+  pub mounted : keeps_word → HasMounted (size device) (history device) held
+
+-- and after an `Err`: the device that comes back, and why
+pub record MountGivesBack {D : Type 0} (keeps_word : Type 0) (size failed : D → ℕ)
+    (history : D → History) (device : D) (unmounted : Unmounted D) : Type 0 where
+  pub back : ComesBack size failed (size device) (failed device) unmounted
+  pub refused : keeps_word
+      → IsMountRefused (size device) (history device) (history unmounted.device) unmounted.fault

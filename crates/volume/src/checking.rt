@@ -1,8 +1,6 @@
 //! Whether a tree stands on a volume, told without a mount.
 
-ghost use Rattle.std.specs.Prelude.{◌≡◌, ◌≤◌, IfOk, IfErr, IsErrOf};
-ghost use Rattle.disk.specs.Cause.{IsCounted};
-ghost use Rattle.volume.specs.Checks.{FailsCheck, HasChecked};
+ghost use Rattle.volume.specs.Checks.{Checks};
 
 use crate::fault::MountFault;
 use crate::load::read_nodes;
@@ -32,18 +30,7 @@ pub struct Checked {
 /// where the device failed, and Memory; never Worn.
 #[tactic(auto, unfolding(journal::specs::Views::view_of, journal::specs::Views::view_failures, journal::specs::Views::name_of))]
 pub fn check<D: Device>(alloc: Global, device: &mut D) -> Result<Checked, MountFault>
-    ensures checked { D.keeps_word → IfOk result
-        (HasChecked (D.size device.old) (D.history device.old)) }
-    // It only reads, on any device
-    ensures untouched { D.history device.new ≡ D.history device.old }
-    ensures same_size { D.size device.new ≡ D.size device.old }
-    // Refused
-    ensures refused { D.keeps_word → IfErr result
-        (FailsCheck (D.size device.old) (D.history device.old)) }
-    ensures never_worn { IsErrOf result MountFault.Worn → ⊥ }
-    ensures later { D.failed device.old ≤ D.failed device.new }
-    ensures cause { IsErrOf result MountFault.Device
-        → IsCounted (D.failed device.old) (D.failed device.new) }
+    ensures { Checks D.keeps_word D.size D.failed D.history device.old device.new result }
 {
     let found = match look(device) {
         Ok(found) => found,

@@ -66,7 +66,7 @@ impl<D: Device> Volume<D> {
     ghost use Rattle.volume.specs.Formed.{Shows};
     ghost use Rattle.volume.specs.Held.{IsNew};
     ghost use Rattle.volume.specs.Loads.{HoldsBase};
-    ghost use Rattle.volume.specs.MountAnswers.{HasMounted, IsMountRefused, ComesBack};
+    ghost use Rattle.volume.specs.MountAnswers.{MountServes, MountGivesBack, ComesBack};
     ghost use Rattle.volume.specs.Mounts.{IsVolumeOf, IsAtRest, HasBegun, IsNotBegun};
     ghost use Rattle.volume.specs.Nodes.{IsNodeOf};
     ghost use Rattle.volume.specs.Views.{held_of, volume_failures, Alters};
@@ -81,14 +81,10 @@ impl<D: Device> Volume<D> {
     /// nothing was written; then Damaged exactly where no tree stands; Device where the device
     /// failed, and Memory.
     pub fn mount(alloc: Global, device: D) -> Result<Volume<D>, Unmounted<D>>
-        ensures new { IfOk result (λ volume. IsNew (D.size device) (held_of volume)) }
-        ensures later { IfOk result (λ volume. D.failed device ≤ volume_failures volume) }
-        ensures mounted { D.keeps_word → IfOk result (λ volume.
-            HasMounted (D.size device) (D.history device) (held_of volume)) }
-        // Refused
-        ensures back { IfErr result (ComesBack D.size D.failed (D.size device) (D.failed device)) }
-        ensures refused { D.keeps_word → IfErr result (λ refused.
-            IsMountRefused (D.size device) (D.history device) (D.history refused.device) refused.fault) }
+        ensures serves { IfOk result (λ volume. MountServes D.keeps_word D.size D.failed D.history
+            device (held_of volume) (volume_failures volume)) }
+        ensures gives_back { IfErr result (MountGivesBack D.keeps_word D.size D.failed D.history
+            device) }
     {
         let mut device = device;
         let found = match find(&mut device) {

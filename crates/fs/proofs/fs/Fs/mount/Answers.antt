@@ -9,5 +9,5 @@ invariant_of-result g c =
     let held = held_of c.in_ok-volume.volume in
     record {
       counted = omega arith;
-      ready = λ up. formed_later held.limits (stamp held.run 0) (next_stamp held.run 0) held.tree (omega arith) c.in_ok-volume.ensures.new.formed;
+      ready = λ up. formed_later held.limits (stamp held.run 0) (next_stamp held.run 0) held.tree (omega arith) c.in_ok-volume.ensures.serves.new.formed;
     }

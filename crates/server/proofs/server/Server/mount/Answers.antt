@@ -1,4 +1,4 @@
-use Rattle.std.proofs.Common.{refl, ap, ◌∙◌}
+use Rattle.std.proofs.Common.{refl, ap, ◌∙◌, arith}
 use Rattle.fs.specs.Views.{fs_of}
 use Rattle.volume.specs.declared.fault.MountFault.TheVariants as mounts
 use Rattle.volume.proofs.MountedLaws.{refused_untouched}
@@ -6,7 +6,7 @@ use Rattle.volume.proofs.ServeLaws.{told_err}
 use Rattle.model.specs.Session.{empty_table}
 use Rattle.session.specs.Views.{table_of}
 use Rattle.server.specs.Connections.{connections_of}
-use Rattle.server.specs.Views.{world_of, files_of, volume_of, failures_of}
+use Rattle.server.specs.Views.{world_of, volume_of, failures_of}
 use Rattle.opens.specs.Views.{opens_of}
 use Rattle.server.proofs.Moves.{mounted_by, world_mounted}
 use Rattle.server.proofs.server.Server.mount.Goals as goal
@@ -14,39 +14,29 @@ use Rattle.server.proofs.server.Server.mount.Goals as goal
 pub returns-clause-begins : goal.returns-clause-begins
 unfolding world_of volume_of connections_of
 returns-clause-begins g c =
-    let new = c.in_ok-fs.ensures.new in
+    let serves = c.in_ok-fs.ensures.serves in
     λ keeps. mounted_by (fs_of c.in_ok-fs.fs) (table_of c.new-table.result) (opens_of c.new-opens.result) (connections_of c.in-Ok.connections)
-    (c.new-table.ensures ∙ ap empty_table c.restart_count.ensures) c.new-opens.ensures (rw c.in-Ok.ensures.empty refl) new.no_change new.volume_new.is_up (c.in_ok-fs.ensures.mounted keeps).holds
+    (c.new-table.ensures ∙ ap empty_table c.restart_count.ensures) c.new-opens.ensures (rw c.in-Ok.ensures.empty refl) c.in_ok-fs.ensures.no_change serves.new.is_up (serves.mounted keeps).holds
 
 pub returns-clause-world : goal.returns-clause-world
 unfolding world_of volume_of connections_of
 returns-clause-world g c =
     world_mounted (fs_of c.in_ok-fs.fs) (table_of c.new-table.result) (opens_of c.new-opens.result) (connections_of c.in-Ok.connections)
-    (c.new-table.ensures ∙ ap empty_table c.restart_count.ensures) c.new-opens.ensures (rw c.in-Ok.ensures.empty refl) c.in_ok-fs.ensures.new.no_change
+    (c.new-table.ensures ∙ ap empty_table c.restart_count.ensures) c.new-opens.ensures (rw c.in-Ok.ensures.empty refl) c.in_ok-fs.ensures.no_change
 
-pub returns-clause-new : goal.returns-clause-new
-unfolding files_of
-returns-clause-new g c = c.in_ok-fs.ensures.new
-
-pub returns-clause-later : goal.returns-clause-later
-unfolding failures_of
-returns-clause-later g c = c.in_ok-fs.ensures.later
-
-pub returns-clause-mounted : goal.returns-clause-mounted
-unfolding volume_of
-returns-clause-mounted g c = c.in_ok-fs.ensures.mounted
-
-pub returns-in_err-fs-clause-back : goal.returns-in_err-fs-clause-back
-returns-in_err-fs-clause-back g c =
-    let told = told_err c.from_residual.result c.in_err-fs.field-0.0 c.from_residual.ensures.1 in
-    rw told (rw c.in_err-fs.was at c.mount.ensures.back)
+pub returns-clause-serves : goal.returns-clause-serves
+unfolding volume_of failures_of
+returns-clause-serves g c = c.in_ok-fs.ensures.serves
 
 -- no memory for the connections: the device was not asked
-pub returns-in-Err-clause-refused : goal.returns-in-Err-clause-refused
-returns-in-Err-clause-refused g c = λ keeps.
-    refused_untouched (g.D.Device.size c.args.device) (g.D.Device.history c.args.device) (g.D.Device.history c.args.device) mounts.Memory refl tt
+pub returns-in-Err-clause-gives_back : goal.returns-in-Err-clause-gives_back
+returns-in-Err-clause-gives_back g c = record {
+  back = record { same_size = refl; later = omega arith; cause = λ is. let never : ⊥ = cc in absurd never };
+  refused = λ keeps.
+      refused_untouched (g.D.Device.size c.args.device) (g.D.Device.history c.args.device) (g.D.Device.history c.args.device) mounts.Memory refl tt;
+}
 
-pub returns-in_err-fs-clause-refused : goal.returns-in_err-fs-clause-refused
-returns-in_err-fs-clause-refused g c = λ keeps.
+pub returns-in_err-fs-clause-gives_back : goal.returns-in_err-fs-clause-gives_back
+returns-in_err-fs-clause-gives_back g c =
     let told = told_err c.from_residual.result c.in_err-fs.field-0.0 c.from_residual.ensures.1 in
-    rw told (rw c.in_err-fs.was at c.mount.ensures.refused keeps)
+    rw told (rw c.in_err-fs.was at c.mount.ensures.gives_back)
