@@ -10,7 +10,7 @@ use Rattle.std.proofs.Math.Pow.{pow_pos}
 use Rattle.std.proofs.Math.Dec.{lit<}
 use mathlib.Core.Bool.{beq}
 use Rattle.std.specs.Int.{w32}
-use Rattle.model.specs.Acl.{meets, bits_without, bits_of, counts, first_of, allows, is_allow, is_owners_right, granted, matches}
+use Rattle.model.specs.Acl.{meets, bits_without, bits_of, counts, first_of, allows, is_allow, is_owners_right, granted, matches, read_acl, write_acl, write_attributes}
 use Rattle.model.specs.declared.acl.Ace.{Ace}
 use Rattle.model.specs.declared.acl.Cred.{Cred}
 use Rattle.model.specs.declared.acl.Who.{Who}
@@ -227,8 +227,11 @@ below_32 : (p : ℕ → Bool) → list_all p (range_with_len 0 32) ≡ true → 
 below_32 p e k h = at_range p 32 0 k e (omega arith) (omega arith)
 
 -- the same test as one word
-owners_right : (k : ℕ) → k < 32 → is_owners_right (2 ^ k) ≡ meets 0x60100 (2 ^ k)
-owners_right k h = same_test (is_owners_right (2 ^ k)) (meets 0x60100 (2 ^ k)) (below_32 (λ j. beq (is_owners_right (2 ^ j)) (meets 0x60100 (2 ^ j))) refl k h)
+abbrev pub owners_mask : ℕ
+owners_mask = read_acl + write_acl + write_attributes
+
+owners_right : (k : ℕ) → k < 32 → is_owners_right (2 ^ k) ≡ meets owners_mask (2 ^ k)
+owners_right k h = same_test (is_owners_right (2 ^ k)) (meets owners_mask (2 ^ k)) (below_32 (λ j. beq (is_owners_right (2 ^ j)) (meets owners_mask (2 ^ j))) refl k h)
 
 owner_step : (asked own allowed : Bool) → (not asked || (allowed || own)) ≡ (not (asked && not own) || allowed)
 owner_step false own allowed = refl
@@ -250,16 +253,16 @@ module _ (acl : List Ace) (owner group : ℕ) (cred : Cred) (mask : ℕ) where
   abbrev grants_bit : ℕ → Bool
   grants_bit right = not (meets mask right) || (allows (first_of names acl right) || ((cred.uid == owner) && is_owners_right right))
 
-  owner_bits : (cred.uid == owner) ≡ true → (k : ℕ) → k < 32 → grants_bit (2 ^ k) ≡ allows_bit names acl (bits_without mask 0x60100) (2 ^ k)
+  owner_bits : (cred.uid == owner) ≡ true → (k : ℕ) → k < 32 → grants_bit (2 ^ k) ≡ allows_bit names acl (bits_without mask owners_mask) (2 ^ k)
   owner_bits e k h =
-      rw (e, owners_right k h, meets-without mask 0x60100 k (lit< tt) h) (owner_step (meets mask (2 ^ k)) (meets 0x60100 (2 ^ k)) (allows (first_of names acl (2 ^ k))))
+      rw (e, owners_right k h, meets-without mask owners_mask k (lit< tt) h) (owner_step (meets mask (2 ^ k)) (meets owners_mask (2 ^ k)) (allows (first_of names acl (2 ^ k))))
 
-  pub granted-owner : (cred.uid == owner) ≡ true → granted acl owner group cred mask ≡ allow_all names acl (bits_without mask 0x60100)
+  pub granted-owner : (cred.uid == owner) ≡ true → granted acl owner group cred mask ≡ allow_all names acl (bits_without mask owners_mask)
   unfolding granted
   granted-owner e =
       list_all-filter (λ right. allows (first_of names acl right) || ((cred.uid == owner) && is_owners_right right)) (meets mask) powers
-      ∙ same_on_bits grants_bit (allows_bit names acl (bits_without mask 0x60100)) (owner_bits e)
-      ∙ sym (by_bits names acl (bits_without mask 0x60100))
+      ∙ same_on_bits grants_bit (allows_bit names acl (bits_without mask owners_mask)) (owner_bits e)
+      ∙ sym (by_bits names acl (bits_without mask owners_mask))
 
   other_bits : (cred.uid == owner) ≡ false → (k : ℕ) → k < 32 → grants_bit (2 ^ k) ≡ allows_bit names acl mask (2 ^ k)
   other_bits e k h = rw e (other_step (meets mask (2 ^ k)) (allows (first_of names acl (2 ^ k))))

@@ -26,9 +26,10 @@ fn concerns(ace: &Ace, owner: u32, group: u32, cred: &Cred) -> bool
 
 /// Whether a caller has all the rights of a mask on a node of this owner and group.
 ///
-/// Each right is decided by the first entry that counts, names it and matches the caller: it is granted where that entry
-/// is ALLOW, and denied where there is none. The owner may always read and write the list and write the attributes. No user
-/// is above the list, whatever its number. Takes no memory.
+/// Each right is decided by the first entry that counts, names it and matches the caller: it is
+/// granted where that entry is ALLOW, and denied where there is none. The owner may always read and
+/// write the list and write the attributes. No user is above the list, whatever its number. Takes
+/// no memory.
 pub fn granted(acl: &[Ace], owner: u32, group: u32, cred: &Cred, mask: Mask) -> bool
     ensures { result ≡ granted acl.now owner group cred.now mask.0 }
 {

@@ -126,11 +126,12 @@ fn first_unfit(kind: NodeKind, acl: &[Ace]) -> Option<usize>
     acl.iter().position(|ace| !is_entry_for(kind, ace))
 }
 
-/// The index of the first entry that a client may not set on a node of this kind: one of a right that there is not, one of
-/// flags that the kind may not have, or the 33rd. Takes no memory.
+/// The index of the first entry that a client may not set on a node of this kind: one of a right
+/// that there is not, one of flags that the kind may not have, or the 33rd. Takes no memory.
 ///
-/// A file's entries have no flags. A directory's have NO_PROPAGATE or INHERIT_ONLY only beside FILE_INHERIT or
-/// DIRECTORY_INHERIT, and no other flag than these four: that a number is a group's stands in the name.
+/// A file's entries have no flags. A directory's have NO_PROPAGATE or INHERIT_ONLY only beside
+/// FILE_INHERIT or DIRECTORY_INHERIT, and no other flag than these four: that a number is a group's
+/// stands in the name.
 pub fn first_refused(kind: NodeKind, acl: &[Ace]) -> Option<usize>
     ensures { result ≡ first_refused Acl.MAX_SET kind acl.now }
 {
@@ -140,10 +141,11 @@ pub fn first_refused(kind: NodeKind, acl: &[Ace]) -> Option<usize>
     (place < acl.len()).then_some(place)
 }
 
-/// The list of a new node: the one given, else the mode's over what is inherited, else what is inherited; and the empty one
-/// where no attribute was given.
+/// The list of a new node: the one given, else the mode's over what is inherited, else what is
+/// inherited; and the empty one where no attribute was given.
 ///
-/// A given list is refused at its first entry that may not be set; nothing else is refused but for want of memory.
+/// A given list is refused at its first entry that may not be set; nothing else is refused but for
+/// want of memory.
 pub fn at_creation(
     alloc: Global,
     parent: &[Ace],

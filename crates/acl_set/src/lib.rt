@@ -1,4 +1,5 @@
-//! Access control lists as modes set them and as new nodes get them (RFC 8881, sections 6.3 and 6.4).
+//! Access control lists as modes set them and as new nodes get them (RFC 8881, sections 6.3 and
+//! 6.4).
 //!
 //! Each call answers exactly what `model`'s definitions give.
 #![tactic(auto)]

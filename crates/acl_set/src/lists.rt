@@ -9,7 +9,8 @@ use acl_eval::{Ace, AceFlags, NodeKind};
 use bitflags::Flags;
 use model::limits::Limits;
 
-// Whether the entry is what setting a mode replaces: of a special name, counting, and not handed down.
+// Whether the entry is what setting a mode replaces: of a special name, counting, and not handed
+// down.
 fn is_plain(ace: &Ace) -> bool
     ensures { result ≡ is_plain ace.now }
 {
@@ -33,8 +34,8 @@ fn count_set(acl: &[Ace]) -> usize
     acl.iter().filter(|ace| !is_plain(ace)).count()
 }
 
-/// Whether a node of this kind may have the list: it may have each entry, and neither all of them nor those that setting a mode
-/// leaves are more than the limits allow. Takes no memory.
+/// Whether a node of this kind may have the list: it may have each entry, and neither all of them
+/// nor those that setting a mode leaves are more than the limits allow. Takes no memory.
 #[tactic(auto, unfolding(model::specs::Acl::is_list_for))]
 pub fn is_list_for(kind: NodeKind, acl: &[Ace], limits: &Limits) -> bool
     ensures { result ≡ is_list_for limits.now.aces_set limits.now.aces kind acl.now }

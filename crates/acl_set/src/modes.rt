@@ -216,9 +216,9 @@ fn push_handed_down(list: &mut Acl, acl: &[Ace]) -> Result<(), AllocError>
 
 /// The list that setting a mode makes of a node's list (within RFC 8881, section 6.4.1).
 ///
-/// The three special names get what the mode says. Entries of numbers stay, but an ALLOW loses each right of read, write and
-/// execute that the group's bits lack. What is handed down to new nodes stays and no longer counts on this one. An entry
-/// that names no right is left out.
+/// The three special names get what the mode says. Entries of numbers stay, but an ALLOW loses each
+/// right of read, write and execute that the group's bits lack. What is handed down to new nodes
+/// stays and no longer counts on this one. An entry that names no right is left out.
 ///
 /// Refused for want of memory alone.
 pub fn with_mode(alloc: Global, kind: NodeKind, acl: &[Ace], mode: u32) -> Result<Acl, AclFault>

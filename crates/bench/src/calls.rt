@@ -29,7 +29,8 @@ const CHANNEL: Channel = Channel {
     max_requests: 8,
     rdma_ird: None,
 };
-/// The attributes that GETATTR asks for: type, change, size, fsid and fileid; mode, links, owner, group, space and times.
+/// The attributes that GETATTR asks for: type, change, size, fsid and fileid; mode, links, owner,
+/// group, space and times.
 pub const ASKED: [u32; 2] = [0x0010_011a, 0x0030_a03a];
 
 /// Calls of one kind, each after a SEQUENCE and a PUTFH.

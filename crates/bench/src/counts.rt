@@ -1,4 +1,5 @@
-//! What one turn of each kind of work does, a line each: what the program's run in the gate is compared with.
+//! What one turn of each kind of work does, a line each: what the program's run in the gate is
+//! compared with.
 
 use crate::calls::{Kind, stream_of};
 use crate::copying::Copies;

@@ -112,7 +112,8 @@ fn print_names<R: Clock + Print>(rt: &R, alloc: Global) -> anyhow::Result<()> {
     print_rate(rt, "listed", &mut lists)
 }
 
-/// Reads of a sector that waits for a flush, after one transaction and after 90, and transactions of 1 and of 48 sectors.
+/// Reads of a sector that waits for a flush, after one transaction and after 90, and transactions
+/// of 1 and of 48 sectors.
 fn print_journals<R: Clock + Print>(rt: &R, alloc: Global) -> anyhow::Result<()> {
     for waiting in [1, 90] {
         println!(rt; "journal: {waiting} transactions wait")?;

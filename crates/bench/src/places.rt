@@ -58,7 +58,8 @@ fn write_sector(places: &Bitmap, part: u32, sector: &mut [u8; 4096])
     places.to_sector(part, sector);
 }
 
-/// Gives the first and the last place of a full volume back, and takes both: the last is looked for over all between.
+/// Gives the first and the last place of a full volume back, and takes both: the last is looked for
+/// over all between.
 #[derive(Drop)]
 pub struct TakesFarPlaces {
     pub places: Bitmap,

@@ -122,7 +122,8 @@ fn write<D: Device>(
     Ok(())
 }
 
-/// Makes a directory of the root with so many files, and answers its number and that of the last file.
+/// Makes a directory of the root with so many files, and answers its number and that of the last
+/// file.
 fn fill<D: Device>(
     fs: &mut Fs<D>,
     name: u32,

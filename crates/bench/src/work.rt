@@ -14,7 +14,8 @@ pub trait Undone: Work {
     fn undo(&mut self) -> anyhow::Result<u64>;
 }
 
-/// How often a figure is taken; the best one counts, since other programs take time of the processor too.
+/// How often a figure is taken; the best one counts, since other programs take time of the
+/// processor too.
 const ROUNDS: usize = 10;
 /// How long a round lasts, in milliseconds.
 const ROUND_MILLISECONDS: u64 = 100;

@@ -87,8 +87,8 @@ impl<'a> Overlay<'a> {
         }
     }
 
-    /// A free place, if there is one. It stays free. The places are gone through only where the next
-    /// free one of the table is taken.
+    /// A free place, if there is one. It stays free. The places are gone through only where the
+    /// next free one of the table is taken.
     pub fn free_place(&self) -> Option<u32>
         ensures some { IfSome result (λ place. IsFree self.now.cards place) }
         ensures none { IfNone result (AreTaken self.now.cards) }

@@ -1,4 +1,5 @@
--- What a client of NFS version 4.1 knows between its calls: RFC 8881, sections 2.10.6 and 18.46; RFC 5531, section 9.
+-- What a client of NFS version 4.1 knows between its calls: RFC 8881, sections 2.10.6 and 18.46;
+-- RFC 5531, section 9.
 use Rattle.std.specs.Prelude.{ℕ, Bool, List, Option}
 
 -- the session that was answered last, and the number of the next request on its slot 0

@@ -19,38 +19,45 @@ reply_in client Partial = NoReply
 reply_in client (Refused fault) = NoReply
 reply_in client (Whole bytes rest) = reply_to client (framed bytes)
 
--- What the bytes read tell: Io while they are no whole record, Garbled where a header is refused, and else what `reply` answers of the
--- record, after which nothing is read.
+-- What the bytes read tell: Io while they are no whole record, Garbled where a header is refused,
+-- and else what `reply` answers of the record, after which nothing is read.
 abbrev pub Tells : Client → Front → Result (Vec Outcome) ClientFault → Type 0
 Tells client Partial r = r ≡ Err faults.Io
 Tells client (Refused fault) r = r ≡ Err faults.Garbled
-Tells client (Whole bytes rest) (Ok results) = (rest ≡ []) × Answers (reply_to client (framed bytes)) (map outcome_view results.items)
-Tells client (Whole bytes rest) (Err e) = (rest ≡ []) × ((e ≡ faults.Memory) ⊎ Refuses (reply_to client (framed bytes)) e)
+Tells client (Whole bytes rest) (Ok results) =
+    (rest ≡ []) × Answers (reply_to client (framed bytes)) (map outcome_view results.items)
+Tells client (Whole bytes rest) (Err e) =
+    (rest ≡ []) × ((e ≡ faults.Memory) ⊎ Refuses (reply_to client (framed bytes)) e)
 
 -- a client that holds the record of these bytes sends it, and reads the reply
-pub record Exchanges (client new : Client) (bytes : List ℕ) (before after : Stream) (result : Result (Vec Outcome) ClientFault) : Type 0 where
+pub record Exchanges (client new : Client) (bytes : List ℕ) (before after : Stream)
+    (result : Result (Vec Outcome) ClientFault) : Type 0 where
   pub read : List ℕ
   pub passes : Passes bytes before after read
   pub tells : Tells client (front record_limits read) result
   pub knows : new ≡ known client (reply_in client (front record_limits read)) result
 
 -- the call is refused, with nothing written, nothing read and nothing changed
-pub record Stays (fault : ClientFault) (client new : Client) (before after : Stream) (result : Result (Vec Outcome) ClientFault) : Type 0 where
+pub record Stays (fault : ClientFault) (client new : Client) (before after : Stream)
+    (result : Result (Vec Outcome) ClientFault) : Type 0 where
   pub refused : result ≡ Err fault
   pub same : new ≡ client
   pub untouched : after ≡ before
 
 -- Pending where no record is kept, Memory where there is none for the reply
-abbrev pub ResendsKept : Option (List ℕ) → (client new : Client) → (before after : Stream) → Result (Vec Outcome) ClientFault → Type 0
+abbrev pub ResendsKept : Option (List ℕ) → (client new : Client) → (before after : Stream)
+    → Result (Vec Outcome) ClientFault → Type 0
 ResendsKept None client new before after r = Stays faults.Pending client new before after r
 ResendsKept (Some bytes) client new before after r =
     Stays faults.Memory client new before after r ⊎ Exchanges client new bytes before after r
 
-abbrev pub Resends : (client new : Client) → (before after : Stream) → Result (Vec Outcome) ClientFault → Type 0
+abbrev pub Resends : (client new : Client) → (before after : Stream)
+    → Result (Vec Outcome) ClientFault → Type 0
 Resends client new before after r = ResendsKept (bytes_kept client.sent) client new before after r
 
 -- Pending where the client has to wait, Memory where there is none for the record
-abbrev pub Asks : Option Client → (client new : Client) → (before after : Stream) → Result (Vec Outcome) ClientFault → Type 0
+abbrev pub Asks : Option Client → (client new : Client) → (before after : Stream)
+    → Result (Vec Outcome) ClientFault → Type 0
 Asks None client new before after r = Stays faults.Pending client new before after r
 Asks (Some asking) client new before after r =
     Stays faults.Memory client new before after r ⊎ Resends asking new before after r

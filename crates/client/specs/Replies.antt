@@ -1,5 +1,5 @@
--- What a reply tells of a record, and what the client knows from it: RFC 8881, sections 2.10.6.1, 16.2 and 18.36; RFC 5531,
--- section 9.
+-- What a reply tells of a record, and what the client knows from it: RFC 8881, sections 2.10.6.1,
+-- 16.2 and 18.36; RFC 5531, section 9.
 use Rattle.std.specs.Prelude.{ℕ, ◌+◌, ◌%◌, ◌^◌, Bool, true, false, not, ◌&&◌, ◌||◌, ◌==◌, List, [], ◌∷◌, length, fold, Option, None, Some, Result, Ok, Err, bytes_eq, if◌then◌else◌}
 use Rattle.std.specs.Option.{option_map}
 use Rattle.std.specs.Int.{w32}
@@ -30,13 +30,16 @@ abbrev pub is_ok : Outcome → Bool
 is_ok (Done answer) = true
 is_ok (Refused operation reason) = false
 
--- The status of the last of these results, where they answer a front of the operations of these numbers: each ended well but
--- perhaps the last, and where that one did all operations are answered.
+-- The status of the last of these results, where they answer a front of the operations of these
+-- numbers: each ended well but perhaps the last, and where that one did all operations are
+-- answered.
 abbrev pub ending : (operations : List ℕ) → List Outcome → Option Status
 ending [] results = None
 ending (operation ∷ operations) [] = None
 ending (operation ∷ operations) (last ∷ []) =
-    if number_of last == operation && (not (is_ok last) || is_empty operations) then Some (status_of last) else None
+    if number_of last == operation && (not (is_ok last) || is_empty operations)
+    then Some (status_of last)
+    else None
 ending (operation ∷ operations) (one ∷ next ∷ results) =
     if number_of one == operation && is_ok one then ending operations (next ∷ results) else None
 
@@ -55,10 +58,13 @@ gives_by results code None = NoReply
 gives_by results code (Some last) = if code_of last == code then Gives results last else NoReply
 
 -- after an accepted reply's head: nothing may follow the results
-abbrev pub result_by : (tag operations : List ℕ) → Result ((ℕ × (List ℕ × List Outcome)) × List ℕ) Refusal → ReplyRead
+abbrev pub result_by : (tag operations : List ℕ)
+    → Result ((ℕ × (List ℕ × List Outcome)) × List ℕ) Refusal → ReplyRead
 result_by tag operations (Err fault) = NoReply
 result_by tag operations (Ok read) =
-    if is_empty read.1 && bytes_eq read.0.1.0 tag then gives_by read.0.1.1 read.0.0 (ending operations read.0.1.1) else NoReply
+    if is_empty read.1 && bytes_eq read.0.1.0 tag
+    then gives_by read.0.1.1 read.0.0 (ending operations read.0.1.1)
+    else NoReply
 
 -- the result that a reply tells; none where the call was denied or not accepted
 abbrev pub result_in : Reply → Option (List ℕ)
@@ -96,10 +102,12 @@ reply_read tag sent bytes = message_by tag sent (message_of bytes)
 
 -- What the client knows then
 
--- a session that CREATE_SESSION answered: its numbers begin at 1, unless it is the one that the client has
+-- a session that CREATE_SESSION answered: its numbers begin at 1, unless it is the one that the
+-- client has
 abbrev pub joined : Option Session → (id : List ℕ) → Session
 joined None id = record { id = id; number = 1 }
-joined (Some session) id = if bytes_eq session.id id then session else record { id = id; number = 1 }
+joined (Some session) id =
+    if bytes_eq session.id id then session else record { id = id; number = 1 }
 
 abbrev pub session_after : Option Session → Outcome → Option Session
 session_after session (Done (Answer.CreateSession answer)) = Some (joined session answer.session)
@@ -124,13 +132,15 @@ next_request session = record session { number = (session.number + 1) % 2 ^ 32 }
 
 -- the number of the next request grows with the first reply that tells that SEQUENCE ended well
 abbrev pub counted : Sent → List Outcome → Option Session → Option Session
-counted sent results session = if is_run results && not sent.is_counted then option_map next_request session else session
+counted sent results session =
+    if is_run results && not sent.is_counted then option_map next_request session else session
 
 abbrev pub session_known : Sent → List Outcome → Option Session → Option Session
 session_known sent results session = fold session_after (counted sent results session) results
 
 abbrev pub sent_known : Sent → List Outcome → Sent
-sent_known sent results = record sent { is_answered = true; is_counted = sent.is_counted || is_run results }
+sent_known sent results =
+    record sent { is_answered = true; is_counted = sent.is_counted || is_run results }
 
 abbrev pub session_learnt : Option Sent → List Outcome → Option Session → Option Session
 session_learnt None results session = session
@@ -143,7 +153,10 @@ sent_learnt (Some sent) results = Some (sent_known sent results)
 abbrev pub with_results : Client → Sent → List Outcome → Client
 with_results client sent results =
     if is_delayed results then client
-    else record client { session = session_known sent results client.session; sent = Some (sent_known sent results) }
+    else record client {
+      session = session_known sent results client.session;
+      sent = Some (sent_known sent results);
+    }
 
 abbrev pub reply_to_sent : (tag : List ℕ) → Option Sent → List ℕ → ReplyRead
 reply_to_sent tag None bytes = NoReply

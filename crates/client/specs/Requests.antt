@@ -1,4 +1,5 @@
--- What a client sends: a COMPOUND of minor version 1 in one record, after a SEQUENCE where it needs one.
+-- What a client sends: a COMPOUND of minor version 1 in one record, after a SEQUENCE where it needs
+-- one.
 use Rattle.std.specs.Prelude.{ℕ, ◌+◌, ◌%◌, ◌^◌, Bool, true, false, not, List, [], ◌∷◌, ◌++◌, map, length, Option, None, Some, if◌then◌else◌}
 use Rattle.std.specs.List.{flat_map}
 use Rattle.std.specs.Option.{option_map}
@@ -16,15 +17,29 @@ use Rattle.client.specs.Client.{Client, Session, Sent}
 
 -- AUTH_SYS of this caller, with the stamp 0 and no machine name
 abbrev pub credential_of : Cred → SystemCredential
-credential_of cred = record { stamp = 0; machine_name = []; uid = cred.uid; gid = cred.gid; gids = cred.gids }
+credential_of cred = record {
+  stamp = 0;
+  machine_name = [];
+  uid = cred.uid;
+  gid = cred.gid;
+  gids = cred.gids;
+}
 
 abbrev pub credential_text : Cred → List ℕ
 credential_text cred = system_credential.spelling (credential_of cred)
 
--- the procedure COMPOUND, 1, of NFS, 100003, version 4; the credential is AUTH_SYS, 1, and the verifier AUTH_NONE, 0
+-- the procedure COMPOUND, 1, of NFS, 100003, version 4; the credential is AUTH_SYS, 1, and the
+-- verifier AUTH_NONE, 0
 abbrev pub compound_call : (xid : ℕ) → (credential : List ℕ) → CallHead
 compound_call xid credential =
-    record { xid = xid; program = 100003; version = 4; procedure = 1; credential = (1, credential); verifier = (0, []) }
+    record {
+      xid = xid;
+      program = 100003;
+      version = 4;
+      procedure = 1;
+      credential = (1, credential);
+      verifier = (0, []);
+    }
 
 -- up to the operations, of which there are so many
 unfoldable pub head_text : (xid : ℕ) → (credential tag : List ℕ) → (count : ℕ) → List ℕ
@@ -35,7 +50,8 @@ unfoldable pub operations_text : List Argument → List ℕ
 operations_text operations = flat_map argument.spelling operations
 
 unfoldable pub call_text : (xid : ℕ) → (credential tag : List ℕ) → List Argument → List ℕ
-call_text xid credential tag operations = head_text xid credential tag (length operations) ++ operations_text operations
+call_text xid credential tag operations =
+    head_text xid credential tag (length operations) ++ operations_text operations
 
 -- the record as it is sent
 unfoldable pub record_text : (xid : ℕ) → (credential tag : List ℕ) → List Argument → List ℕ
@@ -43,14 +59,27 @@ record_text xid credential tag operations = framed (call_text xid credential tag
 
 -- a client that sent nothing
 abbrev pub new_client : Cred → (tag : List ℕ) → (xid : ℕ) → Client
-new_client cred tag xid = record { credential = credential_text cred; tag = tag; xid = xid; session = None; sent = None }
+new_client cred tag xid = record {
+  credential = credential_text cred;
+  tag = tag;
+  xid = xid;
+  session = None;
+  sent = None;
+}
 
 -- The operations of a record
 
 -- SEQUENCE on slot 0, of which the reply is to be kept
 abbrev pub sequence_of : Session → Argument
 sequence_of session =
-    Argument.Sequence (record { session = session.id; sequence = session.number; slot = 0; highest_slot = 0; cache_this = true })
+    Argument.Sequence
+    (record {
+      session = session.id;
+      sequence = session.number;
+      slot = 0;
+      highest_slot = 0;
+      cache_this = true;
+    })
 
 -- EXCHANGE_ID, CREATE_SESSION, DESTROY_SESSION and DESTROY_CLIENTID alone need no SEQUENCE
 abbrev pub is_alone : List Argument → Bool
@@ -69,7 +98,8 @@ behind_sequence (Some session) operations = Some (behind (Some session) operatio
 
 -- none where there is no session yet that they need
 abbrev pub in_record : Option Session → List Argument → Option (List Argument)
-in_record session operations = if is_alone operations then Some operations else behind_sequence session operations
+in_record session operations =
+    if is_alone operations then Some operations else behind_sequence session operations
 
 -- The step
 
@@ -96,7 +126,9 @@ waits (Some sent) = not sent.is_answered
 -- the client with the record of these operations; none where it has to wait
 unfoldable pub requested : Client → List Argument → Option Client
 requested client operations =
-    if waits client.sent then None else option_map (with_record client) (in_record client.session operations)
+    if waits client.sent
+    then None
+    else option_map (with_record client) (in_record client.session operations)
 
 abbrev pub bytes_kept : Option Sent → Option (List ℕ)
 bytes_kept None = None

@@ -13,7 +13,8 @@ use Rattle.wire.specs.ArgumentView.{argument_view}
 
 -- after the machine's name
 abbrev pub ids_text : Cred → List ℕ
-ids_text cred = number w32 cred.uid ++ (number w32 cred.gid ++ elements (λ n. number w32 n) cred.gids)
+ids_text cred =
+    number w32 cred.uid ++ (number w32 cred.gid ++ elements (λ n. number w32 n) cred.gids)
 
 -- the credential and the verifier of a call
 abbrev pub auths_text : (credential : List ℕ) → List ℕ
@@ -21,7 +22,8 @@ auths_text credential = opaque_auth.spelling (1, credential) ++ opaque_auth.spel
 
 -- after the version of RPC
 abbrev pub procedure_text : (credential : List ℕ) → List ℕ
-procedure_text credential = number w32 100003 ++ (number w32 4 ++ (number w32 1 ++ auths_text credential))
+procedure_text credential =
+    number w32 100003 ++ (number w32 4 ++ (number w32 1 ++ auths_text credential))
 
 -- the number of an operation, and that of SEQUENCE where it stands before them
 abbrev pub number_asked : Argument → ℕ

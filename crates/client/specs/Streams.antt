@@ -43,27 +43,33 @@ pub record ReadsHeader (old new : Option (List ℕ)) (header : Option ℕ) : Typ
   pub reads : Consumes old new read
   pub is : IsHeader read header
 
--- what the bytes read are, after fragments that hold so many bytes; what the fragment holds stands in the room after theirs
+-- what the bytes read are, after fragments that hold so many bytes; what the fragment holds stands
+-- in the room after theirs
 abbrev pub IsFetched : (size : ℕ) → (read room : List ℕ) → Gathered → Fetched → Type 0
 IsFetched size read room gathered fetched.Ended = fragment record_limits gathered read ≡ spec.Waits
 IsFetched size read room gathered fetched.Refused =
-    (4 ≤ length read) × ((fault : spec.RecordFault) × (fragment record_limits gathered read ≡ spec.Refuses fault))
+    (4 ≤ length read)
+    × ((fault : spec.RecordFault) × (fragment record_limits gathered read ≡ spec.Refuses fault))
 IsFetched size read room gathered (fetched.Brings more is_last) =
     (length read ≡ 4 + more) × (drop 4 read ≡ take more (drop (4 + size) room))
     × ((rest : List ℕ) → Finds gathered (read ++ rest) (found.Brings more is_last))
 
-pub record Fetches (old new : Option (List ℕ)) (size fragments : ℕ) (before room : List ℕ) (fetched : Fetched) : Type 0 where
+pub record Fetches (old new : Option (List ℕ)) (size fragments : ℕ) (before room : List ℕ)
+    (fetched : Fetched) : Type 0 where
   pub read : List ℕ
   pub reads : Consumes old new read
-  pub is : (gathered : Gathered) → length gathered.bytes ≡ size → gathered.fragments ≡ fragments → IsFetched size read room gathered fetched
+  pub is : (gathered : Gathered) → length gathered.bytes ≡ size → gathered.fragments ≡ fragments
+      → IsFetched size read room gathered fetched
   pub front : take (4 + size) room ≡ take (4 + size) before
   pub long : length room ≡ length before
 
 -- what the bytes read are: the whole record stands in the room after the place of its header
 abbrev pub IsReceived : (read room : List ℕ) → Received → Type 0
 IsReceived read room received.Ended = front record_limits read ≡ Partial
-IsReceived read room received.Refused = (fault : spec.RecordFault) × (front record_limits read ≡ Refused fault)
-IsReceived read room (received.Whole size) = (size ≤ MAX_RECORD_BYTES) × (front record_limits read ≡ Whole (take size (drop 4 room)) [])
+IsReceived read room received.Refused =
+    (fault : spec.RecordFault) × (front record_limits read ≡ Refused fault)
+IsReceived read room (received.Whole size) =
+    (size ≤ MAX_RECORD_BYTES) × (front record_limits read ≡ Whole (take size (drop 4 room)) [])
 
 pub record Receives (old new : Option (List ℕ)) (room : List ℕ) (came : Received) : Type 0 where
   pub read : List ℕ
@@ -80,18 +86,21 @@ pub record Passes (bytes : List ℕ) (before after : Stream) (read : List ℕ) :
   pub reads : Consumes before.unread after.unread read
   pub order : (unsent ≡ []) ⊎ (read ≡ [])
 
--- what came is one whole record, handed out with a header for one fragment; Io where it is none yet, Garbled where it is too long
+-- what came is one whole record, handed out with a header for one fragment; Io where it is none
+-- yet, Garbled where it is too long
 abbrev pub Comes : Front → (received : List ℕ) → Result ⊤ ClientFault → Type 0
 Comes Partial received r = r ≡ Err faults.Io
 Comes (Refused fault) received r = r ≡ Err faults.Garbled
 Comes (Whole bytes rest) received r = (r ≡ Ok tt) × (rest ≡ []) × (received ≡ framed bytes)
 
-pub record Talks (bytes : List ℕ) (before after : Stream) (received : List ℕ) (result : Result ⊤ ClientFault) : Type 0 where
+pub record Talks (bytes : List ℕ) (before after : Stream) (received : List ℕ)
+    (result : Result ⊤ ClientFault) : Type 0 where
   pub read : List ℕ
   pub passes : Passes bytes before after read
   pub comes : Comes (front record_limits read) received result
 
 -- Memory where there is none for the reply, and then nothing is written or read
-abbrev pub Converses : (bytes : List ℕ) → (before after : Stream) → (received : List ℕ) → Result ⊤ ClientFault → Type 0
+abbrev pub Converses : (bytes : List ℕ) → (before after : Stream) → (received : List ℕ)
+    → Result ⊤ ClientFault → Type 0
 Converses bytes before after received r =
     ((r ≡ Err faults.Memory) × (after ≡ before)) ⊎ Talks bytes before after received r

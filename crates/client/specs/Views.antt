@@ -75,7 +75,8 @@ result_view result = (result.code, (result.tag.now, map outcome_view result.resu
 
 -- what a loop over `count` results has read, and what is left
 abbrev pub ReadsOutcomes : (count : ℕ) → List ℕ → Result (Vec Outcome × List ℕ) Refusal → Type 0
-ReadsOutcomes count old (Ok x) = each_at outcome.read count old ≡ Ok (map outcome_view x.0.items, x.1)
+ReadsOutcomes count old (Ok x) =
+    each_at outcome.read count old ≡ Ok (map outcome_view x.0.items, x.1)
 ReadsOutcomes count old (Err e) = (e ≡ Memory) ⊎ (each_at outcome.read count old ≡ Err e)
 
 abbrev pub read_view : ReplyRead → replies.ReplyRead
@@ -90,7 +91,8 @@ HasResult reads.Rejects = Unit {0}
 HasResult (reads.Gives results last) = 0 < length results.items
 
 -- the status of a refused operation, its place, and the results before it
-pub record IsLast (results before : List answers.Outcome) (index : ℕ) (reason : Status) (last : Status) : Type 0 where
+pub record IsLast (results before : List answers.Outcome) (index : ℕ) (reason : Status)
+    (last : Status) : Type 0 where
   pub refused : answers.Outcome
   pub parts : results ≡ before ++ refused ∷ []
   pub place : index ≡ length before
@@ -98,7 +100,8 @@ pub record IsLast (results before : List answers.Outcome) (index : ℕ) (reason 
 
 -- what a refusal says of the results that were read
 abbrev pub IsStatus : List answers.Outcome → (last : Status) → ClientFault → Type 0
-IsStatus results last (faults.Status index reason before) = IsLast results (map outcome_view before.items) index reason last
+IsStatus results last (faults.Status index reason before) =
+    IsLast results (map outcome_view before.items) index reason last
 IsStatus results last _ = ⊥
 
 -- the refusal that is told by what was read
@@ -111,7 +114,8 @@ Refuses (replies.Gives results last) e = (last ≢ status.Ok) × IsStatus result
 abbrev pub Answers : replies.ReplyRead → List answers.Outcome → Type 0
 Answers read results = read ≡ replies.Gives results status.Ok
 
--- what the client knows after a call of `reply`: all that the reply tells, but where there was no memory for it
+-- what the client knows after a call of `reply`: all that the reply tells, but where there was no
+-- memory for it
 abbrev pub known : spec.Client → replies.ReplyRead → Result (Vec Outcome) ClientFault → spec.Client
 known client read (Ok results) = replies.replied client read
 known client read (Err faults.Memory) = client

@@ -24,7 +24,8 @@ use std::io::{Read, Write};
 use std::marker::Model;
 use wire::{Argument, Outcome};
 
-/// A client. In a contract it is what it knows: its caller and tag, the next xid, the session, and the last record.
+/// A client. In a contract it is what it knows: its caller and tag, the next xid, the session, and
+/// the last record.
 #[derive(Drop)]
 pub struct Client {
     alloc: Global,
@@ -82,10 +83,12 @@ impl Client {
         })
     }
 
-    /// Makes the record of these operations, after a SEQUENCE on slot 0 unless they are EXCHANGE_ID, CREATE_SESSION,
-    /// DESTROY_SESSION or DESTROY_CLIENTID alone. The client keeps it, and `retry` gives it.
+    /// Makes the record of these operations, after a SEQUENCE on slot 0 unless they are
+    /// EXCHANGE_ID, CREATE_SESSION, DESTROY_SESSION or DESTROY_CLIENTID alone. The client keeps it,
+    /// and `retry` gives it.
     ///
-    /// `Pending` while a record waits for its reply, and where there is no session yet that the operations need.
+    /// `Pending` while a record waits for its reply, and where there is no session yet that the
+    /// operations need.
     #[tactic(auto, unfolding(crate::specs::Requests::requested))]
     pub fn request(&mut self, operations: &[Argument<'_>]) -> Result<(), ClientFault<'static>>
         requires { All ArgumentFits operations.now }
@@ -124,7 +127,8 @@ impl Client {
         Ok(())
     }
 
-    /// The kept record, its header included: to be sent, for the first time or again, over this stream or a new one.
+    /// The kept record, its header included: to be sent, for the first time or again, over this
+    /// stream or a new one.
     pub fn retry(&self) -> Result<&[u8], ClientFault<'static>>
         ensures { MatchResult result (λ bytes. bytes_kept self.now.sent ≡ Some bytes.now)
             (λ e. (self.now.sent ≡ None) × (e ≡ Pending)) }
@@ -135,10 +139,12 @@ impl Client {
         }
     }
 
-    /// The results in a reply's record, of one fragment with its header, where every operation ended well.
+    /// The results in a reply's record, of one fragment with its header, where every operation
+    /// ended well.
     ///
-    /// `Garbled` where it is no reply to the last record; `Rpc` where the call was denied or not accepted; `Status` where an
-    /// operation was refused. The record is answered then, but by `Garbled`, and by DELAY at its SEQUENCE.
+    /// `Garbled` where it is no reply to the last record; `Rpc` where the call was denied or not
+    /// accepted; `Status` where an operation was refused. The record is answered then, but by
+    /// `Garbled`, and by DELAY at its SEQUENCE.
     #[tactic(auto, unfolding(crate::specs::Replies::replied))]
     pub fn reply<'a>(&mut self, bytes: &'a [u8]) -> Result<Vec<Outcome<'a>>, ClientFault<'a>>
         ensures ok { IfOk result (λ results.
@@ -170,12 +176,13 @@ impl Client {
         }
     }
 
-    /// Sends the record of these operations, as `request` makes it, and reads its reply: what `reply` answers of it. The
-    /// reply stands in `received`, from which the results borrow.
+    /// Sends the record of these operations, as `request` makes it, and reads its reply: what
+    /// `reply` answers of it. The reply stands in `received`, from which the results borrow.
     ///
-    /// `Pending` and `Memory` as of `request`, and then nothing is written. `Io` where the writer failed, or the reader
-    /// failed or ended before the reply was whole: the record is kept, and `resend` sends it over another stream.
-    /// `Garbled` also where the reply has more than 16,384 bytes or 64 fragments (RFC 5531, section 11).
+    /// `Pending` and `Memory` as of `request`, and then nothing is written. `Io` where the writer
+    /// failed, or the reader failed or ended before the reply was whole: the record is kept, and
+    /// `resend` sends it over another stream. `Garbled` also where the reply has more than 16,384
+    /// bytes or 64 fragments (RFC 5531, section 11).
     pub fn exchange<'a, R: Read, W: Write>(
         &mut self,
         reader: &mut R,
@@ -192,8 +199,9 @@ impl Client {
         self.resend(reader, writer, received)
     }
 
-    /// Sends the kept record over this stream, and reads its reply, as `exchange` does: `Pending` where there is none,
-    /// `Memory` where there is none for the reply, and then nothing is written.
+    /// Sends the kept record over this stream, and reads its reply, as `exchange` does: `Pending`
+    /// where there is none, `Memory` where there is none for the reply, and then nothing is
+    /// written.
     pub fn resend<'a, R: Read, W: Write>(
         &mut self,
         reader: &mut R,

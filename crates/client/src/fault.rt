@@ -25,7 +25,8 @@ pub enum ClientFault<'a> {
     Garbled,
     /// No memory is left, or a record has 2^31 bytes or more.
     Memory,
-    /// A record waits for its reply, or there is none; or there is no session yet that the operations need.
+    /// A record waits for its reply, or there is none; or there is no session yet that the
+    /// operations need.
     Pending,
 }
 

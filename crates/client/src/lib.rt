@@ -1,5 +1,5 @@
-//! The client's end of NFS version 4.1 over TCP (RFC 8881, RFC 5531): what is asked becomes one record, and a reply's record
-//! the results of what was asked.
+//! The client's end of NFS version 4.1 over TCP (RFC 8881, RFC 5531): what is asked becomes one
+//! record, and a reply's record the results of what was asked.
 #![tactic(auto)]
 
 mod call;

@@ -34,10 +34,12 @@ pub enum Received {
     Whole(usize),
 }
 
-/// Writes a record as it is, and reads the record of its reply, handed out after the header of one fragment.
+/// Writes a record as it is, and reads the record of its reply, handed out after the header of one
+/// fragment.
 ///
-/// `Memory` where there is none for the reply: then nothing is written. `Io` where the writer failed, or the reader failed
-/// or ended before the record was whole; `Garbled` where it has more than 16,384 bytes or 64 fragments.
+/// `Memory` where there is none for the reply: then nothing is written. `Io` where the writer
+/// failed, or the reader failed or ended before the record was whole; `Garbled` where it has more
+/// than 16,384 bytes or 64 fragments.
 pub(crate) fn converse<R: Read, W: Write>(
     reader: &mut R,
     writer: &mut W,

@@ -68,7 +68,8 @@ fn each_outcome<'a>(
     Ok((list, at))
 }
 
-/// The status of the last of these results, where they answer a front of the operations of these numbers.
+/// The status of the last of these results, where they answer a front of the operations of these
+/// numbers.
 pub(crate) fn ending(operations: &[u32], results: &[Outcome<'_>]) -> Option<Status>
     ensures { result ≡ ending operations.now (map outcome_view results.now) }
 {

@@ -61,7 +61,8 @@ fn stands_alone(operation: Operation) -> bool
     }
 }
 
-/// The record of these operations, after the SEQUENCE of a session where there is one. It has less than 2^31 bytes.
+/// The record of these operations, after the SEQUENCE of a session where there is one. It has less
+/// than 2^31 bytes.
 #[tactic(auto, unfolding(crate::specs::Requests::record_text))]
 pub(crate) fn make_record(
     alloc: Global,

@@ -6,7 +6,8 @@ ghost use Rattle.client.specs.Streams.{Sends};
 
 use std::io::{ErrorKind, Read, Write};
 
-/// Writes the bytes and flushes the writer, and answers whether it took them all. Else it took a front of them.
+/// Writes the bytes and flushes the writer, and answers whether it took them all. Else it took a
+/// front of them.
 pub(crate) fn send<W: Write>(writer: &mut W, bytes: &[u8]) -> bool
     ensures { Sends (W.contents writer.old) (W.contents writer.new) bytes.now result }
 {
@@ -37,7 +38,8 @@ fn write_bytes<W: Write>(writer: &mut W, bytes: &[u8]) -> bool
     false
 }
 
-/// Fills the buffer, and answers how many bytes the reader gave: fewer where it failed or ended before.
+/// Fills the buffer, and answers how many bytes the reader gave: fewer where it failed or ended
+/// before.
 pub(crate) fn fill<R: Read>(reader: &mut R, buf: &mut [u8]) -> usize
     ensures bound { result ≤ length buf.new }
     ensures long { length buf.new ≡ length buf.old }

@@ -1,4 +1,5 @@
-//! The program `commands`: cases of the program `nfs41`, each its commands one after the other, with what they are to leave.
+//! The program `commands`: cases of the program `nfs41`, each its commands one after the other,
+//! with what they are to leave.
 #![tactic(auto)]
 
 mod case;

@@ -63,7 +63,8 @@ impl<'a> Sheet<'a> {
         Ok(())
     }
 
-    /// What goes by this stream at the last step, or at each command of the case that has just begun.
+    /// What goes by this stream at the last step, or at each command of the case that has just
+    /// begun.
     fn text(&mut self, stream: Stream) -> Result<&mut Vec<u8>, Fault> {
         let Some(case) = self.cases.last_mut() else {
             return Err(Fault::Place);

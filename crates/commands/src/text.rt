@@ -60,7 +60,8 @@ pub fn extend_line(bytes: &mut Vec<u8>, text: &str) -> Result<(), Fault> {
     add_line(bytes, text)
 }
 
-/// Appends the bytes of a text, in which `\` and two hexadecimal digits are the byte of this number.
+/// Appends the bytes of a text, in which `\` and two hexadecimal digits are the byte of this
+/// number.
 fn append(bytes: &mut Vec<u8>, text: &str) -> Result<(), Fault> {
     for (place, part) in text.split('\\').enumerate() {
         let plain = if place == 0 {

@@ -22,7 +22,8 @@ use Rattle.compound.specs.Trees.{IsHere}
 use Rattle.compound.specs.declared.results.TheConstants.{MAX_REPLY_BYTES}
 
 -- a state of the request on this file system, with these opens
-pub record IsBeside (fs : FileSystem) (opens : Opens) (request : InProgress) (state : State) : Type 0 where
+pub record IsBeside (fs : FileSystem) (opens : Opens) (request : InProgress) (state : State) : Type
+    0 where
   pub here : IsHere fs request state
   pub opens_is : state.opens ≡ opens
 
@@ -38,29 +39,44 @@ EndsOpen meaning (Err reason) = first_refusal (close_refusals meaning) ≡ Some 
 
 -- the open of this serial ends by the definition, or this refuses it
 abbrev pub Closes : FileSystem → Opens → InProgress → CloseArguments → Result ℕ Status → Type 0
-Closes fs opens request arguments (Ok serial) = (state : State) (now : ℕ) → IsBeside fs opens request state
+Closes fs opens request arguments (Ok serial) =
+    (state : State) (now : ℕ) → IsBeside fs opens request state
     → does_on fs state now (Argument.Close arguments)
-    ≡ answered (record { tree = fs.volume.tree; changes = fs.changes; opens = without_open serial opens; context = without_stateid request.context }) closed_answer
-Closes fs opens request arguments (Err reason) = (state : State) (now : ℕ) → IsBeside fs opens request state
-    → does_on fs state now (Argument.Close arguments) ≡ refused state (Argument.Close arguments) reason
+    ≡ answered
+    (record {
+      tree = fs.volume.tree;
+      changes = fs.changes;
+      opens = without_open serial opens;
+      context = without_stateid request.context;
+    }) closed_answer
+Closes fs opens request arguments (Err reason) =
+    (state : State) (now : ℕ) → IsBeside fs opens request state
+    → does_on fs state now (Argument.Close arguments)
+    ≡ refused state (Argument.Close arguments) reason
 
 -- OPEN
 
 -- what it answers, of its directory and of the attributes that were set
 abbrev pub opened_answer : StateId → ChangeInfo → (was_set : List ℕ) → Answer
-opened_answer state change was_set = Answer.Open (record { state = state; change = change; flags = 0; was_set = was_set })
+opened_answer state change was_set =
+    Answer.Open (record { state = state; change = change; flags = 0; was_set = was_set })
 
 -- whether the reply has room for it, which only what was set can tell
 abbrev pub has_opened_room : InProgress → (was_set : List ℕ) → Bool
-has_opened_room request was_set = nat_le (length (reply_with request (Done (opened_answer closed_state no_change_info was_set)))) MAX_REPLY_BYTES
+has_opened_room request was_set =
+    nat_le (length (reply_with request (Done (opened_answer closed_state no_change_info was_set))))
+    MAX_REPLY_BYTES
 
 -- and for each effect that an OPEN by a name may have
 abbrev pub HasOpenRoom : InProgress → OpenType → OpenRoom → Type 0
-HasOpenRoom request how room = (effect : OpenEffect) → has_room_for room effect ≡ has_opened_room request (set_by effect how)
+HasOpenRoom request how room =
+    (effect : OpenEffect) → has_room_for room effect ≡ has_opened_room request (set_by effect how)
 
 -- an operation comes to this open, with this change of its directory and these attributes set
-abbrev pub OpensTo : (now : ℕ) → (old new : SharedState) → InProgress → (asked : Open) → ChangeInfo → (was_set : List ℕ) → Argument → Type 0
+abbrev pub OpensTo : (now : ℕ) → (old new : SharedState) → InProgress → (asked : Open) → ChangeInfo
+    → (was_set : List ℕ) → Argument → Type 0
 OpensTo now old new request asked change was_set operation =
     let state = named_by request.context.run (opened old.opens asked) in
-    RunsTo now old new request (record request { context = at_opened request.context asked.number state }) operation
+    RunsTo now old new request
+    (record request { context = at_opened request.context asked.number state }) operation
     (Done (opened_answer state change was_set))

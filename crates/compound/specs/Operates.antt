@@ -25,29 +25,38 @@ use Rattle.compound.specs.declared.operated.Effect.{Effect}
 use Rattle.compound.specs.declared.operated.Effect.TheVariants as effect
 use Rattle.compound.specs.declared.operated.Operated.{Operated}
 use Rattle.compound.specs.declared.operated.Operated.TheVariants as operated
-use Rattle.compound.specs.declared.results.TheConstants.{MAX_REPLY_BYTES}
+use Rattle.compound.specs.declared.results.TheConstants.{AROUND_RESULTS, MAX_REPLY_BYTES}
 
 abbrev pub left_by : Effect → InProgress → InProgress
 left_by effect.Stays request = request
 left_by (effect.Moves number) request = record request { context = at_node request.context number }
 left_by effect.Saves request = record request { context = saving request.context }
 left_by effect.Restores request = record request { context = restored request.context }
-left_by (effect.Opens number state) request = record request { context = at_opened request.context number (state_view state) }
+left_by (effect.Opens number state) request =
+    record request { context = at_opened request.context number (state_view state) }
 left_by effect.Closes request = record request { context = without_stateid request.context }
-left_by (effect.Joins slot client) request = record request { context = record request.context { client = client }; slot = Some (slot_of slot) }
+left_by (effect.Joins slot client) request =
+    record request {
+      context = record request.context { client = client };
+      slot = Some (slot_of slot);
+    }
 
 -- the operation runs, and its result is there if the reply has room for it
 abbrev pub run_in_room : World → InProgress → (now : ℕ) → Argument → HasRun
-run_in_room world request now operation = in_room world request (operation_of operation) (run world request now operation)
+run_in_room world request now operation =
+    in_room world request (operation_of operation) (run world request now operation)
 
 -- in each such world, whatever follows it, the operation comes to this, before its room is tested
-abbrev pub RunsTo : (now : ℕ) → (old new : SharedState) → (request left : InProgress) → Argument → model.Outcome → Type 0
+abbrev pub RunsTo : (now : ℕ) → (old new : SharedState) → (request left : InProgress) → Argument
+    → model.Outcome → Type 0
 RunsTo now old new request left operation outcome =
     (world : World) (rest : List ℕ) → HasState world old
-    → run world (with_rest request rest) now operation ≡ turns.Gives outcome (with_state world new) (with_rest left rest)
+    → run world (with_rest request rest) now operation
+    ≡ turns.Gives outcome (with_state world new) (with_rest left rest)
 
 -- in each such world, whatever follows it, the operation gives this
-abbrev pub GivesIn : (now : ℕ) → (old new : SharedState) → (request left : InProgress) → Argument → model.Outcome → Type 0
+abbrev pub GivesIn : (now : ℕ) → (old new : SharedState) → (request left : InProgress) → Argument
+    → model.Outcome → Type 0
 GivesIn now old new request left operation outcome =
     (world : World) (rest : List ℕ) → HasState world old
     → run_in_room world (with_rest request rest) now operation
@@ -62,7 +71,8 @@ pub record Spells (operation : ℕ) (values : List ℕ) (answer : model.Answer) 
   pub number_is : (answers.answer_told answer).number ≡ operation
   pub values_are : (answers.answer_told answer).text ≡ values
 
-abbrev pub Operates : (now : ℕ) → (old new : SharedState) → InProgress → Argument → Operated → Type 0
+abbrev pub Operates : (now : ℕ) → (old new : SharedState) → InProgress → Argument → Operated
+    → Type 0
 Operates now old new request operation (operated.Gives outcome left) =
     GivesIn now old new request (left_by left request) operation (outcome_view outcome)
 Operates now old new request operation (operated.GivesSpelled kind values) =
@@ -71,7 +81,8 @@ Operates now old new request operation (operated.GivesSpelled kind values) =
 Operates now old new request operation (operated.Replays slot) =
     (reply : List ℕ) × (new ≡ old) × (reply_kept slot.session slot.slot old.table ≡ Some reply)
     × ((world : World) (rest : List ℕ) → HasState world old
-    → run_in_room world (with_rest request rest) now operation ≡ turns.Replays reply slot.session slot.slot)
+    → run_in_room world (with_rest request rest) now operation
+    ≡ turns.Replays reply slot.session slot.slot)
 
 -- all stays as it was, but for its COMPOUND
 abbrev pub OnlyReads : FileSystem → InProgress → Argument → Operated → Type 0
@@ -84,17 +95,20 @@ ChangesTable old new request operation done = (now : ℕ) (files : FileSystem) (
     → Operates now (shared files old opens) (shared files new opens) request operation done
 
 -- the file system stays as it was
-abbrev pub ChangesTableAndOpens : (old new : Table) → (before after : Opens) → InProgress → Argument → Operated → Type 0
+abbrev pub ChangesTableAndOpens : (old new : Table) → (before after : Opens) → InProgress → Argument
+    → Operated → Type 0
 ChangesTableAndOpens old new before after request operation done = (now : ℕ) (files : FileSystem)
     → Operates now (shared files old before) (shared files new after) request operation done
 
 -- the clients, the sessions and the opens stay as they were
-abbrev pub ChangesTree : (old new : FileSystem) → (now : ℕ) → InProgress → Argument → Operated → Type 0
+abbrev pub ChangesTree : (old new : FileSystem) → (now : ℕ) → InProgress → Argument → Operated
+    → Type 0
 ChangesTree old new now request operation done = (table : Table) (opens : Opens)
     → Operates now (shared old table opens) (shared new table opens) request operation done
 
 -- the clients and the sessions stay as they were
-abbrev pub ChangesTreeAndOpens : (old new : FileSystem) → (before after : Opens) → (now : ℕ) → InProgress → Argument → Operated → Type 0
+abbrev pub ChangesTreeAndOpens : (old new : FileSystem) → (before after : Opens) → (now : ℕ)
+    → InProgress → Argument → Operated → Type 0
 ChangesTreeAndOpens old new before after now request operation done = (table : Table)
     → Operates now (shared old table before) (shared new table after) request operation done
 
@@ -105,12 +119,15 @@ tree_by world (turns.Replays reply session slot) = world.tree
 
 -- an OK result has room in the reply, whatever follows the operation
 abbrev pub HasRoom : InProgress → model.Outcome → Type 0
-HasRoom request (model.Done answer) = length (reply_with request (model.Done answer)) ≤ MAX_REPLY_BYTES
+HasRoom request (model.Done answer) =
+    length (reply_with request (model.Done answer)) ≤ MAX_REPLY_BYTES
 HasRoom request (model.Refused operation reason) = ⊤
 
 -- a reply has room for these bytes after the results so far
 abbrev pub HasRoomFor : InProgress → (text : List ℕ) → Type 0
-HasRoomFor request text = 32 + length (counted request.tag) + length request.results + length text ≤ MAX_REPLY_BYTES
+HasRoomFor request text =
+    AROUND_RESULTS + length (counted request.tag) + length request.results + length text
+    ≤ MAX_REPLY_BYTES
 
 -- a result can be spelled, in few bytes
 pub record IsSpelled (request : InProgress) (outcome : model.Outcome) : Type 0 where
@@ -120,7 +137,8 @@ pub record IsSpelled (request : InProgress) (outcome : model.Outcome) : Type 0 w
 
 abbrev pub IsAnswered : InProgress → Operated → Type 0
 IsAnswered request (operated.Gives outcome left) = IsSpelled request (outcome_view outcome)
-IsAnswered request (operated.GivesSpelled kind values) = HasRoomFor request (spelled_text (number_of kind) values.items)
+IsAnswered request (operated.GivesSpelled kind values) =
+    HasRoomFor request (spelled_text (number_of kind) values.items)
 IsAnswered request (operated.Replays slot) = ⊤
 
 -- what is sent again is there

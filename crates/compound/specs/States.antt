@@ -1,4 +1,5 @@
--- What all COMPOUNDs of a server work on: the file system, the clients and sessions, and what these have open.
+-- What all COMPOUNDs of a server work on: the file system, the clients and sessions, and what these
+-- have open.
 use Rattle.std.specs.Prelude.{◌≡◌}
 use Rattle.fs.specs.FileSystem.{FileSystem}
 use Rattle.fs.specs.Views.{fs_of}

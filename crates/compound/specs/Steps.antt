@@ -25,7 +25,8 @@ abbrev pub Steps : (now : ℕ) → (old new : SharedState) → Asked → InProgr
 Steps now old new asked request done =
     (world : World) (number : ℕ) → HasState world old
     → ((stepped_on world number now request).turn ≡ turn_by done)
-    × ((stepped_on world number now request).world ≡ with_connection (with_state world new) number (connection_by asked done))
+    × ((stepped_on world number now request).world
+    ≡ with_connection (with_state world new) number (connection_by asked done))
 
 -- the request goes on in the same run of the server
 abbrev pub StaysInRun : (run : ℕ) → Stepped → Type 0

@@ -30,7 +30,8 @@ is_ok (told.Spelled operation values) = true
 abbrev pub Tells : Told → model.Outcome → Type 0
 Tells (told.Whole outcome) result = result ≡ outcome_view outcome.now
 Tells (told.Spelled operation values) result =
-    (answer : model.Answer) × (result ≡ model.Done answer) × Spells (number_of operation) values.now answer
+    (answer : model.Answer) × (result ≡ model.Done answer)
+    × Spells (number_of operation) values.now answer
 
 -- it has a spelling
 abbrev pub CanBeSpelled : Told → Type 0
@@ -40,11 +41,16 @@ CanBeSpelled (told.Spelled operation values) = ⊤
 -- the reply has room for it
 abbrev pub CanBeTold : InProgress → Told → Type 0
 CanBeTold request (told.Whole outcome) = IsSpelled request (outcome_view outcome.now)
-CanBeTold request (told.Spelled operation values) = HasRoomFor request (spelled_text (number_of operation) values.now)
+CanBeTold request (told.Spelled operation values) =
+    HasRoomFor request (spelled_text (number_of operation) values.now)
 
 -- the request after it
 abbrev pub with_told : InProgress → Told → InProgress
-with_told request result = record request { answered = request.answered + 1; results = request.results ++ told_text result }
+with_told request result =
+    record request {
+      answered = request.answered + 1;
+      results = request.results ++ told_text result;
+    }
 
 -- the whole result of a COMPOUND, where it is the last one of an operation
 abbrev pub last_told : InProgress → Told → List ℕ

@@ -35,7 +35,8 @@ pub record IsHere (fs : FileSystem) (request : InProgress) (state : State) : Typ
 
 -- the result is that of the tests of the current filehandle
 abbrev pub TestsCurrent : FileSystem → InProgress → Result (Unit {0}) Status → Type 0
-TestsCurrent fs request result = (state : State) → IsHere fs request state → current_refusal state ≡ result_err result
+TestsCurrent fs request result =
+    (state : State) → IsHere fs request state → current_refusal state ≡ result_err result
 
 -- the numbers of the saved node and of the current one
 pub record AreBoth (context : Context) (numbers : ℕ × ℕ) : Type 0 where
@@ -46,8 +47,10 @@ pub record AreBoth (context : Context) (numbers : ℕ × ℕ) : Type 0 where
 
 -- the first two tests of RENAME, of the current filehandle, and that of a saved one refuse it
 abbrev pub RefusesRename : FileSystem → InProgress → Status → Type 0
-RefusesRename fs request reason = (state : State) (now : ℕ) (arguments : RenameArguments) → IsHere fs request state
-    → does_on fs state now (Argument.Rename arguments) ≡ refused state (Argument.Rename arguments) reason
+RefusesRename fs request reason =
+    (state : State) (now : ℕ) (arguments : RenameArguments) → IsHere fs request state
+    → does_on fs state now (Argument.Rename arguments)
+    ≡ refused state (Argument.Rename arguments) reason
 
 -- Changes
 
@@ -83,9 +86,14 @@ no_change = record { before = 0; after = 0 }
 
 -- what RENAME answers, of the directory that had the node and of the one that has it
 abbrev pub renamed_answer : (source target : Change) → Answer
-renamed_answer source target = Answer.Rename (record { source = info_of source; target = info_of target })
+renamed_answer source target =
+    Answer.Rename (record { source = info_of source; target = info_of target })
 
 -- what CREATE answers that made a directory: its parent's change value before and after
 abbrev pub made_answer : (before after : ℕ) → (was_set : List ℕ) → Answer
 made_answer before after was_set =
-    Answer.Create (record { change = record { is_atomic = true; before = before; after = after }; was_set = was_set })
+    Answer.Create
+    (record {
+      change = record { is_atomic = true; before = before; after = after };
+      was_set = was_set;
+    })

@@ -19,23 +19,31 @@ use Rattle.compound.specs.declared.operated.Operated.TheVariants as operated
 use Rattle.compound.specs.declared.step.Stepped.{Stepped}
 
 -- a kept reply is sent again
-abbrev pub repeated : World → (number : ℕ) → InProgress → (reply session : List ℕ) → (slot : ℕ) → Turned
+abbrev pub repeated : World → (number : ℕ) → InProgress → (reply session : List ℕ) → (slot : ℕ)
+    → Turned
 repeated world number request reply session slot = record {
   turn = turns.Answered;
-  world = with_connection world number (turns.Replied (framed (reply_text request.xid (Success reply))));
+  world =
+      with_connection world number
+      (turns.Replied (framed (reply_text request.xid (Success reply))));
   executed = None;
   keeps = None;
   replays = Some (session, slot);
 }
 
--- on each connection of each such world, a turn of the request comes to this result, after which it is left so
-abbrev pub TurnsTo : (now : ℕ) → (old new : SharedState) → (request left : InProgress) → model.Outcome → Type 0
+-- on each connection of each such world, a turn of the request comes to this result, after which it
+-- is left so
+abbrev pub TurnsTo : (now : ℕ) → (old new : SharedState) → (request left : InProgress)
+    → model.Outcome → Type 0
 TurnsTo now old new request left outcome =
     (world : World) (number : ℕ) → HasState world old
-    → (executed : Option Entry) × (stepped_on world number now request ≡ behind (with_state world new) number left outcome executed)
+    → (executed : Option Entry)
+    × (stepped_on world number now request
+    ≡ behind (with_state world new) number left outcome executed)
 
 -- the same, where the next operation did this and ends where these bytes stand
-abbrev pub Turns : (now : ℕ) → (old new : SharedState) → InProgress → (rest : List ℕ) → Operated → Type 0
+abbrev pub Turns : (now : ℕ) → (old new : SharedState) → InProgress → (rest : List ℕ) → Operated
+    → Type 0
 Turns now old new request rest (operated.Gives outcome left) =
     TurnsTo now old new request (with_rest (left_by left request) rest) (outcome_view outcome)
 Turns now old new request rest (operated.GivesSpelled kind values) =
@@ -44,11 +52,13 @@ Turns now old new request rest (operated.GivesSpelled kind values) =
 Turns now old new request rest (operated.Replays slot) =
     (reply : List ℕ) × (new ≡ old) × (reply_kept slot.session slot.slot old.table ≡ Some reply)
     × ((world : World) (number : ℕ) → HasState world old
-    → stepped_on world number now request ≡ repeated world number request reply slot.session slot.slot)
+    → stepped_on world number now request
+    ≡ repeated world number request reply slot.session slot.slot)
 
 -- on each connection of each world with this table, this is what a result makes of the request
 abbrev pub StandsAfter : (old new : Table) → Asked → InProgress → model.Outcome → Stepped → Type 0
 StandsAfter old new asked request outcome done =
     (world : World) (number : ℕ) (executed : Option Entry) → world.table ≡ old
     → ((behind world number request outcome executed).turn ≡ turn_by done)
-    × ((behind world number request outcome executed).world ≡ with_connection (with_table world new) number (connection_by asked done))
+    × ((behind world number request outcome executed).world
+    ≡ with_connection (with_table world new) number (connection_by asked done))

@@ -16,7 +16,7 @@ use Rattle.compound.specs.declared.progress.HandlePlace.{HandlePlace}
 use Rattle.compound.specs.declared.progress.SlotId.{SlotId}
 use Rattle.compound.specs.declared.next.Next.{Next}
 use Rattle.compound.specs.declared.next.Next.TheVariants as nexts
-use Rattle.compound.specs.declared.results.TheConstants.{MAX_REPLY_BYTES}
+use Rattle.compound.specs.declared.results.TheConstants.{AROUND_RESULTS, MAX_REPLY_BYTES}
 use Rattle.model.specs.declared.status.Status.{Status}
 
 -- a filehandle, with the stateid that goes with it
@@ -57,17 +57,22 @@ resumed asked progress = record {
   slot = option_map slot_of progress.slot;
 }
 
--- operations are left, the next one stands within their bytes, and the reply has room for the results so far
+-- operations are left, the next one stands within their bytes, and the reply has room for the
+-- results so far
 abbrev pub fits : Asked → Progress → Bool
 fits asked progress =
-    nat_lt progress.answered asked.compound.count && (nat_le progress.position (length asked.compound.operations)
-    && nat_le (32 + length (counted asked.compound.tag) + length progress.results.bytes) MAX_REPLY_BYTES)
+    nat_lt progress.answered asked.compound.count
+    && (nat_le progress.position (length asked.compound.operations)
+    && nat_le (AROUND_RESULTS + length (counted asked.compound.tag) + length progress.results.bytes)
+    MAX_REPLY_BYTES)
 
 -- no operation was done in this run of the server, of whichever COMPOUND
 pub record IsBegin (run : ℕ) (progress : Progress) : Type 0 where
-  pub begun : (world : World) (asked : Asked) → world.run ≡ run → resumed asked progress ≡ in_progress world asked.xid asked.cred asked.compound
+  pub begun : (world : World) (asked : Asked) → world.run ≡ run
+      → resumed asked progress ≡ in_progress world asked.xid asked.cred asked.compound
   pub run_is : progress.run ≡ run
-  pub fit : (asked : Asked) → 0 < asked.compound.count → length asked.compound.tag ≤ 255 → fits asked progress ≡ true
+  pub fit : (asked : Asked) → 0 < asked.compound.count → length asked.compound.tag ≤ 255
+      → fits asked progress ≡ true
 
 abbrev pub asked_of : Running → Asked
 asked_of running = asks running.xid running.cred (compound_view running.compound)
@@ -78,7 +83,8 @@ in_progress_of running = resumed (asked_of running) running.progress
 -- what comes next of these operations' bytes
 abbrev pub next_view : (operations : List ℕ) → Next → world.Next
 next_view operations (nexts.Refuses operation status) = world.Refuses operation status
-next_view operations (nexts.Reads argument position) = world.Reads (argument_view argument) (drop position operations)
+next_view operations (nexts.Reads argument position) =
+    world.Reads (argument_view argument) (drop position operations)
 
 -- the first test that holds, or what comes after all of them
 abbrev pub refused_or : Option (ℕ × Status) → world.Next → world.Next

@@ -36,11 +36,14 @@ lasts (Some entry) = is_durable entry
 
 -- of an operation that ran
 abbrev pub executed_by : World → InProgress → Argument → HasRun → Option Entry
-executed_by world request operation (turns.Gives outcome after left) = Some (executed_entry world request operation outcome after)
+executed_by world request operation (turns.Gives outcome after left) =
+    Some (executed_entry world request operation outcome after)
 executed_by world request operation (turns.Replays reply session slot) = None
 
--- in some world that has this, whatever follows the operation, it leaves this tree, and has to last or not
-pub record OperationGives (state : SharedState) (request : InProgress) (now : ℕ) (operation : Argument) (after : Tree) (lasting : Bool) : Type 0 where
+-- in some world that has this, whatever follows the operation, it leaves this tree, and has to last
+-- or not
+pub record OperationGives (state : SharedState) (request : InProgress) (now : ℕ)
+    (operation : Argument) (after : Tree) (lasting : Bool) : Type 0 where
   pub world : World
   pub rest : List ℕ
   pub has : HasState world state
@@ -49,7 +52,8 @@ pub record OperationGives (state : SharedState) (request : InProgress) (now : �
       (run_in_room world (with_rest request rest) now operation))
 
 -- in some such world, on some connection, this turn does
-pub record TurnGives (state : SharedState) (turn : World → (number : ℕ) → Turned) (after : Tree) (lasting : Bool) : Type 0 where
+pub record TurnGives (state : SharedState) (turn : World → (number : ℕ) → Turned) (after : Tree)
+    (lasting : Bool) : Type 0 where
   pub world : World
   pub number : ℕ
   pub has : HasState world state

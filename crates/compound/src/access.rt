@@ -14,7 +14,8 @@ impl Running<'_> {
     ghost use Rattle.compound.specs.Operates.{OnlyReads, IsAnswered};
     ghost use Rattle.compound.specs.Views.{in_progress_of};
 
-    /// ACCESS: of the bits that are asked those that the current node has, and those of them that the caller is granted.
+    /// ACCESS: of the bits that are asked those that the current node has, and those of them that
+    /// the caller is granted.
     pub(crate) fn access<D: Device>(&self, fs: &Fs<D>, asked: u32) -> Operated
         requires up { (fs_of fs.now).volume.is_down ≡ false }
         requires run { (in_progress_of self.now).context.run ≡ (fs_of fs.now).volume.run }

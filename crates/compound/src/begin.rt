@@ -15,7 +15,8 @@ impl Progress {
     ghost use Rattle.compound.specs.Views.{IsBegin};
     ghost use Rattle.compound.specs.declared.fault.Fault.TheVariants.{Memory};
 
-    /// Before the first operation, in this run of the server. All memory for the reply is taken here.
+    /// Before the first operation, in this run of the server. All memory for the reply is taken
+    /// here.
     pub(crate) fn begin(alloc: Global, run: u32) -> Result<Progress, Fault>
         ensures ok { IfOk result (IsBegin run) }
         ensures err { IfErr result (λ fault. fault ≡ Memory) }
@@ -45,8 +46,8 @@ impl<'a> Running<'a> {
     ghost use Rattle.compound.specs.Views.{in_progress_of, asks, asked_of, resumed, fits};
     ghost use Rattle.compound.specs.declared.fault.Fault.TheVariants.{Memory};
 
-    /// Begins the COMPOUND of a call with this xid, by this caller, in this run of the server. All memory for its reply is
-    /// taken here.
+    /// Begins the COMPOUND of a call with this xid, by this caller, in this run of the server. All
+    /// memory for its reply is taken here.
     pub fn begin(
         alloc: Global,
         xid: u32,
@@ -65,7 +66,8 @@ impl<'a> Running<'a> {
         Ok(Running::resume(alloc, xid, cred, compound, progress))
     }
 
-    /// Goes on with the COMPOUND of a call with this xid, by this caller, from where it has come to.
+    /// Goes on with the COMPOUND of a call with this xid, by this caller, from where it has come
+    /// to.
     #[tactic(auto, unfolding(crate::specs::Views::in_progress_of))]
     pub fn resume(
         alloc: Global,

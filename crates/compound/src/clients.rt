@@ -44,7 +44,8 @@ impl Running<'_> {
         }
     }
 
-    /// CREATE_SESSION: the opens of a client that ends with it end too. After `Memory` nothing changed.
+    /// CREATE_SESSION: the opens of a client that ends with it end too. After `Memory` nothing
+    /// changed.
     pub(crate) fn create_session(
         &self,
         table: &mut Table,

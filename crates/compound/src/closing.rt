@@ -37,8 +37,8 @@ impl Running<'_> {
     ghost use Rattle.compound.specs.Operates.{ChangesTreeAndOpens, IsAnswered};
     ghost use Rattle.compound.specs.Views.{in_progress_of};
 
-    /// CLOSE: the open that the stateid names has ended, and the current filehandle keeps no stateid. Nothing ends where the reply
-    /// has no room for the result.
+    /// CLOSE: the open that the stateid names has ended, and the current filehandle keeps no
+    /// stateid. Nothing ends where the reply has no room for the result.
     pub(crate) fn close<D: Device>(
         &self,
         fs: &Fs<D>,

@@ -23,7 +23,8 @@ impl Running<'_> {
     ghost use Rattle.compound.specs.Told.{CanBeSpelled, last_told, reply_told};
     ghost use Rattle.compound.specs.Views.{in_progress_of};
 
-    /// The reply's whole record, where this result is the last one. The slot keeps the result of the COMPOUND. No memory is taken.
+    /// The reply's whole record, where this result is the last one. The slot keeps the result of
+    /// the COMPOUND. No memory is taken.
     #[tactic(auto, unfolding(crate::specs::Views::in_progress_of, model::specs::World::outcome_text), using(crate::proofs::Replies::room_length, crate::proofs::Replies::success_length, crate::proofs::Replies::framed_length))]
     pub(crate) fn end(self, table: &mut Table, told: Told<'_>) -> Vec<u8>
         requires spelled { CanBeSpelled told }
@@ -57,7 +58,8 @@ impl Running<'_> {
         }
     }
 
-    /// The reply's whole record, where the result is the one that this slot keeps. No memory is taken.
+    /// The reply's whole record, where the result is the one that this slot keeps. No memory is
+    /// taken.
     #[tactic(auto, unfolding(crate::specs::Views::in_progress_of), using(crate::proofs::Replies::success_length, crate::proofs::Replies::framed_length))]
     pub(crate) fn repeat(self, table: &Table, id: &SlotId) -> Vec<u8>
         requires { (reply : List ℕ)

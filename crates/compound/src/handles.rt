@@ -86,8 +86,8 @@ impl Running<'_> {
         }
     }
 
-    /// RESTOREFH (section 18.27): the saved node is the current one too, whether it is there or not. NOFILEHANDLE where none is
-    /// saved.
+    /// RESTOREFH (section 18.27): the saved node is the current one too, whether it is there or
+    /// not. NOFILEHANDLE where none is saved.
     pub(crate) fn restore_handle(&self) -> Operated
         ensures gives { (files : FileSystem)
             → OnlyReads files (in_progress_of self.now) operations.Argument.RestoreFh result }
@@ -102,7 +102,8 @@ impl Running<'_> {
     /// The number of the current node.
     ///
     /// # Errors
-    /// NOFILEHANDLE where there is none: each operation that takes the current filehandle answers that.
+    /// NOFILEHANDLE where there is none: each operation that takes the current filehandle answers
+    /// that.
     pub(crate) fn current_node(&self) -> Result<u64, Status>
         ensures ok { IfOk result (λ number.
             (has_current (in_progress_of self.now).context ≡ true)

@@ -81,9 +81,10 @@ impl Running<'_> {
 
     /// The next operation with its arguments, or why it is refused before it is run.
     ///
-    /// In this order: an operation's number that is not there whole answers BADXDR, and one outside 3 to 58 OP_ILLEGAL, both
-    /// under result number 10044; as the first operation OP_NOT_IN_SESSION and NOT_ONLY_OP, as a later one NOTSUPP and
-    /// SEQUENCE_POS; arguments that cannot be read, and bytes after the last operation, BADXDR.
+    /// In this order: an operation's number that is not there whole answers BADXDR, and one outside
+    /// 3 to 58 OP_ILLEGAL, both under result number 10044; as the first operation OP_NOT_IN_SESSION
+    /// and NOT_ONLY_OP, as a later one NOTSUPP and SEQUENCE_POS; arguments that cannot be read, and
+    /// bytes after the last operation, BADXDR.
     #[tactic(auto, unfolding(crate::specs::Views::in_progress_of, model::specs::World::next_operation))]
     pub(crate) fn next_operation(&self, alloc: Global) -> Result<Next<'_>, Fault>
         ensures ok { IfOk result (λ next.

@@ -36,7 +36,8 @@ impl Running<'_> {
     ghost use Rattle.compound.specs.Views.{in_progress_of};
     ghost use Rattle.compound.specs.Volumes.{OperationGives, ending};
 
-    /// OPEN of a file by its name. None is opened, made or cut where the reply has no room for the result.
+    /// OPEN of a file by its name. None is opened, made or cut where the reply has no room for the
+    /// result.
     pub(crate) fn open_named<D: Device>(
         &self,
         fs: &mut Fs<D>,

@@ -82,7 +82,8 @@ impl Running<'_> {
         }
     }
 
-    /// OPEN of the current file (`CLAIM_FH`). It is not opened where the reply has no room for the result.
+    /// OPEN of the current file (`CLAIM_FH`). It is not opened where the reply has no room for the
+    /// result.
     pub(crate) fn open_current<D: Device>(
         &self,
         fs: &Fs<D>,
@@ -177,7 +178,8 @@ impl Running<'_> {
         }
     }
 
-    /// Whether the reply has room for the result of an OPEN that set these attributes. What else it tells does not matter.
+    /// Whether the reply has room for the result of an OPEN that set these attributes. What else it
+    /// tells does not matter.
     pub(crate) fn has_opened_room(&self, was_set: Bitmap) -> bool
         requires { IsTrue (is_trimmed was_set) }
         ensures { result ≡ has_opened_room (in_progress_of self.now) was_set }
@@ -185,7 +187,8 @@ impl Running<'_> {
         self.has_room(&opened(CLOSED, change_info(0, 0), was_set))
     }
 
-    /// OPEN that is not served: an exclusive create, or a claim other than by name or by filehandle.
+    /// OPEN that is not served: an exclusive create, or a claim other than by name or by
+    /// filehandle.
     pub(crate) fn refuse_opening<D: Device>(&self, fs: &Fs<D>) -> Operated
         requires up { (fs_of fs.now).volume.is_down ≡ false }
         requires run { (in_progress_of self.now).context.run ≡ (fs_of fs.now).volume.run }

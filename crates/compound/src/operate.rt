@@ -23,7 +23,8 @@ impl Running<'_> {
     /// Runs an operation, and tests last whether the reply has room for its result.
     ///
     /// # Errors
-    /// After `Memory` nothing changed; after `Device` the file system is down, and the table is as it was.
+    /// After `Memory` nothing changed; after `Device` the file system is down, and the table is as
+    /// it was.
     pub(crate) fn operate<D: Device>(
         &self,
         fs: &mut Fs<D>,

@@ -35,6 +35,7 @@ pub enum Operated {
         operation: Operation,
         values: Vec<u8>,
     },
-    /// The COMPOUND is a retry: its whole result is the one that this slot keeps, which `Table::kept` gives.
+    /// The COMPOUND is a retry: its whole result is the one that this slot keeps, which
+    /// `Table::kept` gives.
     Replays(SlotId),
 }

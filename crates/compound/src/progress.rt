@@ -6,7 +6,8 @@ ghost use Rattle.compound.specs.declared.progress.TheConstants.{RESULT_BUFFER, R
 use wire::StateId;
 use xdr::Writer;
 
-/// The bytes for which each COMPOUND has memory from its begin on: those of its longest result, which a slot keeps.
+/// The bytes for which each COMPOUND has memory from its begin on: those of its longest result,
+/// which a slot keeps.
 pub(crate) const RESULT_BUFFER: usize = 16_384;
 
 /// Those of the longest reply's record: the record's header, and six words, stand round the result.

@@ -16,7 +16,8 @@ use opens::{Access, Opens};
 use std::alloc::Global;
 use wire::{Operation, ReadArguments};
 
-/// The bytes of the values before those of the file: whether its end was reached, and how many there are.
+/// The bytes of the values before those of the file: whether its end was reached, and how many
+/// there are.
 const FRONT: usize = 8;
 
 /// The most bytes of a file that room is taken for: as many as one READ gives.

@@ -31,7 +31,8 @@ impl Running<'_> {
     ghost use Rattle.compound.specs.Views.{in_progress_of};
     ghost use Rattle.compound.specs.Volumes.{OperationGives, ending};
 
-    /// REMOVE: the name is gone, and the node that it led to with its opens. Nothing is removed where the reply has no room for the result.
+    /// REMOVE: the name is gone, and the node that it led to with its opens. Nothing is removed
+    /// where the reply has no room for the result.
     pub(crate) fn remove<D: Device>(
         &self,
         fs: &mut Fs<D>,

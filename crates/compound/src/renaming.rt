@@ -42,8 +42,8 @@ impl Running<'_> {
     ghost use Rattle.compound.specs.Views.{in_progress_of};
     ghost use Rattle.compound.specs.Volumes.{OperationGives, ending};
 
-    /// RENAME of a name in the saved directory to one in the current directory. Nothing is renamed where the reply has no room
-    /// for the result.
+    /// RENAME of a name in the saved directory to one in the current directory. Nothing is renamed
+    /// where the reply has no room for the result.
     pub(crate) fn rename<D: Device>(
         &self,
         fs: &mut Fs<D>,
@@ -94,8 +94,8 @@ impl Running<'_> {
     /// The numbers of the saved node and of the current one.
     ///
     /// # Errors
-    /// The first of these that holds: NOFILEHANDLE where none is current, STALE where the current one is gone, and NOFILEHANDLE
-    /// where none is saved.
+    /// The first of these that holds: NOFILEHANDLE where none is current, STALE where the current
+    /// one is gone, and NOFILEHANDLE where none is saved.
     fn both_nodes<D: Device>(&self, fs: &Fs<D>) -> Result<(u64, u64), Status>
         requires up { (fs_of fs.now).volume.is_down ≡ false }
         requires run { (in_progress_of self.now).context.run ≡ (fs_of fs.now).volume.run }
@@ -116,7 +116,8 @@ impl Running<'_> {
     }
 }
 
-/// The node that stood under the new name is gone, and its opens with it. A name that is given to itself leaves them.
+/// The node that stood under the new name is gone, and its opens with it. A name that is given to
+/// itself leaves them.
 fn end_replaced(opens: &mut Opens, asked: Renaming<'_>, replaced: Option<u64>)
     ensures { opens_of opens.new
         ≡ opens_after (is_itself asked.entry.from asked.entry.to
@@ -129,7 +130,8 @@ fn end_replaced(opens: &mut Opens, asked: Renaming<'_>, replaced: Option<u64>)
     opens.remove_file(replaced.unwrap_or(0));
 }
 
-/// The result of a RENAME: the change values before and after, of the directory that had the node and of the one that has it.
+/// The result of a RENAME: the change values before and after, of the directory that had the node
+/// and of the one that has it.
 fn renamed(source: Change, target: Change) -> Outcome<'static>
     ensures is { outcome_view result ≡ Done (renamed_answer source target) }
     ensures fits { answers.outcome.Fits (outcome_view result) }

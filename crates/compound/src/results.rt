@@ -15,8 +15,8 @@ use xdr::opaque_size;
 /// The most bytes of a reply up to the end of an OK result, the record's header not counted.
 pub const MAX_REPLY_BYTES: usize = 16_368;
 
-/// The bytes of a reply round the tag and the results: the xid, the message type and four words up to the accept status;
-/// the status and the number of results.
+/// The bytes of a reply round the tag and the results: the xid, the message type and four words up
+/// to the accept status; the status and the number of results.
 const AROUND_RESULTS: usize = 32;
 
 /// The bytes of a result before its values: its number and its status.
@@ -65,7 +65,8 @@ impl Running<'_> {
         size <= MAX_REPLY_BYTES
     }
 
-    /// What an operation comes to that nothing else refuses: it is refused where the reply has no room for its answer.
+    /// What an operation comes to that nothing else refuses: it is refused where the reply has no
+    /// room for its answer.
     pub(crate) fn settle(&self, answer: Answer<'static>, effect: Effect) -> Operated
         requires { IsShortAnswer (answer_view answer) }
         ensures gives { (now : ℕ) (state : SharedState) (kind : Kind)
@@ -83,7 +84,8 @@ impl Running<'_> {
         Operated::Gives { outcome, effect }
     }
 
-    /// What an operation comes to that changes nothing, and whose OK result is spelled: it is refused where the reply has no room.
+    /// What an operation comes to that changes nothing, and whose OK result is spelled: it is
+    /// refused where the reply has no room.
     pub(crate) fn settle_spelled(&self, operation: Operation, values: Vec<u8>) -> Operated
         ensures gives { (now : ℕ) (state : SharedState) (kind : Kind) (answer : Answered)
             → Spells (number_of operation) values.items answer
@@ -134,7 +136,8 @@ impl Running<'_> {
         }
     }
 
-    /// What the first operation comes to, where nothing refuses it: the reply has room for each short answer.
+    /// What the first operation comes to, where nothing refuses it: the reply has room for each
+    /// short answer.
     pub(crate) fn answer_first(&self, answer: Answer<'static>, effect: Effect) -> Operated
         requires first { (in_progress_of self.now).answered ≡ 0 }
         requires short { IsShortAnswer (answer_view answer) }

@@ -66,7 +66,8 @@ impl Running<'_> {
         }
     }
 
-    /// RECLAIM_COMPLETE for all file systems. Nothing changes where the reply has no room for its result.
+    /// RECLAIM_COMPLETE for all file systems. Nothing changes where the reply has no room for its
+    /// result.
     fn reclaim_all(&self, table: &mut Table) -> Operated
         ensures gives { ChangesTable (table_of table.old) (table_of table.new)
             (in_progress_of self.now) (operations.Argument.ReclaimComplete false) result }

@@ -23,7 +23,8 @@ use wire::Outcome;
 pub enum Stepped {
     /// One operation ran, and more remain: how far the COMPOUND has come.
     Ran(Progress),
-    /// The last operation ran. The reply's whole record, its header included; its slot keeps the result.
+    /// The last operation ran. The reply's whole record, its header included; its slot keeps the
+    /// result.
     Answered(Vec<u8>),
 }
 
@@ -49,11 +50,12 @@ impl Running<'_> {
     ghost use Rattle.compound.specs.Views.{in_progress_of, asked_of};
     ghost use Rattle.compound.specs.Volumes.{TurnGives, ending, undone_ending};
 
-    /// Reads the next operation, tests it and runs it, at this moment in nanoseconds since 1970. A change is kept on the device
-    /// before its result is there.
+    /// Reads the next operation, tests it and runs it, at this moment in nanoseconds since 1970. A
+    /// change is kept on the device before its result is there.
     ///
     /// # Errors
-    /// What was kept of the COMPOUND comes back as it was. After `Memory` nothing changed; after `Device` the file system is down.
+    /// What was kept of the COMPOUND comes back as it was. After `Memory` nothing changed; after
+    /// `Device` the file system is down.
     pub fn step<D: Device>(
         self,
         fs: &mut Fs<D>,
@@ -187,7 +189,8 @@ impl Running<'_> {
         });
     }
 
-    /// The COMPOUND after this result: it goes on, or the reply is there, since this result is the last one or not OK.
+    /// The COMPOUND after this result: it goes on, or the reply is there, since this result is the
+    /// last one or not OK.
     fn answer(self, table: &mut Table, told: Told<'_>) -> Stepped
         requires { CanBeTold (in_progress_of self) told }
         ensures stands { (outcome : model.Outcome) → Tells told.entry outcome

@@ -33,7 +33,8 @@ impl Running<'_> {
     ghost use Rattle.compound.specs.Views.{in_progress_of};
     ghost use Rattle.compound.specs.Volumes.{OperationGives, ending};
 
-    /// The tests of the current filehandle: NOFILEHANDLE where there is none, STALE where its node is gone.
+    /// The tests of the current filehandle: NOFILEHANDLE where there is none, STALE where its node
+    /// is gone.
     pub(crate) fn check_current<D: Device>(&self, fs: &Fs<D>) -> Result<(), Status>
         requires up { (fs_of fs.now).volume.is_down ≡ false }
         requires run { (in_progress_of self.now).context.run ≡ (fs_of fs.now).volume.run }
@@ -68,7 +69,8 @@ impl Running<'_> {
         }
     }
 
-    /// LOOKUPP (section 18.14): the directory that has the name of the current one is the current node.
+    /// LOOKUPP (section 18.14): the directory that has the name of the current one is the current
+    /// node.
     pub(crate) fn look_up_parent<D: Device>(&self, fs: &Fs<D>) -> Operated
         requires up { (fs_of fs.now).volume.is_down ≡ false }
         requires run { (in_progress_of self.now).context.run ≡ (fs_of fs.now).volume.run }
@@ -130,7 +132,8 @@ impl Running<'_> {
         }
     }
 
-    /// CREATE of a directory (section 18.4): it is the current node. Nothing is made where the reply has no room for the result.
+    /// CREATE of a directory (section 18.4): it is the current node. Nothing is made where the
+    /// reply has no room for the result.
     pub(crate) fn create_directory<D: Device>(
         &self,
         fs: &mut Fs<D>,
@@ -178,7 +181,8 @@ impl Running<'_> {
         }
     }
 
-    /// Whether the reply has room for the result of a CREATE of a directory. The change values do not matter.
+    /// Whether the reply has room for the result of a CREATE of a directory. The change values do
+    /// not matter.
     fn has_created_room(&self, bitmap: &Bitmap) -> bool
         ensures { result ≡ nat_le (length (reply_with (in_progress_of self.now)
             (Done (made_answer 0 0 (trimmed bitmap.now))))) MAX_REPLY_BYTES }

@@ -90,7 +90,8 @@ impl Running<'_> {
         self.has_room(&written(0, 0, 0))
     }
 
-    /// COMMIT (section 18.3): all changes so far are kept. Nothing is where the reply has no room for the result.
+    /// COMMIT (section 18.3): all changes so far are kept. Nothing is where the reply has no room
+    /// for the result.
     pub(crate) fn commit<D: Device>(&self, fs: &mut Fs<D>) -> Result<Operated, Fault>
         // It is up, in the run in which the request began
         requires up { (fs_of fs.old).volume.is_down ≡ false }
@@ -136,7 +137,8 @@ fn tell_bytes(data: &[u8])
     ensures { are_bytes «data».now ≡ true }
 {}
 
-/// The result of a WRITE in this run of the server: how many bytes it took. What is to be stable is on the device.
+/// The result of a WRITE in this run of the server: how many bytes it took. What is to be stable is
+/// on the device.
 fn written(run: u32, stable: u32, count: u32) -> Outcome<'static>
     ensures is { outcome_view result ≡ Done (written_answer run stable count) }
     ensures fits { answers.outcome.Fits (outcome_view result) }

@@ -1,4 +1,5 @@
-//! The program `connections`: rows of records, turns and replies, each played on a new server in memory.
+//! The program `connections`: rows of records, turns and replies, each played on a new server in
+//! memory.
 #![tactic(auto)]
 
 mod difference;

@@ -28,14 +28,16 @@ pub enum Step {
         turns: u32,
         reply: Vec<u8>,
     },
-    /// Hands in a record, runs so many operations, of which the last one gives the reply, and takes this reply.
+    /// Hands in a record, runs so many operations, of which the last one gives the reply, and takes
+    /// this reply.
     Asks {
         connection: usize,
         record: Vec<u8>,
         turns: u32,
         reply: Vec<u8>,
     },
-    /// Hands in bytes that close the connection, which stays so: each later piece and turn is answered Closed.
+    /// Hands in bytes that close the connection, which stays so: each later piece and turn is
+    /// answered Closed.
     Closes {
         connection: usize,
         record: Vec<u8>,

@@ -7,4 +7,5 @@ use Rattle.directory.specs.Records.{Record}
 abbrev pub IsLeast : (cookie : ℕ) → List Record → Option Record → Type 0
 IsLeast cookie records None = (key : ℕ) → cookie < key → at key records ≡ None
 IsLeast cookie records (Some least) =
-    (cookie < least.0) × (at least.0 records ≡ Some least.1) × ((key : ℕ) → cookie < key → key < least.0 → at key records ≡ None)
+    (cookie < least.0) × (at least.0 records ≡ Some least.1)
+    × ((key : ℕ) → cookie < key → key < least.0 → at key records ≡ None)

@@ -1,5 +1,6 @@
--- The names of a directory as a map by entry stamp, and how a client lists them page by page (RFC 8881, section 18.23). A stamp
--- is the name's cookie: it stays the name's as long as the name stands, whatever record holds it.
+-- The names of a directory as a map by entry stamp, and how a client lists them page by page (RFC
+-- 8881, section 18.23). A stamp is the name's cookie: it stays the name's as long as the name
+-- stands, whatever record holds it.
 use Rattle.std.specs.Prelude.{ℕ, List, [], ◌∷◌, ◌++◌, Option, Some, None, ◌≡◌, ◌≢◌, ◌<◌, nat_lt, length, filter, slice_index_or}
 use Rattle.std.specs.List.{flat_map, AllByRecursion}
 use Rattle.model.specs.Keyed.{Keyed, at, with, without, IsAbove}
@@ -16,10 +17,12 @@ abbrev pub without_entry : Keyed DirEntry → Option Record → Keyed DirEntry
 without_entry entries None = entries
 without_entry entries (Some entry) = without entries entry.0
 
--- What a name that is put under a new stamp makes of the map: stamps stay apart, and the name has the new one alone.
+-- What a name that is put under a new stamp makes of the map: stamps stay apart, and the name has
+-- the new one alone.
 pub record PutsByStamp (old new : List Record) (entry : Record) : Type 0 where
   pub stamped : AreStamped new
-  pub entries : by_stamp new ≡ with (without_entry (by_stamp old) (entry_of (name_of entry) old)) (stamp_of entry) entry.1
+  pub entries : by_stamp new
+      ≡ with (without_entry (by_stamp old) (entry_of (name_of entry) old)) (stamp_of entry) entry.1
 
 -- what a name that is removed makes of it
 pub record RemovesByStamp (old new : List Record) (name : List ℕ) : Type 0 where
@@ -32,8 +35,8 @@ after cookie entries = filter (λ entry. nat_lt cookie entry.0) entries
 
 -- Pages
 
--- one call of a listing: the records of the directory at that moment, which may have changed since the call before, and the
--- entries that were shown
+-- one call of a listing: the records of the directory at that moment, which may have changed since
+-- the call before, and the entries that were shown
 pub record Page : Type 0 where
   pub records : List Record
   pub shown : Keyed DirEntry
@@ -50,12 +53,13 @@ last_cookie cookie (entry ∷ rest) = last_cookie entry.0 rest
 abbrev pub IsPage : (cookie : ℕ) → Page → Type 0
 IsPage cookie page = (rest : Keyed DirEntry) × (behind cookie page ≡ page.shown ++ rest)
 
--- the calls of a listing that begins after a cookie: each next one goes on after the last entry shown, and the last one shows
--- all that is left
+-- the calls of a listing that begins after a cookie: each next one goes on after the last entry
+-- shown, and the last one shows all that is left
 abbrev pub IsListing : (cookie : ℕ) → List Page → Type 0
 IsListing cookie [] = ⊥
 IsListing cookie (page ∷ []) = behind cookie page ≡ page.shown
-IsListing cookie (page ∷ next ∷ rest) = IsPage cookie page × IsListing (last_cookie cookie page.shown) (next ∷ rest)
+IsListing cookie (page ∷ next ∷ rest) =
+    IsPage cookie page × IsListing (last_cookie cookie page.shown) (next ∷ rest)
 
 abbrev pub all_shown : List Page → Keyed DirEntry
 all_shown pages = flat_map (λ page. page.shown) pages
@@ -68,7 +72,8 @@ pub record ShowsEachOnce (pages : List Page) : Type 0 where
   pub not_twice : (i j : ℕ) (default : Record) → i < j → j < length (all_shown pages)
       → slice_index_or (all_shown pages) i default ≢ slice_index_or (all_shown pages) j default
   -- an entry that is there at every call is shown
-  pub shown : (stamp : ℕ) (entry : DirEntry) → 0 < stamp → AllByRecursion (λ page. at stamp (by_stamp page.records) ≡ Some entry) pages
+  pub shown : (stamp : ℕ) (entry : DirEntry) → 0 < stamp
+      → AllByRecursion (λ page. at stamp (by_stamp page.records) ≡ Some entry) pages
       → at stamp (all_shown pages) ≡ Some entry
 
 abbrev pub EveryPaging : Type 0

@@ -6,16 +6,20 @@ use Rattle.directory.specs.Records.{Record, stamp_of, IsDirectory}
 
 -- by stamp, and of one stamp by place
 abbrev pub is_before : Placed → Placed → Bool
-is_before one other = if one.stamp == other.stamp then nat_lt one.place other.place else nat_lt one.stamp other.stamp
+is_before one other =
+    if one.stamp == other.stamp then nat_lt one.place other.place else nat_lt one.stamp other.stamp
 
 -- each is before those after it
 abbrev pub AreRising : List Placed → Type 0
 AreRising [] = Unit {0}
-AreRising (one ∷ rest) = AllByRecursion (λ other. IsTrue (is_before one other)) rest × AreRising rest
+AreRising (one ∷ rest) =
+    AllByRecursion (λ other. IsTrue (is_before one other)) rest × AreRising rest
 
 -- it is the stamp and the place of a record
 abbrev pub IsOf : List Record → Placed → Type 0
-IsOf records one = (one.place < length records) × ((d : Record) → stamp_of (slice_index_or records one.place d) ≡ one.stamp)
+IsOf records one =
+    (one.place < length records)
+    × ((d : Record) → stamp_of (slice_index_or records one.place d) ≡ one.stamp)
 
 -- the stamps and the places of the records, and no others, by rising stamp
 pub record IsOrder (order : List Placed) (records : List Record) : Type 0 where

@@ -1,5 +1,5 @@
--- What a sector of a directory says, whatever its bytes. How many of its records are used it does not tell: the node's count of
--- names does.
+-- What a sector of a directory says, whatever its bytes. How many of its records are used it does
+-- not tell: the node's count of names does.
 use Rattle.std.specs.Prelude.{◌≡◌, ℕ, List, length, take, drop, slice_index}
 use Rattle.std.specs.List.{AllByRecursion}
 use Rattle.std.specs.Int.{w64, from_be_bytes}
@@ -10,7 +10,8 @@ use Rattle.directory.specs.Spelling.{directory_sector}
 -- the record of these bytes
 abbrev pub record_in : List ℕ → Record
 record_in bytes =
-    record_from (from_be_bytes w64 (drop 8 bytes)) (take (slice_index bytes 16) (drop 17 bytes)) (from_be_bytes w64 bytes)
+    record_from (from_be_bytes w64 (drop 8 bytes)) (take (slice_index bytes 16) (drop 17 bytes))
+    (from_be_bytes w64 bytes)
 
 -- the first records of a sector
 unfoldable pub records_in : (count : ℕ) → List ℕ → List Record

@@ -1,5 +1,6 @@
--- A directory's names in the order of their records: each with its entry stamp, which is the name's cookie (RFC 8881, section
--- 18.23.3), and the number of its node. As a map from names the order does not matter, and no two records have one name.
+-- A directory's names in the order of their records: each with its entry stamp, which is the name's
+-- cookie (RFC 8881, section 18.23.3), and the number of its node. As a map from names the order
+-- does not matter, and no two records have one name.
 use Rattle.std.specs.Prelude.{◌≢◌, ◌<◌, ◌≤◌, ◌+◌, ◌^◌, ℕ, Bool, List, [], ◌∷◌, bytes_eq, length, if◌then◌else◌, slice_index_or}
 use Rattle.std.specs.List.{swap_remove, AllByRecursion}
 use Rattle.model.specs.Tree.{DirEntry}
@@ -25,12 +26,15 @@ place_of name (entry ∷ rest) = if is_named name entry then 0 else place_of nam
 -- the records with this one, in the place of the one of its name, or after the last
 abbrev pub with_record : List Record → Record → List Record
 with_record [] new = new ∷ []
-with_record (entry ∷ rest) new = if is_named new.1.name entry then new ∷ rest else entry ∷ with_record rest new
+with_record (entry ∷ rest) new =
+    if is_named new.1.name entry then new ∷ rest else entry ∷ with_record rest new
 
 -- no two records have one name, or one stamp
 
 abbrev pub ApartBy : {K : Type 0} → (key_of : Record → K) → List Record → Type 0
-ApartBy key_of names = (i j : ℕ) (d : Record) → i < j → j < length names → key_of (slice_index_or names i d) ≢ key_of (slice_index_or names j d)
+ApartBy key_of names =
+    (i j : ℕ) (d : Record) → i < j → j < length names
+    → key_of (slice_index_or names i d) ≢ key_of (slice_index_or names j d)
 
 abbrev pub name_of : Record → List ℕ
 name_of entry = entry.1.name

@@ -6,7 +6,8 @@ ghost use Rattle.directory.specs.Rest.{rest_of, record_at};
 use crate::entry::Entry;
 use crate::names::Names;
 
-/// The names whose stamps are above a cookie, by rising stamp. Takes no memory: each next one is searched for in the order.
+/// The names whose stamps are above a cookie, by rising stamp. Takes no memory: each next one is
+/// searched for in the order.
 #[derive(Drop)]
 pub struct ListAfter<'a> {
     pub(crate) names: &'a Names,

@@ -2,8 +2,8 @@
 
 ghost use Rattle.directory.specs.Listing.{EveryPaging};
 
-/// Over the calls of a listing, with any changes between them, no entry is shown twice, and one that is there at every call is
-/// shown once.
+/// Over the calls of a listing, with any changes between them, no entry is shown twice, and one
+/// that is there at every call is shown once.
 pub fn every_paging()
     ensures { EveryPaging }
 {}

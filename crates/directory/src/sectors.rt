@@ -90,7 +90,8 @@ fn entries_in(alloc: Global, count: usize, sector: &[u8; SIZE]) -> Result<Vec<En
     Ok(entries)
 }
 
-/// The `count` records of a sector, all others zero. A name has 1 to 255 bytes; whether they are a text is not looked at.
+/// The `count` records of a sector, all others zero. A name has 1 to 255 bytes; whether they are a
+/// text is not looked at.
 ///
 /// # Errors
 /// `NotRecords` exactly where no so many records have these bytes.

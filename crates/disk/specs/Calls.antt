@@ -39,5 +39,8 @@ written_by n (call ∷ calls) = option_to_list (written n call) ++ written_by n 
 -- k is how many calls there are up to the last sync and with it: what was seen then is fixed, and
 -- what was written since is unsynced
 pub record IsLastSync (calls : List Call) (k : ℕ) : Type 0 where
-  pub fixed : (first : List (List ℕ)) → (history_of_calls first calls).now.fixed ≡ seen (history_of_calls first (take k calls)).now
-  pub since : (first : List (List ℕ)) (n : ℕ) → reverse (written_to n (history_of_calls first calls).now.unsynced) ≡ written_by n (drop k calls)
+  pub fixed : (first : List (List ℕ))
+      → (history_of_calls first calls).now.fixed ≡ seen (history_of_calls first (take k calls)).now
+  pub since : (first : List (List ℕ)) (n : ℕ)
+      → reverse (written_to n (history_of_calls first calls).now.unsynced)
+      ≡ written_by n (drop k calls)

@@ -42,7 +42,8 @@ fate_at (Within at) n = if at == n then Part else Whole
 abbrev pub next_fate : CrashDevice → Fate
 next_fate device = if device.is_stopped then Nothing else fate_at device.stop device.steps
 
--- a step that is done whole fails only by doing nothing, for want of memory; one that is done in part or not at all is a fault
+-- a step that is done whole fails only by doing nothing, for want of memory; one that is done in
+-- part or not at all is a fault
 abbrev pub AnswersFate : {T : Type 0} → Fate → History → History → Result T DiskFault → Type 0
 AnswersFate Whole old new result = OnErr result (new ≡ old)
 AnswersFate Part old new result = result ≡ Err Fault
@@ -62,5 +63,6 @@ pub record IsSameCourse (old new : CrashDevice) : Type 0 where
 -- one step more has begun, unless the device had stopped; it has stopped now, if that step was cut
 pub record IsNextCourse (old new : CrashDevice) : Type 0 where
   pub stop : stop_of new ≡ stop_of old
-  pub steps : steps_of new ≡ (if is_stopped old then steps_of old else min (steps_of old + 1) (2 ^ 64 - 1))
+  pub steps : steps_of new
+      ≡ (if is_stopped old then steps_of old else min (steps_of old + 1) (2 ^ 64 - 1))
   pub is_stopped : is_stopped new ≡ is_cut (next_fate old)

@@ -10,9 +10,11 @@ use Rattle.disk.specs.Moments.{Image, Moment, written_to}
 abbrev pub contents_of : Moment → ℕ → List (List ℕ)
 contents_of m n = m.fixed n ∷ reverse (written_to n m.unsynced)
 
--- which content of sector n landed: that of the first entry that names it, and the fixed one where none does
+-- which content of sector n landed: that of the first entry that names it, and the fixed one where
+-- none does
 abbrev pub number_for : List Landed → ℕ → ℕ
-number_for landing n = option_map_or (λ landed. landed.content) (find (λ landed. landed.sector == n) landing) 0
+number_for landing n =
+    option_map_or (λ landed. landed.content) (find (λ landed. landed.sector == n) landing) 0
 
 -- what landed; where a sector has no content of that number, the fixed one
 abbrev pub landed_image : List Landed → Moment → Image
@@ -33,7 +35,9 @@ choices_to sector (suc k) = choices_to sector k ++ record { sector = sector; con
 -- each of these landings with each choice for one more sector
 abbrev pub extended : List (List Landed) → Unsynced → List (List Landed)
 extended landings unsynced =
-    flat_map (λ landing. map (λ choice. landing ++ choice ∷ []) (choices_to unsynced.sector unsynced.contents)) landings
+    flat_map (λ landing.
+    map (λ choice. landing ++ choice ∷ []) (choices_to unsynced.sector unsynced.contents))
+    landings
 
 -- all combinations of one choice for each sector
 abbrev pub every_landing : List Unsynced → List (List Landed)

@@ -21,5 +21,7 @@ abbrev pub history_of : MemDevice → History
 history_of device = history_of_calls device.first.items device.calls.items
 
 -- each of its sectors has 4,096 bytes
-pub held_sector : (device : MemDevice) (n : ℕ) → n < size_of device → IsSector (seen (history_of device).now n)
-held_sector device n there = subst IsSector (device.told n) (device.rows n [] (omega (arith, there, device.sectors.ok)))
+pub held_sector : (device : MemDevice) (n : ℕ) → n < size_of device
+    → IsSector (seen (history_of device).now n)
+held_sector device n there =
+    subst IsSector (device.told n) (device.rows n [] (omega (arith, there, device.sectors.ok)))

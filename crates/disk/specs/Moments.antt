@@ -1,8 +1,8 @@
 -- What a device holds, and what a crash may leave of it.
 --
--- A sector is whole. After a crash each sector, by itself, holds what it held at the last successful
--- sync or any content written to it since. A crash within a write or a sync falls under the same rule:
--- it is one at the moment before the call or after it.
+-- A sector is whole. After a crash each sector, by itself, holds what it held at the last
+-- successful sync or any content written to it since. A crash within a write or a sync falls under
+-- the same rule: it is one at the moment before the call or after it.
 use Rattle.std.specs.Prelude.{◌≡◌, ◌≤◌, ◌<◌, ◌⊎◌, ◌==◌, ℕ, List, [], ◌∷◌, length, All, if◌then◌else◌}
 use Rattle.disk.specs.declared.update.Update.{Update}
 
@@ -32,7 +32,8 @@ pub record Moment : Type 0 where
 -- some update of the list gives sector n this content
 abbrev pub Among : List Update → ℕ → List ℕ → Type 0
 Among [] n content = ⊥
-Among (update ∷ updates) n content = ((update.target ≡ n) × (update.content ≡ content)) ⊎ Among updates n content
+Among (update ∷ updates) n content =
+    ((update.target ≡ n) × (update.content ≡ content)) ⊎ Among updates n content
 
 -- the contents that the list gives sector n, in the list's order
 abbrev pub written_to : ℕ → List Update → List (List ℕ)
@@ -88,7 +89,8 @@ LeftSince h t image = Left h.now image ⊎ LeftWithin h.past t image
 -- between two histories of a device the moments that came add only images with P
 pub record AddsOnly (P : Image → Type 0) (old new : History) : Type 0 where
   pub later : moment old ≤ moment new
-  pub added : (t : ℕ) (image : Image) → t ≤ moment old → LeftSince new t image → LeftSince old t image ⊎ P image
+  pub added : (t : ℕ) (image : Image) → t ≤ moment old → LeftSince new t image
+      → LeftSince old t image ⊎ P image
 
 -- a device that was just made, or whose power came back: all that it holds is fixed
 abbrev pub at_rest : Image → History

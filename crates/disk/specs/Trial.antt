@@ -16,19 +16,23 @@ lands Everything place = true
 lands (Only one) place = place == one
 lands (AllBut one) place = not (place == one)
 
--- one choice for each sector from this place on: its newest content where it lands, or the fixed one
+-- one choice for each sector from this place on: its newest content where it lands, or the fixed
+-- one
 abbrev pub edge_landing_of : Edge → ℕ → List Unsynced → List Landed
 edge_landing_of edge place [] = []
 edge_landing_of edge place (unsynced ∷ sectors) =
-    record { sector = unsynced.sector; content = if lands edge place then unsynced.contents else 0 } ∷ edge_landing_of edge (suc place) sectors
+    record { sector = unsynced.sector; content = if lands edge place then unsynced.contents else 0 }
+    ∷ edge_landing_of edge (suc place) sectors
 
 -- each alone and each alone missing, below this place
 abbrev pub edges_below : List Unsynced → ℕ → List (List Landed)
 edges_below sectors zero = []
 edges_below sectors (suc place) =
-    edges_below sectors place ++ edge_landing_of (Only place) 0 sectors ∷ edge_landing_of (AllBut place) 0 sectors ∷ []
+    edges_below sectors place ++ edge_landing_of (Only place) 0 sectors
+    ∷ edge_landing_of (AllBut place) 0 sectors ∷ []
 
 -- none, all, each alone and each alone missing
 abbrev pub edge_landings_of : List Unsynced → List (List Landed)
 edge_landings_of sectors =
-    edge_landing_of Nothing 0 sectors ∷ edge_landing_of Everything 0 sectors ∷ edges_below sectors (length sectors)
+    edge_landing_of Nothing 0 sectors ∷ edge_landing_of Everything 0 sectors
+    ∷ edges_below sectors (length sectors)

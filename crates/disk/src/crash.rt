@@ -32,8 +32,8 @@ enum Fate {
     Nothing,
 }
 
-/// A [`MemDevice`] that stops at a stated step: from that call on each write and each sync, and each
-/// read after it, answers `Fault`, and counts it.
+/// A [`MemDevice`] that stops at a stated step: from that call on each write and each sync, and
+/// each read after it, answers `Fault`, and counts it.
 #[derive(Drop)]
 pub struct CrashDevice {
     device: MemDevice,
@@ -100,8 +100,8 @@ impl CrashDevice {
         Ok(sectors)
     }
 
-    /// The device as it is found if the power goes now and this lands, all of it fixed. Refuses only
-    /// for want of memory.
+    /// The device as it is found if the power goes now and this lands, all of it fixed. Refuses
+    /// only for want of memory.
     ///
     /// The list chooses the content of each unsynced sector by its number; its first entry for a
     /// sector counts. A sector that it does not name, or of which there is no such content, has the

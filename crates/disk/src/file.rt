@@ -23,8 +23,9 @@ use std::rt::Files;
 /// It gathers what is written to neighbouring sectors, and hands it to the file in one write:
 /// before a sector that is no neighbour is written, and in a sync. Until then a crash loses it, as
 /// it may lose all that was written since a sync, and a device that is dropped drops it. A read
-/// gives what was gathered. Where the file fails to take it, it stays gathered: the call that failed
-/// did nothing, what was written before is read as before, and the next hand-over offers it again.
+/// gives what was gathered. Where the file fails to take it, it stays gathered: the call that
+/// failed did nothing, what was written before is read as before, and the next hand-over offers it
+/// again.
 #[derive(Drop)]
 pub struct FileDevice {
     file: File,

@@ -1,4 +1,5 @@
--- What a run sector says, whatever its bytes. How many of its runs are used it does not tell: the node does.
+-- What a run sector says, whatever its bytes. How many of its runs are used it does not tell: the
+-- node does.
 use Rattle.std.specs.Prelude.{◌≡◌, ℕ, List, length, drop}
 use Rattle.std.specs.List.{AllByRecursion}
 use Rattle.std.specs.Int.{w16, w32, from_be_bytes}
@@ -19,4 +20,5 @@ unfoldable pub runs_in : (count : ℕ) → List ℕ → List Run
 runs_in count sector = records_at_front run_in 8 count (drop 96 sector)
 
 abbrev pub RunsReadBack : Type 0
-RunsReadBack = (runs : List Run) → AllByRecursion IsRun runs → runs_in (length runs) (run_sector runs) ≡ runs
+RunsReadBack =
+    (runs : List Run) → AllByRecursion IsRun runs → runs_in (length runs) (run_sector runs) ≡ runs

@@ -1,5 +1,6 @@
--- The blocks of a node: a list with one place a block, which holds the block's sector, or nothing where the block is a hole. On
--- disk the blocks that are set stand as runs: so many blocks from one on, in as many sectors from one on.
+-- The blocks of a node: a list with one place a block, which holds the block's sector, or nothing
+-- where the block is a hole. On disk the blocks that are set stand as runs: so many blocks from one
+-- on, in as many sectors from one on.
 use Rattle.std.specs.Prelude.{◌≡◌, ◌<◌, ◌≤◌, ◌+◌, ◌-◌, ◌^◌, ◌&&◌, ◌++◌, ℕ, Bool, List, [], ◌∷◌, Option, Some, None, nat_lt, nat_le, if◌then◌else◌, length, replicate, slice_index_or}
 use Rattle.extents.specs.declared.run.Run.{Run}
 
@@ -14,14 +15,16 @@ is_in run block = nat_le run.block block && nat_lt block (run.block + run.length
 -- where runs put a block
 abbrev pub sector_by : List Run → ℕ → Option ℕ
 sector_by [] block = None
-sector_by (run ∷ runs) block = if is_in run block then Some (run.sector + (block - run.block)) else sector_by runs block
+sector_by (run ∷ runs) block =
+    if is_in run block then Some (run.sector + (block - run.block)) else sector_by runs block
 
--- the runs rise from block `from` on, none is empty, none begins before the end of the one in front of it, none passes the last
--- of `count` blocks, and none passes the last number of a sector
+-- the runs rise from block `from` on, none is empty, none begins before the end of the one in front
+-- of it, none passes the last of `count` blocks, and none passes the last number of a sector
 abbrev pub AreRising : (from count : ℕ) → List Run → Type 0
 AreRising from count [] = Unit {0}
 AreRising from count (run ∷ runs) =
-    (from ≤ run.block) × (0 < run.length) × (run.block + run.length ≤ count) × (run.sector + run.length ≤ 2 ^ 32)
+    (from ≤ run.block) × (0 < run.length) × (run.block + run.length ≤ count)
+    × (run.sector + run.length ≤ 2 ^ 32)
     × AreRising (run.block + run.length) count runs
 
 -- these are runs of these blocks
@@ -29,7 +32,8 @@ pub record AreRunsOf (runs : List Run) (blocks : List (Option ℕ)) : Type 0 whe
   pub rising : AreRising 0 (length blocks) runs
   pub same : (block : ℕ) → slice_index_or blocks block None ≡ sector_by runs block
 
--- two runs that could be one: the second begins after the last block of the first, and in the sector after its last one
+-- two runs that could be one: the second begins after the last block of the first, and in the
+-- sector after its last one
 abbrev pub CanJoin : Run → Run → Type 0
 CanJoin run next = (next.block ≡ run.block + run.length) × (next.sector ≡ run.sector + run.length)
 
@@ -48,4 +52,8 @@ pub record IsRunAt (blocks : List (Option ℕ)) (start first count : ℕ) : Type
 
 -- the blocks that a run has, where they had none
 abbrev pub IsLaidBehind : List (Option ℕ) → Run → List (Option ℕ) → Type 0
-IsLaidBehind old run new = (block : ℕ) → slice_index_or new block None ≡ (if nat_lt block (length old) then slice_index_or old block None else sector_by (run ∷ []) block)
+IsLaidBehind old run new =
+    (block : ℕ) → slice_index_or new block None
+    ≡ (if nat_lt block (length old)
+    then slice_index_or old block None
+    else sector_by (run ∷ []) block)

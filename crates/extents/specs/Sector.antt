@@ -1,11 +1,13 @@
--- A run sector: `RUNS`, 92 zero bytes, and up to 500 runs of 8 bytes, of which those that are not used are zero.
+-- A run sector: `RUNS`, 92 zero bytes, and up to 500 runs of 8 bytes, of which those that are not
+-- used are zero.
 use Rattle.std.specs.Prelude.{◌<◌, ◌≤◌, ◌-◌, ◌*◌, ◌^◌, ◌++◌, ℕ, List, length, replicate, codes}
 use Rattle.std.specs.List.{flat_map, AllByRecursion}
 use Rattle.std.specs.Int.{w16, w32, to_be_bytes}
 use Rattle.extents.specs.declared.run.Run.{Run}
 
 abbrev pub run_bytes : Run → List ℕ
-run_bytes run = to_be_bytes w16 run.block ++ to_be_bytes w16 run.length ++ to_be_bytes w32 run.sector
+run_bytes run =
+    to_be_bytes w16 run.block ++ to_be_bytes w16 run.length ++ to_be_bytes w32 run.sector
 
 abbrev pub header : List ℕ
 header = codes "RUNS" ++ replicate 92 0

@@ -1,4 +1,5 @@
--- What a `Bitmap` keeps: the bytes of the two sectors, how many of their bits are places, and where to look for a free one.
+-- What a `Bitmap` keeps: the bytes of the two sectors, how many of their bits are places, and where
+-- to look for a free one.
 use Rattle.std.specs.Prelude.{◌≡◌, ◌≢◌, ◌<◌, ◌≤◌, ℕ, Bool, not, List, length, count_by}
 use Rattle.freemap.specs.Places.{bit_of, places_in}
 

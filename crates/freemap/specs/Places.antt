@@ -1,5 +1,5 @@
--- A set of places as the two bitmap sectors of a volume show it: bit i of the two is byte i / 8, the most significant
--- bit first, and is 1 where place i is used.
+-- A set of places as the two bitmap sectors of a volume show it: bit i of the two is byte i / 8,
+-- the most significant bit first, and is 1 where place i is used.
 use Rattle.std.specs.Prelude.{◌≡◌, ◌<◌, ◌≤◌, ◌+◌, ◌-◌, ◌/◌, ◌%◌, ◌^◌, ◌↔◌, ℕ, zero, suc, Bool, true, false, List, length, map, slice_index, slice_index_or, nat_lt, if◌then◌else◌}
 use Rattle.std.specs.List.{range_with_len}
 
@@ -49,8 +49,12 @@ IsBytes bytes = (i : ℕ) → slice_index bytes i < 256
 
 -- two sectors show one set at most
 abbrev pub OneSet : Type 0
-OneSet = (low high : List ℕ) (count : ℕ) (a b : List Bool) → count ≤ 65536 → Show low high count a → Show low high count b → a ≡ b
+OneSet =
+    (low high : List ℕ) (count : ℕ) (a b : List Bool) → count ≤ 65536 → Show low high count a
+    → Show low high count b → a ≡ b
 
 -- a set has one spelling in a sector
 abbrev pub OneSpelling : Type 0
-OneSpelling = (places : List Bool) (first : ℕ) (a b : List ℕ) → IsBytes a → IsBytes b → Shows a places first → Shows b places first → a ≡ b
+OneSpelling =
+    (places : List Bool) (first : ℕ) (a b : List ℕ) → IsBytes a → IsBytes b → Shows a places first
+    → Shows b places first → a ≡ b

@@ -9,7 +9,8 @@ use crate::sectors::{self, SECTOR_BYTES, SECTOR_PLACES};
 use std::alloc::{AllocError, Global};
 use std::marker::Model;
 
-/// Which places are used: the two bitmap sectors as they lie on the device, end to end, and where to look for a free place.
+/// Which places are used: the two bitmap sectors as they lie on the device, end to end, and where
+/// to look for a free place.
 ///
 /// Contracts see a list of booleans, true where the place is used.
 #[derive(Debug, Drop)]
@@ -54,7 +55,8 @@ impl Bitmap {
     /// The set of `count` places that the two bitmap sectors show, the lower places in the first.
     ///
     /// # Errors
-    /// `PastEnd` exactly where the sectors show no set of so many places: a bit past the last place is set.
+    /// `PastEnd` exactly where the sectors show no set of so many places: a bit past the last place
+    /// is set.
     pub fn from_sectors(
         alloc: Global,
         count: u32,

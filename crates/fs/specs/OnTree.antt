@@ -17,7 +17,8 @@ use Rattle.model.specs.Refusal.{Refusals}
 use Rattle.model.specs.Step.{State, Stepped, current, answered, refused, moved_to, does}
 use Rattle.model.specs.Tree.{Tree, is_directory_at, names_at, entry_of}
 
--- a COMPOUND's state over this tree, by this caller, with the node of this number as the current one
+-- a COMPOUND's state over this tree, by this caller, with the node of this number as the current
+-- one
 pub record IsState (tree : Tree) (cred : Cred) (number : ℕ) (state : State) : Type 0 where
   pub tree_is : state.tree ≡ tree
   pub cred_is : state.context.cred ≡ cred
@@ -29,18 +30,22 @@ looked_up state name (Ok number) = answered (moved_to state number) Answer.Looku
 looked_up state name (Err reason) = refused state (Argument.Lookup name) reason
 
 -- the result is LOOKUP's, in each such state
-abbrev pub LooksUpIn : Limits → Tree → Cred → (number : ℕ) → (name : List ℕ) → Result ℕ Status → Type 0
-LooksUpIn limits tree cred number name result = (state : State) (now : ℕ) → IsState tree cred number state
+abbrev pub LooksUpIn : Limits → Tree → Cred → (number : ℕ) → (name : List ℕ) → Result ℕ Status
+    → Type 0
+LooksUpIn limits tree cred number name result =
+    (state : State) (now : ℕ) → IsState tree cred number state
     → does limits state now (Argument.Lookup name) ≡ looked_up state name result
 
 -- CREATE of a directory
 
 -- its tests after that of a current filehandle, and before those of room and of stamps
-abbrev pub new_directory_refusals : Limits → Tree → Cred → (number : ℕ) → (name : List ℕ) → Attributes → Refusals
+abbrev pub new_directory_refusals : Limits → Tree → Cred → (number : ℕ) → (name : List ℕ)
+    → Attributes → Refusals
 new_directory_refusals limits tree cred number name given =
     (not (is_key number tree), status.Stale)
     ∷ (not (is_directory_at tree number), status.NotDir)
-    ∷ ((name_refusals limits name ++ attribute_refusals limits kind.Directory settable_at_creation given)
+    ∷ ((name_refusals limits name
+    ++ attribute_refusals limits kind.Directory settable_at_creation given)
     ++ ((not (granted_on (at number tree) cred append_data), status.Access)
     ∷ (is_some (entry_of name (names_at tree number)), status.Exist)
     ∷ []))

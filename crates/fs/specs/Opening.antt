@@ -56,7 +56,8 @@ pub record IsOpening (fs : FileSystem) (state : State) (asked : Opening) (is_ful
       is_table_full fs.volume.limits.opens state.opens (asked_open state arguments) ≡ is_full
 
 -- and those that a call by the filehandle is made for, which may not create a file
-pub record IsOpeningCurrent (fs : FileSystem) (state : State) (share : Share) (is_create is_full : Bool)
+pub record IsOpeningCurrent (fs : FileSystem) (state : State) (share : Share)
+    (is_create is_full : Bool)
     (arguments : OpenArguments) : Type 0 where
   pub access_is : arguments.access ≡ share.access
   pub deny_is : arguments.deny ≡ share.deny
@@ -105,7 +106,9 @@ OpensFile keeps_word old new state now asked arguments (Err reason) =
 -- what a call by a name does to its file, where nothing refuses it
 abbrev pub effect_of : Tree → (directory : ℕ) → (name : List ℕ) → OpenType → OpenEffect
 effect_of tree directory name of =
-    if is_named tree directory name then (if cuts of then effect.Cut else effect.Nothing) else effect.Made
+    if is_named tree directory name
+    then (if cuts of then effect.Cut else effect.Nothing)
+    else effect.Made
 
 -- whether the reply has room for what it answers
 abbrev pub has_room_for : OpenRoom → OpenEffect → Bool
@@ -146,7 +149,8 @@ current_opened number = record {
 
 abbrev pub OpensCurrent : FileSystem → State → (now number : ℕ) → OpenArguments
     → Result (Unit {0}) FsFault → Type 0
-OpensCurrent fs state now number arguments (Ok done) = does_on fs state now (Argument.Open arguments)
+OpensCurrent fs state now number arguments (Ok done) =
+    does_on fs state now (Argument.Open arguments)
     ≡ after_open fs.volume.tree fs.changes state arguments NoCreate (current_opened number)
 OpensCurrent fs state now number arguments (Err reason) =
     IsRefused fs state now (Argument.Open arguments) reason

@@ -1,5 +1,6 @@
 -- What a call on a file system says of an operation.
-use Rattle.std.specs.Prelude.{ℕ, Bool, true, List, Option, Some, None, Result, Ok, Err, ◌≡◌}
+use Rattle.std.specs.Prelude.{ℕ, Bool, true, List, Option, Some, None, Result, Ok, Err, ◌≡◌, ◌+◌}
+use Rattle.edits.specs.declared.edit.Edit.{Edit}
 use Rattle.model.specs.declared.acl.Cred.{Cred}
 use Rattle.model.specs.declared.status.Status.{Status}
 use Rattle.model.specs.Answer.{Answer}
@@ -15,6 +16,7 @@ use Rattle.fs.specs.declared.fault.FsFault.{FsFault}
 use Rattle.fs.specs.declared.fault.FsFault.TheVariants as fault
 use Rattle.fs.specs.declared.created.Created.{Created}
 use Rattle.fs.specs.FileSystem.{FileSystem}
+use Rattle.volume.specs.Edits.{edited_by}
 
 -- a COMPOUND's state on this file system, by this caller, with the node of this number as the
 -- current one
@@ -108,6 +110,12 @@ created tree changes state given made = answered
       change = record { is_atomic = true; before = made.before; after = made.number };
       was_set = trimmed given.bitmap;
     }))
+
+-- it comes to these edits, before they are made
+abbrev pub MakesDirBy : FileSystem → State → (now : ℕ) → (name : List ℕ) → Attributes → List Edit
+    → Created → Type 0
+MakesDirBy fs state now name given edits made = does_on fs state now (new_directory name given)
+    ≡ created (edited_by fs.volume edits) (fs.changes + 1) state given made
 
 -- where the device keeps its word it is made as the definition makes it
 abbrev pub MakesDir : (keeps_word : Type 0) → (old new : FileSystem) → State → (now : ℕ)

@@ -20,7 +20,8 @@ abbrev pub part_at : FileSystem → (number offset count : ℕ) → List ℕ
 part_at fs number offset count = take (min count fs.volume.limits.transfer_bytes)
     (drop offset (bytes_at fs.volume.tree number))
 
--- a call that was not done: refused as the definition refuses it, or failed where nothing refuses it
+-- a call that was not done: refused as the definition refuses it, or failed where nothing refuses
+-- it
 abbrev pub IsNotRead : FileSystem → State → (now : ℕ) → Argument → FsFault → Type 0
 IsNotRead fs state now operation (fault.Status reason) =
     does_on fs state now operation ≡ refused state operation reason

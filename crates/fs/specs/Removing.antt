@@ -1,6 +1,7 @@
 -- REMOVE.
-use Rattle.std.specs.Prelude.{ℕ, Bool, true, List, [], ◌∷◌, ◌++◌, Result, Ok, Err, not, ◌≡◌}
+use Rattle.std.specs.Prelude.{ℕ, Bool, true, List, [], ◌∷◌, ◌++◌, ◌+◌, Result, Ok, Err, not, ◌≡◌}
 use Rattle.std.specs.List.{list_any}
+use Rattle.edits.specs.declared.edit.Edit.{Edit}
 use Rattle.model.specs.declared.acl.Cred.{Cred}
 use Rattle.model.specs.declared.limits.Limits.{Limits}
 use Rattle.model.specs.declared.status.Status.TheVariants as status
@@ -19,6 +20,7 @@ use Rattle.fs.specs.declared.fault.FsFault.{FsFault}
 use Rattle.fs.specs.declared.removing.Removed.{Removed}
 use Rattle.fs.specs.FileSystem.{FileSystem}
 use Rattle.fs.specs.Operations.{does_on, IsNotDone}
+use Rattle.volume.specs.Edits.{edited_by}
 
 -- the tree and the count of changes after it, and the node that is gone has no opens
 abbrev pub removed : Tree → (changes : ℕ) → State → Removed → Stepped
@@ -30,6 +32,12 @@ removed tree changes state made = answered
       context = state.context;
     })
     (Answer.Remove (record { is_atomic = true; before = made.before; after = made.after }))
+
+-- it comes to these edits, before they are made
+abbrev pub RemovesBy : FileSystem → State → (now : ℕ) → (name : List ℕ) → List Edit → Removed
+    → Type 0
+RemovesBy fs state now name edits made = does_on fs state now (Argument.Remove name)
+    ≡ removed (edited_by fs.volume edits) (fs.changes + 1) state made
 
 -- where the device keeps its word it is removed as the definition removes it
 abbrev pub Removes : (keeps_word : Type 0) → (old new : FileSystem) → State → (now : ℕ)

@@ -1,6 +1,6 @@
 -- RENAME.
 use Rattle.std.specs.Prelude.{ℕ, Bool, true, false, List, Option, Some, None, Result, Ok, Err}
-use Rattle.std.specs.Prelude.{◌+◌, ◌==◌, ◌&&◌, ◌≡◌, bytes_eq, option_map, IsTrue, if◌then◌else◌}
+use Rattle.std.specs.Prelude.{MatchOption, ◌+◌, ◌==◌, ◌&&◌, ◌≡◌, bytes_eq, option_map, IsTrue, if◌then◌else◌}
 use Rattle.edits.specs.declared.edit.Edit.{Edit}
 use Rattle.model.specs.declared.acl.Cred.{Cred}
 use Rattle.model.specs.Answer.{Answer}
@@ -12,6 +12,7 @@ use Rattle.model.specs.StateIds.{without_number}
 use Rattle.model.specs.Tree.{Tree, DirEntry, entry_of, names_at}
 use Rattle.fs.specs.declared.fault.FsFault.{FsFault}
 use Rattle.fs.specs.declared.renaming.Change.{Change}
+use Rattle.fs.specs.declared.renaming.Planned.{Planned}
 use Rattle.fs.specs.declared.renaming.Renamed.{Renamed}
 use Rattle.fs.specs.declared.renaming.Renaming.{Renaming}
 use Rattle.fs.specs.FileSystem.{FileSystem}
@@ -97,3 +98,9 @@ StaysNamed fs state now arguments made = does_on fs state now (Argument.Rename a
 abbrev pub IsMoved : FileSystem → State → (now : ℕ) → RenameArguments → List Edit → Renamed → Type 0
 IsMoved fs state now arguments edits made = does_on fs state now (Argument.Rename arguments)
     ≡ renamed (edited_by fs.volume edits) (fs.changes + 1) state arguments made
+
+-- a rename that passed its tests comes to its edits, or to none
+abbrev pub RenamesAsPlanned : FileSystem → State → (now : ℕ) → RenameArguments → Planned → Type 0
+RenamesAsPlanned fs state now arguments planned = MatchOption planned.edits
+    (StaysNamed fs state now arguments planned.renamed)
+    (λ edits. IsMoved fs state now arguments edits.items planned.renamed)

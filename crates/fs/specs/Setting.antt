@@ -1,6 +1,7 @@
 -- SETATTR, as calls on a file system.
 use Rattle.std.specs.Prelude.{ℕ, Bool, true, false, List, [], ◌∷◌, ◌++◌, Option, Some, None, Result, Ok, Err}
-use Rattle.std.specs.Prelude.{◌+◌, ◌&&◌, ◌||◌, ◌≡◌, not, is_some, unwrap_or, if◌then◌else◌}
+use Rattle.std.specs.Prelude.{MatchOption, ◌+◌, ◌&&◌, ◌||◌, ◌≡◌, not, is_some, unwrap_or, if◌then◌else◌}
+use Rattle.std.specs.Global.{Vec}
 use Rattle.edits.specs.declared.edit.Edit.{Edit}
 use Rattle.edits.specs.declared.edit.Edit.TheVariants as edit
 use Rattle.inode.specs.Fields.{Fields}
@@ -71,6 +72,13 @@ StaysSet fs state now arguments = does_on fs state now (Argument.SetAttr argumen
 abbrev pub IsSet : FileSystem → State → (now : ℕ) → SetAttrArguments → List Edit → Type 0
 IsSet fs state now arguments edits = does_on fs state now (Argument.SetAttr arguments)
     ≡ after_setting (edited_by fs.volume edits) (fs.changes + 1) state arguments
+
+-- a SETATTR that passed its tests comes to its edits, or to none
+abbrev pub SetsAsPlanned : FileSystem → State → (now : ℕ) → SetAttrArguments → Option (Vec Edit)
+    → Type 0
+SetsAsPlanned fs state now arguments planned = MatchOption planned
+    (StaysSet fs state now arguments)
+    (λ edits. IsSet fs state now arguments edits.items)
 
 -- Its tests, after that of a current filehandle
 

@@ -1,5 +1,5 @@
 -- WRITE and COMMIT, as calls on a file system.
-use Rattle.std.specs.Prelude.{◌≡◌, ℕ, Bool, true, List, Result, Ok, Err, ◌==◌, not, take}
+use Rattle.std.specs.Prelude.{◌≡◌, ◌+◌, ℕ, Bool, true, List, Result, Ok, Err, ◌==◌, not, take}
 use Rattle.edits.specs.declared.edit.Edit.{Edit}
 use Rattle.model.specs.declared.acl.Cred.{Cred}
 use Rattle.model.specs.declared.status.Status.{Status}
@@ -52,6 +52,12 @@ Writes keeps_word old new state now arguments (Ok count) = keeps_word
     ≡ after_write new.volume.tree new.changes state arguments count
 Writes keeps_word old new state now arguments (Err reason) =
     IsNotDone old state now (Argument.Write arguments) reason
+
+-- it comes to these edits, before they are made
+abbrev pub WritesBy : FileSystem → State → (now : ℕ) → WriteArguments → (count : ℕ) → List Edit
+    → Type 0
+WritesBy fs state now arguments count edits = does_on fs state now (Argument.Write arguments)
+    ≡ after_write (edited_by fs.volume edits) (fs.changes + 1) state arguments count
 
 -- whether what an operation does has to last, by the definition
 abbrev pub is_lasting : FileSystem → State → (now : ℕ) → Argument → Bool

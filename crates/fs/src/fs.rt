@@ -31,8 +31,8 @@ impl<D: Device> Fs<D> {
     ///
     /// # Errors
     ///
-    /// Size where no volume has this many sectors and nodes, and Memory: nothing was written. Device
-    /// where the device failed.
+    /// Size where no volume has this many sectors and nodes, and Memory: nothing was written.
+    /// Device where the device failed.
     pub fn format(alloc: Global, device: &mut D, nodes: u32) -> Result<(), FormatFault>
         ensures { Formats D.keeps_word D.size D.failed D.history nodes
             device.old device.new result }
@@ -63,12 +63,13 @@ impl<D: Device> Fs<D> {
         })
     }
 
-    /// Whether a tree stands on the volume of a device, which nothing is written to: `volume::check`.
+    /// Whether a tree stands on the volume of a device, which nothing is written to:
+    /// `volume::check`.
     ///
     /// # Errors
     ///
-    /// NotVolume, by the first sector, as a mount; then Damaged exactly where no tree stands; Device
-    /// where the device failed, and Memory; never Worn.
+    /// NotVolume, by the first sector, as a mount; then Damaged exactly where no tree stands;
+    /// Device where the device failed, and Memory; never Worn.
     pub fn check(alloc: Global, device: &mut D) -> Result<Checked, MountFault>
         ensures { Checks D.keeps_word D.size D.failed D.history
             device.old device.new result }

@@ -1,5 +1,5 @@
-//! A file system on a volume: the operations of a COMPOUND on its tree, which survives a stop at any
-//! moment.
+//! A file system on a volume: the operations of a COMPOUND on its tree, which survives a stop at
+//! any moment.
 #![tactic(auto)]
 
 mod access;

@@ -48,8 +48,8 @@ fn asks_lists(asked: &[u32]) -> bool
     is_asked(asked, Attribute::Acl.number())
 }
 
-/// Whether the list of each entry has to be readable: lists are asked, and it is not to be told of an
-/// entry that its list may not be read.
+/// Whether the list of each entry has to be readable: lists are asked, and it is not to be told of
+/// an entry that its list may not be read.
 fn must_read_lists(asked: &[u32]) -> bool
     ensures { result ≡ (asks_lists asked.now && not (asks_errors asked.now)) }
 {
@@ -83,15 +83,15 @@ impl<D: Device> Fs<D> {
     ghost use Rattle.settings.specs.Given.{IsChecked};
     ghost use Rattle.wire_attributes.specs.Listed.{EntryFits, ListedFits, entry_view, listed_view};
 
-    /// READDIR (RFC 8881, section 18.23): a page of a directory, as many entries after the cookie as
-    /// the result has room for. The entries borrow the names and the nodes.
+    /// READDIR (RFC 8881, section 18.23): a page of a directory, as many entries after the cookie
+    /// as the result has room for. The entries borrow the names and the nodes.
     ///
     /// # Errors
     ///
-    /// Refused by the first of these that holds: STALE, NOTDIR, ACCESS without the right to list the
-    /// directory, NOT_SAME where a cookie comes with a verifier that is not 0, ACCESS where lists are
-    /// asked without rdattr_error and that of an entry after the cookie may not be read, and
-    /// TOOSMALL where there is no room for the first entry, or for a page of none.
+    /// Refused by the first of these that holds: STALE, NOTDIR, ACCESS without the right to list
+    /// the directory, NOT_SAME where a cookie comes with a verifier that is not 0, ACCESS where
+    /// lists are asked without rdattr_error and that of an entry after the cookie may not be read,
+    /// and TOOSMALL where there is no room for the first entry, or for a page of none.
     pub fn list<'a>(&'a self, cred: &Cred, listing: Listing<'a>) -> Result<Page<'a>, FsFault>
         ensures step { (state : State) (now dir_count : ℕ)
             → IsOn (fs_of self.entry.now) cred.now listing.entry.directory state
@@ -177,9 +177,10 @@ impl<D: Device> Fs<D> {
         room: usize,
     ) -> Result<Page<'a>, AllocError>
         requires { AllByRecursion IsRecord (rest_of names) }
-        ensures page { IfOk result (λ page. page_view page ≡ page_of room
-            (map (listed_entry (fs_of self.entry.now).volume.limits (fs_of self.entry.now).volume.tree
-            cred.now asked.entry.now) (rest_of names.entry))) }
+        ensures page { IfOk result (λ page. page_view page ≡ page_of room (map
+            (listed_entry (fs_of self.entry.now).volume.limits
+            (fs_of self.entry.now).volume.tree cred.now asked.entry.now)
+            (rest_of names.entry))) }
         ensures fits { IfOk result PageFits }
     {
         let mut room = room;

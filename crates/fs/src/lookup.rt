@@ -17,8 +17,8 @@ impl<D: Device> Fs<D> {
     ghost use Rattle.fs.specs.Views.{fs_of};
     ghost use Rattle.fs.specs.Operations.{IsOn, LooksUp};
 
-    /// LOOKUP (RFC 8881, section 18.13) in the directory of this number: the number of the node that
-    /// the name leads to.
+    /// LOOKUP (RFC 8881, section 18.13) in the directory of this number: the number of the node
+    /// that the name leads to.
     pub fn lookup(&self, cred: &Cred, directory: u64, name: &[u8]) -> Result<u64, FsFault>
         ensures step { (state : State) (now : ℕ) → IsOn (fs_of self.now) cred.now directory state
             → LooksUp (fs_of self.now) state now name.now result }

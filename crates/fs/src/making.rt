@@ -38,7 +38,7 @@ struct Planned<'a> {
 
 #[tactic(auto, unfolding(crate::specs::Views::fs_of, crate::specs::Views::fs_failures))]
 impl<D: Device> Fs<D> {
-    ghost use Rattle.std.specs.Prelude.{◌≡◌, ◌≤◌, ◌+◌, ◌<◌, true, false, length, OnOk, IfOk, IfErr, IsErrOf};
+    ghost use Rattle.std.specs.Prelude.{◌≡◌, ◌≤◌, ◌<◌, true, false, length, OnOk, IfOk, IfErr, IsErrOf};
     ghost use Rattle.draft.specs.Nodes.{shown_of};
     ghost use Rattle.edits.specs.Edits.{AreEntries};
     ghost use Rattle.layout.specs.Known.{IsCard};
@@ -48,7 +48,7 @@ impl<D: Device> Fs<D> {
     ghost use Rattle.fs.specs.OnTree.{new_directory_refusals};
     ghost use Rattle.fs.specs.Changes.{fs_ending};
     ghost use Rattle.fs.specs.Views.{fs_of, Alters};
-    ghost use Rattle.fs.specs.Operations.{IsOn, MakesDir, MakesTree, IsNotDone, created, does_on, new_directory};
+    ghost use Rattle.fs.specs.Operations.{IsOn, MakesDir, MakesDirBy, MakesTree, IsNotDone, new_directory};
     ghost use Rattle.fs.specs.Making.{IsDirectoryOf, IsSizeOf, MayBeMade, first_node, room_tests};
     ghost use Rattle.fs.specs.Making.{tree_with};
     ghost use Rattle.fs.specs.Planned.{IsList, IsPlanned, child_shown, list_by};
@@ -56,16 +56,16 @@ impl<D: Device> Fs<D> {
     ghost use Rattle.volume.specs.Edits.{edited_by};
     ghost use Rattle.volume.specs.Nodes.{IsNodeOf};
 
-    /// CREATE of a directory (RFC 8881, section 18.4), by this caller at this moment, in nanoseconds
-    /// since 1970. It is kept on the device before the answer; `has_room` says whether the reply has
-    /// room for that.
+    /// CREATE of a directory (RFC 8881, section 18.4), by this caller at this moment, in
+    /// nanoseconds since 1970. It is kept on the device before the answer; `has_room` says whether
+    /// the reply has room for that.
     ///
     /// # Errors
     ///
-    /// Refused by the first of these that holds: STALE, NOTDIR, a name that is none, attributes that
-    /// may not be set, ACCESS without the right to add a directory, EXIST, NOSPC, and SERVERFAULT
-    /// where the run has used up its stamps; then `NoRoom`. Memory may run out before or after any
-    /// of them.
+    /// Refused by the first of these that holds: STALE, NOTDIR, a name that is none, attributes
+    /// that may not be set, ACCESS without the right to add a directory, EXIST, NOSPC, and
+    /// SERVERFAULT where the run has used up its stamps; then `NoRoom`. Memory may run out before
+    /// or after any of them.
     pub fn make_dir(
         &mut self,
         cred: &Cred,
@@ -110,11 +110,8 @@ impl<D: Device> Fs<D> {
         ensures planned { IfOk result (λ planned.
             IsPlanned (fs_of self.now) planned.edits.items) }
         ensures step { (state : State) → IsOn (fs_of self.now) cred.now asked.entry.parent state
-            → IfOk result (λ planned. does_on (fs_of self.now) state now
-            (new_directory asked.entry.name.now (given_of asked.entry.attributes))
-            ≡ created (edited_by (fs_of self.now).volume planned.edits.items)
-            ((fs_of self.now).changes + 1) state
-            (given_of asked.entry.attributes) planned.created) }
+            → IfOk result (λ planned. MakesDirBy (fs_of self.now) state now asked.entry.name.now
+            (given_of asked.entry.attributes) planned.edits.items planned.created) }
         // Refused
         ensures refused { (state : State) → IsOn (fs_of self.now) cred.now asked.entry.parent state
             → IfErr result (λ refusal. IsNotDone (fs_of self.now) state now
@@ -142,8 +139,8 @@ impl<D: Device> Fs<D> {
         })
     }
 
-    /// The tests before those of room and stamps: the directory that is to hold the new one, and what
-    /// is set.
+    /// The tests before those of room and stamps: the directory that is to hold the new one, and
+    /// what is set.
     fn permit_dir(&self, cred: &Cred, asked: NewDirectory) -> Result<(&Card, Settings), NotDone>
         requires { length asked.attributes.bitmap.now ≤ 8 }
         // Its tests, in their order
@@ -184,8 +181,8 @@ impl<D: Device> Fs<D> {
         Ok((parent, settings))
     }
 
-    /// The change that makes a node below a directory, where the tree has room for it and a stamp is
-    /// left. NOSPC, SERVERFAULT.
+    /// The change that makes a node below a directory, where the tree has room for it and a stamp
+    /// is left. NOSPC, SERVERFAULT.
     pub(crate) fn plan_node<'a>(
         &self,
         parent: &Card,

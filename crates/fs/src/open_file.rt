@@ -52,19 +52,19 @@ impl<D: Device> Fs<D> {
 
     /// OPEN of a file by its name (RFC 8881, section 18.16, `CLAIM_NULL`), by this caller at this
     /// moment, in nanoseconds since 1970. A file that it makes or cuts is kept on the device before
-    /// the answer; anything else changes nothing but the table of opens. `is_full` says whether that
-    /// has no room for it, `room` whether the reply has room.
+    /// the answer; anything else changes nothing but the table of opens. `is_full` says whether
+    /// that has no room for it, `room` whether the reply has room.
     ///
     /// # Errors
     ///
     /// Refused by the first of these that holds: STALE; INVAL for an access that there is not,
-    /// SHAREDENIED, INVAL for a denial that there is not; NOTDIR, a name that is none, ACCESS without
-    /// the right to look it up. Of a name that is there: EXIST where it may not be, else ISDIR; of one
-    /// that is not, NOENT where it has to be. Then attributes that may not be set, where some are
-    /// given; ACCESS without the rights to read or to write the file, as it asks and as a cut does, or
-    /// to add a file; DELAY where the table is full; and of a file that is made or cut NOSPC, and
-    /// SERVERFAULT where the run has used up its stamps. Then `NoRoom`. Memory may run out before or
-    /// after any of them.
+    /// SHAREDENIED, INVAL for a denial that there is not; NOTDIR, a name that is none, ACCESS
+    /// without the right to look it up. Of a name that is there: EXIST where it may not be, else
+    /// ISDIR; of one that is not, NOENT where it has to be. Then attributes that may not be set,
+    /// where some are given; ACCESS without the rights to read or to write the file, as it asks and
+    /// as a cut does, or to add a file; DELAY where the table is full; and of a file that is made
+    /// or cut NOSPC, and SERVERFAULT where the run has used up its stamps. Then `NoRoom`. Memory
+    /// may run out before or after any of them.
     pub fn open_file(
         &mut self,
         cred: &Cred,

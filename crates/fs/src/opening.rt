@@ -27,8 +27,8 @@ const WRITE: u32 = 2;
 pub enum How<'a> {
     /// It has to be there.
     NoCreate,
-    /// Where it is not there it is made with these attributes; where it is, it is cut if they give the
-    /// size 0.
+    /// Where it is not there it is made with these attributes; where it is, it is cut if they give
+    /// the size 0.
     Unchecked(GivenAttributes<'a>),
     /// It may not be there, and is made with these attributes.
     Guarded(GivenAttributes<'a>),
@@ -61,8 +61,8 @@ pub enum OpenEffect {
     Made,
 }
 
-/// Whether the reply has room for the result of an OPEN by a name, which tells the attributes that were
-/// set: by what it does to its file.
+/// Whether the reply has room for the result of an OPEN by a name, which tells the attributes that
+/// were set: by what it does to its file.
 #[derive(Clone, Copy, Debug)]
 pub struct OpenRoom {
     pub nothing: bool,
@@ -91,13 +91,13 @@ pub struct Opened {
     pub effect: OpenEffect,
 }
 
-/// The tests of a share reservation (RFC 8881, section 9.7): access to read, write or both, and nothing
-/// denied.
+/// The tests of a share reservation (RFC 8881, section 9.7): access to read, write or both, and
+/// nothing denied.
 ///
 /// # Errors
 ///
-/// `Inval` for another access, then `ShareDenied` to deny something, and `Inval` to deny what there is
-/// not.
+/// `Inval` for another access, then `ShareDenied` to deny something, and `Inval` to deny what there
+/// is not.
 pub(crate) fn check_share(share: Share) -> Result<(), Status>
     ensures { (arguments : OpenArguments) → arguments.access ≡ share.access
         → arguments.deny ≡ share.deny → IsChecked (share_refusals arguments) result }
@@ -138,10 +138,10 @@ impl<D: Device> Fs<D> {
     ghost use Rattle.fs.specs.Opening.{IsOpeningCurrent, OpensCurrent, handle_tests, type_of};
     ghost use Rattle.fs.specs.Operations.{IsOn};
 
-    /// The number of the file that an OPEN by a name opens where nothing refuses it, by which a caller
-    /// tells whether the table of opens has room: that which the name leads to, or that of the file
-    /// which is made. None only after the last change of the last run, whose stamp would have more
-    /// than 64 bits.
+    /// The number of the file that an OPEN by a name opens where nothing refuses it, by which a
+    /// caller tells whether the table of opens has room: that which the name leads to, or that of
+    /// the file which is made. None only after the last change of the last run, whose stamp would
+    /// have more than 64 bits.
     pub fn file_to_open(&self, asked: Opening<'_>) -> Option<u64>
         ensures { MatchOption result
             (2 ^ 64 ≤ next_stamp (fs_of self.now).volume.run (fs_of self.now).changes)
@@ -156,9 +156,9 @@ impl<D: Device> Fs<D> {
         }
     }
 
-    /// OPEN of the current file (RFC 8881, section 18.16, `CLAIM_FH`), which has this number, by this
-    /// caller: nothing changes but the table of opens. `is_create` says whether it may create a file,
-    /// and `is_full` whether the table has no room for it.
+    /// OPEN of the current file (RFC 8881, section 18.16, `CLAIM_FH`), which has this number, by
+    /// this caller: nothing changes but the table of opens. `is_create` says whether it may create
+    /// a file, and `is_full` whether the table has no room for it.
     ///
     /// # Errors
     ///

@@ -32,14 +32,15 @@ impl<D: Device> Fs<D> {
     ghost use Rattle.volume.specs.Reading.{HasFile};
 
     /// READ (RFC 8881, section 18.22) of the file of this number, by this caller: appends to `out`
-    /// `count` of its bytes from `offset` on, or as many as one READ gives, or as there are up to its
-    /// end. Answers whether the end was reached. `verdict` is that on the stateid, for an open with
-    /// read access.
+    /// `count` of its bytes from `offset` on, or as many as one READ gives, or as there are up to
+    /// its end. Answers whether the end was reached. `verdict` is that on the stateid, for an open
+    /// with read access.
     ///
     /// # Errors
     ///
-    /// Refused by the first of these that holds: STALE, ISDIR, the verdict's refusal, ACCESS without
-    /// the right to read. Memory and Device only where bytes were to be read. `out` is as it was.
+    /// Refused by the first of these that holds: STALE, ISDIR, the verdict's refusal, ACCESS
+    /// without the right to read. Memory and Device only where bytes were to be read. `out` is as
+    /// it was.
     pub fn read(
         &mut self,
         cred: &Cred,

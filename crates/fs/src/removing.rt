@@ -43,7 +43,7 @@ struct Planned<'a> {
 
 #[tactic(auto, unfolding(crate::specs::Views::fs_of, crate::specs::Views::fs_failures))]
 impl<D: Device> Fs<D> {
-    ghost use Rattle.std.specs.Prelude.{◌≡◌, ◌+◌, true, false, Some, OnOk, IfOk, IfErr, IsErrOf};
+    ghost use Rattle.std.specs.Prelude.{◌≡◌, true, false, Some, OnOk, IfOk, IfErr, IsErrOf};
     ghost use Rattle.directory.specs.Records.{record_from};
     ghost use Rattle.layout.specs.Known.{IsCard};
     ghost use Rattle.model.specs.Directory.{number_named};
@@ -53,11 +53,10 @@ impl<D: Device> Fs<D> {
     ghost use Rattle.settings.specs.Given.{IsChecked};
     ghost use Rattle.fs.specs.Changes.{fs_ending};
     ghost use Rattle.fs.specs.Views.{fs_of, Alters};
-    ghost use Rattle.fs.specs.Operations.{IsOn, MakesTree, IsNotDone, does_on};
+    ghost use Rattle.fs.specs.Operations.{IsOn, MakesTree, IsNotDone};
     ghost use Rattle.fs.specs.Planned.{IsPlanned};
     ghost use Rattle.fs.specs.Refusals.{fault_of};
-    ghost use Rattle.fs.specs.Removing.{Removes, removed, removal_refusals};
-    ghost use Rattle.volume.specs.Edits.{edited_by};
+    ghost use Rattle.fs.specs.Removing.{Removes, RemovesBy, removal_refusals};
     ghost use Rattle.volume.specs.Nodes.{IsNodeOf};
 
     /// REMOVE of a name in the directory of this number (RFC 8881, section 18.25), by this caller
@@ -116,10 +115,8 @@ impl<D: Device> Fs<D> {
         ensures gone { IfOk result (λ planned. planned.removed.number
             ≡ number_named (fs_of self.now).volume.tree directory name.now) }
         ensures step { (state : State) → IsOn (fs_of self.now) cred.now directory state
-            → IfOk result (λ planned.
-            does_on (fs_of self.now) state now (Argument.Remove name.now)
-            ≡ removed (edited_by (fs_of self.now).volume planned.edits.items)
-            ((fs_of self.now).changes + 1) state planned.removed) }
+            → IfOk result (λ planned. RemovesBy (fs_of self.now) state now name.now
+            planned.edits.items planned.removed) }
         // Refused
         ensures refused { (state : State) → IsOn (fs_of self.now) cred.now directory state
             → IfErr result (λ refusal. IsNotDone (fs_of self.now) state now

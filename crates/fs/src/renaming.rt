@@ -145,8 +145,8 @@ impl<D: Device> Fs<D> {
     ghost use Rattle.fs.specs.Operations.{IsNotDone};
     ghost use Rattle.fs.specs.Planned.{IsPlanned};
     ghost use Rattle.fs.specs.Refusals.{fault_of};
-    ghost use Rattle.fs.specs.Renaming.{IsOnBoth, Renames, RenamesTree, arguments_of, replaced_in};
-    ghost use Rattle.fs.specs.Renaming.{StaysNamed, IsMoved, is_itself, number_under};
+    ghost use Rattle.fs.specs.Renaming.{IsOnBoth, Renames, RenamesAsPlanned, RenamesTree, arguments_of, replaced_in};
+    ghost use Rattle.fs.specs.Renaming.{IsMoved, is_itself, number_under};
     ghost use Rattle.fs.specs.RenameTests.{HasMoved, IsTarget, directory_refusals};
     ghost use Rattle.fs.specs.RenameTests.{moving_refusals, placing_refusals};
     ghost use Rattle.fs.specs.RenameTests.{is_in_the_way, may_rename, may_replace};
@@ -219,10 +219,9 @@ impl<D: Device> Fs<D> {
             ≡ replaced_in (fs_of self.now).volume.tree asked.entry.from asked.entry.to
             (arguments_of asked.entry)) }
         ensures step { (state : State) → IsOnBoth (fs_of self.now) cred.now asked.entry.from
-            asked.entry.to state → IfOk result (λ planned. MatchOption planned.edits
-            (StaysNamed (fs_of self.now) state now (arguments_of asked.entry) planned.renamed)
-            (λ edits. IsMoved (fs_of self.now) state now (arguments_of asked.entry) edits.items
-            planned.renamed)) }
+            asked.entry.to state
+            → IfOk result (RenamesAsPlanned (fs_of self.now) state now
+            (arguments_of asked.entry)) }
         // Refused
         ensures refused { (state : State) → IsOnBoth (fs_of self.now) cred.now asked.entry.from
             asked.entry.to state → IfErr result (λ refusal. IsNotDone (fs_of self.now) state now

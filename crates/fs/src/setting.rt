@@ -81,23 +81,23 @@ impl<D: Device> Fs<D> {
     ghost use Rattle.fs.specs.Operations.{IsOn, IsNotDone};
     ghost use Rattle.fs.specs.Planned.{IsList, IsPlanned};
     ghost use Rattle.fs.specs.Refusals.{fault_of};
-    ghost use Rattle.fs.specs.Setting.{IsSet, IsSetting, SetsAttributes, SetsTree, StaysSet};
+    ghost use Rattle.fs.specs.Setting.{IsSetting, SetsAsPlanned, SetsAttributes, SetsTree};
     ghost use Rattle.fs.specs.Setting.{setting_tests, shown_with};
     ghost use Rattle.volume.specs.Nodes.{IsNodeOf};
 
     /// SETATTR (RFC 8881, section 18.30) of a node, by this caller at this moment, in nanoseconds
-    /// since 1970. It is kept on the device before the answer; `has_room` says whether the reply has
-    /// room for that. A list that is set stands, also where a mode is set beside it.
+    /// since 1970. It is kept on the device before the answer; `has_room` says whether the reply
+    /// has room for that. A list that is set stands, also where a mode is set beside it.
     ///
     /// An empty bitmap is no change, and uses up no stamp.
     ///
     /// # Errors
     ///
-    /// Refused by the first of these that holds: STALE; attributes that may not be set; where a size
-    /// is set, ISDIR of a directory and then the verdict's refusal; ACCESS without the right to write
-    /// for a size, to write the list for a mode or a list, and to write the owner for an owner or a
-    /// group; NOSPC, and SERVERFAULT where the run has used up its stamps; then `NoRoom`. Memory may
-    /// run out before or after any of them.
+    /// Refused by the first of these that holds: STALE; attributes that may not be set; where a
+    /// size is set, ISDIR of a directory and then the verdict's refusal; ACCESS without the right
+    /// to write for a size, to write the list for a mode or a list, and to write the owner for an
+    /// owner or a group; NOSPC, and SERVERFAULT where the run has used up its stamps; then
+    /// `NoRoom`. Memory may run out before or after any of them.
     pub fn set_attributes(
         &mut self,
         cred: &Cred,
@@ -132,8 +132,8 @@ impl<D: Device> Fs<D> {
         self.keep(edits)
     }
 
-    /// The change that sets attributes, where nothing refuses it but that its reply has no room: none
-    /// where no attribute is given.
+    /// The change that sets attributes, where nothing refuses it but that its reply has no room:
+    /// none where no attribute is given.
     fn plan_setting<'a>(
         &self,
         cred: &Cred,
@@ -148,9 +148,7 @@ impl<D: Device> Fs<D> {
         ensures step { (state : State) (arguments : SetAttrArguments)
             → IsOn (fs_of self.now) cred.now asked.entry.number state
             → IsSetting state asked.entry arguments
-            → IfOk result (λ planned. MatchOption planned
-            (StaysSet (fs_of self.now) state now arguments)
-            (λ edits. IsSet (fs_of self.now) state now arguments edits.items)) }
+            → IfOk result (SetsAsPlanned (fs_of self.now) state now arguments) }
         // Refused
         ensures refused { (state : State) (arguments : SetAttrArguments)
             → IsOn (fs_of self.now) cred.now asked.entry.number state

@@ -27,26 +27,26 @@ impl<D: Device> Fs<D> {
     ghost use Rattle.model.specs.Step.{State};
     ghost use Rattle.fs.specs.Changes.{fs_ending};
     ghost use Rattle.fs.specs.Views.{fs_of, Alters};
-    ghost use Rattle.fs.specs.Operations.{IsOn, IsNotDone, does_on};
+    ghost use Rattle.fs.specs.Operations.{IsOn, IsNotDone};
     ghost use Rattle.fs.specs.Planned.{IsPlanned};
     ghost use Rattle.fs.specs.Refusals.{fault_of};
-    ghost use Rattle.fs.specs.Writing.{Commits, IsPut, IsWriting, Writes, WritesTree, after_write, bytes_taken};
+    ghost use Rattle.fs.specs.Writing.{Commits, IsPut, IsWriting, Writes, WritesBy, WritesTree, bytes_taken};
     ghost use Rattle.volume.specs.Changes.{IsTree};
     ghost use Rattle.volume.specs.Edits.{edited_by};
     ghost use Rattle.volume.specs.Formed.{Shows};
 
-    /// WRITE (RFC 8881, section 18.32) to the file of this number, by this caller at this moment, in
-    /// nanoseconds since 1970: the first bytes, as many as one WRITE takes; answers how many. What is
-    /// to be stable is kept on the device before the answer, anything else may be lost until the next
-    /// flush. No bytes are no change. `verdict` is that on the stateid, for an open with write access;
-    /// `has_room` says whether the reply has room.
+    /// WRITE (RFC 8881, section 18.32) to the file of this number, by this caller at this moment,
+    /// in nanoseconds since 1970: the first bytes, as many as one WRITE takes; answers how many.
+    /// What is to be stable is kept on the device before the answer, anything else may be lost
+    /// until the next flush. No bytes are no change. `verdict` is that on the stateid, for an open
+    /// with write access; `has_room` says whether the reply has room.
     ///
     /// # Errors
     ///
-    /// Refused by the first of these that holds: STALE, ISDIR, the verdict's refusal, ACCESS without
-    /// the right to write, FBIG where the bytes pass the limit of a file, NOSPC, and SERVERFAULT
-    /// where the run has used up its stamps; then `NoRoom`. Memory may run out before or after any
-    /// of the last three.
+    /// Refused by the first of these that holds: STALE, ISDIR, the verdict's refusal, ACCESS
+    /// without the right to write, FBIG where the bytes pass the limit of a file, NOSPC, and
+    /// SERVERFAULT where the run has used up its stamps; then `NoRoom`. Memory may run out before
+    /// or after any of the last three.
     pub fn write(
         &mut self,
         cred: &Cred,
@@ -104,10 +104,8 @@ impl<D: Device> Fs<D> {
         ensures step { (state : State) (arguments : WriteArguments)
             → IsOn (fs_of self.now) cred.now number state
             → IsWriting state verdict asked.entry arguments
-            → IfOk result (λ edits. does_on (fs_of self.now) state now (Argument.Write arguments)
-            ≡ after_write (edited_by (fs_of self.now).volume edits.items)
-            ((fs_of self.now).changes + 1) state arguments
-            (length (bytes_taken (fs_of self.now) asked.entry))) }
+            → IfOk result (λ edits. WritesBy (fs_of self.now) state now arguments
+            (length (bytes_taken (fs_of self.now) asked.entry)) edits.items) }
         // Refused
         ensures refused { (state : State) (arguments : WriteArguments)
             → IsOn (fs_of self.now) cred.now number state
@@ -185,8 +183,9 @@ impl<D: Device> Fs<D> {
         }
     }
 
-    /// COMMIT (RFC 8881, section 18.3) of the file of this number, by this caller: keeps all changes
-    /// so far, of every file. Whichever part it asks for. `has_room` says whether the reply has room.
+    /// COMMIT (RFC 8881, section 18.3) of the file of this number, by this caller: keeps all
+    /// changes so far, of every file. Whichever part it asks for. `has_room` says whether the reply
+    /// has room.
     ///
     /// # Errors
     ///

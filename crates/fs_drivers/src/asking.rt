@@ -11,8 +11,8 @@ use acl_eval::Cred;
 use fs::FsFault;
 use std::alloc::Global;
 
-/// Makes a call. The bytes that it gives are put after those in `out`: of a file, of attributes as they are spelled, of the
-/// entries of a page one after the other, of a filehandle.
+/// Makes a call. The bytes that it gives are put after those in `out`: of a file, of attributes as
+/// they are spelled, of the entries of a page one after the other, of a filehandle.
 pub fn ask(
     alloc: Global,
     fs: &mut Tree,

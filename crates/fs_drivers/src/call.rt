@@ -50,7 +50,8 @@ pub enum Call<'a> {
     Access(u64, u32),
     /// GETATTR by this bitmap.
     Attributes(u64, &'a [u32]),
-    /// READDIR after a cookie with its verifier, of so many bytes, with the attributes of this bitmap.
+    /// READDIR after a cookie with its verifier, of so many bytes, with the attributes of this
+    /// bitmap.
     List(u64, (u64, [u8; 8]), u32, &'a [u32]),
     MakeDir(u64, &'a [u8], Given<'a>),
     /// OPEN of a name to do this, and to deny that.
@@ -88,7 +89,8 @@ pub enum Answer {
     Page(bool),
     /// The number of a new directory, and the change of the one that holds it, before.
     Created(u64, u64),
-    /// The number of a file, what was done to it, and the change of its directory before and after, 0 without a name.
+    /// The number of a file, what was done to it, and the change of its directory before and after,
+    /// 0 without a name.
     Opened(u64, OpenEffect, (u64, u64)),
     /// The number of what is gone, and the change of its directory before and after.
     Removed(u64, (u64, u64)),

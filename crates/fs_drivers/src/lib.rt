@@ -1,5 +1,5 @@
-//! The calls of a file system as tests make them. Each stands here once, with no contract: a call brings all that it promises
-//! into the proof of its caller.
+//! The calls of a file system as tests make them. Each stands here once, with no contract: a call
+//! brings all that it promises into the proof of its caller.
 #![tactic(auto)]
 
 mod asking;

@@ -1,4 +1,5 @@
-//! What no contract says: that calls succeed, what stands after mounts, and that the oracle answers the same.
+//! What no contract says: that calls succeed, what stands after mounts, and that the oracle answers
+//! the same.
 
 mod choices;
 mod files;

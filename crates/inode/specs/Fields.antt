@@ -52,7 +52,8 @@ pub record IsRunSector (sector : ℕ) : Type 0 where
   pub some : 0 < sector
   pub fits : sector < 2 ^ 32
 
--- What has a spelling: numbers that fit, up to 40 entries, and one run sector for each 500 runs, rounded up, at most nine.
+-- What has a spelling: numbers that fit, up to 40 entries, and one run sector for each 500 runs,
+-- rounded up, at most nine.
 pub record IsInode (fields : Fields) : Type 0 where
   pub number : fields.number < 2 ^ 64
   pub owner : fields.owner < 2 ^ 32

@@ -1,5 +1,5 @@
--- What a sector says of a node, whatever its bytes: nothing is tested. Of a sector that a node's fields are spelled in they are
--- these fields, so a sector spells one node at most.
+-- What a sector says of a node, whatever its bytes: nothing is tested. Of a sector that a node's
+-- fields are spelled in they are these fields, so a sector spells one node at most.
 use Rattle.std.specs.Prelude.{◌≡◌, ◌==◌, ◌+◌, ◌/◌, ℕ, List, drop, slice_index, if◌then◌else◌}
 use Rattle.std.specs.Int.{w16, w32, w64, from_be_bytes}
 use Rattle.model.specs.declared.node.NodeKind.{NodeKind}
@@ -50,12 +50,17 @@ fields_in sector = record {
   time_modify = from_be_bytes w64 (drop 32 sector);
   size = from_be_bytes w64 (drop 40 sector);
   runs = from_be_bytes w16 (drop 6 sector);
-  run_sectors = records_at_front run_sector_in 4 ((from_be_bytes w16 (drop 6 sector) + 499) / 500) (drop 48 sector);
+  run_sectors =
+      records_at_front run_sector_in 4 ((from_be_bytes w16 (drop 6 sector) + 499) / 500)
+      (drop 48 sector);
   acl = records_at_front ace_in 16 (slice_index sector 5) (drop 128 sector);
 }
 
 abbrev pub FieldsReadBack : Type 0
-FieldsReadBack = (form : Form) (fields : Fields) → IsInode fields → fields_in (inode_sector form fields) ≡ fields
+FieldsReadBack =
+    (form : Form) (fields : Fields) → IsInode fields → fields_in (inode_sector form fields) ≡ fields
 
 abbrev pub OneNode : Type 0
-OneNode = (form : Form) (a b : Fields) → IsInode a → IsInode b → inode_sector form a ≡ inode_sector form b → a ≡ b
+OneNode =
+    (form : Form) (a b : Fields) → IsInode a → IsInode b → inode_sector form a ≡ inode_sector form b
+    → a ≡ b

@@ -47,7 +47,8 @@ nine run_sectors = flat_map number_bytes run_sectors ++ replicate (36 - 4 * leng
 -- bytes 0 to 47
 abbrev pub head : Form → Fields → List ℕ
 head form fields =
-    magic form ++ (kind_byte fields.kind ∷ length fields.acl ∷ []) ++ to_be_bytes w16 fields.runs ++ to_be_bytes w64 fields.number
+    magic form ++ (kind_byte fields.kind ∷ length fields.acl ∷ []) ++ to_be_bytes w16 fields.runs
+    ++ to_be_bytes w64 fields.number
     ++ to_be_bytes w32 fields.owner ++ to_be_bytes w32 fields.group ++ to_be_bytes w64 fields.change
     ++ to_be_bytes w64 fields.time_modify ++ to_be_bytes w64 fields.size
 
@@ -55,4 +56,5 @@ abbrev pub acl_bytes : List Ace → List ℕ
 acl_bytes acl = flat_map ace_bytes acl ++ replicate (3968 - 16 * length acl) 0
 
 unfoldable pub inode_sector : Form → Fields → List ℕ
-inode_sector form fields = head form fields ++ nine fields.run_sectors ++ replicate 44 0 ++ acl_bytes fields.acl
+inode_sector form fields =
+    head form fields ++ nine fields.run_sectors ++ replicate 44 0 ++ acl_bytes fields.acl

@@ -127,7 +127,8 @@ fn inode_in(alloc: Global, sector: &[u8; SIZE]) -> Result<Inode, InodeFault>
 /// The inode that has these bytes.
 ///
 /// # Errors
-/// `NotInode` exactly where no inode has them: whatever is read is written again, and has to give each byte back.
+/// `NotInode` exactly where no inode has them: whatever is read is written again, and has to give
+/// each byte back.
 pub fn from_sector(alloc: Global, form: Form, sector: &[u8; SIZE]) -> Result<Inode, InodeFault>
     ensures fits { IfOk result (λ inode. IsInode (fields_of inode)) }
     ensures found { IfOk result (λ inode. sector.now ≡ inode_sector form (fields_of inode)) }

@@ -13,4 +13,4 @@ home_first (t ∷ to) place far =
     home_other t to place 0 (λ same. omega (arith, same, first)) ∙ home_first to (place + 1) (λ k d few. far (suc k) d (omega (arith, few)))
 
 pub first_kept : (size : ℕ) (image base : Image) → 0 < size → Settles size image base → base 0 ≡ image 0
-first_kept size image base large settles = settles.same 0 (inl refl, large) ∙ ap image (home_first settles.to 2 (λ k d few. settles.fit.from_98 k d few))
+first_kept size image base large settles = settles.same 0 (inl refl, large) ∙ ap image (home_first settles.to 2 (λ k d few. settles.fit.from_first k d few))

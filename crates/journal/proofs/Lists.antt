@@ -238,7 +238,7 @@ Fit-apart size (t ∷ ts) f (suc i) zero d l h = absurd (omega arith)
 Fit-apart size (t ∷ ts) f (suc i) (suc j) d l h = Fit-apart size ts f.3 i j d (omega arith) (omega arith)
 
 pub targets_of-Fit : (size : ℕ) (to : List ℕ) → Fit size to → AreTargets size to
-targets_of-Fit size to fit = record { from_98 = Fit-far size to fit; on_device = Fit-near size to fit; apart = Fit-apart size to fit }
+targets_of-Fit size to fit = record { from_first = Fit-far size to fit; on_device = Fit-near size to fit; apart = Fit-apart size to fit }
 
 -- looking for the last place of a number, from the end on
 pub has-drop : (xs : List ℕ) (i n : ℕ) → i < length xs → has (drop i xs) n ≡ (if get_or xs i 0 == n then true else has (drop (i + 1) xs) n)

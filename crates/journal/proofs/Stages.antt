@@ -9,7 +9,7 @@ use Rattle.journal.proofs.Lists.{Out-each}
 
 AreTargets-rest : (size t : ℕ) (ts : List ℕ) → AreTargets size (t ∷ ts) → AreTargets size ts
 AreTargets-rest size t ts a = record {
-  from_98 = λ k d l. a.from_98 (suc k) d (omega arith);
+  from_first = λ k d l. a.from_first (suc k) d (omega arith);
   on_device = λ k d l. a.on_device (suc k) d (omega arith);
   apart = λ i j d l h. a.apart (suc i) (suc j) d (omega arith) (omega arith);
 }
@@ -17,7 +17,7 @@ AreTargets-rest size t ts a = record {
 pub Fit-of : (size : ℕ) (to : List ℕ) → AreTargets size to → Fit size to
 Fit-of size [] a = tt
 Fit-of size (t ∷ ts) a = (
-  a.from_98 0 0 (omega arith),
+  a.from_first 0 0 (omega arith),
   a.on_device 0 0 (omega arith),
   Out-each t ts (λ j l. a.apart 0 (suc j) 0 (omega arith) (omega arith)),
   Fit-of size ts (AreTargets-rest size t ts a),
@@ -25,7 +25,7 @@ Fit-of size (t ∷ ts) a = (
 
 pub no_targets : (size : ℕ) → AreTargets size []
 no_targets size = record {
-  from_98 = λ k d l. absurd (omega arith);
+  from_first = λ k d l. absurd (omega arith);
   on_device = λ k d l. absurd (omega arith);
   apart = λ i j d l h. absurd (omega arith);
 }

@@ -10,11 +10,11 @@ use Rattle.byteorder.specs.Endian.{big_bytes, big_number}
 use Rattle.disk.specs.declared.update.Update.{Update}
 use Rattle.disk.specs.Moments.{Image}
 use Rattle.disk.specs.Calls.{zero_sector}
-use Rattle.journal.specs.declared.layout.TheConstants.{PAYLOAD_SECTORS}
+use Rattle.journal.specs.declared.layout.TheConstants.{FIRST_TARGET, PAYLOAD_SECTORS}
 
--- sectors that a transaction may write: from 98 on, on the device, and all different
+-- sectors that a transaction may write: from the first one on, on the device, and all different
 pub record AreTargets (size : ℕ) (to : List ℕ) : Type 0 where
-  pub from_98 : All (λ t. 98 ≤ t) to
+  pub from_first : All (λ t. FIRST_TARGET ≤ t) to
   pub on_device : All (λ t. t < size) to
   pub apart : AllPairs (λ a b. a ≢ b) to
 

@@ -2,11 +2,11 @@
 use Rattle.std.specs.Prelude.{◌≡◌, ◌≤◌, ◌<◌, ◌⊎◌, ℕ, List, length}
 use Rattle.disk.specs.Moments.{Image}
 use Rattle.journal.specs.Layout.{AreTargets, gate, through}
-use Rattle.journal.specs.declared.layout.TheConstants.{PAYLOAD_SECTORS}
+use Rattle.journal.specs.declared.layout.TheConstants.{FIRST_TARGET, PAYLOAD_SECTORS}
 
 -- a sector that the journal keeps for its caller
 abbrev pub IsKept : ℕ → ℕ → Type 0
-IsKept size n = ((n ≡ 0) ⊎ (98 ≤ n)) × (n < size)
+IsKept size n = ((n ≡ 0) ⊎ (FIRST_TARGET ≤ n)) × (n < size)
 
 -- two images with the same kept sectors
 abbrev pub AreSame : ℕ → Image → Image → Type 0

@@ -76,7 +76,8 @@ fn read_words(sector: &[u8], named: &mut Vec<u32>) -> bool
     true
 }
 
-/// Whether a transaction may write these sectors: all from 98 on, on the device, and different.
+/// Whether a transaction may write these sectors: all from the first one on, on the device, and
+/// different.
 pub(crate) fn are_targets(to: &[u32], sectors: u32) -> bool
     ensures { IsTrue result ↔ AreTargets sectors to.now }
 {

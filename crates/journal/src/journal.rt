@@ -119,8 +119,8 @@ impl<D: Device> Journal<D> {
         }
     }
 
-    /// What a mount would begin with, read without one: an open gate is read through, and nothing is
-    /// written.
+    /// What a mount would begin with, read without one: an open gate is read through, and nothing
+    /// is written.
     ///
     /// # Errors
     ///

@@ -8,15 +8,18 @@ use Rattle.layout.specs.Laid.{AreLaid, HoldsPlace, HoldsCard}
 use Rattle.layout.specs.Marks.{named_by}
 use Rattle.layout.specs.Stands.{Version, IsLaid, Stands}
 
--- A card that is held is what is read. So a place that holds a card holds the one that is read, and cards that are laid are those
--- that are read: who looks for a tree looks at these alone.
+-- A card that is held is what is read. So a place that holds a card holds the one that is read, and
+-- cards that are laid are those that are read: who looks for a tree looks at these alone.
 
 abbrev pub CardReadsBack : Type 0
-CardReadsBack = (image : Image) (place : ℕ) (card : Option Card) → HoldsPlace image place card → card_in image place ≡ card
+CardReadsBack =
+    (image : Image) (place : ℕ) (card : Option Card) → HoldsPlace image place card
+    → card_in image place ≡ card
 
 abbrev pub CardsReadBack : Type 0
 CardsReadBack = (image : Image) (nodes : ℕ) (cards : List (Option Card)) → length cards ≡ nodes
-    → ((place : ℕ) → place < nodes → HoldsPlace image place (slice_index_or cards place None)) → cards_in nodes image ≡ cards
+    → ((place : ℕ) → place < nodes → HoldsPlace image place (slice_index_or cards place None))
+    → cards_in nodes image ≡ cards
 
 abbrev pub OnlyCard : Type 0
 OnlyCard = (image : Image) (place : ℕ) (card : Option Card) → HoldsPlace image place card
@@ -27,14 +30,17 @@ OnlyCards = (version : Version) (size nodes : ℕ) (image : Image) (cards : List
     → IsLaid version size nodes image cards → IsLaid version size nodes image (cards_in nodes image)
 
 -- One image stands for one tree, of one size and one restart count, whatever the version
-pub record SameVolume (size other_size nodes other_nodes run other_run : ℕ) (tree other : Tree) : Type 0 where
+pub record SameVolume (size other_size nodes other_nodes run other_run : ℕ)
+    (tree other : Tree) : Type 0 where
   pub tree_is : tree ≡ other
   pub size_is : size ≡ other_size
   pub nodes_are : nodes ≡ other_nodes
   pub run_is : run ≡ other_run
 
 abbrev pub OneTree : Type 0
-OneTree = (a b : Version) (size other_size nodes other_nodes run other_run : ℕ) (image : Image) (tree other : Tree)
+OneTree =
+    (a b : Version) (size other_size nodes other_nodes run other_run : ℕ) (image : Image)
+    (tree other : Tree)
     → Stands a size nodes image run tree → Stands b other_size other_nodes image other_run other
     → SameVolume size other_size nodes other_nodes run other_run tree other
 
@@ -53,16 +59,23 @@ pub record KeepsCard (old new : Image) (place : ℕ) (card : Card) : Type 0 wher
   pub node : node_of new card ≡ node_of old card
 
 abbrev pub Frame : Type 0
-Frame = (old new : Image) (place : ℕ) (card : Card) → new (node_sector place) ≡ old (node_sector place)
+Frame =
+    (old new : Image) (place : ℕ) (card : Card) → new (node_sector place) ≡ old (node_sector place)
     → AreKept old new (Some card) → KeepsCard old new place card
 
--- The tree's node of a number is that of the card of this number, and there is none where no card has it
+-- The tree's node of a number is that of the card of this number, and there is none where no card
+-- has it
 pub record Answers (image : Image) (cards : List (Option Card)) (number : ℕ) : Type 0 where
-  pub found : (place : ℕ) (card : Card) → slice_index_or cards place None ≡ Some card → card.fields.number ≡ number
+  pub found : (place : ℕ) (card : Card) → slice_index_or cards place None ≡ Some card
+      → card.fields.number ≡ number
       → at number (tree_of image cards) ≡ Some (node_of image card)
-  pub none : ((place : ℕ) (card : Card) → slice_index_or cards place None ≡ Some card → card.fields.number ≢ number)
+  pub none :
+      ((place : ℕ) (card : Card) → slice_index_or cards place None ≡ Some card
+      → card.fields.number ≢ number)
       → at number (tree_of image cards) ≡ None
 
 abbrev pub EachAnswer : Type 0
-EachAnswer = (nodes : ℕ) (image : Image) (mark : ℕ → ℕ) (cards : List (Option Card)) → AreLaid nodes image mark cards
+EachAnswer =
+    (nodes : ℕ) (image : Image) (mark : ℕ → ℕ) (cards : List (Option Card))
+    → AreLaid nodes image mark cards
     → (number : ℕ) → Answers image cards number

@@ -1,5 +1,6 @@
--- The nodes of a volume, and its tree, as functions of what its sectors hold, whatever that is. Each place of the node table
--- holds a node or is free. A card is what is read of a node: everything but the bytes of a file.
+-- The nodes of a volume, and its tree, as functions of what its sectors hold, whatever that is.
+-- Each place of the node table holds a node or is free. A card is what is read of a node:
+-- everything but the bytes of a file.
 use Rattle.std.specs.Prelude.{◌+◌, ◌-◌, ◌/◌, ◌%◌, ◌==◌, ◌++◌, ℕ, List, [], ◌∷◌, Option, Some, None, min, map, slice_index, slice_index_or, if◌then◌else◌}
 use Rattle.std.specs.List.{range_with_len}
 use Rattle.disk.specs.Moments.{Image}
@@ -19,8 +20,8 @@ use Rattle.directory.specs.Listing.{by_stamp}
 use Rattle.directory.specs.Reading.{records_in}
 use Rattle.directory.specs.Records.{Record}
 
--- the form and the fields of the node's sector, the runs of its run sectors, its blocks, of which one that has no sector is a
--- hole, and a directory's names
+-- the form and the fields of the node's sector, the runs of its run sectors, its blocks, of which
+-- one that has no sector is a hole, and a directory's names
 pub record Card : Type 0 where
   pub form : Form
   pub fields : Fields
@@ -44,7 +45,8 @@ content_at image (Some sector) = image sector
 
 -- byte k of these blocks, 4,096 each: 0 in a hole
 unfoldable pub byte_at : Image → List (Option ℕ) → ℕ → ℕ
-byte_at image blocks k = slice_index (content_at image (slice_index_or blocks (k / 4096) None)) (k % 4096)
+byte_at image blocks k =
+    slice_index (content_at image (slice_index_or blocks (k / 4096) None)) (k % 4096)
 
 unfoldable pub bytes_in : Image → List (Option ℕ) → (size : ℕ) → List ℕ
 bytes_in image blocks size = map (byte_at image blocks) (range_with_len 0 size)
@@ -54,7 +56,8 @@ bytes_in image blocks size = map (byte_at image blocks) (range_with_len 0 size)
 -- so many runs of these run sectors, 500 each
 abbrev pub runs_through : Image → (left : ℕ) → List ℕ → List Run
 runs_through image left [] = []
-runs_through image left (sector ∷ sectors) = runs_in (min 500 left) (image sector) ++ runs_through image (left - 500) sectors
+runs_through image left (sector ∷ sectors) =
+    runs_in (min 500 left) (image sector) ++ runs_through image (left - 500) sectors
 
 -- so many names of these blocks, 15 each
 abbrev pub names_through : Image → (left : ℕ) → List (Option ℕ) → List Record
@@ -83,16 +86,19 @@ card_by image form fields runs blocks = record {
 }
 
 abbrev pub card_with : Image → Form → Fields → List Run → Card
-card_with image form fields runs = card_by image form fields runs (blocks_by runs (block_count fields))
+card_with image form fields runs =
+    card_by image form fields runs (blocks_by runs (block_count fields))
 
 abbrev pub card_from : Image → Form → Fields → Card
-card_from image form fields = card_with image form fields (runs_through image fields.runs fields.run_sectors)
+card_from image form fields =
+    card_with image form fields (runs_through image fields.runs fields.run_sectors)
 
 -- none where the place's sector begins with 0
 unfoldable pub card_in : Image → (place : ℕ) → Option Card
 card_in image place =
     if slice_index (image (node_sector place)) 0 == 0 then None
-    else Some (card_from image (form_in (image (node_sector place))) (fields_in (image (node_sector place))))
+    else Some (card_from image (form_in (image (node_sector place)))
+    (fields_in (image (node_sector place))))
 
 -- the cards of a table of so many places
 unfoldable pub cards_in : (nodes : ℕ) → Image → List (Option Card)
@@ -122,7 +128,8 @@ node_of image card = node_with card.fields (content_of image card.fields.kind ca
 abbrev pub tree_of : Image → List (Option Card) → Tree
 tree_of image [] = []
 tree_of image (None ∷ cards) = tree_of image cards
-tree_of image (Some card ∷ cards) = with (tree_of image cards) card.fields.number (node_of image card)
+tree_of image (Some card ∷ cards) =
+    with (tree_of image cards) card.fields.number (node_of image card)
 
 abbrev pub tree_in : (nodes : ℕ) → Image → Tree
 tree_in nodes image = tree_of image (cards_in nodes image)

@@ -1,4 +1,5 @@
--- A directory's names in their blocks, 15 each in the order of the records, and what a change makes of them.
+-- A directory's names in their blocks, 15 each in the order of the records, and what a change makes
+-- of them.
 use Rattle.std.specs.Prelude.{◌≡◌, ◌≢◌, ◌<◌, ◌-◌, ◌/◌, ◌++◌, ℕ, List, [], ◌∷◌, Option, None, length, slice_index_or}
 use Rattle.disk.specs.Moments.{Image}
 use Rattle.directory.specs.Records.{Record, with_record, without_place, place_of, name_of, AreStamped}
@@ -8,7 +9,8 @@ use Rattle.layout.specs.Laid.{names_of_block, AreSpelled}
 
 -- the names of each block but these are the same
 abbrev pub ChangesBlocks : (old new : List Record) → (one other : ℕ) → Type 0
-ChangesBlocks old new one other = (i : ℕ) → i ≢ one → i ≢ other → names_of_block i new ≡ names_of_block i old
+ChangesBlocks old new one other =
+    (i : ℕ) → i ≢ one → i ≢ other → names_of_block i new ≡ names_of_block i old
 
 -- the block of a record
 abbrev pub block_of : (place : ℕ) → ℕ
@@ -27,21 +29,30 @@ abbrev pub RemovesInTwo : Type 0
 RemovesInTwo = (names : List Record) (place : ℕ) → place < length names
     → ChangesBlocks names (without_place names place) (block_of place) (block_of (length names - 1))
 
--- the blocks but these hold what they held, and these hold their names; there may be one more or one less
-pub record RewritesBlocks (old new : Image) (was is : List (Option ℕ)) (names : List Record) (one other : ℕ) : Type 0 where
+-- the blocks but these hold what they held, and these hold their names; there may be one more or
+-- one less
+pub record RewritesBlocks (old new : Image) (was is : List (Option ℕ)) (names : List Record)
+    (one other : ℕ) : Type 0 where
   pub kept : (i : ℕ) → i ≢ one → i ≢ other → i < length is
-      → (i < length was) × (content_at new (slice_index_or is i None) ≡ content_at old (slice_index_or was i None))
-  pub one_is : one < length is → content_at new (slice_index_or is one None) ≡ directory_sector (names_of_block one names)
-  pub other_is : other < length is → content_at new (slice_index_or is other None) ≡ directory_sector (names_of_block other names)
+      → (i < length was) × (content_at new (slice_index_or is i None)
+      ≡ content_at old (slice_index_or was i None))
+  pub one_is : one < length is
+      → content_at new (slice_index_or is one None) ≡ directory_sector (names_of_block one names)
+  pub other_is : other < length is
+      → content_at new (slice_index_or is other None)
+      ≡ directory_sector (names_of_block other names)
 
 abbrev pub Rewriting : Type 0
-Rewriting = (old new : Image) (was is : List (Option ℕ)) (before after : List Record) (one other : ℕ)
-    → AreSpelled old was before → ChangesBlocks before after one other → RewritesBlocks old new was is after one other
+Rewriting =
+    (old new : Image) (was is : List (Option ℕ)) (before after : List Record) (one other : ℕ)
+    → AreSpelled old was before → ChangesBlocks before after one other
+    → RewritesBlocks old new was is after one other
     → AreSpelled new is after
 
 -- no block of a directory is a hole
 abbrev pub NoHoles : Type 0
-NoHoles = (image : Image) (blocks : List (Option ℕ)) (names : List Record) → AreSpelled image blocks names
+NoHoles =
+    (image : Image) (blocks : List (Option ℕ)) (names : List Record) → AreSpelled image blocks names
     → (i : ℕ) → i < length blocks → slice_index_or blocks i None ≢ None
 
 -- stamps stay apart
@@ -52,4 +63,5 @@ StaysStamped = (names : List Record) (place : ℕ) → place < length names → 
 
 abbrev pub PutsStamped : Type 0
 PutsStamped = (names : List Record) (new : Record) → AreStamped names → 0 < new.0
-    → ((i : ℕ) (d : Record) → i < length names → (slice_index_or names i d).0 ≢ new.0) → AreStamped (names ++ new ∷ [])
+    → ((i : ℕ) (d : Record) → i < length names → (slice_index_or names i d).0 ≢ new.0)
+    → AreStamped (names ++ new ∷ [])

@@ -6,11 +6,15 @@ use Rattle.model.specs.Tree.{Tree, Node, bytes_of}
 
 -- a part after a part is one part, and a write over what has grown to its end at most is the write
 pub record WritesMeet (tree : Tree) (number offset : ℕ) : Type 0 where
-  pub on : (front part : List ℕ) → done (PutBytes number (offset + length front) part) (done (PutBytes number offset front) tree)
+  pub on : (front part : List ℕ)
+      → done (PutBytes number (offset + length front) part)
+      (done (PutBytes number offset front) tree)
       ≡ done (PutBytes number offset (front ++ part)) tree
-  pub grown : (node : Node) (size : ℕ) (part : List ℕ) → at number tree ≡ Some node → length (bytes_of node.content) ≤ size
+  pub grown : (node : Node) (size : ℕ) (part : List ℕ) → at number tree ≡ Some node
+      → length (bytes_of node.content) ≤ size
       → size ≤ max (length (bytes_of node.content)) (offset + length part)
-      → done (PutBytes number offset part) (done (SetSize number size) tree) ≡ done (PutBytes number offset part) tree
+      → done (PutBytes number offset part) (done (SetSize number size) tree)
+      ≡ done (PutBytes number offset part) tree
 
 abbrev pub EachWriteMeets : Type 0
 EachWriteMeets = (tree : Tree) (number offset : ℕ) → WritesMeet tree number offset

@@ -11,7 +11,8 @@ use Rattle.layout.specs.Cards.{content_at, byte_at, bytes_in}
 
 -- with a part from a place on
 unfoldable pub over : (ℕ → ℕ) → (offset : ℕ) → List ℕ → ℕ → ℕ
-over byte offset part k = if nat_lt k offset then byte k else slice_index_or part (k - offset) (byte k)
+over byte offset part k =
+    if nat_lt k offset then byte k else slice_index_or part (k - offset) (byte k)
 
 -- what is below a size, and zeros after it
 unfoldable pub below : (ℕ → ℕ) → (size : ℕ) → ℕ → ℕ
@@ -35,7 +36,8 @@ pub record FillsHole (old new : Image) (blocks : List (Option ℕ)) (block secto
   pub others : HoldOthers old new blocks block
 
 -- a part is written from a place of a block on
-pub record WritesBlock (old new : Image) (blocks : List (Option ℕ)) (block sector from : ℕ) (part : List ℕ) : Type 0 where
+pub record WritesBlock (old new : Image) (blocks : List (Option ℕ)) (block sector from : ℕ)
+    (part : List ℕ) : Type 0 where
   pub is_set : slice_index_or blocks block None ≡ Some sector
   pub whole : length (old sector) ≡ 4096
   pub within : from + length part ≤ 4096
@@ -47,14 +49,19 @@ pub record CutsBlocks (old new : Image) (blocks : List (Option ℕ)) (count size
   pub up : size ≤ 4096 * count
   pub down : 4096 * count < size + 4096
   pub front : (i : ℕ) → i + 1 < count
-      → content_at new (slice_index_or blocks i None) ≡ content_at old (slice_index_or blocks i None)
-  pub last : (i j : ℕ) → i + 1 ≡ count → j < 4096 → slice_index_or (content_at new (slice_index_or blocks i None)) j 0
-      ≡ below (λ k. slice_index_or (content_at old (slice_index_or blocks i None)) k 0) (size - 4096 * i) j
+      → content_at new (slice_index_or blocks i None)
+      ≡ content_at old (slice_index_or blocks i None)
+  pub last : (i j : ℕ) → i + 1 ≡ count → j < 4096
+      → slice_index_or (content_at new (slice_index_or blocks i None)) j 0
+      ≡ below (λ k. slice_index_or (content_at old (slice_index_or blocks i None)) k 0)
+      (size - 4096 * i) j
 
 -- What they make of the bytes by their places
 
 abbrev pub Filling : Type 0
-Filling = (old new : Image) (blocks : List (Option ℕ)) (block sector : ℕ) → FillsHole old new blocks block sector
+Filling =
+    (old new : Image) (blocks : List (Option ℕ)) (block sector : ℕ)
+    → FillsHole old new blocks block sector
     → (k : ℕ) → byte_at new (set blocks block (Some sector)) k ≡ byte_at old blocks k
 
 abbrev pub Writing : Type 0
@@ -64,10 +71,13 @@ Writing = (old new : Image) (blocks : List (Option ℕ)) (block sector from : �
 
 abbrev pub WritingOn : Type 0
 WritingOn = (byte : ℕ → ℕ) (offset : ℕ) (front part : List ℕ) (k : ℕ)
-    → over (over byte offset front) (offset + length front) part k ≡ over byte offset (front ++ part) k
+    → over (over byte offset front) (offset + length front) part k
+    ≡ over byte offset (front ++ part) k
 
 abbrev pub Cutting : Type 0
-Cutting = (old new : Image) (blocks : List (Option ℕ)) (count size : ℕ) → CutsBlocks old new blocks count size
+Cutting =
+    (old new : Image) (blocks : List (Option ℕ)) (count size : ℕ)
+    → CutsBlocks old new blocks count size
     → (k : ℕ) → byte_at new (take count blocks) k ≡ below (byte_at old blocks) size k
 
 abbrev pub Growing : Type 0
@@ -82,28 +92,39 @@ pub record HoldBytes (image : Image) (blocks : List (Option ℕ)) (bytes : List 
   pub tail : AreZeroFrom (byte_at image blocks) (length bytes)
 
 abbrev pub FilledBytes : Type 0
-FilledBytes = (old new : Image) (was is : List (Option ℕ)) (bytes : List ℕ) → HoldBytes old was bytes
+FilledBytes =
+    (old new : Image) (was is : List (Option ℕ)) (bytes : List ℕ) → HoldBytes old was bytes
     → ((k : ℕ) → byte_at new is k ≡ byte_at old was k) → HoldBytes new is bytes
 
 abbrev pub WrittenBytes : Type 0
-WrittenBytes = (old new : Image) (was is : List (Option ℕ)) (bytes : List ℕ) (offset : ℕ) (part : List ℕ)
+WrittenBytes =
+    (old new : Image) (was is : List (Option ℕ)) (bytes : List ℕ) (offset : ℕ) (part : List ℕ)
     → HoldBytes old was bytes
-    → ((k : ℕ) → byte_at new is k ≡ over (byte_at old was) offset part k) → HoldBytes new is (overwritten bytes offset part)
+    → ((k : ℕ) → byte_at new is k ≡ over (byte_at old was) offset part k)
+    → HoldBytes new is (overwritten bytes offset part)
 
 -- shorter, or longer
 abbrev pub ResizedBytes : Type 0
-ResizedBytes = (old new : Image) (was is : List (Option ℕ)) (bytes : List ℕ) (size : ℕ) → HoldBytes old was bytes
-    → ((k : ℕ) → byte_at new is k ≡ below (byte_at old was) size k) → HoldBytes new is (resized bytes size)
+ResizedBytes =
+    (old new : Image) (was is : List (Option ℕ)) (bytes : List ℕ) (size : ℕ)
+    → HoldBytes old was bytes
+    → ((k : ℕ) → byte_at new is k ≡ below (byte_at old was) size k)
+    → HoldBytes new is (resized bytes size)
 
 abbrev pub GrownBytes : Type 0
-GrownBytes = (old new : Image) (was is : List (Option ℕ)) (bytes : List ℕ) (size : ℕ) → HoldBytes old was bytes
-    → length bytes ≤ size → ((k : ℕ) → byte_at new is k ≡ byte_at old was k) → HoldBytes new is (resized bytes size)
+GrownBytes =
+    (old new : Image) (was is : List (Option ℕ)) (bytes : List ℕ) (size : ℕ)
+    → HoldBytes old was bytes
+    → length bytes ≤ size → ((k : ℕ) → byte_at new is k ≡ byte_at old was k)
+    → HoldBytes new is (resized bytes size)
 
 -- a part after a part is one part, and a write over what has grown to its end at most is the write
 pub record WritesByParts (bytes : List ℕ) (offset : ℕ) : Type 0 where
-  pub on : (front part : List ℕ) → overwritten (overwritten bytes offset front) (offset + length front) part
+  pub on : (front part : List ℕ)
+      → overwritten (overwritten bytes offset front) (offset + length front) part
       ≡ overwritten bytes offset (front ++ part)
-  pub grown : (part : List ℕ) (size : ℕ) → length bytes ≤ size → size ≤ max (length bytes) (offset + length part)
+  pub grown : (part : List ℕ) (size : ℕ) → length bytes ≤ size
+      → size ≤ max (length bytes) (offset + length part)
       → overwritten (resized bytes size) offset part ≡ overwritten bytes offset part
 
 abbrev pub EachWrite : Type 0

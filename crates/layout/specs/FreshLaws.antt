@@ -37,5 +37,6 @@ pub record IsFresh (version : Version) (size nodes : ℕ) (image : Image) : Type
 
 -- It stands for the tree of a fresh volume
 abbrev pub FreshStands : Type 0
-FreshStands = (version : Version) (size nodes : ℕ) (image : Image) → IsFresh version size nodes image
+FreshStands =
+    (version : Version) (size nodes : ℕ) (image : Image) → IsFresh version size nodes image
     → Stands version size nodes image 0 fresh_tree

@@ -11,7 +11,8 @@ pub record Fails (old new : Health) : Type 0 where
   pub down : new.is_down ≡ true
   pub cause : ((old.is_down ≡ true) × (new ≡ old)) ⊎ IsCounted old.failed new.failed
 
--- a call that only reads, and may be refused for the device: where it is, the device failed; where it is not, it did not
+-- a call that only reads, and may be refused for the device: where it is, the device failed; where
+-- it is not, it did not
 pub record Reads (old new : Health) (faulted : Type 0) : Type 0 where
   pub fails : faulted → Fails old new
   pub stays : (faulted → ⊥) → new ≡ old

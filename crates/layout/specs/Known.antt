@@ -1,5 +1,5 @@
--- What is known of cards that are laid whatever the sectors hold: all of it is told by the cards themselves and by the marks. On a
--- device that does not keep its word nothing else is known.
+-- What is known of cards that are laid whatever the sectors hold: all of it is told by the cards
+-- themselves and by the marks. On a device that does not keep its word nothing else is known.
 use Rattle.std.specs.Prelude.{◌≡◌, ◌≤◌, ◌<◌, ◌+◌, ℕ, List, [], Option, Some, None, length, set, slice_index_or}
 use Rattle.std.specs.List.{AllByRecursion}
 use Rattle.disk.specs.Moments.{Image}
@@ -48,7 +48,9 @@ pub record AreCards (nodes : ℕ) (mark : ℕ → ℕ) (cards : List (Option Car
 
 -- cards that are laid are so
 abbrev pub LaidAreCards : Type 0
-LaidAreCards = (nodes : ℕ) (image : Image) (mark : ℕ → ℕ) (cards : List (Option Card)) → AreLaid nodes image mark cards
+LaidAreCards =
+    (nodes : ℕ) (image : Image) (mark : ℕ → ℕ) (cards : List (Option Card))
+    → AreLaid nodes image mark cards
     → AreCards nodes mark cards
 
 -- the marks follow the card that stands at a place now, in place of the one that was there
@@ -59,6 +61,8 @@ pub record MovesMarks (nodes : ℕ) (marked mark : ℕ → ℕ) (was is : Option
 
 -- and where one of them changes with the marks, they stay so
 abbrev pub OneCardChange : Type 0
-OneCardChange = (nodes : ℕ) (marked mark : ℕ → ℕ) (cards : List (Option Card)) (place : ℕ) (is : Option Card)
+OneCardChange =
+    (nodes : ℕ) (marked mark : ℕ → ℕ) (cards : List (Option Card)) (place : ℕ) (is : Option Card)
     → place < nodes → AreCards nodes marked cards → IsOwnNumber cards place is → IsPlace is
-    → MovesMarks nodes marked mark (slice_index_or cards place None) is → AreCards nodes mark (set cards place is)
+    → MovesMarks nodes marked mark (slice_index_or cards place None) is
+    → AreCards nodes mark (set cards place is)

@@ -18,5 +18,6 @@ pub IsPlace-prop : (card : Option Card) → IsProp (IsPlace card)
 IsPlace-prop None = Prim.hlevel props
 IsPlace-prop (Some card) = IsCard-prop card
 
-pub AreCards-prop : (nodes : ℕ) (mark : ℕ → ℕ) (cards : List (Option Card)) → IsProp (AreCards nodes mark cards)
+pub AreCards-prop : (nodes : ℕ) (mark : ℕ → ℕ) (cards : List (Option Card))
+    → IsProp (AreCards nodes mark cards)
 AreCards-prop nodes mark cards = Prim.hlevel (props, IsPlace-prop)

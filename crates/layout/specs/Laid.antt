@@ -22,7 +22,8 @@ runs_of_sector i runs = take 500 (drop (500 * i) runs)
 
 abbrev pub AreRunSectors : Image → List ℕ → List Run → Type 0
 AreRunSectors image sectors runs =
-    (i : ℕ) → i < length sectors → image (slice_index_or sectors i 0) ≡ run_sector (runs_of_sector i runs)
+    (i : ℕ) → i < length sectors
+    → image (slice_index_or sectors i 0) ≡ run_sector (runs_of_sector i runs)
 
 -- Content
 
@@ -75,12 +76,16 @@ HoldsPlace image place (Some card) = HoldsCard image place card
 
 -- no two nodes have one number
 abbrev pub AreNumbered : List (Option Card) → Type 0
-AreNumbered cards = (i j : ℕ) (a b : Card) → i ≢ j → slice_index_or cards i None ≡ Some a → slice_index_or cards j None ≡ Some b
+AreNumbered cards =
+    (i j : ℕ) (a b : Card) → i ≢ j → slice_index_or cards i None ≡ Some a
+    → slice_index_or cards j None ≡ Some b
     → a.fields.number ≢ b.fields.number
 
--- The places hold these cards, and each sector is marked as often as they name it: so none is named twice, none outside the data
--- region is named, and none is marked that is not named. Where the marks stand is left open: a change has them in memory.
-pub record AreLaid (nodes : ℕ) (image : Image) (mark : ℕ → ℕ) (cards : List (Option Card)) : Type 0 where
+-- The places hold these cards, and each sector is marked as often as they name it: so none is named
+-- twice, none outside the data region is named, and none is marked that is not named. Where the
+-- marks stand is left open: a change has them in memory.
+pub record AreLaid (nodes : ℕ) (image : Image) (mark : ℕ → ℕ) (cards : List (Option Card)) : Type
+    0 where
   pub count : length cards ≡ nodes
   pub held : (place : ℕ) → place < nodes → HoldsPlace image place (slice_index_or cards place None)
   pub apart : AreNumbered cards

@@ -15,7 +15,8 @@ use Rattle.layout.specs.Stands.{Version, HaveForms, IsLaid, Stands}
 
 AreRising-prop : (from count : ℕ) (runs : List Run) → IsProp (AreRising from count runs)
 AreRising-prop from count [] = Unit-prop
-AreRising-prop from count (run ∷ runs) = Prim.hlevel (props, AreRising-prop (run.block + run.length) count runs)
+AreRising-prop from count (run ∷ runs) =
+    Prim.hlevel (props, AreRising-prop (run.block + run.length) count runs)
 
 pub AreRunsOf-prop : (runs : List Run) (blocks : List (Option ℕ)) → IsProp (AreRunsOf runs blocks)
 AreRunsOf-prop runs blocks = Prim.hlevel (props, AreRising-prop)
@@ -26,11 +27,13 @@ IsInode-prop fields = Prim.hlevel props
 HoldsNode-prop : (image : Image) (place : ℕ) (card : Card) → IsProp (HoldsNode image place card)
 HoldsNode-prop image place card = Prim.hlevel (props, IsInode-prop, AreRunsOf-prop)
 
-HoldsContent-prop : (image : Image) (kind : NodeKind) (card : Card) → IsProp (HoldsContent image kind card)
+HoldsContent-prop : (image : Image) (kind : NodeKind) (card : Card)
+    → IsProp (HoldsContent image kind card)
 HoldsContent-prop image kind.File card = Prim.hlevel props
 HoldsContent-prop image kind.Directory card = Prim.hlevel props
 
-HoldsPlace-prop : (image : Image) (place : ℕ) (card : Option Card) → IsProp (HoldsPlace image place card)
+HoldsPlace-prop : (image : Image) (place : ℕ) (card : Option Card)
+    → IsProp (HoldsPlace image place card)
 HoldsPlace-prop image place None = Prim.hlevel props
 HoldsPlace-prop image place (Some card) = Prim.hlevel (props, HoldsNode-prop, HoldsContent-prop)
 
@@ -38,7 +41,8 @@ pub AreLaid-prop : (nodes : ℕ) (image : Image) (mark : ℕ → ℕ) (cards : L
     → IsProp (AreLaid nodes image mark cards)
 AreLaid-prop nodes image mark cards = Prim.hlevel (props, HoldsPlace-prop)
 
-pub HaveForms-prop : (version : Version) (cards : List (Option Card)) → IsProp (HaveForms version cards)
+pub HaveForms-prop : (version : Version) (cards : List (Option Card))
+    → IsProp (HaveForms version cards)
 HaveForms-prop version cards = Prim.hlevel props
 
 pub IsLaid-prop : (version : Version) (size nodes : ℕ) (image : Image) (cards : List (Option Card))

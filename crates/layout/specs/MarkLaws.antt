@@ -1,4 +1,5 @@
--- Marks: what they are after a change of the set, what sectors show them, and that they never pass what the tree is charged.
+-- Marks: what they are after a change of the set, what sectors show them, and that they never pass
+-- what the tree is charged.
 use Rattle.std.specs.Prelude.{◌≡◌, ◌≤◌, ◌<◌, ◌+◌, ◌==◌, ℕ, Bool, true, false, List, Option, Some, length, slice_get, slice_set, slice_index_or}
 use Rattle.disk.specs.Moments.{Image}
 use Rattle.freemap.specs.Places.{Show, mark_of, bit_in}
@@ -13,9 +14,11 @@ use Rattle.layout.specs.Stands.{Version, HaveForms, IsLaid, Stands}
 -- one sector more is marked, or one less
 pub record MarksChange (first : ℕ) (places : List Bool) (place : ℕ) : Type 0 where
   pub taken : slice_get places place ≡ Some false
-      → (n : ℕ) → mark_by first (slice_set places place true) n ≡ mark_by first places n + once_if (n == first + place)
+      → (n : ℕ) → mark_by first (slice_set places place true) n
+      ≡ mark_by first places n + once_if (n == first + place)
   pub given : slice_index_or places place false ≡ true
-      → (n : ℕ) → mark_by first (slice_set places place false) n + once_if (n == first + place) ≡ mark_by first places n
+      → (n : ℕ) → mark_by first (slice_set places place false) n + once_if (n == first + place)
+      ≡ mark_by first places n
   pub once : (n : ℕ) → mark_by first places n ≤ 1
   pub behind : (n : ℕ) → 0 < mark_by first places n → first ≤ n
   pub within : (n : ℕ) → first + length places ≤ n → mark_by first places n ≡ 0
@@ -25,7 +28,9 @@ EachMark = (first : ℕ) (places : List Bool) (place : ℕ) → MarksChange firs
 
 -- the bitmap sectors show the set
 abbrev pub MarksLaid : Type 0
-MarksLaid = (nodes count : ℕ) (image : Image) (places : List Bool) → count ≤ 65536 → Show (image 98) (image 99) count places
+MarksLaid =
+    (nodes count : ℕ) (image : Image) (places : List Bool) → count ≤ 65536
+    → Show (image 98) (image 99) count places
     → (n : ℕ) → mark_in nodes image n ≡ mark_by (148 + nodes) places n
 
 -- where the bitmap sectors alone are written, what was laid by a set in memory is laid
@@ -39,27 +44,34 @@ pub record WritesMarks (version : Version) (size nodes : ℕ) (old new : Image) 
   pub marked : (i : ℕ) → bit_in (new 98) (new 99) i ≡ mark_of places i
 
 abbrev pub LaysMarks : Type 0
-LaysMarks = (version : Version) (size nodes : ℕ) (old new : Image) (places : List Bool) (cards : List (Option Card))
+LaysMarks =
+    (version : Version) (size nodes : ℕ) (old new : Image) (places : List Bool)
+    (cards : List (Option Card))
     → WritesMarks version size nodes old new places cards → IsLaid version size nodes new cards
 
 -- Kept sectors alone are seen: the superblock, and what comes after the gate and the payload
-pub record SeesSame (version : Version) (size nodes : ℕ) (old new : Image) (cards : List (Option Card)) : Type 0 where
+pub record SeesSame (version : Version) (size nodes : ℕ) (old new : Image)
+    (cards : List (Option Card)) : Type 0 where
   pub laid : IsLaid version size nodes new cards
   pub same_cards : cards_in nodes new ≡ cards_in nodes old
   pub same_tree : tree_of new cards ≡ tree_of old cards
 
 abbrev pub KeptAlone : Type 0
-KeptAlone = (version : Version) (size nodes : ℕ) (old new : Image) (cards : List (Option Card)) → 148 + nodes ≤ size
+KeptAlone =
+    (version : Version) (size nodes : ℕ) (old new : Image) (cards : List (Option Card))
+    → 148 + nodes ≤ size
     → IsLaid version size nodes old cards → ((n : ℕ) → 98 ≤ n → n < size → new n ≡ old n)
     → SeesSame version size nodes old new cards
 
 -- so of images that are told up to these sectors it does not matter which one is meant
 abbrev pub StandsAlone : Type 0
 StandsAlone = (version : Version) (size nodes : ℕ) (old new : Image) (run : ℕ) (tree : Tree)
-    → Stands version size nodes old run tree → new 0 ≡ old 0 → ((n : ℕ) → 98 ≤ n → n < size → new n ≡ old n)
+    → Stands version size nodes old run tree → new 0 ≡ old 0
+    → ((n : ℕ) → 98 ≤ n → n < size → new n ≡ old n)
     → Stands version size nodes new run tree
 
--- Where all places are marked, the tree is charged for all of them: so where it is charged for less, a place is free
+-- Where all places are marked, the tree is charged for all of them: so where it is charged for
+-- less, a place is free
 abbrev pub FullIsCharged : Type 0
 FullIsCharged = (nodes : ℕ) (image : Image) (mark : ℕ → ℕ) (cards : List (Option Card)) (count : ℕ)
     → AreLaid nodes image mark cards → ((i : ℕ) → i < count → mark (148 + nodes + i) ≡ 1)

@@ -27,11 +27,12 @@ abbrev pub named : (n : ℕ) → List (Option Card) → ℕ
 named n [] = 0
 named n (card ∷ cards) = named_by n card + named n cards
 
--- The mark of a sector: 0 in front of the data region; from there on the bit of its place in the two bitmap sectors, or, of a
--- set of places in memory, whether its place is used
+-- The mark of a sector: 0 in front of the data region; from there on the bit of its place in the
+-- two bitmap sectors, or, of a set of places in memory, whether its place is used
 
 unfoldable pub mark_in : (nodes : ℕ) → Image → (n : ℕ) → ℕ
-mark_in nodes image n = if nat_lt n (148 + nodes) then 0 else bit_in (image 98) (image 99) (n - (148 + nodes))
+mark_in nodes image n =
+    if nat_lt n (148 + nodes) then 0 else bit_in (image 98) (image 99) (n - (148 + nodes))
 
 -- the first place is sector `first`
 unfoldable pub mark_by : (first : ℕ) → List Bool → (n : ℕ) → ℕ

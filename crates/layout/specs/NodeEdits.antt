@@ -27,7 +27,8 @@ pub record AreFiles (was is : Card) : Type 0 where
   pub shows : ShowsSame was.fields is.fields
 
 -- a part is written within a block that is set, below the file's size
-pub record WritesPart (nodes : ℕ) (old : Image) (marked : ℕ → ℕ) (cards : List (Option Card)) (place : ℕ) (card : Card)
+pub record WritesPart (nodes : ℕ) (old : Image) (marked : ℕ → ℕ) (cards : List (Option Card))
+    (place : ℕ) (card : Card)
     (block sector from : ℕ) (part : List ℕ) : Type 0 where
   pub laid : AreLaid nodes old marked cards
   pub within : place < nodes
@@ -39,24 +40,33 @@ pub record WritesPart (nodes : ℕ) (old : Image) (marked : ℕ → ℕ) (cards 
   pub in_file : 4096 * block + from + length part ≤ card.fields.size
 
 abbrev pub part_written : Image → (sector from : ℕ) → List ℕ → Image
-part_written old sector from part = put old (record { target = sector; content = placed (old sector) from part })
+part_written old sector from part =
+    put old (record { target = sector; content = placed (old sector) from part })
 
 abbrev pub WritePart : Type 0
-WritePart = (nodes : ℕ) (old : Image) (marked : ℕ → ℕ) (cards : List (Option Card)) (place : ℕ) (card : Card)
-    (block sector from : ℕ) (part : List ℕ) → WritesPart nodes old marked cards place card block sector from part
+WritePart =
+    (nodes : ℕ) (old : Image) (marked : ℕ → ℕ) (cards : List (Option Card)) (place : ℕ)
+    (card : Card)
+    (block sector from : ℕ) (part : List ℕ)
+    → WritesPart nodes old marked cards place card block sector from part
     → Gives nodes (part_written old sector from part) marked cards place card
     (done (PutBytes card.fields.number (4096 * block + from) part) (tree_of old cards))
 
--- bytes are written from a place on, over however many blocks: holes on the way are filled, and the file may grow
+-- bytes are written from a place on, over however many blocks: holes on the way are filled, and the
+-- file may grow
 pub record WritesFile (old new : Image) (was is : Card) (offset : ℕ) (bytes : List ℕ) : Type 0 where
   pub files : AreFiles was is
   pub size : is.fields.size ≡ max was.fields.size (offset + length bytes)
   pub written : (k : ℕ) → byte_at new is.blocks k ≡ over (byte_at old was.blocks) offset bytes k
 
 abbrev pub WriteFile : Type 0
-WriteFile = (nodes : ℕ) (old new : Image) (marked mark : ℕ → ℕ) (cards : List (Option Card)) (place : ℕ) (was is : Card)
-    (offset : ℕ) (bytes : List ℕ) → Steps nodes old new marked mark cards place was is → WritesFile old new was is offset bytes
-    → Gives nodes new mark cards place is (done (PutBytes was.fields.number offset bytes) (tree_of old cards))
+WriteFile =
+    (nodes : ℕ) (old new : Image) (marked mark : ℕ → ℕ) (cards : List (Option Card)) (place : ℕ)
+    (was is : Card)
+    (offset : ℕ) (bytes : List ℕ) → Steps nodes old new marked mark cards place was is
+    → WritesFile old new was is offset bytes
+    → Gives nodes new mark cards place is
+    (done (PutBytes was.fields.number offset bytes) (tree_of old cards))
 
 -- a hole gets a sector of zeros, beside what its runs want
 pub record FillsBlock (old new : Image) (was is : Card) (block sector : ℕ) : Type 0 where
@@ -69,20 +79,27 @@ pub record FillsBlock (old new : Image) (was is : Card) (block sector : ℕ) : T
   pub size : is.fields.size ≡ was.fields.size
 
 abbrev pub FillBlock : Type 0
-FillBlock = (nodes : ℕ) (old new : Image) (marked mark : ℕ → ℕ) (cards : List (Option Card)) (place : ℕ) (was is : Card)
-    (block sector : ℕ) → Steps nodes old new marked mark cards place was is → FillsBlock old new was is block sector
+FillBlock =
+    (nodes : ℕ) (old new : Image) (marked mark : ℕ → ℕ) (cards : List (Option Card)) (place : ℕ)
+    (was is : Card)
+    (block sector : ℕ) → Steps nodes old new marked mark cards place was is
+    → FillsBlock old new was is block sector
     → Gives nodes new mark cards place is (tree_of old cards)
 
--- a file is cut: its blocks from `count` on go, and zeros stand past its size in the last one that stays
+-- a file is cut: its blocks from `count` on go, and zeros stand past its size in the last one that
+-- stays
 pub record CutsFile (old new : Image) (was is : Card) (count : ℕ) : Type 0 where
   pub files : AreFiles was is
   pub blocks : is.blocks ≡ take count was.blocks
   pub cuts : CutsBlocks old new was.blocks count is.fields.size
 
 abbrev pub CutFile : Type 0
-CutFile = (nodes : ℕ) (old new : Image) (marked mark : ℕ → ℕ) (cards : List (Option Card)) (place : ℕ) (was is : Card)
+CutFile =
+    (nodes : ℕ) (old new : Image) (marked mark : ℕ → ℕ) (cards : List (Option Card)) (place : ℕ)
+    (was is : Card)
     (count : ℕ) → Steps nodes old new marked mark cards place was is → CutsFile old new was is count
-    → Gives nodes new mark cards place is (done (SetSize was.fields.number is.fields.size) (tree_of old cards))
+    → Gives nodes new mark cards place is
+    (done (SetSize was.fields.number is.fields.size) (tree_of old cards))
 
 -- a file grows by holes
 pub record GrowsFile (old new : Image) (was is : Card) (count : ℕ) : Type 0 where
@@ -92,9 +109,13 @@ pub record GrowsFile (old new : Image) (was is : Card) (count : ℕ) : Type 0 wh
   pub kept : (n : ℕ) → 0 < times_set n was.blocks → new n ≡ old n
 
 abbrev pub GrowFile : Type 0
-GrowFile = (nodes : ℕ) (old new : Image) (marked mark : ℕ → ℕ) (cards : List (Option Card)) (place : ℕ) (was is : Card)
-    (count : ℕ) → Steps nodes old new marked mark cards place was is → GrowsFile old new was is count
-    → Gives nodes new mark cards place is (done (SetSize was.fields.number is.fields.size) (tree_of old cards))
+GrowFile =
+    (nodes : ℕ) (old new : Image) (marked mark : ℕ → ℕ) (cards : List (Option Card)) (place : ℕ)
+    (was is : Card)
+    (count : ℕ) → Steps nodes old new marked mark cards place was is
+    → GrowsFile old new was is count
+    → Gives nodes new mark cards place is
+    (done (SetSize was.fields.number is.fields.size) (tree_of old cards))
 
 -- Directories
 
@@ -112,26 +133,36 @@ pub record PutsName (old new : Image) (was is : Card) (entry : Record) : Type 0 
   pub directories : AreDirectories old was is
   pub stamped : AreStamped is.names
   pub names : is.names ≡ with_record was.names entry
-  pub blocks : RewritesBlocks old new was.blocks is.blocks is.names (block_put was.names entry) (block_put was.names entry)
+  pub blocks : RewritesBlocks old new was.blocks is.blocks is.names (block_put was.names entry)
+      (block_put was.names entry)
   pub map_is : by_stamp is.names ≡ with (by_stamp was.names) entry.0 entry.1
 
 abbrev pub PutOneName : Type 0
-PutOneName = (nodes : ℕ) (old new : Image) (marked mark : ℕ → ℕ) (cards : List (Option Card)) (place : ℕ) (was is : Card)
-    (entry : Record) → Steps nodes old new marked mark cards place was is → PutsName old new was is entry
-    → Gives nodes new mark cards place is (done (PutName was.fields.number entry.0 entry.1) (tree_of old cards))
+PutOneName =
+    (nodes : ℕ) (old new : Image) (marked mark : ℕ → ℕ) (cards : List (Option Card)) (place : ℕ)
+    (was is : Card)
+    (entry : Record) → Steps nodes old new marked mark cards place was is
+    → PutsName old new was is entry
+    → Gives nodes new mark cards place is
+    (done (PutName was.fields.number entry.0 entry.1) (tree_of old cards))
 
 -- a name is dropped, and the last record moves into its place
 pub record DropsName (old new : Image) (was is : Card) (at stamp : ℕ) : Type 0 where
   pub directories : AreDirectories old was is
   pub within : at < length was.names
   pub names : is.names ≡ without_place was.names at
-  pub blocks : RewritesBlocks old new was.blocks is.blocks is.names (block_of at) (block_of (length was.names - 1))
+  pub blocks : RewritesBlocks old new was.blocks is.blocks is.names (block_of at)
+      (block_of (length was.names - 1))
   pub map_is : by_stamp is.names ≡ without (by_stamp was.names) stamp
 
 abbrev pub DropOneName : Type 0
-DropOneName = (nodes : ℕ) (old new : Image) (marked mark : ℕ → ℕ) (cards : List (Option Card)) (place : ℕ) (was is : Card)
-    (at stamp : ℕ) → Steps nodes old new marked mark cards place was is → DropsName old new was is at stamp
-    → Gives nodes new mark cards place is (done (DropName was.fields.number stamp) (tree_of old cards))
+DropOneName =
+    (nodes : ℕ) (old new : Image) (marked mark : ℕ → ℕ) (cards : List (Option Card)) (place : ℕ)
+    (was is : Card)
+    (at stamp : ℕ) → Steps nodes old new marked mark cards place was is
+    → DropsName old new was is at stamp
+    → Gives nodes new mark cards place is
+    (done (DropName was.fields.number stamp) (tree_of old cards))
 
 -- Nodes
 
@@ -149,12 +180,16 @@ pub record ShowsOther (old new : Image) (was is : Card) (shown : Shown) : Type 0
   pub time_modify : is.fields.time_modify ≡ shown.time_modify
 
 abbrev pub ShowOther : Type 0
-ShowOther = (nodes : ℕ) (old new : Image) (marked mark : ℕ → ℕ) (cards : List (Option Card)) (place : ℕ) (was is : Card)
-    (shown : Shown) → Steps nodes old new marked mark cards place was is → ShowsOther old new was is shown
+ShowOther =
+    (nodes : ℕ) (old new : Image) (marked mark : ℕ → ℕ) (cards : List (Option Card)) (place : ℕ)
+    (was is : Card)
+    (shown : Shown) → Steps nodes old new marked mark cards place was is
+    → ShowsOther old new was is shown
     → Gives nodes new mark cards place is (done (Show was.fields.number shown) (tree_of old cards))
 
 -- a node is made at a free place
-pub record MakesNode (nodes : ℕ) (old new : Image) (marked mark : ℕ → ℕ) (cards : List (Option Card)) (place : ℕ)
+pub record MakesNode (nodes : ℕ) (old new : Image) (marked mark : ℕ → ℕ)
+    (cards : List (Option Card)) (place : ℕ)
     (is : Card) : Type 0 where
   pub within : place < nodes
   pub free : slice_index_or cards place None ≡ None
@@ -165,12 +200,16 @@ pub record MakesNode (nodes : ℕ) (old new : Image) (marked mark : ℕ → ℕ)
   pub own : ChangesOwn nodes old new marked mark place None (Some is)
 
 abbrev pub MakeNode : Type 0
-MakeNode = (nodes : ℕ) (old new : Image) (marked mark : ℕ → ℕ) (cards : List (Option Card)) (place : ℕ) (is : Card)
+MakeNode =
+    (nodes : ℕ) (old new : Image) (marked mark : ℕ → ℕ) (cards : List (Option Card)) (place : ℕ)
+    (is : Card)
     → MakesNode nodes old new marked mark cards place is
-    → Gives nodes new mark cards place is (done (PutNode is.fields.number (node_of new is)) (tree_of old cards))
+    → Gives nodes new mark cards place is
+    (done (PutNode is.fields.number (node_of new is)) (tree_of old cards))
 
 -- a node is removed: its place is zero, and what it named is free
-pub record FreesNode (nodes : ℕ) (old new : Image) (marked mark : ℕ → ℕ) (cards : List (Option Card)) (place : ℕ)
+pub record FreesNode (nodes : ℕ) (old new : Image) (marked mark : ℕ → ℕ)
+    (cards : List (Option Card)) (place : ℕ)
     (was : Card) : Type 0 where
   pub within : place < nodes
   pub there : slice_index_or cards place None ≡ Some was
@@ -178,11 +217,16 @@ pub record FreesNode (nodes : ℕ) (old new : Image) (marked mark : ℕ → ℕ)
   pub vacated : new (node_sector place) ≡ zero_sector
   pub own : ChangesOwn nodes old new marked mark place (Some was) None
 
-pub record IsFreed (nodes : ℕ) (old new : Image) (mark : ℕ → ℕ) (cards : List (Option Card)) (place : ℕ)
+pub record IsFreed (nodes : ℕ) (old new : Image) (mark : ℕ → ℕ) (cards : List (Option Card))
+    (place : ℕ)
     (was : Card) : Type 0 where
   pub laid : AreLaid nodes new mark (set cards place None)
-  pub tree_is : tree_of new (set cards place None) ≡ done (DropNode was.fields.number) (tree_of old cards)
+  pub tree_is : tree_of new (set cards place None)
+      ≡ done (DropNode was.fields.number) (tree_of old cards)
 
 abbrev pub FreeNode : Type 0
-FreeNode = (nodes : ℕ) (old new : Image) (marked mark : ℕ → ℕ) (cards : List (Option Card)) (place : ℕ) (was : Card)
-    → FreesNode nodes old new marked mark cards place was → IsFreed nodes old new mark cards place was
+FreeNode =
+    (nodes : ℕ) (old new : Image) (marked mark : ℕ → ℕ) (cards : List (Option Card)) (place : ℕ)
+    (was : Card)
+    → FreesNode nodes old new marked mark cards place was
+    → IsFreed nodes old new mark cards place was

@@ -1,4 +1,5 @@
--- What a volume stands for. Sectors 1 to 97 are the journal's; what it makes of them is settled before.
+-- What a volume stands for. Sectors 1 to 97 are the journal's; what it makes of them is settled
+-- before.
 use Rattle.std.specs.Prelude.{◌≡◌, ◌≤◌, ◌<◌, ◌+◌, ◌^◌, ℕ, List, Option, Some, None, IsTrue, slice_index_or}
 use Rattle.disk.specs.Moments.{Image}
 use Rattle.disk.specs.Calls.{zero_sector}
@@ -13,8 +14,8 @@ use Rattle.layout.specs.Laid.{AreLaid}
 use Rattle.layout.specs.Marks.{mark_in}
 use Rattle.layout.specs.Superblock.{superblock, is_size}
 
--- What versions of the layout differ in: the number in the superblock, the form of a node's sector at each place of the table,
--- and what the sectors from 100 to 147 hold
+-- What versions of the layout differ in: the number in the superblock, the form of a node's sector
+-- at each place of the table, and what the sectors from 100 to 147 hold
 pub record Version : Type 0 where
   pub number : ℕ
   pub form : (place : ℕ) → Form
@@ -26,18 +27,23 @@ version_1 = record { number = 1; form = λ place. One; spare = λ sector. zero_s
 -- each node has its place's form
 abbrev pub HaveForms : Version → List (Option Card) → Type 0
 HaveForms version cards =
-    (place : ℕ) (card : Card) → slice_index_or cards place None ≡ Some card → card.form ≡ version.form place
+    (place : ℕ) (card : Card) → slice_index_or cards place None ≡ Some card
+    → card.form ≡ version.form place
 
--- The sectors from 98 on hold these cards: the bitmap marks what they name, and nothing past the last sector
-pub record IsLaid (version : Version) (size nodes : ℕ) (image : Image) (cards : List (Option Card)) : Type 0 where
+-- The sectors from 98 on hold these cards: the bitmap marks what they name, and nothing past the
+-- last sector
+pub record IsLaid (version : Version) (size nodes : ℕ) (image : Image)
+    (cards : List (Option Card)) : Type 0 where
   pub laid : AreLaid nodes image (mark_in nodes image) cards
   pub forms : HaveForms version cards
   pub within : (n : ℕ) → size ≤ n → mark_in nodes image n ≡ 0
   pub spare : (n : ℕ) → 100 ≤ n → n < 148 → image n ≡ version.spare n
 
--- The sectors of a volume of so many sectors and nodes, mounted `run` times, stand for the tree: they hold the cards that are
--- read of them, the tree is that of these cards, it is well formed, and no stamp in it is of a later run.
-pub record Stands (version : Version) (size nodes : ℕ) (image : Image) (run : ℕ) (tree : Tree) : Type 0 where
+-- The sectors of a volume of so many sectors and nodes, mounted `run` times, stand for the tree:
+-- they hold the cards that are read of them, the tree is that of these cards, it is well formed,
+-- and no stamp in it is of a later run.
+pub record Stands (version : Version) (size nodes : ℕ) (image : Image) (run : ℕ)
+    (tree : Tree) : Type 0 where
   pub sized : IsTrue (is_size size nodes)
   pub counted : run < 2 ^ 32
   pub first : image 0 ≡ superblock version.number size nodes run

@@ -13,8 +13,10 @@ use Rattle.layout.specs.Files.{HoldBytes, HoldOthers}
 use Rattle.layout.specs.Laid.{AreLaid, HoldsNode, HoldsNames}
 use Rattle.layout.specs.Marks.{once_if, times_set}
 
--- The card `was` at a place becomes `is`, of the same number: the node's sectors are written, and its own alone have changed
-pub record Steps (nodes : ℕ) (old new : Image) (marked mark : ℕ → ℕ) (cards : List (Option Card)) (place : ℕ)
+-- The card `was` at a place becomes `is`, of the same number: the node's sectors are written, and
+-- its own alone have changed
+pub record Steps (nodes : ℕ) (old new : Image) (marked mark : ℕ → ℕ) (cards : List (Option Card))
+    (place : ℕ)
     (was is : Card) : Type 0 where
   pub within : place < nodes
   pub there : slice_index_or cards place None ≡ Some was
@@ -24,24 +26,33 @@ pub record Steps (nodes : ℕ) (old new : Image) (marked mark : ℕ → ℕ) (ca
   pub own : ChangesOwn nodes old new marked mark place (Some was) (Some is)
 
 -- Then the cards are laid, and the tree is this one
-pub record Gives (nodes : ℕ) (new : Image) (mark : ℕ → ℕ) (cards : List (Option Card)) (place : ℕ) (is : Card)
+pub record Gives (nodes : ℕ) (new : Image) (mark : ℕ → ℕ) (cards : List (Option Card)) (place : ℕ)
+    (is : Card)
     (tree : Tree) : Type 0 where
   pub laid : AreLaid nodes new mark (set cards place (Some is))
   pub tree_is : tree_of new (set cards place (Some is)) ≡ tree
 
 -- a file gets these bytes
 abbrev pub FileStep : Type 0
-FileStep = (nodes : ℕ) (old new : Image) (marked mark : ℕ → ℕ) (cards : List (Option Card)) (place : ℕ) (was is : Card)
-    (bytes : List ℕ) → Steps nodes old new marked mark cards place was is → is.fields.kind ≡ kind.File → is.names ≡ []
+FileStep =
+    (nodes : ℕ) (old new : Image) (marked mark : ℕ → ℕ) (cards : List (Option Card)) (place : ℕ)
+    (was is : Card)
+    (bytes : List ℕ) → Steps nodes old new marked mark cards place was is
+    → is.fields.kind ≡ kind.File → is.names ≡ []
     → is.fields.size ≡ length bytes → HoldBytes new is.blocks bytes
-    → Gives nodes new mark cards place is (with (tree_of old cards) is.fields.number (node_with is.fields (File bytes)))
+    → Gives nodes new mark cards place is
+    (with (tree_of old cards) is.fields.number (node_with is.fields (File bytes)))
 
 -- a directory gets these names
 abbrev pub NamesStep : Type 0
-NamesStep = (nodes : ℕ) (old new : Image) (marked mark : ℕ → ℕ) (cards : List (Option Card)) (place : ℕ) (was is : Card)
-    (names : Keyed DirEntry) → Steps nodes old new marked mark cards place was is → is.fields.kind ≡ kind.Directory
+NamesStep =
+    (nodes : ℕ) (old new : Image) (marked mark : ℕ → ℕ) (cards : List (Option Card)) (place : ℕ)
+    (was is : Card)
+    (names : Keyed DirEntry) → Steps nodes old new marked mark cards place was is
+    → is.fields.kind ≡ kind.Directory
     → HoldsNames new is → by_stamp is.names ≡ names
-    → Gives nodes new mark cards place is (with (tree_of old cards) is.fields.number (node_with is.fields (Directory names)))
+    → Gives nodes new mark cards place is
+    (with (tree_of old cards) is.fields.number (node_with is.fields (Directory names)))
 
 -- a file gets other blocks, and neither bytes nor fields that the tree shows: the tree stays
 
@@ -53,17 +64,25 @@ pub record ShowsSame (was is : Fields) : Type 0 where
   pub time_modify : is.time_modify ≡ was.time_modify
 
 abbrev pub SameStep : Type 0
-SameStep = (nodes : ℕ) (old new : Image) (marked mark : ℕ → ℕ) (cards : List (Option Card)) (place : ℕ) (was is : Card)
-    (bytes : List ℕ) → Steps nodes old new marked mark cards place was is → was.fields.kind ≡ kind.File
-    → is.fields.kind ≡ kind.File → is.names ≡ [] → was.fields.size ≡ length bytes → is.fields.size ≡ length bytes
-    → HoldBytes old was.blocks bytes → HoldBytes new is.blocks bytes → ShowsSame was.fields is.fields
+SameStep =
+    (nodes : ℕ) (old new : Image) (marked mark : ℕ → ℕ) (cards : List (Option Card)) (place : ℕ)
+    (was is : Card)
+    (bytes : List ℕ) → Steps nodes old new marked mark cards place was is
+    → was.fields.kind ≡ kind.File
+    → is.fields.kind ≡ kind.File → is.names ≡ [] → was.fields.size ≡ length bytes
+    → is.fields.size ≡ length bytes
+    → HoldBytes old was.blocks bytes → HoldBytes new is.blocks bytes
+    → ShowsSame was.fields is.fields
     → Gives nodes new mark cards place is (tree_of old cards)
 
 -- a file of a laid volume holds the bytes that are read, and zeros past them
 abbrev pub FileThere : Type 0
-FileThere = (nodes : ℕ) (image : Image) (mark : ℕ → ℕ) (cards : List (Option Card)) (place : ℕ) (card : Card)
+FileThere =
+    (nodes : ℕ) (image : Image) (mark : ℕ → ℕ) (cards : List (Option Card)) (place : ℕ)
+    (card : Card)
     → AreLaid nodes image mark cards → place < nodes → slice_index_or cards place None ≡ Some card
-    → card.fields.kind ≡ kind.File → HoldBytes image card.blocks (bytes_in image card.blocks card.fields.size)
+    → card.fields.kind ≡ kind.File
+    → HoldBytes image card.blocks (bytes_in image card.blocks card.fields.size)
 
 -- Blocks
 
@@ -77,7 +96,8 @@ HaveElsewhere blocks block sector = (i : ℕ) → i ≢ block → slice_index_or
 -- a sector that is named once at most is no other block's, and no block's where it is not named
 pub record IsOwn (blocks : List (Option ℕ)) (sector : ℕ) : Type 0 where
   pub unnamed : times_set sector blocks ≡ 0 → HaveNot blocks sector
-  pub once : times_set sector blocks ≤ 1 → (block : ℕ) → slice_index_or blocks block None ≡ Some sector
+  pub once : times_set sector blocks ≤ 1 → (block : ℕ)
+      → slice_index_or blocks block None ≡ Some sector
       → HaveElsewhere blocks block sector
 
 abbrev pub EachOwn : Type 0
@@ -86,14 +106,16 @@ EachOwn = (blocks : List (Option ℕ)) (sector : ℕ) → IsOwn blocks sector
 -- the blocks but one hold what they held, where of their sectors no other has changed
 abbrev pub OthersHold : Type 0
 OthersHold = (old new : Image) (blocks : List (Option ℕ)) (block sector : ℕ)
-    → ((n : ℕ) → n ≢ sector → 0 < times_set n blocks → new n ≡ old n) → HaveElsewhere blocks block sector
+    → ((n : ℕ) → n ≢ sector → 0 < times_set n blocks → new n ≡ old n)
+    → HaveElsewhere blocks block sector
     → HoldOthers old new blocks block
 
 -- how often blocks have a sector, after a change
 pub record TimesChange (n : ℕ) (blocks : List (Option ℕ)) : Type 0 where
   pub filled : (block sector : ℕ) → block < length blocks → slice_index_or blocks block None ≡ None
       → times_set n (set blocks block (Some sector)) ≡ times_set n blocks + once_if (n == sector)
-  pub cut : (count : ℕ) → times_set n (take count blocks) + times_set n (drop count blocks) ≡ times_set n blocks
+  pub cut : (count : ℕ) → times_set n (take count blocks) + times_set n (drop count blocks)
+      ≡ times_set n blocks
   pub grown : (count : ℕ) → times_set n (with_holes blocks count) ≡ times_set n blocks
 
 abbrev pub EachChange : Type 0

@@ -1,4 +1,5 @@
--- Sums over the tree are sums over the cards: what the nodes are charged, how many they are, and how many names lead to a number.
+-- Sums over the tree are sums over the cards: what the nodes are charged, how many they are, and
+-- how many names lead to a number.
 use Rattle.std.specs.Prelude.{◌≡◌, ◌+◌, ◌==◌, ◌<◌, ◌++◌, ℕ, List, [], ◌∷◌, Option, Some, None, All, map, length, if◌then◌else◌}
 use Rattle.disk.specs.Moments.{Image}
 use Rattle.directory.specs.Listing.{by_stamp}
@@ -30,31 +31,43 @@ abbrev pub other_numbers : List (Option Card) → List ℕ
 other_numbers [] = []
 other_numbers (None ∷ cards) = other_numbers cards
 other_numbers (Some card ∷ cards) =
-    if card.fields.number == root then other_numbers cards else card.fields.number ∷ other_numbers cards
+    if card.fields.number == root
+    then other_numbers cards
+    else card.fields.number ∷ other_numbers cards
 
 abbrev pub NamesTotal : Type 0
-NamesTotal = (worth : DirEntry → ℕ) (names : List Record) → AreStamped names → total worth (by_stamp names) ≡ total worth names
+NamesTotal =
+    (worth : DirEntry → ℕ) (names : List Record) → AreStamped names
+    → total worth (by_stamp names) ≡ total worth names
 
 pub record Sums (image : Image) (cards : List (Option Card)) : Type 0 where
-  pub any : (worth : Node → ℕ) → total worth (tree_of image cards) ≡ sum_over (λ card. worth (node_of image card)) cards
-  pub charges : total charge (tree_of image cards) ≡ sum_over (λ card. charge_of_blocks (length card.blocks)) cards
+  pub any : (worth : Node → ℕ)
+      → total worth (tree_of image cards) ≡ sum_over (λ card. worth (node_of image card)) cards
+  pub charges : total charge (tree_of image cards)
+      ≡ sum_over (λ card. charge_of_blocks (length card.blocks)) cards
   pub nodes : length (tree_of image cards) ≡ sum_over (λ card. 1) cards
 
 abbrev pub EachSum : Type 0
-EachSum = (nodes : ℕ) (image : Image) (mark : ℕ → ℕ) (cards : List (Option Card)) → AreLaid nodes image mark cards
+EachSum =
+    (nodes : ℕ) (image : Image) (mark : ℕ → ℕ) (cards : List (Option Card))
+    → AreLaid nodes image mark cards
     → Sums image cards
 
--- so each node has the one name that it is owed exactly where each number is as often among those that names lead to as among
--- those of the nodes but the root
+-- so each node has the one name that it is owed exactly where each number is as often among those
+-- that names lead to as among those of the nodes but the root
 pub record Links (image : Image) (cards : List (Option Card)) (number : ℕ) : Type 0 where
   pub to : links_to (tree_of image cards) number ≡ times number (entry_numbers cards)
   pub owed : links_owed (tree_of image cards) number ≡ times number (other_numbers cards)
 
 abbrev pub EachLink : Type 0
-EachLink = (nodes : ℕ) (image : Image) (mark : ℕ → ℕ) (cards : List (Option Card)) → AreLaid nodes image mark cards
+EachLink =
+    (nodes : ℕ) (image : Image) (mark : ℕ → ℕ) (cards : List (Option Card))
+    → AreLaid nodes image mark cards
     → (number : ℕ) → Links image cards number
 
 -- where sectors hold bytes, a file has bytes
 abbrev pub BytesFit : Type 0
-BytesFit = (image : Image) (blocks : List (Option ℕ)) (size : ℕ) → ((n : ℕ) → All (λ byte. byte < 256) (image n))
+BytesFit =
+    (image : Image) (blocks : List (Option ℕ)) (size : ℕ)
+    → ((n : ℕ) → All (λ byte. byte < 256) (image n))
     → All (λ byte. byte < 256) (bytes_in image blocks size)

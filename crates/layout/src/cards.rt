@@ -21,7 +21,8 @@ pub fn answers()
     ensures { EachAnswer }
 {}
 
-/// What is known of laid cards whatever their sectors hold, and that it stays known where one of them changes with the marks.
+/// What is known of laid cards whatever their sectors hold, and that it stays known where one of
+/// them changes with the marks.
 pub fn known()
     ensures laid { LaidAreCards }
     ensures change { OneCardChange }

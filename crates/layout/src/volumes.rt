@@ -4,7 +4,8 @@ ghost use Rattle.layout.specs.CardLaws.{OneTree, OneProof};
 ghost use Rattle.layout.specs.FreshLaws.{FreshStands};
 ghost use Rattle.layout.specs.MarkLaws.{KeptAlone, StandsAlone};
 
-/// A volume stands for one tree, of one size and one restart count; that it does has one proof at most.
+/// A volume stands for one tree, of one size and one restart count; that it does has one proof at
+/// most.
 pub fn one_tree()
     ensures tree { OneTree }
     ensures proof { OneProof }

@@ -28,7 +28,9 @@ is_within number bits = bit_and bits number == number
 abbrev pub bits_of : ℕ → List ℕ
 bits_of word = filter (meets word) (map (λ k. 2 ^ k) (range_with_len 0 32))
 
--- ---- rights (section 6.2.1.3, `acemask4`); on a directory the first three are LIST_DIRECTORY, ADD_FILE and ADD_SUBDIRECTORY
+-- ---- rights (section 6.2.1.3, `acemask4`)
+
+-- on a directory the first three are LIST_DIRECTORY, ADD_FILE and ADD_SUBDIRECTORY
 
 abbrev pub read_data : ℕ
 read_data = 0x1
@@ -102,7 +104,8 @@ matches (who.NamedGroup number) owner group cred = is_member cred number
 
 -- the first entry that counts, names the right and is of a matching name
 unfoldable pub first_of : (Who → Bool) → List Ace → ℕ → Option Ace
-first_of is_matching acl right = find (λ ace. counts ace && is_matching ace.who && meets ace.mask.0 right) acl
+first_of is_matching acl right =
+    find (λ ace. counts ace && is_matching ace.who && meets ace.mask.0 right) acl
 
 -- the entry that decides a right for a caller
 abbrev pub first : List Ace → ℕ → ℕ → Cred → ℕ → Option Ace
@@ -117,8 +120,8 @@ abbrev pub allows : Option Ace → Bool
 allows None = false
 allows (Some ace) = is_allow ace.kind
 
--- what the owner may do whatever the list says: section 6.3.1.1 allows READ_ACL and WRITE_ACL, and WRITE_ATTRIBUTES is this
--- server's choice
+-- what the owner may do whatever the list says: section 6.3.1.1 allows READ_ACL and WRITE_ACL, and
+-- WRITE_ATTRIBUTES is this server's choice
 abbrev pub is_owners_right : ℕ → Bool
 is_owners_right right = (right == read_acl) || (right == write_acl) || (right == write_attributes)
 
@@ -139,11 +142,14 @@ is_special who.Everyone = true
 is_special (who.User number) = false
 is_special (who.NamedGroup number) = false
 
--- a file has no flags; a directory's entry has NO_PROPAGATE or INHERIT_ONLY only beside FILE_INHERIT or DIRECTORY_INHERIT. That a number is a group's stands in the name
+-- a file has no flags; a directory's entry has NO_PROPAGATE or INHERIT_ONLY only beside
+-- FILE_INHERIT or DIRECTORY_INHERIT. That a number is a group's stands in the name
 abbrev pub are_flags_for : NodeKind → ℕ → Bool
 are_flags_for node.File flags = flags == 0
 are_flags_for node.Directory flags =
-    is_within flags inheritance && (not (meets flags (no_propagate + inherit_only)) || meets flags (file_inherit + directory_inherit))
+    is_within flags inheritance
+    && (not (meets flags (no_propagate + inherit_only))
+    || meets flags (file_inherit + directory_inherit))
 
 -- a user's and a group's number has 32 bits
 abbrev pub has_width : Who → Bool
@@ -155,13 +161,17 @@ has_width (who.NamedGroup number) = nat_lt number (2 ^ 32)
 
 -- whether a node of this kind may have the entry
 abbrev pub is_entry_for : NodeKind → Ace → Bool
-is_entry_for of ace = are_flags_for of ace.flags.0 && is_within ace.mask.0 every_right && has_width ace.who
+is_entry_for of ace =
+    are_flags_for of ace.flags.0 && is_within ace.mask.0 every_right && has_width ace.who
 
 -- an entry of a special name that counts and is not handed down: what setting a mode replaces
 abbrev pub is_plain : Ace → Bool
-is_plain ace = is_special ace.who && counts ace && not (meets ace.flags.0 (file_inherit + directory_inherit))
+is_plain ace =
+    is_special ace.who && counts ace && not (meets ace.flags.0 (file_inherit + directory_inherit))
 
--- whether a node of this kind may have the list, where a client may set so many entries and so many may be stored
+-- whether a node of this kind may have the list, where a client may set so many entries and so many
+-- may be stored
 unfoldable pub is_list_for : ℕ → ℕ → NodeKind → List Ace → Bool
 is_list_for max_set max_stored of acl =
-    list_all (is_entry_for of) acl && nat_le (length acl) max_stored && nat_le (count_by (λ ace. not (is_plain ace)) acl) max_set
+    list_all (is_entry_for of) acl && nat_le (length acl) max_stored
+    && nat_le (count_by (λ ace. not (is_plain ace)) acl) max_set

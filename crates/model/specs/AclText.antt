@@ -1,6 +1,6 @@
--- Whom a text names, and which entry of the definitions one on the wire stands for: RFC 8881, sections 5.9 (owner and
--- owner_group), 6.2.1.1 and 6.2.1.3 to 6.2.1.5. Numbers in decimal, and OWNER@, GROUP@ and EVERYONE@ alone of the special
--- names, are this server's profile.
+-- Whom a text names, and which entry of the definitions one on the wire stands for: RFC 8881,
+-- sections 5.9 (owner and owner_group), 6.2.1.1 and 6.2.1.3 to 6.2.1.5. Numbers in decimal, and
+-- OWNER@, GROUP@ and EVERYONE@ alone of the special names, are this server's profile.
 use Rattle.std.specs.Prelude.{◌≡◌, ◌↔◌, ℕ, ◌<◌, ◌^◌, ◌==◌, ◌&&◌, nat_lt, Bool, true, false, if◌then◌else◌, List, Option, Some, None, option_map, option_and_then, bit_or, bytes_eq, codes, decimal, filter_map}
 use Rattle.std.specs.Str.Parse.{digits_value}
 use Rattle.model.specs.declared.acl.Ace.{Ace}
@@ -48,7 +48,8 @@ entry_text ace = record {
 
 -- the number of 32 bits that the text writes in decimal digits, without zeros in front
 abbrev pub written_number : (text : List ℕ) → (number : ℕ) → Option ℕ
-written_number text number = if nat_lt number (2 ^ 32) && bytes_eq text (decimal number) then Some number else None
+written_number text number =
+    if nat_lt number (2 ^ 32) && bytes_eq text (decimal number) then Some number else None
 
 unfoldable pub number_in : (text : List ℕ) → Option ℕ
 number_in text = written_number text (digits_value 10 text)
@@ -66,18 +67,25 @@ who_in is_group text =
     else option_map (numbered is_group) (number_in text)))
 
 abbrev pub kind_in : ℕ → Option AceKind
-kind_in number = if number == 0 then Some kind.Allow else (if number == 1 then Some kind.Deny else None)
+kind_in number =
+    if number == 0 then Some kind.Allow else (if number == 1 then Some kind.Deny else None)
 
 abbrev pub ace_of : AclEntry → AceKind → Who → Ace
 ace_of entry of name =
-    record { kind = of; flags = record { 0 = bits_without entry.flags identifier_group }; mask = record { 0 = entry.mask }; who = name }
+    record {
+      kind = of;
+      flags = record { 0 = bits_without entry.flags identifier_group };
+      mask = record { 0 = entry.mask };
+      who = name;
+    }
 
 abbrev pub named_in : AclEntry → Option Who
 named_in entry = who_in (meets entry.flags identifier_group) entry.who
 
 -- the entry that one on the wire stands for, if it stands for one
 unfoldable pub ace_in : AclEntry → Option Ace
-ace_in entry = option_and_then (λ of. option_map (ace_of entry of) (named_in entry)) (kind_in entry.kind)
+ace_in entry =
+    option_and_then (λ of. option_map (ace_of entry of) (named_in entry)) (kind_in entry.kind)
 
 -- those of a list
 abbrev pub aces_in : List AclEntry → List Ace
@@ -87,7 +95,9 @@ aces_in entries = filter_map ace_in entries
 
 -- a number is read exactly where the text is its digits
 abbrev pub ReadsNumbers : Type 0
-ReadsNumbers = (text : List ℕ) (number : ℕ) → (number_in text ≡ Some number) ↔ ((text ≡ decimal number) × (number < 2 ^ 32))
+ReadsNumbers =
+    (text : List ℕ) (number : ℕ) → (number_in text ≡ Some number)
+    ↔ ((text ≡ decimal number) × (number < 2 ^ 32))
 
 -- what the flag IDENTIFIER_GROUP is where this is meant
 abbrev pub Agrees : (is_group : Bool) → Who → Type 0
@@ -102,7 +112,9 @@ abbrev pub Means : (is_group : Bool) → (text : List ℕ) → Who → Type 0
 Means is_group text name = (text ≡ who_text name) × Agrees is_group name
 
 abbrev pub ReadsNames : Type 0
-ReadsNames = (is_group : Bool) (text : List ℕ) (name : Who) → (who_in is_group text ≡ Some name) ↔ Means is_group text name
+ReadsNames =
+    (is_group : Bool) (text : List ℕ) (name : Who) → (who_in is_group text ≡ Some name)
+    ↔ Means is_group text name
 
 -- The entry on the wire stands for the other, whose flags are without IDENTIFIER_GROUP.
 pub record StandsFor (entry : AclEntry) (ace : Ace) : Type 0 where
@@ -122,6 +134,7 @@ HasWidth _ = Unit {0}
 
 -- what is written is read again, and the flag stands exactly on named groups
 pub record WritesEntries : Type 0 where
-  pub again : (ace : Ace) → bits_without ace.flags.0 identifier_group ≡ ace.flags.0 → HasWidth ace.who → ace_in (entry_text ace) ≡ Some ace
+  pub again : (ace : Ace) → bits_without ace.flags.0 identifier_group ≡ ace.flags.0
+      → HasWidth ace.who → ace_in (entry_text ace) ≡ Some ace
   pub flag : (ace : Ace) → bits_without ace.flags.0 identifier_group ≡ ace.flags.0
       → meets (entry_text ace).flags identifier_group ≡ is_named_group ace.who

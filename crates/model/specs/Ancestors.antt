@@ -1,4 +1,5 @@
--- A node's parent and ancestors: RFC 8881, sections 18.14 (LOOKUPP) and 18.26 (RENAME: no directory is moved below itself).
+-- A node's parent and ancestors: RFC 8881, sections 18.14 (LOOKUPP) and 18.26 (RENAME: no directory
+-- is moved below itself).
 use Rattle.std.specs.Prelude.{ℕ, zero, suc, Bool, List, [], ◌∷◌, ◌==◌, if◌then◌else◌, nat_lt, length, IsTrue}
 use Rattle.std.specs.List.{list_any}
 use Rattle.model.specs.Keyed.{is_key}
@@ -9,7 +10,8 @@ use Rattle.model.specs.WellFormed.{links_from, IsFrom, IsWellFormed}
 -- the directory in which a name leads to a number: 0, which no node has, where there is none
 abbrev pub parent_of : Tree → (number : ℕ) → ℕ
 parent_of [] number = 0
-parent_of (entry ∷ rest) number = if nat_lt 0 (links_from number entry.1) then entry.0 else parent_of rest number
+parent_of (entry ∷ rest) number =
+    if nat_lt 0 (links_from number entry.1) then entry.0 else parent_of rest number
 
 -- a node, its parent and so on up to the root, so many at most
 abbrev pub ancestors_in : (steps : ℕ) → Tree → (number : ℕ) → List ℕ
@@ -26,5 +28,8 @@ is_below tree upper number = list_any (λ of. of == upper) (ancestors tree numbe
 
 -- That is: whether it is reached from there
 abbrev pub IsBelowIsReached : Type 0
-IsBelowIsReached = (limits : Limits) (tree : Tree) → IsWellFormed limits tree → (upper number : ℕ) → IsTrue (is_key number tree)
-    → (IsTrue (is_below tree upper number) → IsFrom tree upper number) × (IsFrom tree upper number → IsTrue (is_below tree upper number))
+IsBelowIsReached =
+    (limits : Limits) (tree : Tree) → IsWellFormed limits tree → (upper number : ℕ)
+    → IsTrue (is_key number tree)
+    → (IsTrue (is_below tree upper number) → IsFrom tree upper number)
+    × (IsFrom tree upper number → IsTrue (is_below tree upper number))

@@ -124,8 +124,9 @@ operation_of (Sequence _) = OP_SEQUENCE
 operation_of DestroyClientId = OP_DESTROY_CLIENTID
 operation_of ReclaimComplete = OP_RECLAIM_COMPLETE
 
--- One result of a COMPOUND (nfs_resop4). A refused one has its number and status alone, but for SETATTR, where an empty
--- bitmap follows (section 18.30); the number is 10044 where the operation is none (section 15.2).
+-- One result of a COMPOUND (nfs_resop4). A refused one has its number and status alone, but for
+-- SETATTR, where an empty bitmap follows (section 18.30); the number is 10044 where the operation
+-- is none (section 15.2).
 pub data Outcome : Type 0 where
   Done : Answer → Outcome
   Refused : (operation : ℕ) → Status → Outcome

@@ -1,5 +1,6 @@
--- Attributes that a client sets, and their tests in order: RFC 8881, sections 3.2 (bitmap4), 5 (attributes) and 18.30
--- (SETATTR). The order of the tests, and which attributes are supported and may be set where, are this server's profile.
+-- Attributes that a client sets, and their tests in order: RFC 8881, sections 3.2 (bitmap4), 5
+-- (attributes) and 18.30 (SETATTR). The order of the tests, and which attributes are supported and
+-- may be set where, are this server's profile.
 use Rattle.std.specs.Prelude.{◌≡◌, ◌≤◌, IsTrue, ℕ, Bool, List, [], ◌∷◌, ◌++◌, Option, Some, None, ◌+◌, ◌==◌, not, nat_lt, nat_eq, is_none, if◌then◌else◌, length, map, filter, flat_map, unwrap_or}
 use Rattle.std.specs.List.{list_any, range_with_len}
 use Rattle.std.specs.Int.{bit_at}
@@ -16,11 +17,13 @@ use Rattle.model.specs.Refusal.{Refusals, first_refusal}
 -- The attributes of a bitmap, by rising number: bit m of word n stands for attribute 32 n + m
 
 abbrev pub attributes_of_word : (first word : ℕ) → List ℕ
-attributes_of_word first word = map (λ bit. first + bit) (filter (λ bit. bit_at word bit == 1) (range_with_len 0 32))
+attributes_of_word first word =
+    map (λ bit. first + bit) (filter (λ bit. bit_at word bit == 1) (range_with_len 0 32))
 
 abbrev pub attributes_from : (first : ℕ) → List ℕ → List ℕ
 attributes_from first [] = []
-attributes_from first (word ∷ rest) = attributes_of_word first word ++ attributes_from (first + 32) rest
+attributes_from first (word ∷ rest) =
+    attributes_of_word first word ++ attributes_from (first + 32) rest
 
 unfoldable pub attributes_of : (bitmap : List ℕ) → List ℕ
 attributes_of bitmap = attributes_from 0 bitmap
@@ -58,12 +61,15 @@ owner_group_number = 37
 
 -- what this server supports
 abbrev pub supported : List ℕ
-supported = 0 ∷ 1 ∷ 2 ∷ 3 ∷ 4 ∷ 5 ∷ 6 ∷ 7 ∷ 8 ∷ 9 ∷ 10 ∷ 11 ∷ 12 ∷ 13 ∷ 19 ∷ 20 ∷ 27 ∷ 29 ∷ 30 ∷ 31 ∷ 33 ∷ 35 ∷ 36 ∷ 37 ∷ 53 ∷ 75 ∷ []
+supported =
+    0 ∷ 1 ∷ 2 ∷ 3 ∷ 4 ∷ 5 ∷ 6 ∷ 7 ∷ 8 ∷ 9 ∷ 10 ∷ 11 ∷ 12 ∷ 13 ∷ 19 ∷ 20 ∷ 27 ∷ 29 ∷ 30 ∷ 31 ∷ 33
+    ∷ 35 ∷ 36 ∷ 37 ∷ 53 ∷ 75 ∷ []
 
 -- what SETATTR, OPEN and CREATE may set
 
 abbrev pub settable_at_setattr : List ℕ
-settable_at_setattr = size_number ∷ acl_number ∷ mode_number ∷ owner_number ∷ owner_group_number ∷ []
+settable_at_setattr =
+    size_number ∷ acl_number ∷ mode_number ∷ owner_number ∷ owner_group_number ∷ []
 
 abbrev pub settable_at_open : List ℕ
 settable_at_open = size_number ∷ acl_number ∷ mode_number ∷ []
@@ -75,7 +81,8 @@ abbrev pub is_among : (numbers : List ℕ) → (attribute : ℕ) → Bool
 is_among numbers attribute = list_any (nat_eq attribute) numbers
 
 abbrev pub has_one_outside : (numbers attributes : List ℕ) → Bool
-has_one_outside numbers attributes = list_any (λ attribute. not (is_among numbers attribute)) attributes
+has_one_outside numbers attributes =
+    list_any (λ attribute. not (is_among numbers attribute)) attributes
 
 -- What is set
 
@@ -132,7 +139,8 @@ group_given given = said_by group_said given
 
 -- The tests, in their order; what is set is set on a node of this kind
 
--- of one entry of a list: its type, flags, rights and name, and whether such a node may have such flags
+-- of one entry of a list: its type, flags, rights and name, and whether such a node may have such
+-- flags
 abbrev pub entry_refusals : NodeKind → AclEntry → Refusals
 entry_refusals kind entry =
     (nat_lt 1 entry.kind, status.AttrNotSupp)
@@ -161,6 +169,8 @@ attribute_refusals limits kind settable given =
 
 -- Its law: a list that passes is one that a node may have
 abbrev pub GivenListsFit : Type 0
-GivenListsFit = (limits : Limits) (kind : NodeKind) (settable : List ℕ) (given : Attributes) (acl : List Ace)
-    → limits.aces_set ≤ limits.aces → first_refusal (attribute_refusals limits kind settable given) ≡ None
+GivenListsFit =
+    (limits : Limits) (kind : NodeKind) (settable : List ℕ) (given : Attributes) (acl : List Ace)
+    → limits.aces_set ≤ limits.aces
+    → first_refusal (attribute_refusals limits kind settable given) ≡ None
     → acl_given given ≡ Some acl → IsTrue (is_list_for limits.aces_set limits.aces kind acl)

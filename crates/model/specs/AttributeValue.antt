@@ -1,5 +1,6 @@
--- The values of attributes and the entries of lists on the wire, as grammars: RFC 8881, sections 3.3.9, 5.6, 5.8, 5.9 and 6.2,
--- and RFC 5662. The bitmaps among them, supported_attrs and suppattr_exclcreat, are spelled as in results.
+-- The values of attributes and the entries of lists on the wire, as grammars: RFC 8881, sections
+-- 3.3.9, 5.6, 5.8, 5.9 and 6.2, and RFC 5662. The bitmaps among them, supported_attrs and
+-- suppattr_exclcreat, are spelled as in results.
 use Rattle.std.specs.Prelude.{◌≡◌, ◌↔◌, ℕ, ◌-◌, ◌^◌, ◌==◌, Bool, List, [], ◌∷◌, Option, Some, None, Result, Ok, Err, map, length, if◌then◌else◌}
 use Rattle.std.specs.List.{flat_map, AllByRecursion}
 use Rattle.xdr.specs.declared.refusal.Refusal.{Refusal}
@@ -17,7 +18,9 @@ pub record FileSystemId : Type 0 where
   pub minor : ℕ
 
 abbrev pub file_system_id : Grammar FileSystemId
-file_system_id = of (λ (p : ℕ × ℕ). record { major = p.0; minor = p.1 }) (λ i. (i.major, i.minor)) (unsigned_hyper & unsigned_hyper)
+file_system_id =
+    of (λ (p : ℕ × ℕ). record { major = p.0; minor = p.1 }) (λ i. (i.major, i.minor))
+    (unsigned_hyper & unsigned_hyper)
 
 -- nfstime4: the seconds as the number that their eight bytes spell
 pub record Time : Type 0 where
@@ -25,7 +28,9 @@ pub record Time : Type 0 where
   pub nanoseconds : ℕ
 
 abbrev pub time : Grammar Time
-time = of (λ (p : ℕ × ℕ). record { seconds = p.0; nanoseconds = p.1 }) (λ t. (t.seconds, t.nanoseconds)) (unsigned_hyper & unsigned_int)
+time =
+    of (λ (p : ℕ × ℕ). record { seconds = p.0; nanoseconds = p.1 })
+    (λ t. (t.seconds, t.nanoseconds)) (unsigned_hyper & unsigned_int)
 
 -- nfsace4, as it stands on the wire: what its numbers and its text mean is not looked at
 pub record AclEntry : Type 0 where
@@ -36,7 +41,8 @@ pub record AclEntry : Type 0 where
 
 abbrev pub acl_entry : Grammar AclEntry
 acl_entry = of
-    (λ (p : ℕ × (ℕ × (ℕ × List ℕ))). record { kind = p.0; flags = p.1.0; mask = p.1.1.0; who = p.1.1.1 })
+    (λ (p : ℕ × (ℕ × (ℕ × List ℕ))).
+    record { kind = p.0; flags = p.1.0; mask = p.1.1.0; who = p.1.1.1 })
     (λ e. (e.kind, (e.flags, (e.mask, e.who))))
     (unsigned_int & unsigned_int & unsigned_int & any_opaque)
 
@@ -146,7 +152,8 @@ value_at attribute bytes = value_choice attribute bytes
 -- the values of attributes, one after the other
 unfoldable pub values_at : (attributes : List ℕ) → List ℕ → Result (List Value × List ℕ) Refusal
 values_at [] bytes = Ok ([], bytes)
-values_at (attribute ∷ rest) bytes = value_at attribute bytes >>= λ x. values_at rest x.1 >>= λ xs. Ok (x.0 ∷ xs.0, xs.1)
+values_at (attribute ∷ rest) bytes =
+    value_at attribute bytes >>= λ x. values_at rest x.1 >>= λ xs. Ok (x.0 ∷ xs.0, xs.1)
 
 abbrev pub attribute_of : Value → ℕ
 attribute_of v = (value_told v).number
@@ -173,4 +180,5 @@ whole_values attributes bytes = whole (values_at attributes bytes)
 -- Its law: bytes are read whole exactly where they are the values' spelling
 abbrev pub ReadsWhole : Type 0
 ReadsWhole = (attributes bytes : List ℕ) (vs : List Value) → IsBytes bytes
-    → (whole_values attributes bytes ≡ Some vs) ↔ ((values attributes).Fits vs × (bytes ≡ (values attributes).spelling vs))
+    → (whole_values attributes bytes ≡ Some vs)
+    ↔ ((values attributes).Fits vs × (bytes ≡ (values attributes).spelling vs))

@@ -1,4 +1,5 @@
--- What a node takes of the volume's data region, and when a tree fits: this server's profile; NFS4ERR_NOSPC of RFC 8881, section 15.1.4.
+-- What a node takes of the volume's data region, and when a tree fits: this server's profile;
+-- NFS4ERR_NOSPC of RFC 8881, section 15.1.4.
 use Rattle.std.specs.Prelude.{ℕ, Bool, true, [], ◌∷◌, ◌+◌, ◌/◌, ◌&&◌, nat_le, length, ◌-◌}
 use Rattle.model.specs.declared.node.NodeKind.{NodeKind}
 use Rattle.model.specs.declared.node.NodeKind.TheVariants as kind
@@ -28,9 +29,11 @@ charge node = charge_of_blocks (blocks node.content)
 
 abbrev pub few_names : (most : ℕ) → Tree → Bool
 few_names most [] = true
-few_names most (entry ∷ rest) = nat_le (length (names_of entry.1.content)) most && few_names most rest
+few_names most (entry ∷ rest) =
+    nat_le (length (names_of entry.1.content)) most && few_names most rest
 
--- the charges come to the data region at most, the nodes to their limit, and no directory has too many names
+-- the charges come to the data region at most, the nodes to their limit, and no directory has too
+-- many names
 unfoldable pub fits : Limits → Tree → Bool
 fits limits tree = nat_le (total charge tree) limits.data_sectors
     && (nat_le (length tree) limits.nodes && few_names limits.names tree)

@@ -1,4 +1,5 @@
--- What a COMPOUND hands from one operation to the next: RFC 8881, section 16.2.3.1 (current and saved filehandle and stateid).
+-- What a COMPOUND hands from one operation to the next: RFC 8881, section 16.2.3.1 (current and
+-- saved filehandle and stateid).
 use Rattle.std.specs.Prelude.{ℕ, Bool, Option, Some, None, is_some, ◌==◌, ◌&&◌, bytes_eq}
 use Rattle.model.specs.declared.acl.Cred.{Cred}
 use Rattle.model.specs.Operation.{StateId, RenameArguments}
@@ -28,7 +29,8 @@ current_number context = number_at context.current
 
 -- the context with this node as the current one: that clears the current stateid
 abbrev pub at_node : Context → ℕ → Context
-at_node context number = record context { current = Some (record { number = number; state = None }) }
+at_node context number =
+    record context { current = Some (record { number = number; state = None }) }
 
 -- the same node, without the current stateid
 abbrev pub without_stateid : Context → Context

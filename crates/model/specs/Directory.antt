@@ -19,7 +19,8 @@ number_named tree directory name = number_of_entry (entry_of name (names_at tree
 abbrev pub is_named : Tree → (directory : ℕ) → (name : List ℕ) → Bool
 is_named tree directory name = is_some (entry_of name (names_at tree directory))
 
--- what a directory has of a change, and what it hands down: 0 and nothing where there is no such node
+-- what a directory has of a change, and what it hands down: 0 and nothing where there is no such
+-- node
 
 abbrev pub change_of : Option Node → ℕ
 change_of None = 0
@@ -29,13 +30,15 @@ abbrev pub acl_of : Option Node → List Ace
 acl_of None = []
 acl_of (Some node) = node.acl
 
--- A new directory is the caller's. Its list is the one given, or that of the mode and those handed down, or those handed down,
--- or none where no attribute is given (section 6.4.3).
+-- A new directory is the caller's. Its list is the one given, or that of the mode and those handed
+-- down, or those handed down, or none where no attribute is given (section 6.4.3).
 abbrev pub new_directory : Cred → (parent : List Ace) → Attributes → (stamp now : ℕ) → Node
 new_directory cred parent given stamp now = record {
   owner = cred.uid;
   group = cred.gid;
-  acl = created_list parent kind.Directory (is_empty given.bitmap) (mode_given given) (acl_given given);
+  acl =
+      created_list parent kind.Directory (is_empty given.bitmap) (mode_given given)
+      (acl_given given);
   change = stamp;
   time_modify = now;
   content = Directory [];

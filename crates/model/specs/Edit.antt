@@ -62,8 +62,11 @@ done (DropNode number) tree = without tree number
 done (Show number shown) tree = altered (showing shown) tree number
 done (PutName directory stamp entry) tree = altered (name_put stamp entry) tree directory
 done (DropName directory stamp) tree = altered (name_dropped stamp) tree directory
-done (PutBytes file offset part) tree = altered (λ node. with_content node (File (overwritten (bytes_of node.content) offset part))) tree file
-done (SetSize file size) tree = altered (λ node. with_content node (File (resized (bytes_of node.content) size))) tree file
+done (PutBytes file offset part) tree =
+    altered (λ node. with_content node (File (overwritten (bytes_of node.content) offset part)))
+    tree file
+done (SetSize file size) tree =
+    altered (λ node. with_content node (File (resized (bytes_of node.content) size))) tree file
 
 abbrev pub edited : List Edit → Tree → Tree
 edited [] tree = tree

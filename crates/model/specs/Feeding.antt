@@ -1,5 +1,6 @@
--- A stream as a connection is fed with it: pieces come, of which fronts are taken, and a whole request is let go before the next
--- record begins (RFC 5531, section 11). However that is done, it comes to the records of the bytes that were taken.
+-- A stream as a connection is fed with it: pieces come, of which fronts are taken, and a whole
+-- request is let go before the next record begins (RFC 5531, section 11). However that is done, it
+-- comes to the records of the bytes that were taken.
 use Rattle.std.specs.Prelude.{◌≡◌, ◌⊎◌, ◌<◌, ◌^◌, ℕ, false, List, [], ◌∷◌, ◌++◌, take, Option, None, Some}
 use Rattle.xdr.specs.Laws.{IsBytes}
 use Rattle.model.specs.Record.{RecordLimits, RecordFault, Stream, records}
@@ -45,7 +46,8 @@ after_step limits feeding Releases = record feeding {
 
 abbrev pub after_steps : RecordLimits → Feeding → List FeedStep → Feeding
 after_steps limits feeding [] = feeding
-after_steps limits feeding (step ∷ steps) = after_steps limits (after_step limits feeding step) steps
+after_steps limits feeding (step ∷ steps) =
+    after_steps limits (after_step limits feeding step) steps
 
 abbrev pub AreBytes : List FeedStep → Type 0
 AreBytes [] = Unit {0}
@@ -59,10 +61,13 @@ pub record IsRefusedBehind (stream : Stream) (requests : List (List ℕ)) : Type
   pub more : List (List ℕ)
   pub behind : stream.records ≡ requests ++ more
   pub why : ((fault : RecordFault) × (stream.fault ≡ Some fault) × (more ≡ []))
-      ⊎ ((request : List ℕ) × (rest : List (List ℕ)) × (more ≡ request ∷ rest) × (is_call_read (read_call request) ≡ false))
+      ⊎ ((request : List ℕ) × (rest : List (List ℕ)) × (more ≡ request ∷ rest)
+      × (is_call_read (read_call request) ≡ false))
 
-abbrev pub IsFed : RecordLimits → Connection → (taken : List ℕ) → (released : List (List ℕ)) → Type 0
-IsFed limits (Quiet bytes) taken released = records limits taken ≡ record { records = released; rest = bytes; fault = None }
+abbrev pub IsFed : RecordLimits → Connection → (taken : List ℕ) → (released : List (List ℕ))
+    → Type 0
+IsFed limits (Quiet bytes) taken released =
+    records limits taken ≡ record { records = released; rest = bytes; fault = None }
 IsFed limits (Waiting request) taken released =
     records limits taken ≡ record { records = released ++ request ∷ []; rest = []; fault = None }
 IsFed limits Closed taken released = IsRefusedBehind (records limits taken) released
@@ -70,5 +75,7 @@ IsFed limits (Busy request) taken released = ⊥
 IsFed limits (Replied reply) taken released = ⊥
 
 abbrev pub EveryFeeding : Type 0
-EveryFeeding = (limits : RecordLimits) (steps : List FeedStep) → limits.bytes < 2 ^ 31 → AreBytes steps
-    → let fed = after_steps limits nothing_fed steps in IsFed limits fed.connection fed.taken fed.released
+EveryFeeding =
+    (limits : RecordLimits) (steps : List FeedStep) → limits.bytes < 2 ^ 31 → AreBytes steps
+    → let fed = after_steps limits nothing_fed steps in
+    IsFed limits fed.connection fed.taken fed.released

@@ -1,4 +1,5 @@
--- READ, WRITE and COMMIT: RFC 8881, sections 18.22, 18.32 and 18.3. How many bytes one of them moves is this server's profile.
+-- READ, WRITE and COMMIT: RFC 8881, sections 18.22, 18.32 and 18.3. How many bytes one of them
+-- moves is this server's profile.
 use Rattle.std.specs.Prelude.{ℕ, Bool, true, false, [], ◌∷◌, List, ◌+◌, ◌==◌, ◌&&◌, nat_lt, nat_le, length, take, drop, min, if◌then◌else◌, Option, Some, None}
 use Rattle.std.specs.List.{list_all}
 use Rattle.std.specs.Int.{w64, to_be_bytes}
@@ -27,13 +28,19 @@ file_refusals state = (is_directory_at state.tree (current state), status.IsDir)
 -- READ: the end is where what is given reaches the file's size
 
 abbrev pub part_of : Limits → List ℕ → ReadArguments → List ℕ
-part_of limits bytes arguments = take (min arguments.count limits.transfer_bytes) (drop arguments.offset bytes)
+part_of limits bytes arguments =
+    take (min arguments.count limits.transfer_bytes) (drop arguments.offset bytes)
 
 abbrev pub read : Limits → State → ReadArguments → Stepped
 read limits state arguments =
     let bytes = bytes_at state.tree (current state) in
     let part = part_of limits bytes arguments in
-    answered state (Answer.Read (record { is_end = nat_le (length bytes) (arguments.offset + length part); data_bytes = part }))
+    answered state
+    (Answer.Read
+    (record {
+      is_end = nat_le (length bytes) (arguments.offset + length part);
+      data_bytes = part;
+    }))
 
 -- WRITE takes the first bytes alone, and none is no change
 
@@ -48,8 +55,11 @@ has_bytes arguments = nat_lt 0 (length arguments.data_bytes)
 
 -- the end that it writes up to may not be above the limit of a file
 abbrev pub write_refusals : Limits → WriteArguments → Refusals
-write_refusals limits arguments =
-    (has_bytes arguments && nat_lt limits.file_bytes (arguments.offset + length (taken_bytes limits arguments)), status.FBig) ∷ []
+write_refusals limits arguments = (
+  has_bytes arguments
+      && nat_lt limits.file_bytes (arguments.offset + length (taken_bytes limits arguments)),
+  status.FBig,
+) ∷ []
 
 -- the server's restart count, which tells a client that what was not committed may be lost
 abbrev pub write_verifier : State → List ℕ

@@ -12,14 +12,19 @@ use Rattle.model.specs.declared.node.NodeKind.TheVariants as node
 abbrev pub is_inherited_by : NodeKind → Ace → Bool
 is_inherited_by node.File ace = meets ace.flags.0 file_inherit
 is_inherited_by node.Directory ace =
-    meets ace.flags.0 directory_inherit || (meets ace.flags.0 file_inherit && not (meets ace.flags.0 no_propagate))
+    meets ace.flags.0 directory_inherit
+    || (meets ace.flags.0 file_inherit && not (meets ace.flags.0 no_propagate))
 
--- the flags it takes it with: a file none of the four; a directory none of them where the entry is not to go further, else
--- the same ones, and it counts on a directory exactly where the entry is for directories
+-- the flags it takes it with: a file none of the four; a directory none of them where the entry is
+-- not to go further, else the same ones, and it counts on a directory exactly where the entry is
+-- for directories
 abbrev pub inherited_flags : NodeKind → ℕ → ℕ
 inherited_flags node.File flags = bits_without flags inheritance
 inherited_flags node.Directory flags =
-    if meets flags directory_inherit then (if meets flags no_propagate then bits_without flags inheritance else bits_without flags inherit_only)
+    if meets flags directory_inherit
+    then (if meets flags no_propagate
+    then bits_without flags inheritance
+    else bits_without flags inherit_only)
     else bit_or flags inherit_only
 
 abbrev pub as_inherited : NodeKind → Ace → Ace
@@ -28,7 +33,8 @@ as_inherited of ace = record ace { flags = record { 0 = inherited_flags of ace.f
 unfoldable pub inherited : List Ace → NodeKind → List Ace
 inherited parent of = map (as_inherited of) (filter (is_inherited_by of) parent)
 
--- the list of a new node, by what its creation gave: a list, a mode, other attributes alone, or no attribute
+-- the list of a new node, by what its creation gave: a list, a mode, other attributes alone, or no
+-- attribute
 abbrev pub created_without_list : List Ace → NodeKind → Bool → Option ℕ → List Ace
 created_without_list parent of is_empty (Some mode) = moded of (inherited parent of) mode
 created_without_list parent of true None = []
@@ -38,7 +44,8 @@ abbrev pub created_list : List Ace → NodeKind → Bool → Option ℕ → Opti
 created_list parent of is_empty mode (Some acl) = acl
 created_list parent of is_empty mode None = created_without_list parent of is_empty mode
 
--- the place of the first entry that a client may not set: one that the node's kind may not have, or one too many
+-- the place of the first entry that a client may not set: one that the node's kind may not have, or
+-- one too many
 unfoldable pub first_refused : ℕ → NodeKind → List Ace → Option ℕ
 first_refused most of acl =
     let place = min most (position_or_len (λ ace. not (is_entry_for of ace)) acl) in

@@ -1,4 +1,5 @@
--- What slots keep is bounded, whatever comes: RFC 8881, section 2.10.6.1.3. The bound is this server's profile.
+-- What slots keep is bounded, whatever comes: RFC 8881, section 2.10.6.1.3. The bound is this
+-- server's profile.
 use Rattle.std.specs.Prelude.{◌≡◌, ◌≤◌, ℕ, ◌-◌, Bool, true, IsTrue, List, Some, length, nat_le}
 use Rattle.std.specs.List.{list_all}
 use Rattle.model.specs.declared.status.Status.TheVariants as status
@@ -12,8 +13,8 @@ use Rattle.model.specs.World.{ServerLimits, InProgress, Busy, World, mounted_wor
 abbrev pub reply_so_far : InProgress → List ℕ
 reply_so_far request = reply_text request.xid (Success (result_of request status.Ok))
 
--- of a record, the most that a kept result has: the header of its reply, 24 bytes, is left out, and a refused result, of at most
--- 12 bytes, may follow those that had room
+-- of a record, the most that a kept result has: the header of its reply, 24 bytes, is left out, and
+-- a refused result, of at most 12 bytes, may follow those that had room
 abbrev pub max_kept : ServerLimits → ℕ
 max_kept limits = limits.reply_bytes - 12
 
@@ -36,9 +37,13 @@ HasReplyRoom limits = 300 ≤ limits.reply_bytes
 
 -- The law: it holds when a run begins, and each event keeps it
 pub record KeepsShort : Type 0 where
-  pub begins : (limits : ServerLimits) (run : ℕ) (tree : Tree) → IsShort (mounted_world limits run tree)
-  pub turn : (world : World) (number now : ℕ) → HasReplyRoom world.limits → IsShort world → IsShort (one world number now).world
-  pub arrival : (world : World) (number : ℕ) (piece : List ℕ) → IsShort world → IsShort (arrives world number piece)
+  pub begins : (limits : ServerLimits) (run : ℕ) (tree : Tree)
+      → IsShort (mounted_world limits run tree)
+  pub turn : (world : World) (number now : ℕ) → HasReplyRoom world.limits → IsShort world
+      → IsShort (one world number now).world
+  pub arrival : (world : World) (number : ℕ) (piece : List ℕ) → IsShort world
+      → IsShort (arrives world number piece)
   pub taking : (world : World) (number : ℕ) → IsShort world → IsShort (takes world number)
   pub connecting : (world : World) (number : ℕ) → IsShort world → IsShort (connects world number)
-  pub hang_up : (world : World) (number now : ℕ) → HasReplyRoom world.limits → IsShort world → IsShort (hung_up world number now)
+  pub hang_up : (world : World) (number now : ℕ) → HasReplyRoom world.limits → IsShort world
+      → IsShort (hung_up world number now)

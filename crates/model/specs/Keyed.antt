@@ -1,5 +1,6 @@
--- A map from numbers to values, as the list of its entries by rising key: of equal maps there is one such list, so that
--- equality of maps is plain equality. The tree is one (by node number), and so is a directory (by entry stamp).
+-- A map from numbers to values, as the list of its entries by rising key: of equal maps there is
+-- one such list, so that equality of maps is plain equality. The tree is one (by node number), and
+-- so is a directory (by entry stamp).
 use Rattle.std.specs.Prelude.{ℕ, Bool, true, false, List, [], ◌∷◌, Option, Some, None, ◌≡◌, ◌≢◌, ◌+◌, ◌<◌, ◌==◌, nat_lt, is_some}
 
 abbrev pub Keyed : Type 0 → Type 0
@@ -62,22 +63,30 @@ worth_at worth (Some value) = worth value
 
 -- two maps that hold the same at each key are one list
 abbrev pub OnlyMap : Type 0 → Type 0
-OnlyMap A = (key : ℕ) (a b : Keyed A) → IsAbove key a → IsAbove key b → ((other : ℕ) → at other a ≡ at other b) → a ≡ b
+OnlyMap A =
+    (key : ℕ) (a b : Keyed A) → IsAbove key a → IsAbove key b
+    → ((other : ℕ) → at other a ≡ at other b) → a ≡ b
 
 -- what is read after a change
 pub record ReadsBack (A : Type 0) : Type 0 where
-  pub at-with_same : (entries : Keyed A) (key : ℕ) (value : A) → at key (with entries key value) ≡ Some value
+  pub at-with_same : (entries : Keyed A) (key : ℕ) (value : A)
+      → at key (with entries key value) ≡ Some value
   pub at-with_other : (entries : Keyed A) (key other : ℕ) (value : A) → other ≢ key
       → at other (with entries key value) ≡ at other entries
   pub at-without_same : (entries : Keyed A) (key : ℕ) → at key (without entries key) ≡ None
-  pub at-without_other : (entries : Keyed A) (key other : ℕ) → other ≢ key → at other (without entries key) ≡ at other entries
+  pub at-without_other : (entries : Keyed A) (key other : ℕ) → other ≢ key
+      → at other (without entries key) ≡ at other entries
 
 -- a change keeps the order, and adds the value's worth and takes away what stood there
 pub record KeepsOrder (A : Type 0) : Type 0 where
-  pub IsAbove-with : (entries : Keyed A) (key least : ℕ) (value : A) → IsAbove least entries → least < key
+  pub IsAbove-with : (entries : Keyed A) (key least : ℕ) (value : A) → IsAbove least entries
+      → least < key
       → IsAbove least (with entries key value)
-  pub IsAbove-without : (entries : Keyed A) (key least : ℕ) → IsAbove least entries → IsAbove least (without entries key)
-  pub total-with : (worth : A → ℕ) (entries : Keyed A) (key least : ℕ) (value : A) → IsAbove least entries
-      → total worth (with entries key value) + worth_at worth (at key entries) ≡ total worth entries + worth value
+  pub IsAbove-without : (entries : Keyed A) (key least : ℕ) → IsAbove least entries
+      → IsAbove least (without entries key)
+  pub total-with : (worth : A → ℕ) (entries : Keyed A) (key least : ℕ) (value : A)
+      → IsAbove least entries
+      → total worth (with entries key value) + worth_at worth (at key entries)
+      ≡ total worth entries + worth value
   pub total-without : (worth : A → ℕ) (entries : Keyed A) (key least : ℕ) → IsAbove least entries
       → total worth (without entries key) + worth_at worth (at key entries) ≡ total worth entries

@@ -1,8 +1,10 @@
--- The limits of a volume and of what it keeps: this server's profile. The definitions take them as an argument.
+-- The limits of a volume and of what it keeps: this server's profile. The definitions take them as
+-- an argument.
 use Rattle.std.specs.Prelude.{ℕ, ◌+◌, ◌-◌}
 pub use Rattle.model.specs.declared.limits.Limits.{Limits}
 
--- the limits of a volume of so many sectors and nodes: what lies before the node table has 148 sectors, the table one a node
+-- the limits of a volume of so many sectors and nodes: what lies before the node table has 148
+-- sectors, the table one a node
 abbrev pub limits_of : (sectors nodes : ℕ) → Limits
 limits_of sectors nodes = record {
   data_sectors = sectors - (148 + nodes);

@@ -35,11 +35,14 @@ allows_right acl right = allows (first_of (λ _. true) acl right)
 -- read 4, write 2 and execute 1, as such a list allows them
 abbrev pub permissions : List Ace → ℕ
 permissions acl =
-    (if allows_right acl read_data then 4 else 0) + (if allows_right acl write_data && allows_right acl append_data then 2 else 0)
+    (if allows_right acl read_data then 4 else 0)
+    + (if allows_right acl write_data && allows_right acl append_data then 2 else 0)
     + (if allows_right acl execute then 1 else 0)
 
 unfoldable pub mode_of : List Ace → ℕ
-mode_of acl = 64 * permissions (cut is_owner acl) + 8 * permissions (cut is_group acl) + permissions (cut is_everyone acl)
+mode_of acl =
+    64 * permissions (cut is_owner acl) + 8 * permissions (cut is_group acl)
+    + permissions (cut is_everyone acl)
 
 -- ---- the list of a mode (this server's choice, within section 6.4.1)
 
@@ -61,7 +64,8 @@ write_rights node.Directory = write_data + append_data + delete_child
 -- the rights that three bits stand for
 abbrev pub rights_of : NodeKind → ℕ → ℕ
 rights_of of bits =
-    (if meets bits 4 then read_data else 0) + (if meets bits 2 then write_rights of else 0) + (if meets bits 1 then execute else 0)
+    (if meets bits 4 then read_data else 0) + (if meets bits 2 then write_rights of else 0)
+    + (if meets bits 1 then execute else 0)
 
 -- the rights of read, write and execute that three bits lack
 abbrev pub rights_lacking : NodeKind → ℕ → ℕ
@@ -69,7 +73,12 @@ rights_lacking of bits = bits_without (rights_of of 7) (rights_of of bits)
 
 -- an entry without flags
 abbrev pub entry : AceKind → Who → ℕ → Ace
-entry of name mask = record { kind = of; flags = record { 0 = 0 }; mask = record { 0 = mask }; who = name }
+entry of name mask = record {
+  kind = of;
+  flags = record { 0 = 0 };
+  mask = record { 0 = mask };
+  who = name;
+}
 
 -- an entry of a number in a list of a mode: an ALLOW loses what the group's bits lack
 abbrev pub limited_kind : AceKind → ℕ → ℕ → ℕ
@@ -77,11 +86,19 @@ limited_kind kind.Allow mask lacking = bits_without mask lacking
 limited_kind kind.Deny mask lacking = mask
 
 abbrev pub limited : NodeKind → ℕ → Ace → Ace
-limited of mode ace = record ace { mask = record { 0 = limited_kind ace.kind ace.mask.0 (rights_lacking of (group_bits mode)) } }
+limited of mode ace =
+    record ace {
+      mask = record {
+        0 = limited_kind ace.kind ace.mask.0
+            (rights_lacking of (group_bits mode));
+      };
+    }
 
--- what a list hands down, whatever the mode: the entries that do not count, and the special ones that are inherited
+-- what a list hands down, whatever the mode: the entries that do not count, and the special ones
+-- that are inherited
 abbrev pub is_handed_down : Ace → Bool
-is_handed_down ace = not (counts ace) || (is_special ace.who && meets ace.flags.0 (file_inherit + directory_inherit))
+is_handed_down ace =
+    not (counts ace) || (is_special ace.who && meets ace.flags.0 (file_inherit + directory_inherit))
 
 -- the same entry, which no longer counts
 abbrev pub not_counting : Ace → Ace
@@ -93,8 +110,10 @@ has_rights ace = not (ace.mask.0 == 0)
 unfoldable pub moded : NodeKind → List Ace → ℕ → List Ace
 moded of acl mode =
     filter has_rights
-    ((entry kind.Allow who.Owner (rights_of of (owner_bits mode)) ∷ entry kind.Deny who.Owner (rights_lacking of (owner_bits mode)) ∷ [])
+    ((entry kind.Allow who.Owner (rights_of of (owner_bits mode))
+    ∷ entry kind.Deny who.Owner (rights_lacking of (owner_bits mode)) ∷ [])
     ++ map (limited of mode) (filter (λ ace. counts ace && not (is_special ace.who)) acl)
-    ++ (entry kind.Allow who.Group (rights_of of (group_bits mode)) ∷ entry kind.Deny who.Group (rights_lacking of (group_bits mode))
+    ++ (entry kind.Allow who.Group (rights_of of (group_bits mode))
+    ∷ entry kind.Deny who.Group (rights_lacking of (group_bits mode))
     ∷ entry kind.Allow who.Everyone (rights_of of (other_bits mode)) ∷ [])
     ++ map not_counting (filter is_handed_down acl))

@@ -1,5 +1,5 @@
--- The rights that an operation needs: RFC 8881, section 6.2.1.3.1 (which operations a mask bit permits).
--- Each requirement is a list of alternatives, of which one has to be granted.
+-- The rights that an operation needs: RFC 8881, section 6.2.1.3.1 (which operations a mask bit
+-- permits). Each requirement is a list of alternatives, of which one has to be granted.
 use Rattle.std.specs.Prelude.{ℕ, Bool, true, false, not, ◌&&◌, ◌||◌, List, [], ◌∷◌, ◌++◌, map, Option, Some, None, if◌then◌else◌}
 use Rattle.std.specs.List.{list_any, list_all}
 use Rattle.model.specs.declared.acl.Cred.{Cred}
@@ -33,15 +33,21 @@ here context mask = (record { number = current_number context; mask = mask } ∷
 -- a name is removable: the node may be deleted, or a child of the directory
 abbrev pub removable : Tree → (directory : ℕ) → (name : List ℕ) → List Right
 removable tree directory name =
-    record { number = number_named tree directory name; mask = delete } ∷ record { number = directory; mask = delete_child } ∷ []
+    record { number = number_named tree directory name; mask = delete }
+    ∷ record { number = directory; mask = delete_child } ∷ []
 
 abbrev pub rename_rights : Tree → (from to : ℕ) → RenameArguments → List (List Right)
 rename_rights tree from to arguments =
     removable tree from arguments.old_name
-    ∷ ((if is_named tree to arguments.new_name then removable tree to arguments.new_name ∷ [] else [])
+    ∷ ((if is_named tree to arguments.new_name
+    then removable tree to arguments.new_name ∷ []
+    else [])
     ++ ((record {
       number = to;
-      mask = if is_directory_at tree (number_named tree from arguments.old_name) then append_data else write_data;
+      mask =
+          if is_directory_at tree (number_named tree from arguments.old_name)
+          then append_data
+          else write_data;
     } ∷ []) ∷ []))
 
 -- a requirement only where it holds that it is one
@@ -52,9 +58,11 @@ right_if false number mask = []
 -- an open's access, on its file
 abbrev pub access_rights : (number access : ℕ) → List (List Right)
 access_rights number access =
-    right_if (meets access read_access) number read_data ++ right_if (meets access write_access) number write_data
+    right_if (meets access read_access) number read_data
+    ++ right_if (meets access write_access) number write_data
 
--- a file by its name: its rights, and to write where it is cut; the right to add a file where the name is not there
+-- a file by its name: its rights, and to write where it is cut; the right to add a file where the
+-- name is not there
 abbrev pub opening_rights : Tree → Context → (access : ℕ) → Opening → List (List Right)
 opening_rights tree context access (Exclusive mode) = []
 opening_rights tree context access (Opening_of how (OtherClaim claim)) = []
@@ -63,7 +71,8 @@ opening_rights tree context access (Opening_of how (ByName name)) =
     then access_rights (number_named tree (current_number context) name) access
     ++ right_if (cuts how) (number_named tree (current_number context) name) write_data
     else here context write_data
-opening_rights tree context access (Opening_of how ByHandle) = access_rights (current_number context) access
+opening_rights tree context access (Opening_of how ByHandle) =
+    access_rights (current_number context) access
 
 abbrev pub lookup_rights : Context → Opening → List (List Right)
 lookup_rights context (Exclusive mode) = []
@@ -75,8 +84,10 @@ lookup_rights context (Opening_of how ByHandle) = []
 abbrev pub setting_rights : Context → (attributes : List ℕ) → List (List Right)
 setting_rights context attributes =
     right_if (is_among attributes size_number) (current_number context) write_data
-    ++ right_if (is_among attributes mode_number || is_among attributes acl_number) (current_number context) write_acl
-    ++ right_if (is_among attributes owner_number || is_among attributes owner_group_number) (current_number context) write_owner
+    ++ right_if (is_among attributes mode_number || is_among attributes acl_number)
+    (current_number context) write_acl
+    ++ right_if (is_among attributes owner_number || is_among attributes owner_group_number)
+    (current_number context) write_owner
 
 -- each entry after the cookie, where lists are asked and nothing tells that one may not be read
 abbrev pub listing_rights : Tree → Context → ReadDirArguments → List (List Right)
@@ -86,13 +97,15 @@ listing_rights tree context arguments =
     (names_after arguments.cookie (names_at tree (current_number context)))
     else []
 
--- The requirements of the first place of rights, and of the second. Each operation is named: one without rights says so.
+-- The requirements of the first place of rights, and of the second. Each operation is named: one
+-- without rights says so.
 abbrev pub need_first : Tree → Context → Argument → List (List Right)
 need_first tree context (Argument.Access rights) = []
 need_first tree context (Argument.Close arguments) = []
 need_first tree context (Argument.Commit arguments) = []
 need_first tree context (Argument.Create arguments) = here context append_data
-need_first tree context (Argument.GetAttr bitmap) = right_if (asks_lists bitmap) (current_number context) read_acl
+need_first tree context (Argument.GetAttr bitmap) =
+    right_if (asks_lists bitmap) (current_number context) read_acl
 need_first tree context Argument.GetFh = []
 need_first tree context (Argument.Lookup name) = here context execute
 need_first tree context Argument.LookupParent = here context execute
@@ -103,10 +116,13 @@ need_first tree context (Argument.Read arguments) = here context read_data
 need_first tree context (Argument.ReadDir arguments) = here context read_data
 need_first tree context (Argument.Remove name) = removable tree (current_number context) name ∷ []
 need_first tree context (Argument.Rename arguments) =
-    if is_same_name context arguments then [] else rename_rights tree (saved_number context) (current_number context) arguments
+    if is_same_name context arguments
+    then []
+    else rename_rights tree (saved_number context) (current_number context) arguments
 need_first tree context Argument.RestoreFh = []
 need_first tree context Argument.SaveFh = []
-need_first tree context (Argument.SetAttr arguments) = setting_rights context (attributes_of arguments.attributes.bitmap)
+need_first tree context (Argument.SetAttr arguments) =
+    setting_rights context (attributes_of arguments.attributes.bitmap)
 need_first tree context (Argument.Write arguments) = here context write_data
 need_first tree context (Argument.ExchangeId arguments) = []
 need_first tree context (Argument.CreateSession arguments) = []
@@ -124,7 +140,8 @@ need_then tree context (Argument.GetAttr bitmap) = []
 need_then tree context Argument.GetFh = []
 need_then tree context (Argument.Lookup name) = []
 need_then tree context Argument.LookupParent = []
-need_then tree context (Argument.Open arguments) = opening_rights tree context arguments.access arguments.opening
+need_then tree context (Argument.Open arguments) =
+    opening_rights tree context arguments.access arguments.opening
 need_then tree context (Argument.PutFh handle) = []
 need_then tree context Argument.PutRootFh = []
 need_then tree context (Argument.Read arguments) = []

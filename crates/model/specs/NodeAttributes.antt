@@ -1,5 +1,6 @@
--- The values of a node's attributes, as GETATTR and READDIR answer them: RFC 8881, sections 5.6 to 5.8, 18.7 (GETATTR) and
--- 18.23 (READDIR). Which attributes there are, and the values that are always the same, are this server's profile.
+-- The values of a node's attributes, as GETATTR and READDIR answer them: RFC 8881, sections 5.6 to
+-- 5.8, 18.7 (GETATTR) and 18.23 (READDIR). Which attributes there are, and the values that are
+-- always the same, are this server's profile.
 use Rattle.std.specs.Prelude.{◌≡◌, ℕ, ◌/◌, ◌%◌, true, false, List, [], ◌∷◌, bit_and, decimal, filter, flat_map, length, map}
 use Rattle.model.specs.declared.status.Status.TheVariants as status
 use Rattle.model.specs.AclText.{entry_text}
@@ -33,7 +34,8 @@ lease_time = 90
 abbrev pub acl_support : ℕ
 acl_support = 3
 
--- all values of the node of this number, by rising attribute number; maxread and maxwrite are what one READ gives and one WRITE takes
+-- all values of the node of this number, by rising attribute number; maxread and maxwrite are what
+-- one READ gives and one WRITE takes
 abbrev pub node_values : Limits → (number : ℕ) → Node → List Value
 node_values limits number node =
     SupportedAttrs supported_bitmap
@@ -78,18 +80,24 @@ common (word ∷ rest) (other ∷ others) = bit_and word other ∷ common rest o
 unfoldable pub node_attributes : Limits → (bitmap : List ℕ) → (number : ℕ) → Node → Attributes
 node_attributes limits bitmap number node = record {
   bitmap = trimmed (common bitmap supported_bitmap);
-  values = flat_map value_text (asked_values (attributes_of bitmap) (node_values limits number node));
+  values =
+      flat_map value_text (asked_values (attributes_of bitmap) (node_values limits number node));
 }
 
--- What READDIR answers of an entry whose list may not be read, where rdattr_error is asked beside acl: that attribute alone
+-- What READDIR answers of an entry whose list may not be read, where rdattr_error is asked beside
+-- acl: that attribute alone
 abbrev pub unreadable : Attributes
-unreadable = record { bitmap = 0x800 ∷ []; values = value_text (RdattrError (code_of status.Access)) }
+unreadable = record {
+  bitmap = 0x800 ∷ [];
+  values = value_text (RdattrError (code_of status.Access));
+}
 
 -- The laws
 
 pub record AnswersSupported : Type 0 where
   -- each attribute that is supported has its value, and no other
-  pub each : (limits : Limits) (number : ℕ) (node : Node) → map attribute_of (node_values limits number node) ≡ supported
+  pub each : (limits : Limits) (number : ℕ) (node : Node)
+      → map attribute_of (node_values limits number node) ≡ supported
   pub bitmap : attributes_of supported_bitmap ≡ supported
 
 -- What is answered are the attributes that were asked and that are supported, each with its value.

@@ -1,5 +1,5 @@
--- OPEN and CLOSE: RFC 8881, sections 18.16 and 18.2. The order of the tests, and that a share reservation is refused, are this
--- server's profile; so is that an open grants no right.
+-- OPEN and CLOSE: RFC 8881, sections 18.16 and 18.2. The order of the tests, and that a share
+-- reservation is refused, are this server's profile; so is that an open grants no right.
 use Rattle.std.specs.Prelude.{ℕ, Bool, true, false, [], ◌∷◌, ◌++◌, List, ◌==◌, ◌&&◌, ◌||◌, not, nat_lt, replicate, if◌then◌else◌, unwrap_or, Option, Some, None}
 use Rattle.model.specs.declared.acl.Ace.{Ace}
 use Rattle.model.specs.declared.acl.Cred.{Cred}
@@ -34,7 +34,8 @@ given_by NoCreate = record { bitmap = []; values = [] }
 given_by (Unchecked given) = given
 given_by (Guarded given) = given
 
--- a file that is there is cut where UNCHECKED4 gives the size 0; every other attribute is for a new one
+-- a file that is there is cut where UNCHECKED4 gives the size 0; every other attribute is for a new
+-- one
 abbrev pub is_zero : Option ℕ → Bool
 is_zero None = false
 is_zero (Some size) = size == 0
@@ -70,7 +71,8 @@ place_refusals limits state (Opening_of how ByHandle) =
 
 abbrev pub open_refusals : Limits → State → OpenArguments → Refusals
 open_refusals limits state arguments =
-    opening_refusals arguments.opening ++ (share_refusals arguments ++ place_refusals limits state arguments.opening)
+    opening_refusals arguments.opening
+    ++ (share_refusals arguments ++ place_refusals limits state arguments.opening)
 
 -- Tests between the right to look a name up and the rights on the file
 
@@ -78,7 +80,8 @@ open_refusals limits state arguments =
 abbrev pub known_refusals : Limits → State → (number : ℕ) → OpenType → Refusals
 known_refusals limits state number NoCreate = (is_directory_at state.tree number, status.IsDir) ∷ []
 known_refusals limits state number (Unchecked given) =
-    (is_directory_at state.tree number, status.IsDir) ∷ attribute_refusals limits kind.File settable_at_open given
+    (is_directory_at state.tree number, status.IsDir)
+    ∷ attribute_refusals limits kind.File settable_at_open given
 known_refusals limits state number (Guarded given) = (true, status.Exist) ∷ []
 
 -- the name is not there
@@ -89,13 +92,15 @@ new_refusals limits (Guarded given) = attribute_refusals limits kind.File settab
 
 abbrev pub name_opening_refusals : Limits → State → OpenType → (name : List ℕ) → Refusals
 name_opening_refusals limits state of name =
-    if is_name_there state name then known_refusals limits state (number_named state.tree (current state) name) of
+    if is_name_there state name
+    then known_refusals limits state (number_named state.tree (current state) name) of
     else new_refusals limits of
 
 abbrev pub middle_at_open : Limits → State → Opening → Refusals
 middle_at_open limits state (Exclusive mode) = []
 middle_at_open limits state (Opening_of how (OtherClaim claim)) = []
-middle_at_open limits state (Opening_of how (ByName name)) = name_opening_refusals limits state how name
+middle_at_open limits state (Opening_of how (ByName name)) =
+    name_opening_refusals limits state how name
 middle_at_open limits state (Opening_of how ByHandle) = []
 
 -- What is opened
@@ -119,16 +124,20 @@ abbrev pub file_opened : State → Opening → ℕ
 file_opened state (Exclusive mode) = current state
 file_opened state (Opening_of how (OtherClaim claim)) = current state
 file_opened state (Opening_of how (ByName name)) =
-    if is_name_there state name then number_named state.tree (current state) name else stamp_of state
+    if is_name_there state name
+    then number_named state.tree (current state) name
+    else stamp_of state
 file_opened state (Opening_of how ByHandle) = current state
 
 abbrev pub asked_open : State → OpenArguments → Open
 asked_open state arguments =
-    new_open state.context.client arguments.owner (file_opened state arguments.opening) arguments.access
+    new_open state.context.client arguments.owner (file_opened state arguments.opening)
+    arguments.access
 
 -- after the rights: a full table
 abbrev pub late_at_open : Limits → State → OpenArguments → Refusals
-late_at_open limits state arguments = (is_table_full limits.opens state.opens (asked_open state arguments), status.Delay) ∷ []
+late_at_open limits state arguments =
+    (is_table_full limits.opens state.opens (asked_open state arguments), status.Delay) ∷ []
 
 -- What it does to the tree
 
@@ -144,18 +153,22 @@ new_file cred parent given stamp now = record {
 }
 
 abbrev pub cut_or_not : (cut : Bool) → State → (now number : ℕ) → State
-cut_or_not true state now number = changed state (SetSize number 0 ∷ touch state.tree number (stamp_of state) now ∷ [])
+cut_or_not true state now number =
+    changed state (SetSize number 0 ∷ touch state.tree number (stamp_of state) now ∷ [])
 cut_or_not false state now number = state
 
 abbrev pub with_file : (is_there : Bool) → State → (now : ℕ) → OpenType → (name : List ℕ) → State
-with_file true state now of name = cut_or_not (cuts of) state now (number_named state.tree (current state) name)
+with_file true state now of name =
+    cut_or_not (cuts of) state now (number_named state.tree (current state) name)
 with_file false state now of name = changed state (made_edits state.tree (current state) name
-    (new_file state.context.cred (acl_of (at (current state) state.tree)) (given_by of) (stamp_of state) now) (stamp_of state) now)
+    (new_file state.context.cred (acl_of (at (current state) state.tree)) (given_by of)
+    (stamp_of state) now) (stamp_of state) now)
 
 abbrev pub opening_done : State → (now : ℕ) → Opening → State
 opening_done state now (Exclusive mode) = state
 opening_done state now (Opening_of how (OtherClaim claim)) = state
-opening_done state now (Opening_of how (ByName name)) = with_file (is_name_there state name) state now how name
+opening_done state now (Opening_of how (ByName name)) =
+    with_file (is_name_there state name) state now how name
 opening_done state now (Opening_of how ByHandle) = state
 
 -- What it answers: the directory's change, and what was set
@@ -167,7 +180,8 @@ abbrev pub change_at_open : State → Opening → ChangeInfo
 change_at_open state (Exclusive mode) = no_change_info
 change_at_open state (Opening_of how (OtherClaim claim)) = no_change_info
 change_at_open state (Opening_of how (ByName name)) =
-    change_to state (current state) (if is_name_there state name then change_of (at (current state) state.tree) else stamp_of state)
+    change_to state (current state)
+    (if is_name_there state name then change_of (at (current state) state.tree) else stamp_of state)
 change_at_open state (Opening_of how ByHandle) = no_change_info
 
 -- size as a bitmap
@@ -178,7 +192,9 @@ abbrev pub set_at_open : State → Opening → List ℕ
 set_at_open state (Exclusive mode) = []
 set_at_open state (Opening_of how (OtherClaim claim)) = []
 set_at_open state (Opening_of how (ByName name)) =
-    if is_name_there state name then (if cuts how then size_alone else []) else trimmed (given_by how).bitmap
+    if is_name_there state name
+    then (if cuts how then size_alone else [])
+    else trimmed (given_by how).bitmap
 set_at_open state (Opening_of how ByHandle) = []
 
 abbrev pub opened_state : State → Opened → StateId
@@ -186,11 +202,15 @@ opened_state state now = state_of state.context.run now.serial now.state.seqid
 
 -- the file is the current filehandle, with what was answered as its stateid
 abbrev pub at_opened : Context → (number : ℕ) → StateId → Context
-at_opened context number state = record context { current = Some (record { number = number; state = Some state }) }
+at_opened context number state =
+    record context { current = Some (record { number = number; state = Some state }) }
 
 abbrev pub opens_in : State → State → OpenArguments → Opened → Stepped
 opens_in old new arguments now = answered
-    (record new { opens = now.opens; context = at_opened old.context now.state.number (opened_state old now) })
+    (record new {
+      opens = now.opens;
+      context = at_opened old.context now.state.number (opened_state old now);
+    })
     (Answer.Open (record {
       state = opened_state old now;
       change = change_at_open old arguments.opening;
@@ -200,7 +220,8 @@ opens_in old new arguments now = answered
 
 abbrev pub open_file : State → (now : ℕ) → OpenArguments → Stepped
 open_file state now arguments =
-    opens_in state (opening_done state now arguments.opening) arguments (opened state.opens (asked_open state arguments))
+    opens_in state (opening_done state now arguments.opening) arguments
+    (opened state.opens (asked_open state arguments))
 
 -- CLOSE ends the open, and the current stateid
 

@@ -1,4 +1,5 @@
--- The opens of a run, as every operation on the tree keeps them: RFC 8881, sections 8.2 (stateids) and 18.16 (OPEN).
+-- The opens of a run, as every operation on the tree keeps them: RFC 8881, sections 8.2 (stateids)
+-- and 18.16 (OPEN).
 use Rattle.std.specs.Prelude.{ℕ, ◌+◌, ◌≡◌, ◌≤◌, Some, IsTrue, IsFalse, length}
 use Rattle.model.specs.Keyed.{at, is_key, IsAbove}
 use Rattle.model.specs.Limits.{Limits}
@@ -15,9 +16,11 @@ pub record AreOpens (limits : Limits) (tree : Tree) (opens : Opens) : Type 0 whe
   -- serials are above 0, and none stands twice
   pub rising : IsAbove 0 opens.known
   -- each was given in this run
-  pub given : (serial : ℕ) (known : Open) → at serial opens.known ≡ Some known → serial ≤ opens.given
+  pub given : (serial : ℕ) (known : Open) → at serial opens.known ≡ Some known
+      → serial ≤ opens.given
   -- each names a file of the tree: a removal ends those of its file
-  pub nodes : (serial : ℕ) (known : Open) → at serial opens.known ≡ Some known → IsTrue (is_key known.number tree)
+  pub nodes : (serial : ℕ) (known : Open) → at serial opens.known ≡ Some known
+      → IsTrue (is_key known.number tree)
   pub files : (serial : ℕ) (known : Open) → at serial opens.known ≡ Some known
       → IsFalse (is_directory_at tree known.number)
   -- and there are not more than the limit
@@ -29,11 +32,15 @@ pub record KeepsOpens (limits : Limits) (old new : State) : Type 0 where
   pub counts : old.opens.given ≤ new.opens.given
 
 abbrev pub EveryStepKeepsOpens : Type 0
-EveryStepKeepsOpens = (limits : Limits) (state : State) (now : ℕ) (operation : Argument) → IsSound limits state
-    → AreOpens limits state.tree state.opens → KeepsOpens limits state (does limits state now operation).state
+EveryStepKeepsOpens =
+    (limits : Limits) (state : State) (now : ℕ) (operation : Argument) → IsSound limits state
+    → AreOpens limits state.tree state.opens
+    → KeepsOpens limits state (does limits state now operation).state
 
 -- and so they are at each moment of every run of the server
 abbrev pub EveryRunKeepsOpens : Type 0
-EveryRunKeepsOpens = (limits : ServerLimits) (run : ℕ) (start : Tree) (serving : Serving) (history : History)
+EveryRunKeepsOpens =
+    (limits : ServerLimits) (run : ℕ) (start : Tree) (serving : Serving) (history : History)
     → limits.volume.aces_set + 5 ≤ limits.volume.aces → IsStart limits.volume run start
-    → IsRun (mounted limits run start) serving history → AreOpens limits.volume serving.world.tree serving.world.opens
+    → IsRun (mounted limits run start) serving history
+    → AreOpens limits.volume serving.world.tree serving.world.opens

@@ -1,5 +1,5 @@
--- The operations and their arguments, as values: RFC 8881, sections 3.3 (small types) and 18 (operations).
--- A name, an opaque and a filehandle are their bytes, a bitmap the list of its words.
+-- The operations and their arguments, as values: RFC 8881, sections 3.3 (small types) and 18
+-- (operations). A name, an opaque and a filehandle are their bytes, a bitmap the list of its words.
 use Rattle.std.specs.Prelude.{ℕ, Bool, List, Option}
 use Rattle.model.specs.OperationNumber.{OP_ACCESS, OP_CLOSE, OP_COMMIT, OP_CREATE, OP_GETATTR, OP_GETFH, OP_LOOKUP, OP_LOOKUPP, OP_OPEN, OP_PUTFH, OP_PUTROOTFH, OP_READ, OP_READDIR, OP_REMOVE, OP_RENAME, OP_RESTOREFH, OP_SAVEFH, OP_SETATTR, OP_WRITE, OP_EXCHANGE_ID, OP_CREATE_SESSION, OP_DESTROY_SESSION, OP_SEQUENCE, OP_DESTROY_CLIENTID, OP_RECLAIM_COMPLETE}
 
@@ -79,7 +79,8 @@ pub data Claim : Type 0 where
   ByHandle : Claim
   OtherClaim : (number : ℕ) → Claim
 
--- How a file is opened. At an exclusive create (createmode 2 or 3) nothing that follows is looked at, the claim neither.
+-- How a file is opened. At an exclusive create (createmode 2 or 3) nothing that follows is looked
+-- at, the claim neither.
 pub data Opening : Type 0 where
   Opens : OpenType → Claim → Opening
   Exclusive : (mode : ℕ) → Opening

@@ -1,5 +1,5 @@
--- READDIR: RFC 8881, section 18.23. A cookie is an entry's stamp; which entries fit is this server's profile, and so is that
--- dircount is not looked at.
+-- READDIR: RFC 8881, section 18.23. A cookie is an entry's stamp; which entries fit is this
+-- server's profile, and so is that dircount is not looked at.
 use Rattle.std.specs.Prelude.{ℕ, Bool, false, List, [], ◌∷◌, ◌-◌, ◌+◌, ◌==◌, ◌&&◌, not, nat_lt, nat_le, length, map, filter, min, replicate, if◌then◌else◌, bytes_eq, Option, Some, None}
 use Rattle.model.specs.declared.acl.Cred.{Cred}
 use Rattle.model.specs.declared.status.Status.TheVariants as status
@@ -32,8 +32,10 @@ names_after cookie names = filter (λ (name : ℕ × DirEntry). nat_lt cookie na
 
 -- a cookie but the first goes with the verifier that was answered
 abbrev pub cookie_refusals : ReadDirArguments → Refusals
-cookie_refusals arguments =
-    (not (arguments.cookie == 0) && not (bytes_eq arguments.verifier (replicate 8 0)), status.NotSame) ∷ []
+cookie_refusals arguments = (
+  not (arguments.cookie == 0) && not (bytes_eq arguments.verifier (replicate 8 0)),
+  status.NotSame,
+) ∷ []
 
 -- An entry, as it is answered
 
@@ -41,9 +43,12 @@ abbrev pub may_read_list : Cred → Option Node → Bool
 may_read_list cred None = false
 may_read_list cred (Some node) = granted node.acl node.owner node.group cred read_acl
 
-abbrev pub entry_attributes : Limits → Cred → (bitmap : List ℕ) → (number : ℕ) → Option Node → Attributes
+abbrev pub entry_attributes : Limits → Cred → (bitmap : List ℕ) → (number : ℕ) → Option Node
+    → Attributes
 entry_attributes limits cred bitmap number node =
-    if asks_lists bitmap && not (may_read_list cred node) then unreadable else attributes_at limits bitmap number node
+    if asks_lists bitmap && not (may_read_list cred node)
+    then unreadable
+    else attributes_at limits bitmap number node
 
 abbrev pub listed_entry : Limits → Tree → Cred → (bitmap : List ℕ) → ℕ × DirEntry → Entry
 listed_entry limits tree cred bitmap name = record {
@@ -65,10 +70,11 @@ fitting room (entry ∷ rest) =
 
 abbrev pub all_entries : Limits → State → ReadDirArguments → List Entry
 all_entries limits state arguments =
-    map (listed_entry limits state.tree state.context.cred arguments.bitmap) (names_after arguments.cookie (names_at state.tree (current state)))
+    map (listed_entry limits state.tree state.context.cred arguments.bitmap)
+    (names_after arguments.cookie (names_at state.tree (current state)))
 
--- the bytes that were asked, a page of no entries, and what that leaves: beside the entries stand the verifier, the bool that
--- ends them and the one that tells the end
+-- the bytes that were asked, a page of no entries, and what that leaves: beside the entries stand
+-- the verifier, the bool that ends them and the one that tells the end
 
 abbrev pub page_bytes : Limits → ReadDirArguments → ℕ
 page_bytes limits arguments = min arguments.max_count limits.transfer_bytes
@@ -89,5 +95,9 @@ page limits state arguments =
 abbrev pub page_refusals : Limits → State → ReadDirArguments → Refusals
 page_refusals limits state arguments =
     (nat_lt (page_bytes limits arguments) empty_page_bytes, status.TooSmall)
-    ∷ (nat_lt 0 (length (all_entries limits state arguments)) && length (page limits state arguments).entries == 0, status.TooSmall)
+    ∷ (
+      nat_lt 0 (length (all_entries limits state arguments))
+          && length (page limits state arguments).entries == 0,
+      status.TooSmall,
+    )
     ∷ []

@@ -1,5 +1,6 @@
--- Record marking on a stream of bytes: RFC 5531, section 11.
--- A fragment is a header of 4 bytes, whose top bit says that it is the record's last and whose other 31 bits are its size, and so many bytes.
+-- Record marking on a stream of bytes: RFC 5531, section 11. A fragment is a header of 4 bytes,
+-- whose top bit says that it is the record's last and whose other 31 bits are its size, and so many
+-- bytes.
 use Rattle.std.specs.Prelude.{◌≡◌, ℕ, zero, suc, ◌+◌, ◌%◌, ◌^◌, ◌<◌, ◌≤◌, Bool, true, false, List, [], ◌∷◌, ◌++◌, length, take, drop, fold, Option, None, Some, nat_lt, nat_le, if◌then◌else◌}
 use Rattle.std.specs.List.{flat_map}
 use Rattle.std.specs.Int.{w32, to_be_bytes, from_be_bytes}
@@ -25,13 +26,15 @@ nothing_gathered = record { bytes = []; fragments = 0 }
 
 -- One fragment
 
--- at the front of some bytes: no whole fragment, a header that is refused, or a fragment and the bytes after it
+-- at the front of some bytes: no whole fragment, a header that is refused, or a fragment and the
+-- bytes after it
 pub data Fragment : Type 0 where
   Waits : Fragment
   Refuses : RecordFault → Fragment
   Brings : (bytes : List ℕ) → (is_last : Bool) → (rest : List ℕ) → Fragment
 
--- a header is refused as soon as it is there: first for the record's size, then for the number of fragments
+-- a header is refused as soon as it is there: first for the record's size, then for the number of
+-- fragments
 unfoldable pub behind_header : RecordLimits → Gathered → (header : ℕ) → List ℕ → Fragment
 behind_header limits gathered header bytes =
     let size = header % 2 ^ 31 in
@@ -47,33 +50,40 @@ fragment limits gathered bytes =
 
 -- One record
 
--- at the front of some bytes: no whole record, a header that is refused, or a record and the bytes after it
+-- at the front of some bytes: no whole record, a header that is refused, or a record and the bytes
+-- after it
 pub data Front : Type 0 where
   Partial : Front
   Refused : RecordFault → Front
   Whole : (bytes : List ℕ) → (rest : List ℕ) → Front
 
 abbrev pub gathered_with : Gathered → List ℕ → Gathered
-gathered_with gathered bytes = record { bytes = gathered.bytes ++ bytes; fragments = gathered.fragments + 1 }
+gathered_with gathered bytes = record {
+  bytes = gathered.bytes ++ bytes;
+  fragments = gathered.fragments + 1;
+}
 
 -- `further` looks for the fragment after this one
 abbrev pub behind_fragment : (Gathered → List ℕ → Front) → Gathered → Fragment → Front
 behind_fragment further gathered Waits = Partial
 behind_fragment further gathered (Refuses fault) = Refused fault
 behind_fragment further gathered (Brings bytes true rest) = Whole (gathered.bytes ++ bytes) rest
-behind_fragment further gathered (Brings bytes false rest) = further (gathered_with gathered bytes) rest
+behind_fragment further gathered (Brings bytes false rest) =
+    further (gathered_with gathered bytes) rest
 
 -- `fuel` is at least the number of the bytes: each fragment takes some
 unfoldable pub front_from : RecordLimits → (fuel : ℕ) → Gathered → List ℕ → Front
 front_from limits zero gathered bytes = Partial
-front_from limits (suc fuel) gathered bytes = behind_fragment (front_from limits fuel) gathered (fragment limits gathered bytes)
+front_from limits (suc fuel) gathered bytes =
+    behind_fragment (front_from limits fuel) gathered (fragment limits gathered bytes)
 
 abbrev pub front : RecordLimits → List ℕ → Front
 front limits bytes = front_from limits (length bytes) nothing_gathered bytes
 
 -- A stream
 
--- its whole records, and the bytes after them, which begin no whole one; where a header is refused, none are kept
+-- its whole records, and the bytes after them, which begin no whole one; where a header is refused,
+-- none are kept
 pub record Stream : Type 0 where
   pub records : List (List ℕ)
   pub rest : List ℕ
@@ -82,11 +92,13 @@ pub record Stream : Type 0 where
 abbrev pub behind_front : (List ℕ → Stream) → List ℕ → Front → Stream
 behind_front further bytes Partial = record { records = []; rest = bytes; fault = None }
 behind_front further bytes (Refused fault) = record { records = []; rest = []; fault = Some fault }
-behind_front further bytes (Whole one rest) = record (further rest) { records = one ∷ (further rest).records }
+behind_front further bytes (Whole one rest) =
+    record (further rest) { records = one ∷ (further rest).records }
 
 unfoldable pub records_from : RecordLimits → (fuel : ℕ) → List ℕ → Stream
 records_from limits zero bytes = record { records = []; rest = bytes; fault = None }
-records_from limits (suc fuel) bytes = behind_front (records_from limits fuel) bytes (front limits bytes)
+records_from limits (suc fuel) bytes =
+    behind_front (records_from limits fuel) bytes (front limits bytes)
 
 abbrev pub records : RecordLimits → List ℕ → Stream
 records limits bytes = records_from limits (length bytes) bytes
@@ -138,10 +150,12 @@ abbrev pub joined : (earlier : List (List ℕ)) → (last : List ℕ) → List �
 joined [] last = last
 joined (bytes ∷ earlier) last = bytes ++ joined earlier last
 
--- However a record is fragmented within the limits, it is read as its fragments joined, whatever follows.
+-- However a record is fragmented within the limits, it is read as its fragments joined, whatever
+-- follows.
 abbrev pub EveryFragmenting : Type 0
 EveryFragmenting = (limits : RecordLimits) (earlier : List (List ℕ)) (last rest : List ℕ)
-    → length (joined earlier last) ≤ limits.bytes → length (joined earlier last) < 2 ^ 31 → length earlier < limits.fragments
+    → length (joined earlier last) ≤ limits.bytes → length (joined earlier last) < 2 ^ 31
+    → length earlier < limits.fragments
     → front limits (record_text earlier last ++ rest) ≡ Whole (joined earlier last) rest
 
 -- What is read is a record so sent, with the bytes after it: nothing else is taken for one.
@@ -154,4 +168,6 @@ pub record IsSent (limits : RecordLimits) (bytes one rest : List ℕ) : Type 0 w
   pub number : length earlier < limits.fragments
 
 abbrev pub OnlySent : Type 0
-OnlySent = (limits : RecordLimits) (bytes one rest : List ℕ) → IsBytes bytes → front limits bytes ≡ Whole one rest → IsSent limits bytes one rest
+OnlySent =
+    (limits : RecordLimits) (bytes one rest : List ℕ) → IsBytes bytes
+    → front limits bytes ≡ Whole one rest → IsSent limits bytes one rest

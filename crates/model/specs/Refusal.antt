@@ -1,4 +1,5 @@
--- Why an operation is refused: the tests in their order, each with the status that it answers where it holds.
+-- Why an operation is refused: the tests in their order, each with the status that it answers where
+-- it holds.
 use Rattle.std.specs.Prelude.{Bool, true, false, List, [], ◌∷◌, Option, Some, None}
 use Rattle.model.specs.declared.status.Status.{Status}
 

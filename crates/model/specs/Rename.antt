@@ -1,4 +1,5 @@
--- REMOVE and RENAME: RFC 8881, sections 18.25 and 18.26. The order of their tests is this server's profile.
+-- REMOVE and RENAME: RFC 8881, sections 18.25 and 18.26. The order of their tests is this server's
+-- profile.
 use Rattle.std.specs.Prelude.{ℕ, Bool, true, false, [], ◌∷◌, ◌++◌, List, ◌&&◌, ◌||◌, not, nat_lt, length, if◌then◌else◌}
 use Rattle.model.specs.declared.status.Status.TheVariants as status
 use Rattle.model.specs.Ancestors.{is_below}
@@ -22,8 +23,10 @@ remove_refusals limits state name =
 
 abbrev pub rename_refusals : Limits → State → RenameArguments → Refusals
 rename_refusals limits state arguments =
-    ((not (has_saved state.context), status.NoFileHandle) ∷ (not (is_key (saved state) state.tree), status.Stale)
-    ∷ (not (is_directory_at state.tree (saved state)), status.NotDir) ∷ (not (is_directory_at state.tree (current state)), status.NotDir) ∷ [])
+    ((not (has_saved state.context), status.NoFileHandle)
+    ∷ (not (is_key (saved state) state.tree), status.Stale)
+    ∷ (not (is_directory_at state.tree (saved state)), status.NotDir)
+    ∷ (not (is_directory_at state.tree (current state)), status.NotDir) ∷ [])
     ++ (name_refusals limits arguments.old_name
     ++ (name_refusals limits arguments.new_name
     ++ ((not (is_named state.tree (saved state) arguments.old_name), status.NoEnt) ∷ [])))
@@ -52,7 +55,8 @@ late_at_rename state arguments = (
 )
     ∷ (
       is_name_there state arguments.new_name
-          && (is_other (is_directory_at state.tree (moved_number state arguments)) (is_directory_at state.tree (target_number state arguments))
+          && (is_other (is_directory_at state.tree (moved_number state arguments))
+          (is_directory_at state.tree (target_number state arguments))
           || has_names state.tree (target_number state arguments)),
       status.Exist,
     )
@@ -63,7 +67,8 @@ late_at_rename state arguments = (
 abbrev pub remove : State → (now : ℕ) → (name : List ℕ) → Stepped
 remove state now name =
     answered
-    (without_opens (changed state (removed_edits state.tree (current state) name (stamp_of state) now))
+    (without_opens
+    (changed state (removed_edits state.tree (current state) name (stamp_of state) now))
     (number_named state.tree (current state) name))
     (Answer.Remove (change_to state (current state) (stamp_of state)))
 
@@ -75,7 +80,9 @@ rename true state now arguments = answered state (Answer.Rename (record {
 }))
 rename false state now arguments =
     answered
-    (without_opens (changed state (renamed_edits state.tree (saved state) (current state) arguments.old_name arguments.new_name (stamp_of state) now))
+    (without_opens
+    (changed state (renamed_edits state.tree (saved state) (current state) arguments.old_name
+    arguments.new_name (stamp_of state) now))
     (target_number state arguments))
     (Answer.Rename (record {
       source = change_to state (saved state) (stamp_of state);

@@ -1,4 +1,5 @@
--- The result of a COMPOUND as a grammar: RFC 8881, section 16.2.2. What the server makes of the results of a COMPOUND is spelled by it.
+-- The result of a COMPOUND as a grammar: RFC 8881, section 16.2.2. What the server makes of the
+-- results of a COMPOUND is spelled by it.
 use Rattle.std.specs.Prelude.{◌≡◌, ℕ, ◌-◌, ◌^◌, List, [], ◌∷◌, ◌++◌, flat_map, length, Some}
 use Rattle.xdr.specs.Grammar.{Grammar, ◌&◌, unsigned_int}
 use Rattle.xdr.specs.Forms.{opaque, array}
@@ -24,12 +25,16 @@ pub record AreResults (request : InProgress) (results : List Outcome) : Type 0 w
   pub answered : request.answered ≡ length results
   pub spelled : request.results ≡ flat_map outcome_text results
 
--- A request begins without results, and goes on after one more; at its end they are spelled as one result.
+-- A request begins without results, and goes on after one more; at its end they are spelled as one
+-- result.
 pub record SpellsResults : Type 0 where
-  pub begins : (world : World) (xid : ℕ) (cred : Cred) (compound : Compound) → AreResults (in_progress world xid cred compound) []
-  pub goes_on : (request : InProgress) (results : List Outcome) (next : Outcome) → AreResults request results
+  pub begins : (world : World) (xid : ℕ) (cred : Cred) (compound : Compound)
+      → AreResults (in_progress world xid cred compound) []
+  pub goes_on : (request : InProgress) (results : List Outcome) (next : Outcome)
+      → AreResults request results
       → AreResults (with_result request next) (results ++ next ∷ [])
-  pub ends : (request : InProgress) (results : List Outcome) (last : Status) → AreResults request results
+  pub ends : (request : InProgress) (results : List Outcome) (last : Status)
+      → AreResults request results
       → result_of request last ≡ compound_result.spelling (code_of last, (request.tag, results))
 
 -- So it is at each moment of every run of the server.
@@ -37,6 +42,8 @@ abbrev pub HasResults : InProgress → Type 0
 HasResults request = (results : List Outcome) × AreResults request results
 
 abbrev pub EveryRequestHasResults : Type 0
-EveryRequestHasResults = (limits : ServerLimits) (run : ℕ) (start : Tree) (serving : Serving) (history : History)
+EveryRequestHasResults =
+    (limits : ServerLimits) (run : ℕ) (start : Tree) (serving : Serving) (history : History)
     → IsRun (mounted limits run start) serving history
-    → (number : ℕ) (request : InProgress) → at number serving.world.connections ≡ Some (Busy request) → HasResults request
+    → (number : ℕ) (request : InProgress)
+    → at number serving.world.connections ≡ Some (Busy request) → HasResults request

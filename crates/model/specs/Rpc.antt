@@ -1,4 +1,5 @@
--- Calls and replies, with the order of a call's tests: RFC 5531, sections 8.2, 9 and appendix A; the COMPOUND around the operations: RFC 8881, section 16.2.
+-- Calls and replies, with the order of a call's tests: RFC 5531, sections 8.2, 9 and appendix A;
+-- the COMPOUND around the operations: RFC 8881, section 16.2.
 use Rattle.std.specs.Prelude.{ℕ, Bool, true, false, not, ◌==◌, List, [], ◌∷◌, ◌++◌, Option, None, Some, Result, Ok, Err, option_map, if◌then◌else◌}
 use Rattle.std.specs.Int.{w32}
 use Rattle.xdr.specs.declared.refusal.Refusal.{Refusal}
@@ -51,14 +52,17 @@ call_of xid header body = record {
   body = body;
 }
 
-abbrev pub behind_version : (xid : ℕ) → Result ((ℕ × (ℕ × (ℕ × ((ℕ × List ℕ) × (ℕ × List ℕ))))) × List ℕ) Refusal → CallRead
+abbrev pub behind_version : (xid : ℕ)
+    → Result ((ℕ × (ℕ × (ℕ × ((ℕ × List ℕ) × (ℕ × List ℕ))))) × List ℕ) Refusal → CallRead
 behind_version xid (Ok header) = Calls (call_of xid header.0 header.1)
 behind_version xid (Err fault) = NoCall
 
 abbrev pub behind_start : Result ((ℕ × (ℕ × ℕ)) × List ℕ) Refusal → CallRead
 behind_start (Ok start) =
     if not (start.0.1.0 == 0) then NoCall
-    else (if start.0.1.1 == 2 then behind_version start.0.0 (call_header.read start.1) else OtherVersion start.0.0)
+    else (if start.0.1.1 == 2
+    then behind_version start.0.0 (call_header.read start.1)
+    else OtherVersion start.0.0)
 behind_start (Err fault) = NoCall
 
 -- the message type (0 is a call) is tested before the version
@@ -73,7 +77,8 @@ is_call_read (Calls call) = true
 -- Replies (section 9)
 
 pub data Reply : Type 0 where
-  -- denied: RPC versions 2 to 2 are spoken; the caller's authentication is refused, with its auth_stat
+  -- denied: RPC versions 2 to 2 are spoken; the caller's authentication is refused, with its
+  -- auth_stat
   VersionRefused : Reply
   AuthRefused : (auth_stat : ℕ) → Reply
   -- accepted: no such program; versions 4 to 4 of it; no such procedure; its arguments are not read
@@ -135,7 +140,8 @@ pub record Compound : Type 0 where
 
 -- status, tag, number of results, and the results
 unfoldable pub compound_text : Status → (tag : List ℕ) → (count : ℕ) → (results : List ℕ) → List ℕ
-compound_text status tag count results = number w32 (code_of status) ++ (counted tag ++ (number w32 count ++ results))
+compound_text status tag count results =
+    number w32 (code_of status) ++ (counted tag ++ (number w32 count ++ results))
 
 -- The tests of a call, in their order: answered at once, or a COMPOUND of this caller
 
@@ -155,7 +161,8 @@ abbrev pub by_head : Cred → Result ((List ℕ × (ℕ × ℕ)) × List ℕ) Re
 by_head cred (Err fault) = Answers GarbageArguments
 by_head cred (Ok head) =
     if not (head.0.1.0 == 1) then no_results status.MinorVersMismatch head.0.0
-    else (if not (head.0.1.1 == 0) then Runs cred (record { tag = head.0.0; count = head.0.1.1; operations = head.1 })
+    else (if not (head.0.1.1 == 0)
+    then Runs cred (record { tag = head.0.0; count = head.0.1.1; operations = head.1 })
     else (if is_empty head.1 then no_results status.Ok head.0.0 else Answers GarbageArguments))
 
 -- AUTH_TOOWEAK 5, AUTH_BADCRED 1
@@ -166,7 +173,9 @@ by_cred call (Some cred) = by_head cred (compound_head.read call.body)
 abbrev pub compound_request : Call → Request
 compound_request call =
     if call.flavour == 0 then Answers (AuthRefused 5)
-    else (if call.flavour == 1 then by_cred call (cred_of call.credential) else Answers (AuthRefused 1))
+    else (if call.flavour == 1
+    then by_cred call (cred_of call.credential)
+    else Answers (AuthRefused 1))
 
 -- NFSPROC4_NULL looks at no credential
 abbrev pub null_request : Call → Request

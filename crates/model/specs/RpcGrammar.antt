@@ -1,5 +1,6 @@
--- Calls and replies as grammars: RFC 5531, section 9. What follows the header of a call, and of a reply that tells a result, are
--- the bytes to the end of the record: a procedure's arguments, or its result.
+-- Calls and replies as grammars: RFC 5531, section 9. What follows the header of a call, and of a
+-- reply that tells a result, are the bytes to the end of the record: a procedure's arguments, or
+-- its result.
 use Rattle.std.specs.Prelude.{◌≡◌, ◌≢◌, ◌↔◌, ℕ, List, [], ◌++◌, Option, None, Some, Result, Ok, Err, option_map, if◌then◌else◌}
 use Rattle.xdr.specs.declared.refusal.Refusal.{Refusal}
 use Rattle.xdr.specs.Grammar.{Grammar, ◌&◌, of, void, unsigned_int}
@@ -33,7 +34,8 @@ call_head = of
       verifier = p.1.1.1.1.1.1.1;
     })
     (λ h. (h.xid, (tt, (tt, (h.program, (h.version, (h.procedure, (h.credential, h.verifier))))))))
-    (unsigned_int & always 0 unsigned_int & always 2 unsigned_int & unsigned_int & unsigned_int & unsigned_int & opaque_auth & opaque_auth)
+    (unsigned_int & always 0 unsigned_int & always 2 unsigned_int & unsigned_int & unsigned_int
+    & unsigned_int & opaque_auth & opaque_auth)
 
 abbrev pub call_with : CallHead → (body : List ℕ) → Call
 call_with head body = record {
@@ -63,7 +65,8 @@ pub record IsOtherCall (bytes : List ℕ) (xid : ℕ) : Type 0 where
 
 -- Replies
 
--- reject_stat: RPC versions 2 to 2 are spoken; the caller's authentication is refused, with its auth_stat
+-- reject_stat: RPC versions 2 to 2 are spoken; the caller's authentication is refused, with its
+-- auth_stat
 pub data Denial : Type 0 where
   OtherRpc : Denial
   Unauthenticated : (auth_stat : ℕ) → Denial
@@ -74,9 +77,11 @@ denial_told (Unauthenticated stat) = tells 1 unsigned_int stat
 
 abbrev pub denial : Grammar Denial
 denial = union denial_told
-    (on 0 (always 2 unsigned_int & always 2 unsigned_int) (λ _. OtherRpc) (on 1 unsigned_int Unauthenticated no_other))
+    (on 0 (always 2 unsigned_int & always 2 unsigned_int) (λ _. OtherRpc)
+    (on 1 unsigned_int Unauthenticated no_other))
 
--- accept_stat: a result follows; no such program; versions 4 to 4 of it; no such procedure; its arguments are not read
+-- accept_stat: a result follows; no such program; versions 4 to 4 of it; no such procedure; its
+-- arguments are not read
 pub data Acceptance : Type 0 where
   Tells : Acceptance
   NoProgram : Acceptance
@@ -124,7 +129,8 @@ pub record ReplyHead : Type 0 where
 
 abbrev pub reply_head : Grammar ReplyHead
 reply_head = of
-    (λ (p : ℕ × (Unit {0} × Verdict)). record { xid = p.0; verdict = p.1.1 }) (λ h. (h.xid, (tt, h.verdict)))
+    (λ (p : ℕ × (Unit {0} × Verdict)). record { xid = p.0; verdict = p.1.1 })
+    (λ h. (h.xid, (tt, h.verdict)))
     (unsigned_int & always 1 unsigned_int & verdict)
 
 -- a reply's verdict, and its result
@@ -170,15 +176,19 @@ read_reply bytes = reply_by (reply_head.read bytes)
 
 -- calls are read exactly where they are spelled
 pub record ReadsCalls : Type 0 where
-  pub call : (bytes : List ℕ) (call : Call) → IsBytes bytes → (read_call bytes ≡ Calls call) ↔ IsCall bytes call
-  pub other : (bytes : List ℕ) (xid : ℕ) → IsBytes bytes → (read_call bytes ≡ OtherVersion xid) ↔ IsOtherCall bytes xid
+  pub call : (bytes : List ℕ) (call : Call) → IsBytes bytes → (read_call bytes ≡ Calls call)
+      ↔ IsCall bytes call
+  pub other : (bytes : List ℕ) (xid : ℕ) → IsBytes bytes → (read_call bytes ≡ OtherVersion xid)
+      ↔ IsOtherCall bytes xid
 
 -- and so are replies, of which each has one spelling
 abbrev pub ReadsReplies : Type 0
 ReadsReplies = (bytes : List ℕ) (xid : ℕ) (reply : Reply) → IsBytes bytes
-    → (read_reply bytes ≡ Some (xid, reply)) ↔ (reply_head.Fits (head_of xid reply) × (bytes ≡ reply_text xid reply))
+    → (read_reply bytes ≡ Some (xid, reply))
+    ↔ (reply_head.Fits (head_of xid reply) × (bytes ≡ reply_text xid reply))
 
 -- a credential of AUTH_SYS is read exactly where the body is its spelling
 abbrev pub ReadsCredentials : Type 0
 ReadsCredentials = (body : List ℕ) (known : SystemCredential) → IsBytes body
-    → (credential_in body ≡ Some known) ↔ (system_credential.Fits known × (body ≡ system_credential.spelling known))
+    → (credential_in body ≡ Some known)
+    ↔ (system_credential.Fits known × (body ≡ system_credential.spelling known))

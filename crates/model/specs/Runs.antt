@@ -1,5 +1,6 @@
--- What users of the server can rely on when it stops: NFS asks it of a server in RFC 8881, sections 18.3 (COMMIT), 18.32 (WRITE) and 2.10.6.2 (replies).
--- A machine goes from event to event and may be stopped at any moment; a stop leaves the tree that a good prefix of what was executed gives.
+-- What users of the server can rely on when it stops: NFS asks it of a server in RFC 8881, sections
+-- 18.3 (COMMIT), 18.32 (WRITE) and 2.10.6.2 (replies). A machine goes from event to event and may
+-- be stopped at any moment; a stop leaves the tree that a good prefix of what was executed gives.
 use Rattle.std.specs.Prelude.{◌≡◌, ◌≢◌, ℕ, ◌+◌, ◌<◌, ◌≤◌, ◌⊎◌, Bool, true, false, not, ◌&&◌, ◌||◌, ◌==◌, List, [], ◌∷◌, ◌++◌, length, take, slice_get, option_to_list, Option, None, Some, if◌then◌else◌, bytes_eq}
 use Rattle.std.specs.List.{IsAmong}
 use Rattle.model.specs.Answer.{Outcome}
@@ -63,13 +64,15 @@ IsDurable entry =
 -- the same as a test, by what the operation is: each durable entry passes it
 abbrev pub is_durable : Entry → Bool
 is_durable entry =
-    (alters entry.state entry.operation && (is_done entry.outcome && not (is_unstable entry.operation)))
+    (alters entry.state entry.operation
+    && (is_done entry.outcome && not (is_unstable entry.operation)))
     || (is_commit entry.operation && is_done entry.outcome)
 
 -- What happened, which no part of the server keeps
 
--- `done` are the executed operations of the run. A reply names those whose results it holds: `named` by connection, also of a
--- request that has begun, `kept` by session and slot; `handed_out` are those of all replies that were taken.
+-- `done` are the executed operations of the run. A reply names those whose results it holds:
+-- `named` by connection, also of a request that has begun, `kept` by session and slot; `handed_out`
+-- are those of all replies that were taken.
 pub record History : Type 0 where
   pub done : List Entry
   pub named : ℕ → List ℕ
@@ -77,7 +80,12 @@ pub record History : Type 0 where
   pub handed_out : List ℕ
 
 abbrev pub no_history : History
-no_history = record { done = []; named = λ connection. []; kept = λ session slot. []; handed_out = [] }
+no_history = record {
+  done = [];
+  named = λ connection. [];
+  kept = λ session slot. [];
+  handed_out = [];
+}
 
 abbrev pub naming : (ℕ → List ℕ) → ℕ → List ℕ → ℕ → List ℕ
 naming named connection names other = if other == connection then names else named other
@@ -87,7 +95,8 @@ is_slot slot session place = bytes_eq slot.0 session && slot.1 == place
 
 abbrev pub keeping : (List ℕ → ℕ → List ℕ) → Option (List ℕ × ℕ) → List ℕ → List ℕ → ℕ → List ℕ
 keeping kept None names session place = kept session place
-keeping kept (Some slot) names session place = if is_slot slot session place then names else kept session place
+keeping kept (Some slot) names session place =
+    if is_slot slot session place then names else kept session place
 
 -- the number that an operation gets which is executed now
 abbrev pub numbers_of : History → Option Entry → List ℕ
@@ -102,10 +111,12 @@ named_so_far history world connection =
 -- a reply that is sent again names what it named at first
 abbrev pub names_by : History → World → (connection : ℕ) → Turned → Option (List ℕ × ℕ) → List ℕ
 names_by history world connection turned (Some slot) = history.kept slot.0 slot.1
-names_by history world connection turned None = named_so_far history world connection ++ numbers_of history turned.executed
+names_by history world connection turned None =
+    named_so_far history world connection ++ numbers_of history turned.executed
 
 abbrev pub names_after : History → World → (connection : ℕ) → Turned → List ℕ
-names_after history world connection turned = names_by history world connection turned turned.replays
+names_after history world connection turned =
+    names_by history world connection turned turned.replays
 
 -- a turn that does nothing changes no names
 abbrev pub naming_by : Turn → (ℕ → List ℕ) → (connection : ℕ) → List ℕ → ℕ → List ℕ
@@ -116,21 +127,25 @@ naming_by Answered named connection names = naming named connection names
 abbrev pub turned_by : History → World → (connection : ℕ) → Turned → History
 turned_by history world connection turned = record {
   done = history.done ++ option_to_list turned.executed;
-  named = naming_by turned.turn history.named connection (names_after history world connection turned);
+  named =
+      naming_by turned.turn history.named connection (names_after history world connection turned);
   kept = keeping history.kept turned.keeps (names_after history world connection turned);
   handed_out = history.handed_out;
 }
 
 abbrev pub taken_by : History → (connection : ℕ) → Option (List ℕ) → History
 taken_by history connection None = history
-taken_by history connection (Some reply) = record history { handed_out = history.handed_out ++ history.named connection }
+taken_by history connection (Some reply) =
+    record history { handed_out = history.handed_out ++ history.named connection }
 
 abbrev pub history_after : History → World → Event → History
 history_after history world (Arrives connection piece) = history
-history_after history world (Turns connection now) = turned_by history world connection (one world connection now)
+history_after history world (Turns connection now) =
+    turned_by history world connection (one world connection now)
 history_after history world (HangsUp connection) = history
 history_after history world (Connects connection) = history
-history_after history world (Takes connection) = taken_by history connection (reply_at world connection)
+history_after history world (Takes connection) =
+    taken_by history connection (reply_at world connection)
 
 -- the operations that were executed, with one more that is under way
 abbrev pub done_with : History → Option Entry → List Entry
@@ -138,14 +153,19 @@ done_with history executed = history.done ++ option_to_list executed
 
 -- The machine
 
--- `recent` are the trees that a stop may leave now, as the volume keeps them: the one flushed last, and the one after each later change
+-- `recent` are the trees that a stop may leave now, as the volume keeps them: the one flushed last,
+-- and the one after each later change
 pub record Serving : Type 0 where
   pub world : World
   pub recent : List Tree
   pub is_down : Bool
 
 abbrev pub mounted : ServerLimits → (run : ℕ) → Tree → Serving
-mounted limits run start = record { world = mounted_world limits run start; recent = start ∷ []; is_down = false }
+mounted limits run start = record {
+  world = mounted_world limits run start;
+  recent = start ∷ [];
+  is_down = false;
+}
 
 -- what is down executes nothing
 abbrev pub executed_by : World → Event → (is_down : Bool) → Option Entry
@@ -172,7 +192,8 @@ pub record Happens (old : Serving) (event : Event) (new : Serving) : Type 0 wher
   pub durable : (entry : Entry) → executed old event ≡ Some entry → is_durable entry ≡ true
       → (tree : Tree) → IsAmong new.recent tree → tree ≡ entry.after
 
--- the device fails in it: the server is down from now on, and no reply tells of the operation under way
+-- the device fails in it: the server is down from now on, and no reply tells of the operation under
+-- way
 pub record Fails (old : Serving) (event : Event) (new : Serving) : Type 0 where
   pub up : old.is_down ≡ false
   pub world : new.world ≡ old.world
@@ -186,17 +207,22 @@ pub record StaysDown (old : Serving) (connection : ℕ) (new : Serving) : Type 0
   pub still_down : new.is_down ≡ true
   pub no_others : (tree : Tree) → IsAmong new.recent tree → IsAmong old.recent tree
 
--- of an operation under way at a failure it isn't known whether it was done: it is the last of `done`, and no reply names it
+-- of an operation under way at a failure it isn't known whether it was done: it is the last of
+-- `done`, and no reply names it
 abbrev pub history_failing : History → World → Event → History
-history_failing history world event = record history { done = done_with history (executed_of world event) }
+history_failing history world event =
+    record history { done = done_with history (executed_of world event) }
 
 pub data IsRun (start : Serving) : Serving → History → Type 0 where
   Begins : IsRun start start no_history
-  Goes_on : {old new : Serving} {history : History} (event : Event) → IsRun start old history → Happens old event new
+  Goes_on : {old new : Serving} {history : History} (event : Event) → IsRun start old history
+      → Happens old event new
       → IsRun start new (history_after history old.world event)
-  Fails_at : {old new : Serving} {history : History} (event : Event) → IsRun start old history → Fails old event new
+  Fails_at : {old new : Serving} {history : History} (event : Event) → IsRun start old history
+      → Fails old event new
       → IsRun start new (history_failing history old.world event)
-  Stays_down : {old new : Serving} {history : History} (connection : ℕ) → IsRun start old history → StaysDown old connection new
+  Stays_down : {old new : Serving} {history : History} (connection : ℕ) → IsRun start old history
+      → StaysDown old connection new
       → IsRun start new (history_after history old.world (Takes connection))
 
 -- Good prefixes
@@ -212,15 +238,19 @@ IsChain start (entry ∷ done) = (before entry ≡ start) × IsChain entry.after
 
 -- each operation whose result was handed out and has to last is among the first k
 abbrev pub IsGood : List Entry → List ℕ → ℕ → Type 0
-IsGood done handed_out k = (i : ℕ) (entry : Entry) → IsAmong handed_out i → slice_get done i ≡ Some entry → IsDurable entry → i < k
+IsGood done handed_out k =
+    (i : ℕ) (entry : Entry) → IsAmong handed_out i → slice_get done i ≡ Some entry → IsDurable entry
+    → i < k
 
 -- each change among the first k was permitted to its caller, in the tree before it
 abbrev pub ArePermitted : List Entry → ℕ → Type 0
-ArePermitted done k = (i : ℕ) (entry : Entry) → i < k → slice_get done i ≡ Some entry → before entry ≢ entry.after
+ArePermitted done k =
+    (i : ℕ) (entry : Entry) → i < k → slice_get done i ≡ Some entry → before entry ≢ entry.after
     → permitted entry.state.tree entry.state.context entry.operation ≡ true
 
 -- the tree is the one that the first k executed operations give
-pub record IsGoodPrefix (start : Tree) (done : List Entry) (handed_out : List ℕ) (tree : Tree) : Type 0 where
+pub record IsGoodPrefix (start : Tree) (done : List Entry) (handed_out : List ℕ)
+    (tree : Tree) : Type 0 where
   pub k : ℕ
   pub within : k ≤ length done
   pub holds : tree ≡ tree_after start (take k done)
@@ -228,11 +258,12 @@ pub record IsGoodPrefix (start : Tree) (done : List Entry) (handed_out : List �
   pub permitted : ArePermitted done k
   pub chain : IsChain start done
 
--- Whatever events happen, on whatever connections, and wherever the server is stopped, what a stop may leave is the tree of a good
--- prefix of the operations that were executed.
+-- Whatever events happen, on whatever connections, and wherever the server is stopped, what a stop
+-- may leave is the tree of a good prefix of the operations that were executed.
 abbrev pub EveryRun : Type 0
 EveryRun = (limits : ServerLimits) (run : ℕ) (start : Tree) (serving : Serving) (history : History)
-    → IsRun (mounted limits run start) serving history → (event : Event) (tree : Tree) → MayLeave serving event tree
+    → IsRun (mounted limits run start) serving history → (event : Event) (tree : Tree)
+    → MayLeave serving event tree
     → IsGoodPrefix start (done_with history (executed serving event)) history.handed_out tree
 
 -- Stamps: a change takes the next one of its run, whether a stop takes it away or not
@@ -243,12 +274,15 @@ stamp_in run entry = next_stamp run entry.state.changes
 
 -- those of the changes rise, and are stamps of the run
 pub record AreStamped (run : ℕ) (done : List Entry) : Type 0 where
-  pub rise : (i j : ℕ) (one other : Entry) → i < j → slice_get done i ≡ Some one → slice_get done j ≡ Some other → before one ≢ one.after
+  pub rise : (i j : ℕ) (one other : Entry) → i < j → slice_get done i ≡ Some one
+      → slice_get done j ≡ Some other → before one ≢ one.after
       → stamp_in run one < stamp_in run other
   pub of_run : (i : ℕ) (entry : Entry) → slice_get done i ≡ Some entry → before entry ≢ entry.after
       → (stamp run 0 < stamp_in run entry) × (stamp_in run entry < stamp (run + 1) 0)
 
 -- of all that was executed, what a stop takes away and the one under way included
 abbrev pub EveryStamp : Type 0
-EveryStamp = (limits : ServerLimits) (run : ℕ) (start : Tree) (serving : Serving) (history : History)
-    → IsRun (mounted limits run start) serving history → (event : Event) → AreStamped run (done_with history (executed serving event))
+EveryStamp =
+    (limits : ServerLimits) (run : ℕ) (start : Tree) (serving : Serving) (history : History)
+    → IsRun (mounted limits run start) serving history → (event : Event)
+    → AreStamped run (done_with history (executed serving event))

@@ -1,5 +1,6 @@
--- Client records, sessions and their slots: RFC 8881, sections 2.4, 2.10.6, 18.35 to 18.37, 18.46, 18.50 and 18.51.
--- The order of tests, and each choice that the RFC leaves to a server, is this file's.
+-- Client records, sessions and their slots: RFC 8881, sections 2.4, 2.10.6, 18.35 to 18.37, 18.46,
+-- 18.50 and 18.51. The order of tests, and each choice that the RFC leaves to a server, is this
+-- file's.
 use Rattle.std.specs.Prelude.{ℕ, ◌+◌, ◌-◌, ◌*◌, ◌%◌, ◌^◌, Bool, true, false, not, ◌&&◌, ◌||◌, if◌then◌else◌, ◌==◌, nat_lt, nat_le, List, [], ◌∷◌, ◌++◌, map, filter, length, replicate, slice_index_or, slice_set, find, Option, None, Some, Result, Ok, Err, min, bit_or, codes, bytes_eq}
 use Rattle.std.specs.List.{list_any}
 use Rattle.std.specs.Int.{w64, to_be_bytes}
@@ -21,8 +22,9 @@ pub record SessionLimits : Type 0 where
   -- bytes of a request's or a reply's record
   pub record_bytes : ℕ
 
--- A client record (section 18.35.4). `sequence` is the number that its next CREATE_SESSION has, and `kept` the last one's
--- result; `has_reclaimed` says that RECLAIM_COMPLETE for all file systems was answered OK.
+-- A client record (section 18.35.4). `sequence` is the number that its next CREATE_SESSION has, and
+-- `kept` the last one's result; `has_reclaimed` says that RECLAIM_COMPLETE for all file systems was
+-- answered OK.
 pub record Client : Type 0 where
   pub number : ℕ
   pub owner : List ℕ
@@ -33,7 +35,8 @@ pub record Client : Type 0 where
   pub sequence : ℕ
   pub kept : Option CreateSessionAnswer
 
--- What a slot holds (section 2.10.6.1): nothing yet, a request that runs, or the whole COMPOUND result of the last one
+-- What a slot holds (section 2.10.6.1): nothing yet, a request that runs, or the whole COMPOUND
+-- result of the last one
 pub data SlotState : Type 0 where
   Free : SlotState
   Running : SlotState
@@ -51,7 +54,8 @@ pub record Session : Type 0 where
   pub max_operations : ℕ
   pub slots : List Slot
 
--- All of it, in one run of the server. Records and sessions stand in the order in which they were made; the serials are those given last.
+-- All of it, in one run of the server. Records and sessions stand in the order in which they were
+-- made; the serials are those given last.
 pub record Table : Type 0 where
   pub run : ℕ
   pub client_serial : ℕ
@@ -61,7 +65,13 @@ pub record Table : Type 0 where
 
 -- a run begins with nothing
 abbrev pub empty_table : ℕ → Table
-empty_table run = record { run = run; client_serial = 0; session_serial = 0; clients = []; sessions = [] }
+empty_table run = record {
+  run = run;
+  client_serial = 0;
+  session_serial = 0;
+  clients = [];
+  sessions = [];
+}
 
 -- Words
 
@@ -119,8 +129,9 @@ with_sessions sessions table = record table { sessions = sessions }
 
 -- EXCHANGE_ID (section 18.35)
 
--- EXCHGID4_FLAG_SUPP_MOVED_REFER 1, SUPP_MOVED_MIGR 2, BIND_PRINC_STATEID 0x100, USE_NON_PNFS 0x10000, USE_PNFS_MDS 0x20000
--- and USE_PNFS_DS 0x40000 may be set. UPD_CONFIRMED_REC_A is not served.
+-- EXCHGID4_FLAG_SUPP_MOVED_REFER 1, SUPP_MOVED_MIGR 2, BIND_PRINC_STATEID 0x100, USE_NON_PNFS
+-- 0x10000, USE_PNFS_MDS 0x20000 and USE_PNFS_DS 0x40000 may be set. UPD_CONFIRMED_REC_A is not
+-- served.
 abbrev pub exchange_flags : ℕ
 exchange_flags = 0x70103
 
@@ -135,7 +146,13 @@ abbrev pub server_name : List ℕ
 server_name = codes "nfs41srv"
 
 abbrev pub exchange_answer : ℕ → ℕ → ℕ → ExchangeIdAnswer
-exchange_answer number sequence flags = record { client = number; sequence = sequence; flags = flags; major_id = server_name; scope = server_name }
+exchange_answer number sequence flags = record {
+  client = number;
+  sequence = sequence;
+  flags = flags;
+  major_id = server_name;
+  scope = server_name;
+}
 
 abbrev pub is_confirmed_of : List ℕ → Client → Bool
 is_confirmed_of owner client = client.is_confirmed && bytes_eq client.owner owner
@@ -144,7 +161,8 @@ abbrev pub is_unconfirmed_of : List ℕ → Client → Bool
 is_unconfirmed_of owner client = not client.is_confirmed && bytes_eq client.owner owner
 
 abbrev pub without_unconfirmed : List ℕ → Table → Table
-without_unconfirmed owner table = with_clients (without_where (is_unconfirmed_of owner) table.clients) table
+without_unconfirmed owner table =
+    with_clients (without_where (is_unconfirmed_of owner) table.clients) table
 
 abbrev pub without_client : ℕ → Table → Table
 without_client number table = with_clients (without_where (is_client number) table.clients) table
@@ -173,30 +191,42 @@ with_new_client uid arguments table = record table {
 
 -- a further record finds no place, or no serial
 abbrev pub is_full_of_clients : SessionLimits → Table → Bool
-is_full_of_clients limits table = nat_le limits.clients (length table.clients) || nat_le (2 ^ 32 - 1) table.client_serial
+is_full_of_clients limits table =
+    nat_le limits.clients (length table.clients) || nat_le (2 ^ 32 - 1) table.client_serial
 
--- A new unconfirmed record beside those of `cleared`, where an older unconfirmed one of the owner gives way to it. DELAY leaves `table`.
-abbrev pub new_record : SessionLimits → ℕ → ExchangeIdArguments → Table → Table → Result ExchangeIdAnswer Status × Table
+-- A new unconfirmed record beside those of `cleared`, where an older unconfirmed one of the owner
+-- gives way to it. DELAY leaves `table`.
+abbrev pub new_record : SessionLimits → ℕ → ExchangeIdArguments → Table → Table
+    → Result ExchangeIdAnswer Status × Table
 new_record limits uid arguments table cleared =
     let room = without_unconfirmed arguments.owner cleared in
     if is_full_of_clients limits room then (Err status.Delay, table)
-    else (Ok (exchange_answer (new_client uid arguments room).number 1 use_non_pnfs), with_new_client uid arguments room)
+    else (
+      Ok (exchange_answer (new_client uid arguments room).number 1 use_non_pnfs),
+      with_new_client uid arguments room,
+    )
 
 -- the table of section 18.35.4, by the confirmed record of the owner
-abbrev pub exchange_by : SessionLimits → (ℕ → Bool) → ℕ → ExchangeIdArguments → Table → Option Client → Result ExchangeIdAnswer Status × Table
+abbrev pub exchange_by : SessionLimits → (ℕ → Bool) → ℕ → ExchangeIdArguments → Table
+    → Option Client → Result ExchangeIdAnswer Status × Table
 exchange_by limits has_opens uid arguments table None = new_record limits uid arguments table table
 exchange_by limits has_opens uid arguments table (Some client) =
     if client.principal == uid then
     (if bytes_eq client.verifier arguments.verifier
-    then (Ok (exchange_answer client.number client.sequence (confirmed_flag + use_non_pnfs)), without_unconfirmed arguments.owner table)
+    then (
+      Ok (exchange_answer client.number client.sequence (confirmed_flag + use_non_pnfs)),
+      without_unconfirmed arguments.owner table,
+    )
     else new_record limits uid arguments table table)
     else (if has_state has_opens table client.number then (Err status.ClidInUse, table)
     else new_record limits uid arguments table (without_client client.number table))
 
-unfoldable pub exchange_id : SessionLimits → (ℕ → Bool) → ℕ → ExchangeIdArguments → Table → Result ExchangeIdAnswer Status × Table
+unfoldable pub exchange_id : SessionLimits → (ℕ → Bool) → ℕ → ExchangeIdArguments → Table
+    → Result ExchangeIdAnswer Status × Table
 exchange_id limits has_opens uid arguments table =
     if has_only exchange_flags arguments.flags
-    then exchange_by limits has_opens uid arguments table (find (is_confirmed_of arguments.owner) table.clients)
+    then exchange_by limits has_opens uid arguments table
+    (find (is_confirmed_of arguments.owner) table.clients)
     else (Err status.Inval, table)
 
 -- CREATE_SESSION (section 18.36)
@@ -207,18 +237,21 @@ session_flags = 7
 
 -- the confirmed record of the same owner that this one takes the place of
 abbrev pub is_replaced_by : Client → Client → Bool
-is_replaced_by client other = is_confirmed_of client.owner other && not (other.number == client.number)
+is_replaced_by client other =
+    is_confirmed_of client.owner other && not (other.number == client.number)
 
 -- the numbers of the clients that end where this one's session is made
 abbrev pub replaced_by : Client → Table → List ℕ
-replaced_by client table = map (λ other. other.number) (filter (is_replaced_by client) table.clients)
+replaced_by client table =
+    map (λ other. other.number) (filter (is_replaced_by client) table.clients)
 
 abbrev pub is_of_clients : List ℕ → Session → Bool
 is_of_clients numbers session = list_any (λ number. is_of_client number session) numbers
 
 abbrev pub is_too_small : SessionLimits → Channel → Bool
 is_too_small limits fore =
-    nat_lt fore.max_request_size limits.record_bytes || nat_lt fore.max_response_size limits.record_bytes
+    nat_lt fore.max_request_size limits.record_bytes
+    || nat_lt fore.max_response_size limits.record_bytes
     || fore.max_operations == 0 || fore.max_requests == 0
 
 -- the sessions that stay, and whether one more finds no place or no serial
@@ -227,14 +260,19 @@ staying client table = without_where (is_of_clients (replaced_by client table)) 
 
 abbrev pub is_full_of_sessions : SessionLimits → Client → Table → Bool
 is_full_of_sessions limits client table =
-    nat_le limits.sessions (length (staying client table)) || nat_le (2 ^ 64 - 1) table.session_serial
+    nat_le limits.sessions (length (staying client table))
+    || nat_le (2 ^ 64 - 1) table.session_serial
 
 abbrev pub create_refusals : SessionLimits → CreateSessionArguments → Client → Table → Refusals
 create_refusals limits arguments client table =
     (not (arguments.sequence == client.sequence), status.SeqMisordered)
     ∷ (not (has_only session_flags arguments.flags), status.Inval)
     ∷ (is_too_small limits arguments.fore, status.TooSmall)
-    ∷ (list_any (λ session. is_of_clients (replaced_by client table) session && is_running session) table.sessions, status.Delay)
+    ∷ (
+      list_any (λ session. is_of_clients (replaced_by client table) session && is_running session)
+          table.sessions,
+      status.Delay,
+    )
     ∷ (is_full_of_sessions limits client table, status.Delay)
     ∷ []
 
@@ -250,7 +288,8 @@ fore_channel limits asked = record {
   rdma_ird = None;
 }
 
-abbrev pub create_session_answer : SessionLimits → CreateSessionArguments → Client → Table → CreateSessionAnswer
+abbrev pub create_session_answer : SessionLimits → CreateSessionArguments → Client → Table
+    → CreateSessionAnswer
 create_session_answer limits arguments client table = record {
   session = session_id client.number (table.session_serial + 1);
   sequence = arguments.sequence;
@@ -269,12 +308,19 @@ new_session limits arguments client table = record {
 
 -- the record is confirmed, counts on, and keeps the result
 abbrev pub confirmed_with : CreateSessionAnswer → Client → Client
-confirmed_with answer client = record client { is_confirmed = true; sequence = next_number client.sequence; kept = Some answer }
+confirmed_with answer client =
+    record client {
+      is_confirmed = true;
+      sequence = next_number client.sequence;
+      kept = Some answer;
+    }
 
 abbrev pub with_new_session : SessionLimits → CreateSessionArguments → Client → Table → Table
 with_new_session limits arguments client table = record table {
   session_serial = table.session_serial + 1;
-  clients = changed_where (is_client client.number) (confirmed_with (create_session_answer limits arguments client table))
+  clients =
+      changed_where (is_client client.number)
+      (confirmed_with (create_session_answer limits arguments client table))
       (without_where (is_replaced_by client) table.clients);
   sessions = staying client table ++ new_session limits arguments client table ∷ [];
 }
@@ -289,7 +335,8 @@ abbrev pub create_refused : Status → Table → CreateSessionOutcome
 create_refused reason table = record { answer = Err reason; ended_clients = []; table = table }
 
 -- a refusal changes nothing and keeps nothing
-abbrev pub create_unless : SessionLimits → CreateSessionArguments → Client → Table → Option Status → CreateSessionOutcome
+abbrev pub create_unless : SessionLimits → CreateSessionArguments → Client → Table → Option Status
+    → CreateSessionOutcome
 create_unless limits arguments client table (Some reason) = create_refused reason table
 create_unless limits arguments client table None = record {
   answer = Ok (create_session_answer limits arguments client table);
@@ -297,22 +344,28 @@ create_unless limits arguments client table None = record {
   table = with_new_session limits arguments client table;
 }
 
--- the number after the one asked is the record's next, and that one's result is kept: it is answered again
-abbrev pub create_again : SessionLimits → CreateSessionArguments → Client → Table → Option CreateSessionAnswer → CreateSessionOutcome
+-- the number after the one asked is the record's next, and that one's result is kept: it is
+-- answered again
+abbrev pub create_again : SessionLimits → CreateSessionArguments → Client → Table
+    → Option CreateSessionAnswer → CreateSessionOutcome
 create_again limits arguments client table None =
-    create_unless limits arguments client table (first_refusal (create_refusals limits arguments client table))
+    create_unless limits arguments client table
+    (first_refusal (create_refusals limits arguments client table))
 create_again limits arguments client table (Some answer) =
     if next_number arguments.sequence == client.sequence
     then record { answer = Ok answer; ended_clients = []; table = table }
-    else create_unless limits arguments client table (first_refusal (create_refusals limits arguments client table))
+    else create_unless limits arguments client table
+    (first_refusal (create_refusals limits arguments client table))
 
-abbrev pub create_by : SessionLimits → ℕ → CreateSessionArguments → Table → Option Client → CreateSessionOutcome
+abbrev pub create_by : SessionLimits → ℕ → CreateSessionArguments → Table → Option Client
+    → CreateSessionOutcome
 create_by limits uid arguments table None = create_refused status.StaleClientId table
 create_by limits uid arguments table (Some client) =
     if client.principal == uid then create_again limits arguments client table client.kept
     else create_refused status.ClidInUse table
 
-unfoldable pub create_session : SessionLimits → ℕ → CreateSessionArguments → Table → CreateSessionOutcome
+unfoldable pub create_session : SessionLimits → ℕ → CreateSessionArguments → Table
+    → CreateSessionOutcome
 create_session limits uid arguments table =
     create_by limits uid arguments table (find (is_client arguments.client) table.clients)
 
@@ -337,7 +390,8 @@ destroy_client_by has_opens number table (Some client) =
     else (None, without_client number table)
 
 unfoldable pub destroy_client_id : (ℕ → Bool) → ℕ → Table → Option Status × Table
-destroy_client_id has_opens number table = destroy_client_by has_opens number table (find (is_client number) table.clients)
+destroy_client_id has_opens number table =
+    destroy_client_by has_opens number table (find (is_client number) table.clients)
 
 -- RECLAIM_COMPLETE for all file systems (section 18.51), by the client of the session
 
@@ -345,7 +399,11 @@ abbrev pub reclaim_by : ℕ → Table → Option Client → Option Status × Tab
 reclaim_by number table None = (Some status.StaleClientId, table)
 reclaim_by number table (Some client) =
     if client.has_reclaimed then (Some status.CompleteAlready, table)
-    else (None, with_clients (changed_where (is_client number) (λ known. record known { has_reclaimed = true }) table.clients) table)
+    else (
+      None,
+      with_clients (changed_where (is_client number)
+          (λ known. record known { has_reclaimed = true }) table.clients) table,
+    )
 
 unfoldable pub reclaim_complete : ℕ → Table → Option Status × Table
 reclaim_complete number table = reclaim_by number table (find (is_client number) table.clients)
@@ -378,12 +436,14 @@ abbrev pub begin_by : ℕ → ℕ → SequenceArguments → Option Session → B
 begin_by uid count arguments None = Refuses status.BadSession
 begin_by uid count arguments (Some session) =
     let slot = slot_at session arguments.slot in
-    if nat_lt arguments.slot (length session.slots) then begin_slot uid count arguments session slot slot.state
+    if nat_lt arguments.slot (length session.slots)
+    then begin_slot uid count arguments session slot slot.state
     else Refuses status.BadSlot
 
 -- `count` is the COMPOUND's number of operations
 unfoldable pub begin : ℕ → ℕ → SequenceArguments → Table → Begun
-begin uid count arguments table = begin_by uid count arguments (find (is_session arguments.session) table.sessions)
+begin uid count arguments table =
+    begin_by uid count arguments (find (is_session arguments.session) table.sessions)
 
 abbrev pub with_slot : ℕ → Slot → Session → Session
 with_slot place slot session = record session { slots = slice_set session.slots place slot }
@@ -392,15 +452,18 @@ with_slot place slot session = record session { slots = slice_set session.slots 
 unfoldable pub started : ℕ → SequenceArguments → Table → Table
 started uid arguments table = with_sessions
     (changed_where (is_session arguments.session)
-    (with_slot arguments.slot (record { last = arguments.sequence; uid = uid; state = Running })) table.sessions)
+    (with_slot arguments.slot (record { last = arguments.sequence; uid = uid; state = Running }))
+    table.sessions)
     table
 
 -- the table once the reply to what ran is made
 abbrev pub finished_slot : ℕ → List ℕ → Session → Session
-finished_slot place reply session = with_slot place (record (slot_at session place) { state = Kept reply }) session
+finished_slot place reply session =
+    with_slot place (record (slot_at session place) { state = Kept reply }) session
 
 unfoldable pub finish : List ℕ → ℕ → List ℕ → Table → Table
-finish id place reply table = with_sessions (changed_where (is_session id) (finished_slot place reply) table.sessions) table
+finish id place reply table =
+    with_sessions (changed_where (is_session id) (finished_slot place reply) table.sessions) table
 
 -- A SEQUENCE that runs answers its slot number, and twice the highest slot of the session.
 abbrev pub sequence_answer : SequenceArguments → Session → SequenceAnswer

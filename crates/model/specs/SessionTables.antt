@@ -1,5 +1,5 @@
--- What holds of the tables of clients and sessions, whatever calls are made in one run of the server: RFC 8881, sections 2.4,
--- 2.10, 18.35 and 18.36.
+-- What holds of the tables of clients and sessions, whatever calls are made in one run of the
+-- server: RFC 8881, sections 2.4, 2.10, 18.35 and 18.36.
 use Rattle.std.specs.Prelude.{ℕ, ◌≡◌, ◌≤◌, ◌<◌, ◌^◌, ◌==◌, ◌&&◌, ◌||◌, nat_lt, nat_le, Bool, IsTrue, List, [], ◌∷◌, length, count_by}
 use Rattle.std.specs.List.{list_all, list_any}
 use Rattle.model.specs.Session.{SessionLimits, Client, Session, Table, empty_table, is_client, is_session, is_confirmed_of, is_unconfirmed_of, client_number}
@@ -9,10 +9,12 @@ use Rattle.model.specs.SessionRuns.{Call, after}
 
 abbrev pub is_given : Table → Client → Bool
 is_given table client =
-    nat_lt (client_number table.run 0) client.number && nat_le client.number (client_number table.run table.client_serial)
+    nat_lt (client_number table.run 0) client.number
+    && nat_le client.number (client_number table.run table.client_serial)
 
 abbrev pub is_serial_given : Table → Session → Bool
-is_serial_given table session = nat_lt 0 session.serial && nat_le session.serial table.session_serial
+is_serial_given table session =
+    nat_lt 0 session.serial && nat_le session.serial table.session_serial
 
 abbrev pub has_serial : ℕ → Session → Bool
 has_serial serial session = session.serial == serial
@@ -49,7 +51,9 @@ after_calls limits (call ∷ calls) table = after_calls limits calls (after limi
 
 -- from the beginning of a run on
 abbrev pub EveryTable : Type 0
-EveryTable = (limits : SessionLimits) (run : ℕ) (calls : List Call) → IsTable limits (after_calls limits calls (empty_table run))
+EveryTable =
+    (limits : SessionLimits) (run : ℕ) (calls : List Call)
+    → IsTable limits (after_calls limits calls (empty_table run))
 
 -- No id is given twice: what a call adds has an id above all that were given before it.
 
@@ -67,10 +71,15 @@ is_new_session before session = nat_lt before.session_serial session.serial
 
 pub record GivesNew (before after : Table) : Type 0 where
   pub run : after.run ≡ before.run
-  pub clients : IsTrue (list_all (λ client. was_there before client || is_new before client) after.clients)
+  pub clients : IsTrue
+      (list_all (λ client. was_there before client || is_new before client) after.clients)
   pub client_serial : before.client_serial ≤ after.client_serial
-  pub sessions : IsTrue (list_all (λ session. session_was_there before session || is_new_session before session) after.sessions)
+  pub sessions : IsTrue
+      (list_all (λ session. session_was_there before session || is_new_session before session)
+      after.sessions)
   pub session_serial : before.session_serial ≤ after.session_serial
 
 abbrev pub EveryCallGivesNew : Type 0
-EveryCallGivesNew = (limits : SessionLimits) (call : Call) (table : Table) → GivesNew table (after limits call table)
+EveryCallGivesNew =
+    (limits : SessionLimits) (call : Call) (table : Table)
+    → GivesNew table (after limits call table)

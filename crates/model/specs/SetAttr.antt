@@ -1,5 +1,5 @@
--- SETATTR and GETATTR: RFC 8881, sections 18.30 and 18.7. A list that is set with a mode stands; the order of the tests is this
--- server's profile.
+-- SETATTR and GETATTR: RFC 8881, sections 18.30 and 18.7. A list that is set with a mode stands;
+-- the order of the tests is this server's profile.
 use Rattle.std.specs.Prelude.{ℕ, Bool, true, false, [], ◌∷◌, ◌++◌, List, not, Option, Some, None, unwrap_or, if◌then◌else◌, is_some}
 use Rattle.model.specs.declared.acl.Ace.{Ace}
 use Rattle.model.specs.declared.node.NodeKind.{NodeKind}
@@ -29,12 +29,14 @@ sets_size given = is_some (size_given given)
 abbrev pub size_refusals : State → SetAttrArguments → Refusals
 size_refusals state arguments =
     if sets_size arguments.attributes
-    then (is_directory_at state.tree (current state), status.IsDir) ∷ state_refusals state.opens state.context write_access arguments.state
+    then (is_directory_at state.tree (current state), status.IsDir)
+    ∷ state_refusals state.opens state.context write_access arguments.state
     else []
 
 abbrev pub set_refusals : Limits → State → SetAttrArguments → Refusals
 set_refusals limits state arguments =
-    attribute_refusals limits (kind_at state.tree (current state)) settable_at_setattr arguments.attributes
+    attribute_refusals limits (kind_at state.tree (current state)) settable_at_setattr
+    arguments.attributes
     ++ size_refusals state arguments
 
 -- The node as it shows afterwards
@@ -60,7 +62,8 @@ size_edits number (Some size) = SetSize number size ∷ []
 
 abbrev pub set_edits : Tree → (number : ℕ) → Attributes → (stamp now : ℕ) → List Edit
 set_edits tree number given stamp now =
-    size_edits number (size_given given) ++ (Show number (shown_set (at number tree) given stamp now) ∷ [])
+    size_edits number (size_given given)
+    ++ (Show number (shown_set (at number tree) given stamp now) ∷ [])
 
 -- an empty bitmap sets nothing, and is no change
 abbrev pub sets : SetAttrArguments → Bool
@@ -71,7 +74,9 @@ was_set arguments = Answer.SetAttr (trimmed arguments.attributes.bitmap)
 
 abbrev pub set_attributes : (sets : Bool) → State → (now : ℕ) → SetAttrArguments → Stepped
 set_attributes true state now arguments =
-    answered (changed state (set_edits state.tree (current state) arguments.attributes (stamp_of state) now)) (was_set arguments)
+    answered
+    (changed state (set_edits state.tree (current state) arguments.attributes (stamp_of state) now))
+    (was_set arguments)
 set_attributes false state now arguments = answered state (was_set arguments)
 
 -- GETATTR

@@ -27,12 +27,15 @@ is_busy_on id place _ = false
 pub record RunsWhereBusy (world : World) : Type 0 where
   pub held : (id : List ℕ) (place : ℕ) → is_slot_running id place world.table ≡ true
       → (number : ℕ) × (is_busy_on id place (at number world.connections) ≡ true)
-  pub runs : (id : List ℕ) (place number : ℕ) → is_busy_on id place (at number world.connections) ≡ true
+  pub runs : (id : List ℕ) (place number : ℕ)
+      → is_busy_on id place (at number world.connections) ≡ true
       → is_slot_running id place world.table ≡ true
-  pub one : (id : List ℕ) (place number other : ℕ) → is_busy_on id place (at number world.connections) ≡ true
+  pub one : (id : List ℕ) (place number other : ℕ)
+      → is_busy_on id place (at number world.connections) ≡ true
       → is_busy_on id place (at other world.connections) ≡ true → number ≡ other
 
 -- at each moment of every run of the server
 abbrev pub EveryRunningSlot : Type 0
-EveryRunningSlot = (limits : ServerLimits) (run : ℕ) (start : Tree) (serving : Serving) (history : History)
+EveryRunningSlot =
+    (limits : ServerLimits) (run : ℕ) (start : Tree) (serving : Serving) (history : History)
     → IsRun (mounted limits run start) serving history → RunsWhereBusy serving.world

@@ -1,6 +1,7 @@
--- Stamps, and the filehandles that are made of them: RFC 8881, sections 4.2 (filehandles), 5.8.1.4 (change), 18.23.3
--- (cookies). The n-th change of run r has the stamp r * 2^32 + n: it is the new change value of all that the change makes or
--- alters, the number of the node that it makes, and the entry stamp (and so the cookie) of each name that it puts.
+-- Stamps, and the filehandles that are made of them: RFC 8881, sections 4.2 (filehandles), 5.8.1.4
+-- (change), 18.23.3 (cookies). The n-th change of run r has the stamp r * 2^32 + n: it is the new
+-- change value of all that the change makes or alters, the number of the node that it makes, and
+-- the entry stamp (and so the cookie) of each name that it puts.
 use Rattle.std.specs.Prelude.{ℕ, Bool, List, ◌≡◌, ◌+◌, ◌*◌, ◌^◌, ◌<◌, ◌==◌, nat_lt, length}
 use Rattle.std.specs.Int.{w64, to_be_bytes, from_be_bytes}
 
@@ -29,7 +30,9 @@ number_of bytes = from_be_bytes w64 bytes
 
 -- a stamp tells its run and its number in it
 abbrev pub OnlyStamp : Type 0
-OnlyStamp = (run n run' n' : ℕ) → n < 2 ^ 32 → n' < 2 ^ 32 → stamp run n ≡ stamp run' n' → (run ≡ run') × (n ≡ n')
+OnlyStamp =
+    (run n run' n' : ℕ) → n < 2 ^ 32 → n' < 2 ^ 32 → stamp run n ≡ stamp run' n'
+    → (run ≡ run') × (n ≡ n')
 
 -- stamps rise within a run, and from run to run
 abbrev pub StampsRise : Type 0

@@ -16,7 +16,8 @@ use Rattle.model.specs.Stamp.{next_stamp}
 use Rattle.model.specs.StateIds.{without_number}
 use Rattle.model.specs.Tree.{Tree, is_directory_at}
 
--- What an operation works on: the tree, how many changes this run had, the opens, and the COMPOUND's context
+-- What an operation works on: the tree, how many changes this run had, the opens, and the
+-- COMPOUND's context
 pub record State : Type 0 where
   pub tree : Tree
   pub changes : ℕ
@@ -43,7 +44,8 @@ saved state = saved_number state.context
 -- of each operation that takes the current filehandle (section 16.2.3.1.1)
 abbrev pub current_refusals : State → Refusals
 current_refusals state =
-    (not (has_current state.context), status.NoFileHandle) ∷ (not (is_key (current state) state.tree), status.Stale) ∷ []
+    (not (has_current state.context), status.NoFileHandle)
+    ∷ (not (is_key (current state) state.tree), status.Stale) ∷ []
 
 -- of a name in the current directory
 abbrev pub named_refusals : Limits → State → (name : List ℕ) → Refusals
@@ -60,7 +62,10 @@ abbrev pub answered : State → Answer → Stepped
 answered state answer = record { outcome = Outcome.Done answer; state = state }
 
 abbrev pub refused : State → Argument → Status → Stepped
-refused state operation reason = record { outcome = Outcome.Refused (operation_of operation) reason; state = state }
+refused state operation reason = record {
+  outcome = Outcome.Refused (operation_of operation) reason;
+  state = state;
+}
 
 -- the current filehandle is this node's from now on
 abbrev pub moved_to : State → (number : ℕ) → State
@@ -72,7 +77,11 @@ changed state edits = record state { tree = edited edits state.tree; changes = s
 
 -- what a change does to a directory, and what none does
 abbrev pub change_to : State → (number after : ℕ) → ChangeInfo
-change_to state number after = record { is_atomic = true; before = change_of (at number state.tree); after = after }
+change_to state number after = record {
+  is_atomic = true;
+  before = change_of (at number state.tree);
+  after = after;
+}
 
 -- a node that is gone has no opens; 0, the number where there is none, had none
 abbrev pub without_opens : State → (number : ℕ) → State

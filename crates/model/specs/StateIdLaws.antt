@@ -1,4 +1,5 @@
--- What an answered open stateid means from then on: RFC 8881, sections 8.2.2 to 8.2.4, 18.2 (CLOSE) and 18.16 (OPEN).
+-- What an answered open stateid means from then on: RFC 8881, sections 8.2.2 to 8.2.4, 18.2 (CLOSE)
+-- and 18.16 (OPEN).
 use Rattle.std.specs.Prelude.{ℕ, ◌-◌, ◌^◌, ◌≡◌, ◌≢◌, ◌≤◌, ◌<◌, ◌⊎◌, Bool, true, false, Option, Some, None}
 use Rattle.model.specs.declared.status.Status.TheVariants as status
 use Rattle.model.specs.Answer.{Answer, Outcome, OpenAnswer}
@@ -31,12 +32,17 @@ pub record Stands (opens : Opens) (context : Context) (serial : ℕ) (known : Op
 
 -- with the seqid of the open it is the newest, and names the open
 abbrev pub NewestIsFound : Type 0
-NewestIsFound = (opens : Opens) (context : Context) (serial : ℕ) (known : Open) → Stands opens context serial known
-    → IsOwn context known → found opens context (state_of context.run serial known.seqid) ≡ Names serial known
+NewestIsFound =
+    (opens : Opens) (context : Context) (serial : ℕ) (known : Open)
+    → Stands opens context serial known
+    → IsOwn context known → found opens context (state_of context.run serial known.seqid)
+    ≡ Names serial known
 
 -- with a lower seqid it is old
 abbrev pub LowerIsOld : Type 0
-LowerIsOld = (opens : Opens) (context : Context) (serial : ℕ) (known : Open) → Stands opens context serial known
+LowerIsOld =
+    (opens : Opens) (context : Context) (serial : ℕ) (known : Open)
+    → Stands opens context serial known
     → IsOwn context known → (seqid : ℕ) → 0 < seqid → seqid < known.seqid
     → found opens context (state_of context.run serial seqid) ≡ Refused status.OldStateId
 
@@ -49,23 +55,30 @@ JoinedIsOld = (opens : Opens) (context : Context) (serial access : ℕ) (known :
 
 -- for another client, or on another file, it is BAD_STATEID
 abbrev pub NotOwnIsBad : Type 0
-NotOwnIsBad = (opens : Opens) (context : Context) (serial : ℕ) (known : Open) → Stands opens context serial known
+NotOwnIsBad =
+    (opens : Opens) (context : Context) (serial : ℕ) (known : Open)
+    → Stands opens context serial known
     → ((known.client ≢ context.client) ⊎ (known.number ≢ current_number context)) → (seqid : ℕ)
     → found opens context (state_of context.run serial seqid) ≡ Refused status.BadStateId
 
 -- in another run
 abbrev pub OtherRunIsBad : Type 0
-OtherRunIsBad = (opens : Opens) (context : Context) (run serial seqid : ℕ) → IsGiven run serial → context.run < 2 ^ 32
-    → run ≢ context.run → found opens context (state_of run serial seqid) ≡ Refused status.BadStateId
+OtherRunIsBad =
+    (opens : Opens) (context : Context) (run serial seqid : ℕ) → IsGiven run serial
+    → context.run < 2 ^ 32
+    → run ≢ context.run → found opens context (state_of run serial seqid)
+    ≡ Refused status.BadStateId
 
 -- and where no open of its serial stands
 abbrev pub EndedIsBad : Type 0
 EndedIsBad = (opens : Opens) (context : Context) (serial seqid : ℕ) → IsGiven context.run serial
-    → at serial opens.known ≡ None → found opens context (state_of context.run serial seqid) ≡ Refused status.BadStateId
+    → at serial opens.known ≡ None
+    → found opens context (state_of context.run serial seqid) ≡ Refused status.BadStateId
 
 -- What operations make of opens
 
--- OPEN answers the newest stateid of an open that stands then, of its client on the file that is the current one
+-- OPEN answers the newest stateid of an open that stands then, of its client on the file that is
+-- the current one
 pub record IsAnswered (answer : OpenAnswer) (after : State) : Type 0 where
   pub serial : ℕ
   pub known : Open
@@ -74,7 +87,8 @@ pub record IsAnswered (answer : OpenAnswer) (after : State) : Type 0 where
   pub own : IsOwn after.context known
 
 abbrev pub OpenAnswersNewest : Type 0
-OpenAnswersNewest = (limits : Limits) (state : State) (now : ℕ) (arguments : OpenArguments) (answer : OpenAnswer)
+OpenAnswersNewest =
+    (limits : Limits) (state : State) (now : ℕ) (arguments : OpenArguments) (answer : OpenAnswer)
     → AreOpens limits state.tree state.opens
     → (does limits state now (Argument.Open arguments)).outcome ≡ Outcome.Done (Answer.Open answer)
     → IsAnswered answer (does limits state now (Argument.Open arguments)).state
@@ -96,13 +110,17 @@ IsJoined operation known left =
 abbrev pub HasEnded : Argument → Option Open → Type 0
 HasEnded operation left = (may_end_opens operation ≡ true) × (left ≡ None)
 
--- an open stays as it is, or is joined by an OPEN, or is ended by a CLOSE, a REMOVE or a RENAME; one that ended stays so
+-- an open stays as it is, or is joined by an OPEN, or is ended by a CLOSE, a REMOVE or a RENAME;
+-- one that ended stays so
 pub record GoesOn (operation : Argument) (old new : Opens) : Type 0 where
   pub each : (serial : ℕ) (known : Open) → at serial old.known ≡ Some known
       → (at serial new.known ≡ Some known)
       ⊎ (IsJoined operation known (at serial new.known) ⊎ HasEnded operation (at serial new.known))
-  pub ended : (serial : ℕ) → serial ≤ old.given → at serial old.known ≡ None → at serial new.known ≡ None
+  pub ended : (serial : ℕ) → serial ≤ old.given → at serial old.known ≡ None
+      → at serial new.known ≡ None
 
 abbrev pub EveryOpenGoesOn : Type 0
-EveryOpenGoesOn = (limits : Limits) (state : State) (now : ℕ) (operation : Argument) → AreOpens limits state.tree state.opens
+EveryOpenGoesOn =
+    (limits : Limits) (state : State) (now : ℕ) (operation : Argument)
+    → AreOpens limits state.tree state.opens
     → GoesOn operation state.opens (does limits state now operation).state.opens

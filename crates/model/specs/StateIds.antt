@@ -1,5 +1,6 @@
--- Stateids of opens, and the map of opens behind them: RFC 8881, sections 8.2.2 to 8.2.4, 16.2.3.1.2, 18.2 (CLOSE) and 18.16 (OPEN).
--- Seqids compare as plain numbers, after they wrapped too; which of two refusals comes first is this server's profile.
+-- Stateids of opens, and the map of opens behind them: RFC 8881, sections 8.2.2 to 8.2.4,
+-- 16.2.3.1.2, 18.2 (CLOSE) and 18.16 (OPEN). Seqids compare as plain numbers, after they wrapped
+-- too; which of two refusals comes first is this server's profile.
 use Rattle.std.specs.Prelude.{ℕ, ◌+◌, ◌-◌, ◌^◌, Bool, true, not, ◌&&◌, ◌||◌, ◌==◌, nat_lt, nat_le, List, [], ◌∷◌, ◌++◌, length, take, drop, replicate, find, filter, Option, None, Some, option_and_then, is_none, if◌then◌else◌, bit_or, bit_and, bytes_eq}
 use Rattle.std.specs.List.{list_any}
 use Rattle.std.specs.Int.{w32, w64, to_be_bytes, from_be_bytes}
@@ -37,7 +38,10 @@ closed_state = record { seqid = 2 ^ 32 - 1; other = zeros }
 
 -- An open's stateid: 4 bytes of the run, 8 of the open's serial
 abbrev pub state_of : (run serial seqid : ℕ) → StateId
-state_of run serial seqid = record { seqid = seqid; other = to_be_bytes w32 run ++ to_be_bytes w64 serial }
+state_of run serial seqid = record {
+  seqid = seqid;
+  other = to_be_bytes w32 run ++ to_be_bytes w64 serial;
+}
 
 -- The open that a stateid names
 
@@ -63,31 +67,39 @@ open_named opens run other =
 -- seqid 0 means the newest; a lower one is old, a higher one was never given
 abbrev pub by_seqid : StateId → Open → Found
 by_seqid state known =
-    if state.seqid == 0 || state.seqid == known.seqid then Names (from_be_bytes w64 (drop 4 state.other)) known
-    else (if nat_lt state.seqid known.seqid then Refused status.OldStateId else Refused status.BadStateId)
+    if state.seqid == 0 || state.seqid == known.seqid
+    then Names (from_be_bytes w64 (drop 4 state.other)) known
+    else (if nat_lt state.seqid known.seqid
+    then Refused status.OldStateId
+    else Refused status.BadStateId)
 
 -- it has to be an open of the session's client on the current file
 abbrev pub by_open : Context → StateId → Option Open → Found
 by_open context state None = Refused status.BadStateId
 by_open context state (Some known) =
-    if known.client == context.client && known.number == current_number context then by_seqid state known
+    if known.client == context.client && known.number == current_number context
+    then by_seqid state known
     else Refused status.BadStateId
 
 abbrev pub by_meaning : Opens → Context → Option StateId → Found
 by_meaning opens context None = Refused status.BadStateId
 by_meaning opens context (Some state) =
-    if is_anonymous state then Anonymous else by_open context state (open_named opens context.run state.other)
+    if is_anonymous state
+    then Anonymous
+    else by_open context state (open_named opens context.run state.other)
 
 unfoldable pub found : Opens → Context → StateId → Found
 found opens context state = by_meaning opens context (meant context state)
 
 -- The verdicts of operations
 
--- READ needs an open with read access, WRITE and a set size one with write access; the anonymous stateid passes
+-- READ needs an open with read access, WRITE and a set size one with write access; the anonymous
+-- stateid passes
 abbrev pub access_refusals : (access : ℕ) → Found → Refusals
 access_refusals access Anonymous = []
 access_refusals access (Refused reason) = (true, reason) ∷ []
-access_refusals access (Names serial known) = (bit_and known.access access == 0, status.OpenMode) ∷ []
+access_refusals access (Names serial known) =
+    (bit_and known.access access == 0, status.OpenMode) ∷ []
 
 abbrev pub state_refusals : Opens → Context → (access : ℕ) → StateId → Refusals
 state_refusals opens context access state = access_refusals access (found opens context state)
@@ -103,7 +115,8 @@ close_refusals (Names serial known) = []
 -- an open of the same client and owner on the same file
 abbrev pub is_like : Open → ℕ × Open → Bool
 is_like asked entry =
-    entry.1.client == asked.client && (bytes_eq entry.1.owner asked.owner && entry.1.number == asked.number)
+    entry.1.client == asked.client
+    && (bytes_eq entry.1.owner asked.owner && entry.1.number == asked.number)
 
 abbrev pub open_like : Opens → Open → Option (ℕ × Open)
 open_like opens asked = find (is_like asked) opens.known
@@ -114,15 +127,23 @@ next_seqid seqid = if seqid == 2 ^ 32 - 1 then 1 else seqid + 1
 
 -- opening again joins the access
 abbrev pub upgraded : (access : ℕ) → Open → Open
-upgraded access known = record known { access = bit_or known.access access; seqid = next_seqid known.seqid }
+upgraded access known =
+    record known { access = bit_or known.access access; seqid = next_seqid known.seqid }
 
 abbrev pub new_open : (client : ℕ) → (owner : List ℕ) → (number access : ℕ) → Open
-new_open client owner number access = record { client = client; owner = owner; number = number; access = access; seqid = 1 }
+new_open client owner number access = record {
+  client = client;
+  owner = owner;
+  number = number;
+  access = access;
+  seqid = 1;
+}
 
 -- A full table, or no serial left, is answered DELAY; but an open that joins another needs neither
 abbrev pub is_table_full : (most : ℕ) → Opens → Open → Bool
 is_table_full most opens asked =
-    is_none (open_like opens asked) && (nat_le most (length opens.known) || nat_le (2 ^ 64 - 1) opens.given)
+    is_none (open_like opens asked)
+    && (nat_le most (length opens.known) || nat_le (2 ^ 64 - 1) opens.given)
 
 -- an open with its serial, and the opens among which it stands
 pub record Opened : Type 0 where
@@ -152,7 +173,11 @@ without_open serial opens = record opens { known = without opens.known serial }
 
 -- a file that is removed ends its opens
 abbrev pub without_number : (number : ℕ) → Opens → Opens
-without_number number opens = record opens { known = filter (λ (entry : ℕ × Open). not (entry.1.number == number)) opens.known }
+without_number number opens =
+    record opens {
+      known = filter (λ (entry : ℕ × Open). not (entry.1.number == number))
+          opens.known;
+    }
 
 -- a client that ends takes its opens along
 abbrev pub has_opens : Opens → (client : ℕ) → Bool
@@ -160,5 +185,7 @@ has_opens opens client = list_any (λ (entry : ℕ × Open). entry.1.client == c
 
 abbrev pub without_clients : List ℕ → Opens → Opens
 without_clients clients opens = record opens {
-  known = filter (λ (entry : ℕ × Open). not (list_any (λ client. entry.1.client == client) clients)) opens.known;
+  known =
+      filter (λ (entry : ℕ × Open). not (list_any (λ client. entry.1.client == client) clients))
+      opens.known;
 }

@@ -1,4 +1,5 @@
--- The tree of files and directories: RFC 8881, sections 1.8.2 (objects), 4 (filehandles) and 5 (attributes).
+-- The tree of files and directories: RFC 8881, sections 1.8.2 (objects), 4 (filehandles) and 5
+-- (attributes).
 use Rattle.std.specs.Prelude.{ℕ, Bool, true, false, List, [], ◌∷◌, Option, Some, None, bytes_eq}
 use Rattle.model.specs.declared.acl.Ace.{Ace}
 use Rattle.model.specs.declared.node.NodeKind.{NodeKind}

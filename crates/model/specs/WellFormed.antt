@@ -1,5 +1,6 @@
--- What makes a tree well formed. RFC 8881 leaves most of it to the server: sections 4.2 (filehandles), 5.8.2 (numlinks) and 14
--- (names); every node but the root has exactly one name, as there are no hard links.
+-- What makes a tree well formed. RFC 8881 leaves most of it to the server: sections 4.2
+-- (filehandles), 5.8.2 (numlinks) and 14 (names); every node but the root has exactly one name, as
+-- there are no hard links.
 use Rattle.std.specs.Prelude.{ℕ, Bool, true, false, List, Some, None, ◌≡◌, ◌<◌, ◌≤◌, ◌==◌, ◌&&◌, not, IsTrue, All, length, bytes_eq}
 use Rattle.model.specs.Acl.{is_list_for}
 use Rattle.model.specs.Charge.{fits}
@@ -43,7 +44,8 @@ times_named name names = total (λ entry. one_if (bytes_eq name entry.name)) nam
 -- Reached from a node: the node, and what a name in a reached directory leads to
 pub data IsFrom (tree : Tree) (start : ℕ) : ℕ → Type 0 where
   Start : IsFrom tree start start
-  Named : (directory stamp : ℕ) (entry : DirEntry) → IsFrom tree start directory → at stamp (names_at tree directory) ≡ Some entry
+  Named : (directory stamp : ℕ) (entry : DirEntry) → IsFrom tree start directory
+      → at stamp (names_at tree directory) ≡ Some entry
       → IsFrom tree start entry.number
 
 -- One node
@@ -51,7 +53,8 @@ pub data IsFrom (tree : Tree) (start : ℕ) : ℕ → Type 0 where
 -- entry stamps are above 0 and rise; each name passes the tests of names and stands once
 pub record AreNames (limits : Limits) (names : Keyed DirEntry) : Type 0 where
   pub rising : IsAbove 0 names
-  pub named : (stamp : ℕ) (entry : DirEntry) → at stamp names ≡ Some entry → first_refusal (name_refusals limits entry.name) ≡ None
+  pub named : (stamp : ℕ) (entry : DirEntry) → at stamp names ≡ Some entry
+      → first_refusal (name_refusals limits entry.name) ≡ None
   pub once : (name : List ℕ) → times_named name names ≤ 1
 
 abbrev pub IsContent : Limits → Content → Type 0
@@ -72,7 +75,8 @@ pub record IsWellFormed (limits : Limits) (tree : Tree) : Type 0 where
   pub nodes : (number : ℕ) (node : Node) → at number tree ≡ Some node → IsNode limits node
   pub fitting : IsTrue (fits limits tree)
 
--- All that the tree has of stamps is from before this one: node numbers, change values and entry stamps
+-- All that the tree has of stamps is from before this one: node numbers, change values and entry
+-- stamps
 pub record IsBefore (stamp : ℕ) (tree : Tree) : Type 0 where
   pub number : (number : ℕ) (node : Node) → at number tree ≡ Some node → number < stamp
   pub change : (number : ℕ) (node : Node) → at number tree ≡ Some node → node.change < stamp

@@ -1,4 +1,5 @@
--- The results of the operations on the wire, as grammars: RFC 8881, section 18, and RFC 5662. An answered bitmap has no zero word at its end.
+-- The results of the operations on the wire, as grammars: RFC 8881, section 18, and RFC 5662. An
+-- answered bitmap has no zero word at its end.
 use Rattle.std.specs.Prelude.{◌≢◌, ℕ, ◌==◌, Bool, List, [], ◌∷◌, ◌++◌, Option, Some, None, Result, Ok, Err, find, if◌then◌else◌}
 use Rattle.std.specs.Int.{w32}
 use Rattle.xdr.specs.declared.refusal.Refusal.{Refusal}
@@ -18,20 +19,27 @@ abbrev pub answered_attributes : Grammar Attributes
 answered_attributes = attributes_of trimmed_bitmap
 
 abbrev pub access_answer : Grammar AccessAnswer
-access_answer = of (λ (p : ℕ × ℕ). record { supported = p.0; access = p.1 }) (λ a. (a.supported, a.access)) (unsigned_int & unsigned_int)
+access_answer =
+    of (λ (p : ℕ × ℕ). record { supported = p.0; access = p.1 }) (λ a. (a.supported, a.access))
+    (unsigned_int & unsigned_int)
 
 abbrev pub create_answer : Grammar CreateAnswer
-create_answer = of (λ (p : ChangeInfo × List ℕ). record { change = p.0; was_set = p.1 }) (λ a. (a.change, a.was_set)) (change_info & trimmed_bitmap)
+create_answer =
+    of (λ (p : ChangeInfo × List ℕ). record { change = p.0; was_set = p.1 })
+    (λ a. (a.change, a.was_set)) (change_info & trimmed_bitmap)
 
 -- OPEN_DELEGATE_NONE is 0
 abbrev pub open_answer : Grammar OpenAnswer
 open_answer = of
-    (λ (p : StateId × (ChangeInfo × (ℕ × (List ℕ × Unit {0})))). record { state = p.0; change = p.1.0; flags = p.1.1.0; was_set = p.1.1.1.0 })
+    (λ (p : StateId × (ChangeInfo × (ℕ × (List ℕ × Unit {0})))).
+    record { state = p.0; change = p.1.0; flags = p.1.1.0; was_set = p.1.1.1.0 })
     (λ a. (a.state, (a.change, (a.flags, (a.was_set, tt)))))
     (state_id & change_info & unsigned_int & trimmed_bitmap & always 0 unsigned_int)
 
 abbrev pub read_answer : Grammar ReadAnswer
-read_answer = of (λ (p : Bool × List ℕ). record { is_end = p.0; data_bytes = p.1 }) (λ a. (a.is_end, a.data_bytes)) (boolean & any_opaque)
+read_answer =
+    of (λ (p : Bool × List ℕ). record { is_end = p.0; data_bytes = p.1 })
+    (λ a. (a.is_end, a.data_bytes)) (boolean & any_opaque)
 
 abbrev pub entry : Grammar Entry
 entry = of
@@ -47,7 +55,9 @@ read_dir_answer = of
     (always 0 unsigned_hyper & chain entry & boolean)
 
 abbrev pub rename_answer : Grammar RenameAnswer
-rename_answer = of (λ (p : ChangeInfo × ChangeInfo). record { source = p.0; target = p.1 }) (λ a. (a.source, a.target)) (change_info & change_info)
+rename_answer =
+    of (λ (p : ChangeInfo × ChangeInfo). record { source = p.0; target = p.1 })
+    (λ a. (a.source, a.target)) (change_info & change_info)
 
 abbrev pub write_answer : Grammar WriteAnswer
 write_answer = of
@@ -66,11 +76,19 @@ exchange_id_answer = of
       scope = p.1.1.1.1.1.1.0;
     })
     (λ a. (a.client, (a.sequence, (a.flags, (tt, (tt, (a.major_id, (a.scope, tt))))))))
-    (unsigned_hyper & unsigned_int & unsigned_int & always 0 unsigned_int & always 0 unsigned_hyper & any_opaque & any_opaque & always 0 unsigned_int)
+    (unsigned_hyper & unsigned_int & unsigned_int & always 0 unsigned_int & always 0 unsigned_hyper
+    & any_opaque & any_opaque & always 0 unsigned_int)
 
 abbrev pub create_session_answer : Grammar CreateSessionAnswer
 create_session_answer = of
-    (λ (p : List ℕ × (ℕ × (ℕ × (Channel × Channel)))). record { session = p.0; sequence = p.1.0; flags = p.1.1.0; fore = p.1.1.1.0; back = p.1.1.1.1 })
+    (λ (p : List ℕ × (ℕ × (ℕ × (Channel × Channel)))).
+    record {
+      session = p.0;
+      sequence = p.1.0;
+      flags = p.1.1.0;
+      fore = p.1.1.1.0;
+      back = p.1.1.1.1;
+    })
     (λ a. (a.session, (a.sequence, (a.flags, (a.fore, a.back)))))
     (session_id & unsigned_int & unsigned_int & channel & channel)
 
@@ -148,12 +166,18 @@ answer_choice =
 -- every status but OK
 abbrev pub refusals : List Status
 refusals =
-    status.NoEnt ∷ status.Access ∷ status.Exist ∷ status.NotDir ∷ status.IsDir ∷ status.Inval ∷ status.FBig ∷ status.NoSpc
-    ∷ status.NameTooLong ∷ status.NotEmpty ∷ status.Stale ∷ status.BadHandle ∷ status.NotSupp ∷ status.TooSmall ∷ status.ServerFault
-    ∷ status.BadType ∷ status.Delay ∷ status.ShareDenied ∷ status.ClidInUse ∷ status.NoFileHandle ∷ status.MinorVersMismatch
-    ∷ status.StaleClientId ∷ status.OldStateId ∷ status.BadStateId ∷ status.NotSame ∷ status.AttrNotSupp ∷ status.BadXdr
-    ∷ status.OpenMode ∷ status.BadOwner ∷ status.BadChar ∷ status.BadName ∷ status.OpIllegal ∷ status.BadSession ∷ status.BadSlot
-    ∷ status.CompleteAlready ∷ status.SeqMisordered ∷ status.SequencePos ∷ status.RepTooBig ∷ status.TooManyOps
+    status.NoEnt ∷ status.Access ∷ status.Exist ∷ status.NotDir ∷ status.IsDir ∷ status.Inval
+    ∷ status.FBig ∷ status.NoSpc
+    ∷ status.NameTooLong ∷ status.NotEmpty ∷ status.Stale ∷ status.BadHandle ∷ status.NotSupp
+    ∷ status.TooSmall ∷ status.ServerFault
+    ∷ status.BadType ∷ status.Delay ∷ status.ShareDenied ∷ status.ClidInUse ∷ status.NoFileHandle
+    ∷ status.MinorVersMismatch
+    ∷ status.StaleClientId ∷ status.OldStateId ∷ status.BadStateId ∷ status.NotSame
+    ∷ status.AttrNotSupp ∷ status.BadXdr
+    ∷ status.OpenMode ∷ status.BadOwner ∷ status.BadChar ∷ status.BadName ∷ status.OpIllegal
+    ∷ status.BadSession ∷ status.BadSlot
+    ∷ status.CompleteAlready ∷ status.SeqMisordered ∷ status.SequencePos ∷ status.RepTooBig
+    ∷ status.TooManyOps
     ∷ status.OpNotInSession ∷ status.ClientIdBusy ∷ status.SeqFalseRetry ∷ status.NotOnlyOp ∷ []
 
 -- the refusal of this number
@@ -166,16 +190,27 @@ behind_refusal operation = if operation == OP_SETATTR then number w32 0 else []
 
 abbrev pub outcome_told : Outcome → Told
 outcome_told (Done answer) =
-    record { number = (answer_told answer).number; Fits = (answer_told answer).Fits; text = number w32 0 ++ (answer_told answer).text }
+    record {
+      number = (answer_told answer).number;
+      Fits = (answer_told answer).Fits;
+      text = number w32 0 ++ (answer_told answer).text;
+    }
 outcome_told (Refused operation reason) =
-    record { number = operation; Fits = code_of reason ≢ 0; text = number w32 (code_of reason) ++ behind_refusal operation }
+    record {
+      number = operation;
+      Fits = code_of reason ≢ 0;
+      text = number w32 (code_of reason) ++ behind_refusal operation;
+    }
 
 abbrev pub refused_by : (operation : ℕ) → Option Status → List ℕ → Result (Outcome × List ℕ) Refusal
 refused_by operation None bytes = Err Value
 refused_by operation (Some reason) bytes =
-    if operation == OP_SETATTR then made (λ _. Refused operation reason) (always 0 unsigned_int) bytes else Ok (Refused operation reason, bytes)
+    if operation == OP_SETATTR
+    then made (λ _. Refused operation reason) (always 0 unsigned_int) bytes
+    else Ok (Refused operation reason, bytes)
 
-abbrev pub behind_status : (operation : ℕ) → (code_at : ℕ × List ℕ) → Result (Outcome × List ℕ) Refusal
+abbrev pub behind_status : (operation : ℕ) → (code_at : ℕ × List ℕ)
+    → Result (Outcome × List ℕ) Refusal
 behind_status operation code_at =
     if code_at.0 == 0 then (answer_choice operation code_at.1 >>= λ x. Ok (Done x.0, x.1))
     else refused_by operation (refusal_of code_at.0) code_at.1

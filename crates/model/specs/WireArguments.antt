@@ -9,10 +9,14 @@ use Rattle.model.specs.OperationNumber.{OP_ACCESS, OP_CLOSE, OP_COMMIT, OP_CREAT
 use Rattle.model.specs.WireTypes.{any_opaque, file_handle, verifier, session_id, owner_id, state_id, attributes, channel, implementation, callback_security}
 
 abbrev pub close_arguments : Grammar CloseArguments
-close_arguments = of (λ (p : ℕ × StateId). record { seqid = p.0; state = p.1 }) (λ a. (a.seqid, a.state)) (unsigned_int & state_id)
+close_arguments =
+    of (λ (p : ℕ × StateId). record { seqid = p.0; state = p.1 }) (λ a. (a.seqid, a.state))
+    (unsigned_int & state_id)
 
 abbrev pub commit_arguments : Grammar CommitArguments
-commit_arguments = of (λ (p : ℕ × ℕ). record { offset = p.0; count = p.1 }) (λ a. (a.offset, a.count)) (unsigned_hyper & unsigned_int)
+commit_arguments =
+    of (λ (p : ℕ × ℕ). record { offset = p.0; count = p.1 }) (λ a. (a.offset, a.count))
+    (unsigned_hyper & unsigned_int)
 
 -- NF4DIR is 2; after another type nothing is looked at
 abbrev pub create_told : CreateArguments → Told
@@ -20,7 +24,9 @@ create_told (NewDirectory name given) = tells 2 (any_opaque & attributes) (name,
 create_told (OtherType n) = record { number = n; Fits = n ≢ 2; text = [] }
 
 abbrev pub create_choice : Choice CreateArguments
-create_choice = on 2 (any_opaque & attributes) (λ (p : List ℕ × Attributes). NewDirectory p.0 p.1) (any_other OtherType)
+create_choice =
+    on 2 (any_opaque & attributes) (λ (p : List ℕ × Attributes). NewDirectory p.0 p.1)
+    (any_other OtherType)
 
 abbrev pub create_arguments : Grammar CreateArguments
 create_arguments = union create_told create_choice
@@ -37,12 +43,17 @@ claim_choice = on 0 any_opaque ByName (on 4 void (λ _. ByHandle) (any_other Oth
 abbrev pub claim : Grammar Claim
 claim = union claim_told claim_choice
 
--- createhow4: UNCHECKED4 is 0 and GUARDED4 1, both with attributes; EXCLUSIVE4 2 and EXCLUSIVE4_1 3 are looked at no further
+-- createhow4: UNCHECKED4 is 0 and GUARDED4 1, both with attributes; EXCLUSIVE4 2 and EXCLUSIVE4_1 3
+-- are looked at no further
 abbrev pub create_how_told : Opening → Told
 create_how_told (Opens (Unchecked given) by) = tells 0 (attributes & claim) (given, by)
 create_how_told (Opens (Guarded given) by) = tells 1 (attributes & claim) (given, by)
 create_how_told (Opens NoCreate by) = record { number = 0; Fits = ⊥; text = [] }
-create_how_told (Exclusive mode) = record { number = mode; Fits = (mode ≢ 0) × (mode ≢ 1) × (mode < 4); text = [] }
+create_how_told (Exclusive mode) = record {
+  number = mode;
+  Fits = (mode ≢ 0) × (mode ≢ 1) × (mode < 4);
+  text = [];
+}
 
 abbrev pub create_how_choice : Choice Opening
 create_how_choice =
@@ -68,7 +79,15 @@ opening = union opening_told opening_choice
 
 abbrev pub open_arguments : Grammar OpenArguments
 open_arguments = of
-    (λ (p : ℕ × (ℕ × (ℕ × (ℕ × (List ℕ × Opening))))). record { seqid = p.0; access = p.1.0; deny = p.1.1.0; client = p.1.1.1.0; owner = p.1.1.1.1.0; opening = p.1.1.1.1.1 })
+    (λ (p : ℕ × (ℕ × (ℕ × (ℕ × (List ℕ × Opening))))).
+    record {
+      seqid = p.0;
+      access = p.1.0;
+      deny = p.1.1.0;
+      client = p.1.1.1.0;
+      owner = p.1.1.1.1.0;
+      opening = p.1.1.1.1.1;
+    })
     (λ a. (a.seqid, (a.access, (a.deny, (a.client, (a.owner, a.opening))))))
     (unsigned_int & unsigned_int & unsigned_int & unsigned_hyper & owner_id & opening)
 
@@ -80,26 +99,39 @@ read_arguments = of
 
 abbrev pub read_dir_arguments : Grammar ReadDirArguments
 read_dir_arguments = of
-    (λ (p : ℕ × (List ℕ × (ℕ × (ℕ × List ℕ)))). record { cookie = p.0; verifier = p.1.0; dir_count = p.1.1.0; max_count = p.1.1.1.0; bitmap = p.1.1.1.1 })
+    (λ (p : ℕ × (List ℕ × (ℕ × (ℕ × List ℕ)))).
+    record {
+      cookie = p.0;
+      verifier = p.1.0;
+      dir_count = p.1.1.0;
+      max_count = p.1.1.1.0;
+      bitmap = p.1.1.1.1;
+    })
     (λ a. (a.cookie, (a.verifier, (a.dir_count, (a.max_count, a.bitmap)))))
     (unsigned_hyper & verifier & unsigned_int & unsigned_int & bitmap)
 
 abbrev pub rename_arguments : Grammar RenameArguments
-rename_arguments = of (λ (p : List ℕ × List ℕ). record { old_name = p.0; new_name = p.1 }) (λ a. (a.old_name, a.new_name)) (any_opaque & any_opaque)
+rename_arguments =
+    of (λ (p : List ℕ × List ℕ). record { old_name = p.0; new_name = p.1 })
+    (λ a. (a.old_name, a.new_name)) (any_opaque & any_opaque)
 
 abbrev pub set_attr_arguments : Grammar SetAttrArguments
-set_attr_arguments = of (λ (p : StateId × Attributes). record { state = p.0; attributes = p.1 }) (λ a. (a.state, a.attributes)) (state_id & attributes)
+set_attr_arguments =
+    of (λ (p : StateId × Attributes). record { state = p.0; attributes = p.1 })
+    (λ a. (a.state, a.attributes)) (state_id & attributes)
 
 abbrev pub write_arguments : Grammar WriteArguments
 write_arguments = of
-    (λ (p : StateId × (ℕ × (ℕ × List ℕ))). record { state = p.0; offset = p.1.0; stable = p.1.1.0; data_bytes = p.1.1.1 })
+    (λ (p : StateId × (ℕ × (ℕ × List ℕ))).
+    record { state = p.0; offset = p.1.0; stable = p.1.1.0; data_bytes = p.1.1.1 })
     (λ a. (a.state, (a.offset, (a.stable, a.data_bytes))))
     (state_id & unsigned_hyper & below 3 & any_opaque)
 
 -- the state protection is SP4_NONE, 0
 abbrev pub exchange_id_arguments : Grammar ExchangeIdArguments
 exchange_id_arguments = of
-    (λ (p : List ℕ × (List ℕ × (ℕ × (Unit {0} × Option Implementation)))). record { verifier = p.0; owner = p.1.0; flags = p.1.1.0; implementation = p.1.1.1.1 })
+    (λ (p : List ℕ × (List ℕ × (ℕ × (Unit {0} × Option Implementation)))).
+    record { verifier = p.0; owner = p.1.0; flags = p.1.1.0; implementation = p.1.1.1.1 })
     (λ a. (a.verifier, (a.owner, (a.flags, (tt, a.implementation)))))
     (verifier & owner_id & unsigned_int & always 0 unsigned_int & optional implementation)
 
@@ -115,11 +147,19 @@ create_session_arguments = of
       security = p.1.1.1.1.1.1;
     })
     (λ a. (a.client, (a.sequence, (a.flags, (a.fore, (a.back, (a.callback_program, a.security)))))))
-    (unsigned_hyper & unsigned_int & unsigned_int & channel & channel & unsigned_int & array 4 callback_security)
+    (unsigned_hyper & unsigned_int & unsigned_int & channel & channel & unsigned_int & array 4
+    callback_security)
 
 abbrev pub sequence_arguments : Grammar SequenceArguments
 sequence_arguments = of
-    (λ (p : List ℕ × (ℕ × (ℕ × (ℕ × Bool)))). record { session = p.0; sequence = p.1.0; slot = p.1.1.0; highest_slot = p.1.1.1.0; cache_this = p.1.1.1.1 })
+    (λ (p : List ℕ × (ℕ × (ℕ × (ℕ × Bool)))).
+    record {
+      session = p.0;
+      sequence = p.1.0;
+      slot = p.1.1.0;
+      highest_slot = p.1.1.1.0;
+      cache_this = p.1.1.1.1;
+    })
     (λ a. (a.session, (a.sequence, (a.slot, (a.highest_slot, a.cache_this)))))
     (session_id & unsigned_int & unsigned_int & unsigned_int & boolean)
 

@@ -27,11 +27,15 @@ owner_id = opaque 1024
 
 -- stateid4
 abbrev pub state_id : Grammar StateId
-state_id = of (λ (p : ℕ × List ℕ). record { seqid = p.0; other = p.1 }) (λ s. (s.seqid, s.other)) (unsigned_int & fixed_opaque 12)
+state_id =
+    of (λ (p : ℕ × List ℕ). record { seqid = p.0; other = p.1 }) (λ s. (s.seqid, s.other))
+    (unsigned_int & fixed_opaque 12)
 
 -- fattr4, with the bitmaps of `words`
 abbrev pub attributes_of : Grammar (List ℕ) → Grammar Attributes
-attributes_of words = of (λ (p : List ℕ × List ℕ). record { bitmap = p.0; values = p.1 }) (λ a. (a.bitmap, a.values)) (words & any_opaque)
+attributes_of words =
+    of (λ (p : List ℕ × List ℕ). record { bitmap = p.0; values = p.1 }) (λ a. (a.bitmap, a.values))
+    (words & any_opaque)
 
 abbrev pub attributes : Grammar Attributes
 attributes = attributes_of bitmap
@@ -55,20 +59,38 @@ channel = of
       max_requests = p.1.1.1.1.1.0;
       rdma_ird = p.1.1.1.1.1.1;
     })
-    (λ c. (c.header_pad_size, (c.max_request_size, (c.max_response_size, (c.max_response_size_cached, (c.max_operations, (c.max_requests, c.rdma_ird)))))))
-    (unsigned_int & unsigned_int & unsigned_int & unsigned_int & unsigned_int & unsigned_int & optional unsigned_int)
+    (λ c. (
+      c.header_pad_size,
+      (
+        c.max_request_size,
+        (
+          c.max_response_size,
+          (c.max_response_size_cached, (c.max_operations, (c.max_requests, c.rdma_ird))),
+        ),
+      ),
+    ))
+    (unsigned_int & unsigned_int & unsigned_int & unsigned_int & unsigned_int & unsigned_int
+    & optional unsigned_int)
 
 -- nfs_impl_id4
 abbrev pub implementation : Grammar Implementation
 implementation = of
-    (λ (p : List ℕ × (List ℕ × (ℕ × ℕ))). record { domain = p.0; name = p.1.0; seconds = p.1.1.0; nanoseconds = p.1.1.1 })
+    (λ (p : List ℕ × (List ℕ × (ℕ × ℕ))).
+    record { domain = p.0; name = p.1.0; seconds = p.1.1.0; nanoseconds = p.1.1.1 })
     (λ i. (i.domain, (i.name, (i.seconds, i.nanoseconds))))
     (any_opaque & any_opaque & unsigned_hyper & unsigned_int)
 
 -- authsys_parms (RFC 5531, appendix A)
 abbrev pub system_credential : Grammar SystemCredential
 system_credential = of
-    (λ (p : ℕ × (List ℕ × (ℕ × (ℕ × List ℕ)))). record { stamp = p.0; machine_name = p.1.0; uid = p.1.1.0; gid = p.1.1.1.0; gids = p.1.1.1.1 })
+    (λ (p : ℕ × (List ℕ × (ℕ × (ℕ × List ℕ)))).
+    record {
+      stamp = p.0;
+      machine_name = p.1.0;
+      uid = p.1.1.0;
+      gid = p.1.1.1.0;
+      gids = p.1.1.1.1;
+    })
     (λ c. (c.stamp, (c.machine_name, (c.uid, (c.gid, c.gids)))))
     (unsigned_int & opaque 255 & unsigned_int & unsigned_int & array 16 unsigned_int)
 
@@ -78,4 +100,6 @@ security_told NoSecurity = tells 0 void tt
 security_told (SystemSecurity credential) = tells 1 system_credential credential
 
 abbrev pub callback_security : Grammar CallbackSecurity
-callback_security = union security_told (on 0 void (λ _. NoSecurity) (on 1 system_credential SystemSecurity no_other))
+callback_security =
+    union security_told
+    (on 0 void (λ _. NoSecurity) (on 1 system_credential SystemSecurity no_other))

@@ -1,5 +1,6 @@
--- All that the server is between two calls, and what each event makes of it, on bytes: RFC 8881, sections 2.10.6 and 16.2; RFC 5531, section 9.
--- A turn reads and runs one operation of one COMPOUND. The order of tests around the operations is this server's profile.
+-- All that the server is between two calls, and what each event makes of it, on bytes: RFC 8881,
+-- sections 2.10.6 and 16.2; RFC 5531, section 9. A turn reads and runs one operation of one
+-- COMPOUND. The order of tests around the operations is this server's profile.
 use Rattle.std.specs.Prelude.{ℕ, zero, suc, ◌+◌, ◌-◌, Bool, true, false, not, ◌&&◌, ◌||◌, ◌==◌, nat_lt, nat_le, List, [], ◌∷◌, ◌++◌, length, find, Option, None, Some, Result, Ok, Err, if◌then◌else◌}
 use Rattle.std.specs.Int.{w32}
 use Rattle.xdr.specs.declared.refusal.Refusal.{Refusal}
@@ -36,7 +37,8 @@ pub record ServerLimits : Type 0 where
   -- bytes of a reply's record up to the end of an OK result, the record's header not counted
   pub reply_bytes : ℕ
 
--- A COMPOUND of which an operation has run. `rest` are the bytes of its further operations, `results` those of its results so far.
+-- A COMPOUND of which an operation has run. `rest` are the bytes of its further operations,
+-- `results` those of its results so far.
 pub record InProgress : Type 0 where
   pub xid : ℕ
   pub tag : List ℕ
@@ -48,7 +50,8 @@ pub record InProgress : Type 0 where
   -- the session and the slot that run it
   pub slot : Option (List ℕ × ℕ)
 
--- what has come of the next record; a whole request, not begun; one that has begun; a reply that is to be taken; refused for good
+-- what has come of the next record; a whole request, not begun; one that has begun; a reply that is
+-- to be taken; refused for good
 pub data Connection : Type 0 where
   Quiet : (bytes : List ℕ) → Connection
   Waiting : (request : List ℕ) → Connection
@@ -78,7 +81,8 @@ mounted_world limits run tree = record {
 }
 
 abbrev pub with_connection : World → ℕ → Connection → World
-with_connection world number connection = record world { connections = with world.connections number connection }
+with_connection world number connection =
+    record world { connections = with world.connections number connection }
 
 abbrev pub with_table : World → Table → World
 with_table world table = record world { table = table }
@@ -99,7 +103,8 @@ op_illegal = 10044
 -- EXCHANGE_ID, CREATE_SESSION, DESTROY_SESSION and DESTROY_CLIENTID, each of which stands alone
 abbrev pub stands_alone : (operation : ℕ) → Bool
 stands_alone operation =
-    operation == OP_EXCHANGE_ID || operation == OP_CREATE_SESSION || operation == OP_DESTROY_SESSION || operation == OP_DESTROY_CLIENTID
+    operation == OP_EXCHANGE_ID || operation == OP_CREATE_SESSION || operation == OP_DESTROY_SESSION
+    || operation == OP_DESTROY_CLIENTID
 
 abbrev pub is_sequence : (operation : ℕ) → Bool
 is_sequence operation = operation == OP_SEQUENCE
@@ -111,7 +116,10 @@ is_no_operation operation = nat_lt operation OP_ACCESS || nat_lt OP_RECLAIM_COMP
 abbrev pub first_tests : (count operation : ℕ) → List (Bool × Next)
 first_tests count operation =
     (is_no_operation operation, Refuses op_illegal status.OpIllegal)
-    ∷ (not (is_sequence operation || stands_alone operation), Refuses operation status.OpNotInSession)
+    ∷ (
+      not (is_sequence operation || stands_alone operation),
+      Refuses operation status.OpNotInSession,
+    )
     ∷ (stands_alone operation && nat_lt 1 count, Refuses operation status.NotOnlyOp)
     ∷ []
 
@@ -140,14 +148,16 @@ tests_of request operation =
 -- an operation's number that is not there whole: BADXDR, under OP_ILLEGAL's number
 abbrev pub by_number : InProgress → Result (ℕ × List ℕ) Refusal → Next
 by_number request (Err fault) = Refuses op_illegal status.BadXdr
-by_number request (Ok read) = first_or (tests_of request read.0) (by_arguments request read.0 (arguments_at read.0 read.1))
+by_number request (Ok read) =
+    first_or (tests_of request read.0) (by_arguments request read.0 (arguments_at read.0 read.1))
 
 unfoldable pub next_operation : InProgress → Next
 next_operation request = by_number request (number_at w32 request.rest)
 
 -- Running it
 
--- Its result, with the world and the request as it leaves them; or the whole reply is the one that a slot keeps.
+-- Its result, with the world and the request as it leaves them; or the whole reply is the one that
+-- a slot keeps.
 pub data HasRun : Type 0 where
   Gives : Outcome → World → InProgress → HasRun
   Replays : (result : List ℕ) → (session : List ℕ) → (slot : ℕ) → HasRun
@@ -163,20 +173,28 @@ abbrev pub gives : World → InProgress → Answer → HasRun
 gives world request answer = Gives (Outcome.Done answer) world request
 
 abbrev pub exchanged : World → InProgress → Result ExchangeIdAnswer Status × Table → HasRun
-exchanged world request (Err reason, table) = refuses (with_table world table) request OP_EXCHANGE_ID reason
-exchanged world request (Ok answer, table) = gives (with_table world table) request (Answer.ExchangeId answer)
+exchanged world request (Err reason, table) =
+    refuses (with_table world table) request OP_EXCHANGE_ID reason
+exchanged world request (Ok answer, table) =
+    gives (with_table world table) request (Answer.ExchangeId answer)
 
-abbrev pub created_by : World → InProgress → sessions.CreateSessionOutcome → Result CreateSessionAnswer Status → HasRun
+abbrev pub created_by : World → InProgress → sessions.CreateSessionOutcome
+    → Result CreateSessionAnswer Status → HasRun
 created_by world request outcome (Err reason) = refuses world request OP_CREATE_SESSION reason
 created_by world request outcome (Ok answer) =
-    gives (record world { table = outcome.table; opens = without_clients outcome.ended_clients world.opens }) request (Answer.CreateSession answer)
+    gives (record world {
+      table = outcome.table;
+      opens = without_clients outcome.ended_clients world.opens;
+    }) request
+    (Answer.CreateSession answer)
 
 abbrev pub session_created : World → InProgress → sessions.CreateSessionOutcome → HasRun
 session_created world request outcome = created_by world request outcome outcome.answer
 
 -- an operation that answers nothing: its refusal, if there is one, and the table after it
 abbrev pub tabled : World → InProgress → (operation : ℕ) → Answer → Option Status × Table → HasRun
-tabled world request operation answer (Some reason, table) = refuses (with_table world table) request operation reason
+tabled world request operation answer (Some reason, table) =
+    refuses (with_table world table) request operation reason
 tabled world request operation answer (None, table) = gives (with_table world table) request answer
 
 -- From SEQUENCE on the request is the slot's, and its client the session's
@@ -189,43 +207,64 @@ of_session request arguments session = record request {
 abbrev pub started_in : World → InProgress → SequenceArguments → Option Session → HasRun
 started_in world request arguments None = refuses world request OP_SEQUENCE status.BadSession
 started_in world request arguments (Some session) =
-    gives (with_table world (sessions.started request.context.cred.uid arguments world.table)) (of_session request arguments session)
+    gives (with_table world (sessions.started request.context.cred.uid arguments world.table))
+    (of_session request arguments session)
     (Answer.Sequence (sessions.sequence_answer arguments session))
 
 abbrev pub begun : World → InProgress → SequenceArguments → sessions.Begun → HasRun
 begun world request arguments (sessions.Refuses reason) = refuses world request OP_SEQUENCE reason
-begun world request arguments (sessions.Replays reply) = Replays reply arguments.session arguments.slot
+begun world request arguments (sessions.Replays reply) =
+    Replays reply arguments.session arguments.slot
 begun world request arguments sessions.Runs =
-    started_in world request arguments (find (sessions.is_session arguments.session) world.table.sessions)
+    started_in world request arguments
+    (find (sessions.is_session arguments.session) world.table.sessions)
 
--- RECLAIM_COMPLETE for one file system asks for a current filehandle, and is answered OK each time (section 18.51)
+-- RECLAIM_COMPLETE for one file system asks for a current filehandle, and is answered OK each time
+-- (section 18.51)
 abbrev pub reclaimed : World → InProgress → Option Status → HasRun
 reclaimed world request None = gives world request Answer.ReclaimComplete
 reclaimed world request (Some reason) = refuses world request OP_RECLAIM_COMPLETE reason
 
 abbrev pub state_of : World → InProgress → State
-state_of world request = record { tree = world.tree; changes = world.changes; opens = world.opens; context = request.context }
+state_of world request = record {
+  tree = world.tree;
+  changes = world.changes;
+  opens = world.opens;
+  context = request.context;
+}
 
 -- an operation on the tree
 abbrev pub stepped : World → InProgress → Stepped → HasRun
 stepped world request after = Gives after.outcome
-    (record world { tree = after.state.tree; changes = after.state.changes; opens = after.state.opens })
+    (record world {
+      tree = after.state.tree;
+      changes = after.state.changes;
+      opens = after.state.opens;
+    })
     (record request { context = after.state.context })
 
 unfoldable pub run : World → InProgress → (now : ℕ) → Argument → HasRun
 run world request now (Argument.ExchangeId arguments) =
-    exchanged world request (sessions.exchange_id world.limits.sessions (has_opens world.opens) request.context.cred.uid arguments world.table)
+    exchanged world request
+    (sessions.exchange_id world.limits.sessions (has_opens world.opens) request.context.cred.uid
+    arguments world.table)
 run world request now (Argument.CreateSession arguments) =
-    session_created world request (sessions.create_session world.limits.sessions request.context.cred.uid arguments world.table)
+    session_created world request
+    (sessions.create_session world.limits.sessions request.context.cred.uid arguments world.table)
 run world request now (Argument.DestroySession id) =
-    tabled world request OP_DESTROY_SESSION Answer.DestroySession (sessions.destroy_session id world.table)
+    tabled world request OP_DESTROY_SESSION Answer.DestroySession
+    (sessions.destroy_session id world.table)
 run world request now (Argument.DestroyClientId client) =
-    tabled world request OP_DESTROY_CLIENTID Answer.DestroyClientId (sessions.destroy_client_id (has_opens world.opens) client world.table)
+    tabled world request OP_DESTROY_CLIENTID Answer.DestroyClientId
+    (sessions.destroy_client_id (has_opens world.opens) client world.table)
 run world request now (Argument.Sequence arguments) =
-    begun world request arguments (sessions.begin request.context.cred.uid request.count arguments world.table)
-run world request now (Argument.ReclaimComplete true) = reclaimed world request (first_refusal (current_refusals (state_of world request)))
+    begun world request arguments
+    (sessions.begin request.context.cred.uid request.count arguments world.table)
+run world request now (Argument.ReclaimComplete true) =
+    reclaimed world request (first_refusal (current_refusals (state_of world request)))
 run world request now (Argument.ReclaimComplete false) =
-    tabled world request OP_RECLAIM_COMPLETE Answer.ReclaimComplete (sessions.reclaim_complete request.context.client world.table)
+    tabled world request OP_RECLAIM_COMPLETE Answer.ReclaimComplete
+    (sessions.reclaim_complete request.context.client world.table)
 run world request now operation =
     stepped world request (does world.limits.volume (state_of world request) now operation)
 
@@ -236,14 +275,18 @@ outcome_text result = answers.outcome.spelling result
 -- the reply's record if this result were the last one, without the record's header
 abbrev pub reply_with : InProgress → Outcome → List ℕ
 reply_with request outcome = reply_text request.xid
-    (Success (compound_text (status_of outcome) request.tag (request.answered + 1) (request.results ++ outcome_text outcome)))
+    (Success (compound_text (status_of outcome) request.tag (request.answered + 1)
+    (request.results ++ outcome_text outcome)))
 
 abbrev pub has_room : World → InProgress → Outcome → Bool
-has_room world request outcome = nat_le (length (reply_with request outcome)) world.limits.reply_bytes
+has_room world request outcome =
+    nat_le (length (reply_with request outcome)) world.limits.reply_bytes
 
--- The last test of all (section 15.1.3): an OK result for which the reply has no room is refused, and nothing changes.
+-- The last test of all (section 15.1.3): an OK result for which the reply has no room is refused,
+-- and nothing changes.
 abbrev pub in_room : World → InProgress → (operation : ℕ) → HasRun → HasRun
-in_room world request operation (Gives (Outcome.Refused number reason) after left) = Gives (Outcome.Refused number reason) after left
+in_room world request operation (Gives (Outcome.Refused number reason) after left) =
+    Gives (Outcome.Refused number reason) after left
 in_room world request operation (Gives (Outcome.Done answer) after left) =
     if has_room world request (Outcome.Done answer) then Gives (Outcome.Done answer) after left
     else refuses world request operation status.RepTooBig
@@ -264,7 +307,8 @@ pub record Entry : Type 0 where
   pub outcome : Outcome
   pub after : Tree
 
--- What a turn did. `keeps` is the slot that keeps the reply from now on, and `replays` the one whose kept reply is sent again.
+-- What a turn did. `keeps` is the slot that keeps the reply from now on, and `replays` the one
+-- whose kept reply is sent again.
 pub record Turned : Type 0 where
   pub turn : Turn
   pub world : World
@@ -303,7 +347,9 @@ kept_by (Some slot) result table = sessions.finish slot.0 slot.1 result table
 abbrev pub ends : World → (number : ℕ) → InProgress → Status → Option Entry → Turned
 ends world number request last executed = record {
   turn = Answered;
-  world = with_connection (with_table world (kept_by request.slot (result_of request last) world.table)) number
+  world =
+      with_connection (with_table world (kept_by request.slot (result_of request last) world.table))
+      number
       (Replied (framed (reply_text request.xid (Success (result_of request last)))));
   executed = executed;
   keeps = request.slot;
@@ -324,7 +370,8 @@ abbrev pub behind : World → (number : ℕ) → InProgress → Outcome → Opti
 behind world number request (Outcome.Refused operation reason) executed =
     ends world number (with_result request (Outcome.Refused operation reason)) reason executed
 behind world number request (Outcome.Done answer) executed =
-    if is_last request then ends world number (with_result request (Outcome.Done answer)) status.Ok executed
+    if is_last request
+    then ends world number (with_result request (Outcome.Done answer)) status.Ok executed
     else goes_on world number (with_result request (Outcome.Done answer)) executed
 
 abbrev pub executed_entry : World → InProgress → Argument → Outcome → World → Entry
@@ -347,10 +394,12 @@ has_run world number request operation (Replays result session slot) = record {
 }
 
 abbrev pub operates : World → (number : ℕ) → (now : ℕ) → InProgress → Next → Turned
-operates world number now request (Refuses operation reason) = behind world number request (Outcome.Refused operation reason) None
+operates world number now request (Refuses operation reason) =
+    behind world number request (Outcome.Refused operation reason) None
 operates world number now request (Reads operation rest) =
     has_run world number (record request { rest = rest }) operation
-    (in_room world (record request { rest = rest }) (operation_of operation) (run world (record request { rest = rest }) now operation))
+    (in_room world (record request { rest = rest }) (operation_of operation)
+    (run world (record request { rest = rest }) now operation))
 
 -- a COMPOUND before its first operation
 abbrev pub in_progress : World → (xid : ℕ) → Cred → Compound → InProgress
@@ -368,7 +417,8 @@ in_progress world xid cred compound = record {
 abbrev pub requested : World → (number : ℕ) → (now : ℕ) → (xid : ℕ) → Request → Turned
 requested world number now xid (Answers reply) = replies world number xid reply
 requested world number now xid (Runs cred compound) =
-    operates world number now (in_progress world xid cred compound) (next_operation (in_progress world xid cred compound))
+    operates world number now (in_progress world xid cred compound)
+    (next_operation (in_progress world xid cred compound))
 
 abbrev pub called : World → (number : ℕ) → (now : ℕ) → CallRead → Turned
 called world number now NoCall = idle world
@@ -379,7 +429,8 @@ abbrev pub turned : World → (number : ℕ) → (now : ℕ) → Option Connecti
 turned world number now None = idle world
 turned world number now (Some (Quiet bytes)) = idle world
 turned world number now (Some (Waiting request)) = called world number now (read_call request)
-turned world number now (Some (Busy request)) = operates world number now request (next_operation request)
+turned world number now (Some (Busy request)) =
+    operates world number now request (next_operation request)
 turned world number now (Some (Replied reply)) = idle world
 turned world number now (Some Closed) = idle world
 
@@ -389,22 +440,28 @@ one world number now = turned world number now (at number world.connections)
 
 -- What comes, goes and is taken
 
--- after the bytes so far a piece comes, up to the end of the first whole record; a record that is no call closes
+-- after the bytes so far a piece comes, up to the end of the first whole record; a record that is
+-- no call closes
 abbrev pub arrived : (bytes : List ℕ) → Front → Connection
 arrived bytes Partial = Quiet bytes
 arrived bytes (Refused fault) = Closed
-arrived bytes (Whole request rest) = if is_call_read (read_call request) then Waiting request else Closed
+arrived bytes (Whole request rest) =
+    if is_call_read (read_call request) then Waiting request else Closed
 
 abbrev pub arrives_at : RecordLimits → (piece : List ℕ) → Connection → Connection
 arrives_at limits piece (Quiet bytes) = arrived (bytes ++ piece) (front limits (bytes ++ piece))
 arrives_at limits piece connection = connection
 
-abbrev pub connection_changed : World → (number : ℕ) → (Connection → Connection) → Option Connection → World
+abbrev pub connection_changed : World → (number : ℕ) → (Connection → Connection) → Option Connection
+    → World
 connection_changed world number change None = world
-connection_changed world number change (Some connection) = with_connection world number (change connection)
+connection_changed world number change (Some connection) =
+    with_connection world number (change connection)
 
 unfoldable pub arrives : World → (number : ℕ) → (piece : List ℕ) → World
-arrives world number piece = connection_changed world number (arrives_at world.limits.records piece) (at number world.connections)
+arrives world number piece =
+    connection_changed world number (arrives_at world.limits.records piece)
+    (at number world.connections)
 
 -- how many bytes of the piece are taken; none where the connection is closed, then or before
 abbrev pub taken_of : (piece : List ℕ) → Front → Connection → Option ℕ
@@ -414,7 +471,8 @@ taken_of piece (Refused fault) connection = None
 taken_of piece (Whole request rest) connection = Some (length piece - length rest)
 
 unfoldable pub taken_at : RecordLimits → (piece : List ℕ) → Connection → Option ℕ
-taken_at limits piece (Quiet bytes) = taken_of piece (front limits (bytes ++ piece)) (arrives_at limits piece (Quiet bytes))
+taken_at limits piece (Quiet bytes) =
+    taken_of piece (front limits (bytes ++ piece)) (arrives_at limits piece (Quiet bytes))
 taken_at limits piece Closed = None
 taken_at limits piece connection = Some 0
 
@@ -435,10 +493,13 @@ takes world number = connection_changed world number without_reply (at number wo
 
 -- a number that no connection has, as long as there are fewer than the limit
 abbrev pub can_connect : World → (number : ℕ) → Bool
-can_connect world number = not (is_key number world.connections) && nat_lt (length world.connections) world.limits.connections
+can_connect world number =
+    not (is_key number world.connections)
+    && nat_lt (length world.connections) world.limits.connections
 
 unfoldable pub connects : World → (number : ℕ) → World
-connects world number = if can_connect world number then with_connection world number (Quiet []) else world
+connects world number =
+    if can_connect world number then with_connection world number (Quiet []) else world
 
 -- A hang-up drops a connection, but not a request that has begun: that one is run to its end first.
 abbrev pub is_busy : Option Connection → Bool
@@ -449,7 +510,8 @@ abbrev pub without_connection : World → (number : ℕ) → World
 without_connection world number = record world { connections = without world.connections number }
 
 unfoldable pub hangs_up : World → (number : ℕ) → World
-hangs_up world number = if is_busy (at number world.connections) then world else without_connection world number
+hangs_up world number =
+    if is_busy (at number world.connections) then world else without_connection world number
 
 -- the whole of it: at most so many turns, and then the connection goes
 abbrev pub operations_left : Option Connection → ℕ
@@ -459,7 +521,10 @@ operations_left _ = 0
 abbrev pub turns : (most : ℕ) → World → (number : ℕ) → (now : ℕ) → World
 turns zero world number now = world
 turns (suc most) world number now =
-    if is_busy (at number world.connections) then turns most (one world number now).world number now else world
+    if is_busy (at number world.connections)
+    then turns most (one world number now).world number now
+    else world
 
 unfoldable pub hung_up : World → (number : ℕ) → (now : ℕ) → World
-hung_up world number now = hangs_up (turns (operations_left (at number world.connections)) world number now) number
+hung_up world number now =
+    hangs_up (turns (operations_left (at number world.connections)) world number now) number

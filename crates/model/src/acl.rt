@@ -1,4 +1,5 @@
-//! Access control entries, and the credentials that they are matched against (RFC 8881, section 6.2).
+//! Access control entries, and the credentials that they are matched against (RFC 8881, section
+//! 6.2).
 
 ghost use Rattle.std.specs.Prelude.{⊤, ◌≡◌, ◌<◌, ◌≤◌, ◌++◌, [], ◌∷◌, IfOk, OnOk, OnErr, codes, length};
 
@@ -36,8 +37,9 @@ impl Flags for Mask {
 
     ghost exact = { ⊤ };
 
-    ghost table = { (codes "READ_DATA", 0x1) ∷ (codes "WRITE_DATA", 0x2) ∷ (codes "APPEND_DATA", 0x4) ∷ (codes "EXECUTE", 0x20)
-        ∷ (codes "DELETE_CHILD", 0x40) ∷ (codes "READ_ATTRIBUTES", 0x80) ∷ (codes "WRITE_ATTRIBUTES", 0x100)
+    ghost table = { (codes "READ_DATA", 0x1) ∷ (codes "WRITE_DATA", 0x2)
+        ∷ (codes "APPEND_DATA", 0x4) ∷ (codes "EXECUTE", 0x20) ∷ (codes "DELETE_CHILD", 0x40)
+        ∷ (codes "READ_ATTRIBUTES", 0x80) ∷ (codes "WRITE_ATTRIBUTES", 0x100)
         ∷ (codes "DELETE", 0x10000) ∷ (codes "READ_ACL", 0x20000) ∷ (codes "WRITE_ACL", 0x40000)
         ∷ (codes "WRITE_OWNER", 0x80000) ∷ (codes "SYNCHRONIZE", 0x100000) ∷ [] };
 
@@ -76,8 +78,8 @@ impl Flags for AceFlags {
 
     ghost exact = { ⊤ };
 
-    ghost table = { (codes "FILE_INHERIT", 0x1) ∷ (codes "DIRECTORY_INHERIT", 0x2) ∷ (codes "NO_PROPAGATE", 0x4)
-        ∷ (codes "INHERIT_ONLY", 0x8) ∷ (codes "IDENTIFIER_GROUP", 0x40) ∷ [] };
+    ghost table = { (codes "FILE_INHERIT", 0x1) ∷ (codes "DIRECTORY_INHERIT", 0x2)
+        ∷ (codes "NO_PROPAGATE", 0x4) ∷ (codes "INHERIT_ONLY", 0x8) ∷ (codes "IDENTIFIER_GROUP", 0x40) ∷ [] };
 
     ghost set_of = { λ flags. flags.0 };
 
@@ -219,7 +221,8 @@ impl Acl {
     }
 }
 
-/// The groups that a caller is a member of beside the first one: at most [`Gids::MAX_GIDS`] (RFC 5531, appendix A).
+/// The groups that a caller is a member of beside the first one: at most [`Gids::MAX_GIDS`] (RFC
+/// 5531, appendix A).
 ///
 /// Contracts see the list of their numbers.
 #[derive(Drop, Debug)]
@@ -273,7 +276,8 @@ impl From<Words<16>> for Gids {
     }
 }
 
-/// Who asks: a user, its first group and its other groups, as its call says (RFC 5531, appendix A, AUTH_SYS).
+/// Who asks: a user, its first group and its other groups, as its call says (RFC 5531, appendix A,
+/// AUTH_SYS).
 #[derive(Drop, Debug)]
 pub struct Cred {
     pub uid: u32,

@@ -7,7 +7,8 @@ ghost use Rattle.model.specs.Attribute.{GivenListsFit};
 ghost use Rattle.model.specs.AttributeValue.{ReadsWhole, values};
 ghost use Rattle.model.specs.NodeAttributes.{AnswersAsked, AnswersSupported};
 
-/// The values of any attributes are exact: so they have one spelling, and no spelling begins another.
+/// The values of any attributes are exact: so they have one spelling, and no spelling begins
+/// another.
 #[tactic(auto, using(crate::proofs::AttributeExact::values_exact, crate::proofs::AttributeExact::one_values))]
 pub fn values_are_exact()
     ensures exact { (attributes : List ℕ) → Exact (values attributes) }
@@ -15,7 +16,8 @@ pub fn values_are_exact()
     ensures whole { ReadsWhole }
 {}
 
-/// Numbers, names and entries are read exactly where they are written (RFC 8881, sections 5.9 and 6.2.1).
+/// Numbers, names and entries are read exactly where they are written (RFC 8881, sections 5.9 and
+/// 6.2.1).
 pub fn texts_are_exact()
     ensures numbers { ReadsNumbers }
     ensures names { ReadsNames }
@@ -33,7 +35,8 @@ pub fn each_has_a_value()
     ensures { AnswersSupported }
 {}
 
-/// The bitmap that a node answers tells the attributes whose values stand beside it: those that were asked and are supported.
+/// The bitmap that a node answers tells the attributes whose values stand beside it: those that
+/// were asked and are supported.
 pub fn answers_tell_their_attributes()
     ensures { AnswersAsked }
 {}

@@ -1,6 +1,8 @@
-//! The definitions that every layer of the server meets, and the plain data types that several layers speak of.
+//! The definitions that every layer of the server meets, and the plain data types that several
+//! layers speak of.
 //!
-//! `specs/` has one file a subject, each with the section of the public standard that it comes from.
+//! `specs/` has one file a subject, each with the section of the public standard that it comes
+//! from.
 #![tactic(auto)]
 
 pub mod acl;

@@ -16,18 +16,20 @@ pub fn sent_is_read()
     ensures { SentIsRead }
 {}
 
-/// A record is read as its fragments joined, however it is fragmented within the limits (RFC 5531, section 11).
+/// A record is read as its fragments joined, however it is fragmented within the limits (RFC 5531,
+/// section 11).
 pub fn every_fragmenting()
     ensures { EveryFragmenting }
 {}
 
-/// What is read as a record was sent as one, in fragments within the limits: nothing else is taken for a record.
+/// What is read as a record was sent as one, in fragments within the limits: nothing else is taken
+/// for a record.
 pub fn only_sent()
     ensures { OnlySent }
 {}
 
-/// A record is read as a call exactly where it is the spelling of a call's header and the call's arguments after it; no
-/// header begins another (RFC 5531, section 9).
+/// A record is read as a call exactly where it is the spelling of a call's header and the call's
+/// arguments after it; no header begins another (RFC 5531, section 9).
 pub fn calls_are_exact()
     ensures exact { Exact call_head }
     ensures one { OneSpelling call_head }
@@ -42,8 +44,9 @@ pub fn replies_are_exact()
     ensures read { ReadsReplies }
 {}
 
-/// The result of a COMPOUND is read exactly where it is spelled, and no spelling begins another; what the server makes of a
-/// request's results is such a spelling, at each moment of every run (RFC 8881, section 16.2.2).
+/// The result of a COMPOUND is read exactly where it is spelled, and no spelling begins another;
+/// what the server makes of a request's results is such a spelling, at each moment of every run
+/// (RFC 8881, section 16.2.2).
 pub fn results_are_exact()
     ensures exact { Exact compound_result }
     ensures one { OneSpelling compound_result }
@@ -51,8 +54,8 @@ pub fn results_are_exact()
     ensures each { EveryRequestHasResults }
 {}
 
-/// A stream that is fed in pieces, each whole request let go before the next record begins, comes to the records of the bytes
-/// that were taken, in their order (RFC 5531, section 11).
+/// A stream that is fed in pieces, each whole request let go before the next record begins, comes
+/// to the records of the bytes that were taken, in their order (RFC 5531, section 11).
 pub fn every_feeding()
     ensures { EveryFeeding }
 {}

@@ -5,16 +5,18 @@ ghost use Rattle.model.specs.Runs.{EveryRun, EveryStamp};
 ghost use Rattle.model.specs.ServedOnce.{EveryServedSlot};
 ghost use Rattle.model.specs.StateIdRuns.{EveryOtherRunRefuses, EveryStateIdGoesOn, JoinsAreCounted};
 
-/// Whatever bytes arrive on whatever connections, and wherever the server is stopped: the tree that a stop may leave is the
-/// one that a prefix of the executed operations gives. None of them is skipped and none is there in part; the prefix holds
-/// every change and COMMIT whose reply was handed out (an unstable write apart), and every change in it was permitted.
+/// Whatever bytes arrive on whatever connections, and wherever the server is stopped: the tree that
+/// a stop may leave is the one that a prefix of the executed operations gives. None of them is
+/// skipped and none is there in part; the prefix holds every change and COMMIT whose reply was
+/// handed out (an unstable write apart), and every change in it was permitted.
 pub fn every_run()
     ensures { EveryRun }
 {}
 
-/// What the definitions rule out: a prefix that skips an unstable write, a reply before its change is kept, a change that
-/// is taken away and put back, a retry that runs again, a reply that is forgotten, a slot that takes another number than the
-/// next, a turn that runs more than one operation, and a hang-up that drops the rest of a request.
+/// What the definitions rule out: a prefix that skips an unstable write, a reply before its change
+/// is kept, a change that is taken away and put back, a retry that runs again, a reply that is
+/// forgotten, a slot that takes another number than the next, a turn that runs more than one
+/// operation, and a hang-up that drops the rest of a request.
 pub fn ruled_out()
     ensures skip { NoSkip }
     ensures early { NoEarlyReply }
@@ -27,19 +29,21 @@ pub fn ruled_out()
     ensures events { HangUpIsEvents }
 {}
 
-/// What they allow: from each state of a server that is up, each event happens, as in a server that flushes every change at
-/// once. So the headline speaks of every list of events.
+/// What they allow: from each state of a server that is up, each event happens, as in a server that
+/// flushes every change at once. So the headline speaks of every list of events.
 pub fn each_event_happens()
     ensures { EachEventHappens }
 {}
 
-/// In every run of the server, the numbers of the SEQUENCE operations that a slot ran are 1, 2, 3 and so on: one of them runs
-/// again only after the 2^32 - 1 others, whatever came, on whatever connections (RFC 8881, section 2.10.6.1).
+/// In every run of the server, the numbers of the SEQUENCE operations that a slot ran are 1, 2, 3
+/// and so on: one of them runs again only after the 2^32 - 1 others, whatever came, on whatever
+/// connections (RFC 8881, section 2.10.6.1).
 pub fn every_served_slot()
     ensures { EveryServedSlot }
 {}
 
-/// In every run the stamps of its changes rise, of those that a stop takes away and of the one under way too.
+/// In every run the stamps of its changes rise, of those that a stop takes away and of the one
+/// under way too.
 pub fn every_stamp()
     ensures { EveryStamp }
 {}

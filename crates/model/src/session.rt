@@ -6,14 +6,14 @@ ghost use Rattle.model.specs.SessionRuns.{EverySlot};
 ghost use Rattle.model.specs.SessionTables.{EveryCallGivesNew, EveryTable};
 ghost use Rattle.model.specs.SlotsHeld.{EveryRunningSlot};
 
-/// A slot runs its numbers in their order from 1 on, whatever calls are made in one run of the server; so a number runs
-/// again only after the 2^32 - 1 others (RFC 8881, section 2.10.6.1).
+/// A slot runs its numbers in their order from 1 on, whatever calls are made in one run of the
+/// server; so a number runs again only after the 2^32 - 1 others (RFC 8881, section 2.10.6.1).
 pub fn every_slot()
     ensures { EverySlot }
 {}
 
-/// Whatever calls are made in one run of the server: an owner id has at most one confirmed and one unconfirmed record, ids
-/// differ, and the tables are within their limits.
+/// Whatever calls are made in one run of the server: an owner id has at most one confirmed and one
+/// unconfirmed record, ids differ, and the tables are within their limits.
 pub fn every_table()
     ensures { EveryTable }
 {}
@@ -23,12 +23,14 @@ pub fn every_id_is_new()
     ensures { EveryCallGivesNew }
 {}
 
-/// Whatever events come, a kept result has at most 12 bytes less than the record of an OK reply may have.
+/// Whatever events come, a kept result has at most 12 bytes less than the record of an OK reply may
+/// have.
 pub fn kept_replies_are_short()
     ensures { KeepsShort }
 {}
 
-/// At each moment of every run of the server: a slot runs a request exactly where one connection is busy on it.
+/// At each moment of every run of the server: a slot runs a request exactly where one connection is
+/// busy on it.
 pub fn every_running_slot()
     ensures { EveryRunningSlot }
 {}

@@ -5,20 +5,20 @@ ghost use Rattle.model.specs.OpensLaws.{EveryRunKeepsOpens};
 ghost use Rattle.model.specs.SoundRuns.{EveryTreeIsSound};
 ghost use Rattle.model.specs.World.{ServerLimits};
 
-/// Whatever bytes arrive on whatever connections, and wherever the server is stopped: the tree that a stop may leave is well
-/// formed, and no later run gives one of its stamps again.
+/// Whatever bytes arrive on whatever connections, and wherever the server is stopped: the tree that
+/// a stop may leave is well formed, and no later run gives one of its stamps again.
 pub fn every_tree()
     ensures { (limits : ServerLimits) → EveryTreeIsSound limits }
 {}
 
-/// At each moment of a run each open names a file of the tree and has a serial that was given once, and there are not more than
-/// the limit.
+/// At each moment of a run each open names a file of the tree and has a serial that was given once,
+/// and there are not more than the limit.
 pub fn every_run_keeps_opens()
     ensures { EveryRunKeepsOpens }
 {}
 
-/// Nobody is answered what the lists deny him: whatever was answered OK, a reading as well as a change, was permitted to its
-/// caller by the lists of the tree that it was answered from.
+/// Nobody is answered what the lists deny him: whatever was answered OK, a reading as well as a
+/// change, was permitted to its caller by the lists of the tree that it was answered from.
 pub fn every_answer_is_permitted()
     ensures { EveryAnswerIsPermitted }
 {}

@@ -28,7 +28,8 @@ pub fn every_step()
     ensures { EveryStepIsLawful }
 {}
 
-/// Opens name files of the tree and have serials that were given once, and there are not more than the limit.
+/// Opens name files of the tree and have serials that were given once, and there are not more than
+/// the limit.
 pub fn every_step_keeps_opens()
     ensures { EveryStepKeepsOpens }
 {}
@@ -43,8 +44,9 @@ pub fn every_run_begins()
     ensures { RunsBeginSound }
 {}
 
-/// What a stateid that OPEN answered means from then on. The newest names its open; once a later OPEN joins the open it is
-/// OLD_STATEID; for another client, on another file, in another run and once the open has ended it is BAD_STATEID.
+/// What a stateid that OPEN answered means from then on. The newest names its open; once a later
+/// OPEN joins the open it is OLD_STATEID; for another client, on another file, in another run and
+/// once the open has ended it is BAD_STATEID.
 pub fn every_stateid()
     ensures newest { NewestIsFound }
     ensures old { LowerIsOld }
@@ -54,8 +56,8 @@ pub fn every_stateid()
     ensures ended { EndedIsBad }
 {}
 
-/// OPEN answers the newest stateid; an operation leaves an open as it is, joins it by an OPEN, or ends it by a CLOSE, a REMOVE
-/// or a RENAME, and none that has ended comes back.
+/// OPEN answers the newest stateid; an operation leaves an open as it is, joins it by an OPEN, or
+/// ends it by a CLOSE, a REMOVE or a RENAME, and none that has ended comes back.
 pub fn every_open_goes_on()
     ensures answers { OpenAnswersNewest }
     ensures goes_on { EveryOpenGoesOn }

@@ -31,8 +31,8 @@ fn is_dot_or_dots(name: &[u8]) -> bool
 ///
 /// # Errors
 ///
-/// `Inval` for an empty name, then `NameTooLong`, `Inval` for bytes that are no UTF-8 text, `BadChar` for `/` or a zero byte, and
-/// `BadName` for `.` and `..`.
+/// `Inval` for an empty name, then `NameTooLong`, `Inval` for bytes that are no UTF-8 text,
+/// `BadChar` for `/` or a zero byte, and `BadName` for `.` and `..`.
 #[tactic(auto, unfolding(model::specs::Name::name_refusals))]
 pub fn check_name(name: &[u8], limits: &Limits) -> Result<(), Status>
     ensures allowed { OnOk result (first_refusal (name_refusals limits.now name.now) ≡ None) }

@@ -1,4 +1,5 @@
-//! The program as its user meets it where that is no case of `commands`: an output that fails, and peers.
+//! The program as its user meets it where that is no case of `commands`: an output that fails, and
+//! peers.
 
 mod peers;
 

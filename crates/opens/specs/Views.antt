@@ -40,7 +40,8 @@ found_of (found.Names entry) = states.Names entry.now.serial (open_of entry.now.
 -- the entry at this place is the first open of the same client and owner on the same file
 pub record IsLike (asked : model.Open) (entries : List Entry) (place : ℕ) : Type 0 where
   pub within : place < length entries
-  pub first : (d : Entry) → find (is_like asked) (map entry_of entries) ≡ Some (entry_of (slice_index_or entries place d))
+  pub first : (d : Entry) → find (is_like asked) (map entry_of entries)
+      ≡ Some (entry_of (slice_index_or entries place d))
 
 -- the entry is the open of a serial
 pub record IsAt (serial : ℕ) (opens : model.Opens) (entry : Entry) : Type 0 where

@@ -92,7 +92,8 @@ impl Standing {
 }
 
 impl Found<'_> {
-    /// What READ, WRITE or a set size answers, which needs an open with this access or none: OPENMODE where it lacks it.
+    /// What READ, WRITE or a set size answers, which needs an open with this access or none:
+    /// OPENMODE where it lacks it.
     pub fn refuse_access(&self, access: Access) -> Option<Status>
         ensures { result ≡ first_refusal (access_refusals access.0 (found_of self.now)) }
     {

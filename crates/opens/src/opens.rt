@@ -47,7 +47,8 @@ impl Opens {
         self.list.reserve(1)
     }
 
-    /// Whether the open can't be made: `most` stand, or no serial is left. One that joins another needs neither.
+    /// Whether the open can't be made: `most` stand, or no serial is left. One that joins another
+    /// needs neither.
     pub fn is_full(&self, most: usize, asked: &Open) -> bool
         ensures { result ≡ is_table_full most (opens_of self.now) (open_of asked.now) }
     {
@@ -70,8 +71,8 @@ impl Opens {
         None
     }
 
-    /// OPEN (RFC 8881, section 18.16): joins the open of the same client and owner on the same file, or makes a new one. Returns
-    /// its stateid.
+    /// OPEN (RFC 8881, section 18.16): joins the open of the same client and owner on the same
+    /// file, or makes a new one. Returns its stateid.
     pub fn open(&mut self, run: u32, asked: Open) -> StateId
         requires room { HasMemory self.old }
         requires serial { CanOpen (opens_of self.old) (open_of asked) }

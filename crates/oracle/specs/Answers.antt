@@ -19,22 +19,33 @@ abbrev pub change_of : ChangeInfo → operation.ChangeInfo
 change_of change = record { is_atomic = true; before = change.before; after = change.after }
 
 abbrev pub answer_of : Answer → model.Answer
-answer_of (answer.Access supported access) = model.Answer.Access (record { supported = supported; access = access })
+answer_of (answer.Access supported access) =
+    model.Answer.Access (record { supported = supported; access = access })
 answer_of (answer.Close state) = model.Answer.Close (state_view state)
 answer_of (answer.Commit verifier) = model.Answer.Commit verifier
-answer_of (answer.Create change was_set) = model.Answer.Create (record { change = change_of change; was_set = was_set.items })
+answer_of (answer.Create change was_set) =
+    model.Answer.Create (record { change = change_of change; was_set = was_set.items })
 answer_of (answer.GetAttr shown) = model.Answer.GetAttr (shown_attributes shown)
 answer_of (answer.GetFh handle) = model.Answer.GetFh handle
 answer_of answer.Lookup = model.Answer.Lookup
 answer_of answer.LookupParent = model.Answer.LookupParent
 answer_of (answer.Open state change was_set) =
-    model.Answer.Open (record { state = state_view state; change = change_of change; flags = 0; was_set = was_set.items })
+    model.Answer.Open
+    (record {
+      state = state_view state;
+      change = change_of change;
+      flags = 0;
+      was_set = was_set.items;
+    })
 answer_of answer.PutFh = model.Answer.PutFh
 answer_of answer.PutRootFh = model.Answer.PutRootFh
-answer_of (answer.Read is_end bytes) = model.Answer.Read (record { is_end = is_end; data_bytes = bytes.items })
-answer_of (answer.ReadDir entries is_end) = model.Answer.ReadDir (record { entries = entries.items; is_end = is_end })
+answer_of (answer.Read is_end bytes) =
+    model.Answer.Read (record { is_end = is_end; data_bytes = bytes.items })
+answer_of (answer.ReadDir entries is_end) =
+    model.Answer.ReadDir (record { entries = entries.items; is_end = is_end })
 answer_of (answer.Remove change) = model.Answer.Remove (change_of change)
-answer_of (answer.Rename source target) = model.Answer.Rename (record { source = change_of source; target = change_of target })
+answer_of (answer.Rename source target) =
+    model.Answer.Rename (record { source = change_of source; target = change_of target })
 answer_of answer.RestoreFh = model.Answer.RestoreFh
 answer_of answer.SaveFh = model.Answer.SaveFh
 answer_of (answer.SetAttr was_set) = model.Answer.SetAttr was_set.items

@@ -7,7 +7,11 @@ use Rattle.oracle.specs.declared.opens.Opened.{Opened}
 use Rattle.oracle_refusals.specs.States.{opens_of}
 
 abbrev pub opened_of : Opened → stateids.Opened
-opened_of opened = record { serial = opened.serial; state = opened.state; opens = opens_of opened.opens }
+opened_of opened = record {
+  serial = opened.serial;
+  state = opened.state;
+  opens = opens_of opened.opens;
+}
 
 -- an open that joins the one of this serial
 abbrev pub joined_by : Opens → (serial : ℕ) → Open → (access : ℕ) → stateids.Opened

@@ -91,7 +91,8 @@ fn granted_bits(node: &Node, cred: &Cred, asked: u32) -> u32
     }
 }
 
-/// The bits that are asked and that the node's kind has, and those of them that the caller is granted.
+/// The bits that are asked and that the node's kind has, and those of them that the caller is
+/// granted.
 pub fn access(tree: &[(u128, Node)], number: u128, cred: &Cred, asked: u32) -> Answer
     ensures { answer_of result ≡ accessed (access_of (at number tree.now) cred.now asked) }
 {

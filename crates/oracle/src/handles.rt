@@ -1,4 +1,5 @@
-//! What the operations on filehandles do (RFC 8881, sections 18.8, 18.13, 18.14, 18.19, 18.21, 18.27 and 18.28).
+//! What the operations on filehandles do (RFC 8881, sections 18.8, 18.13, 18.14, 18.19, 18.21,
+//! 18.27 and 18.28).
 
 ghost use Rattle.std.specs.Prelude.{◌≡◌, false, IfOk};
 ghost use Rattle.model.specs.Ancestors.{parent_of};

@@ -1,6 +1,8 @@
-//! The reference of tests, which may be slow: one step of each operation on a small tree, as the definitions say it.
+//! The reference of tests, which may be slow: one step of each operation on a small tree, as the
+//! definitions say it.
 //!
-//! Each function is proved to be the definition of its name. Tests of every layer compare with `step`.
+//! Each function is proved to be the definition of its name. Tests of every layer compare with
+//! `step`.
 #![tactic(auto)]
 
 pub mod access;

@@ -157,7 +157,8 @@ fn given_settings(alloc: Global, how: &OpenType<'_>) -> Result<Settings, AllocEr
     }
 }
 
-// Which attributes an opening sets: the size alone of a file that is cut, those that are given of a new one.
+// Which attributes an opening sets: the size alone of a file that is cut, those that are given of a
+// new one.
 fn set_at_open(
     alloc: Global,
     state: &State<'_>,

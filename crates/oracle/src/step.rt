@@ -155,8 +155,8 @@ fn finished<'a>(
     })
 }
 
-/// One operation on the tree (RFC 8881, section 18): it is refused by the first of its tests that holds, the last of them room on
-/// the volume and whether a stamp is left; else it is done.
+/// One operation on the tree (RFC 8881, section 18): it is refused by the first of its tests that
+/// holds, the last of them room on the volume and whether a stamp is left; else it is done.
 pub fn step<'a>(
     alloc: Global,
     limits: &Limits,

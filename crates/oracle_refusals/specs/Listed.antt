@@ -12,9 +12,11 @@ use Rattle.model.specs.Tree.{DirEntry}
 
 abbrev pub listed_names : Limits → State → ReadDirArguments → Keyed DirEntry → List Entry
 listed_names limits state arguments names =
-    map (listed_entry limits state.tree state.context.cred arguments.bitmap) (names_after arguments.cookie names)
+    map (listed_entry limits state.tree state.context.cred arguments.bitmap)
+    (names_after arguments.cookie names)
 
 -- the right to read the list of each
 abbrev pub reading_rights : (cookie : ℕ) → Keyed DirEntry → List (List Right)
 reading_rights cookie names =
-    map (λ (name : ℕ × DirEntry). record { number = name.1.number; mask = read_acl } ∷ []) (names_after cookie names)
+    map (λ (name : ℕ × DirEntry). record { number = name.1.number; mask = read_acl } ∷ [])
+    (names_after cookie names)

@@ -1,4 +1,5 @@
-//! The reference of tests, which may be slow: what an operation works on, the rights that it needs, and why it is refused.
+//! The reference of tests, which may be slow: what an operation works on, the rights that it needs,
+//! and why it is refused.
 //!
 //! Each function is proved to be the definition of its name.
 #![tactic(auto)]

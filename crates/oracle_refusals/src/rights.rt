@@ -183,7 +183,8 @@ fn access_rights(alloc: Global, number: u128, access: u32) -> Result<Need, Alloc
     both(read, write)
 }
 
-// A file by its name: its rights, and to write where it is cut; the right to add a file where the name is not there.
+// A file by its name: its rights, and to write where it is cut; the right to add a file where the
+// name is not there.
 fn opening_rights(
     alloc: Global,
     state: &State<'_>,

@@ -62,7 +62,8 @@ pub struct Context<'a> {
     pub saved: Option<Place>,
 }
 
-/// What an operation works on: the tree, how many changes this run had, the opens, and the COMPOUND's context.
+/// What an operation works on: the tree, how many changes this run had, the opens, and the
+/// COMPOUND's context.
 #[derive(Drop, Debug)]
 pub struct State<'a> {
     pub tree: Tree,

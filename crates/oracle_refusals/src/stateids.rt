@@ -112,7 +112,8 @@ pub fn find_open<'a>(state: &'a State<'_>, asked: StateId) -> Found<'a>
     }
 }
 
-/// READ needs an open with read access, WRITE and a set size one with write access; the anonymous stateid passes.
+/// READ needs an open with read access, WRITE and a set size one with write access; the anonymous
+/// stateid passes.
 pub fn state_tests(
     alloc: Global,
     state: &State<'_>,
@@ -164,7 +165,8 @@ pub fn next_seqid(seqid: u32) -> u32
     if seqid == u32::MAX { 1 } else { seqid + 1 }
 }
 
-/// Whether a new open has no place: the table is full, or no serial is left. One that joins another needs neither.
+/// Whether a new open has no place: the table is full, or no serial is left. One that joins another
+/// needs neither.
 pub fn is_table_full(most: usize, opens: &Opens, asked: &Open) -> bool
     ensures { result ≡ is_table_full most (opens_of opens.now) asked.now }
 {

@@ -1,4 +1,5 @@
-//! The tests of an operation apart from the caller's rights: before them, between their two places, and after them.
+//! The tests of an operation apart from the caller's rights: before them, between their two places,
+//! and after them.
 
 ghost use Rattle.std.specs.Prelude.{◌≡◌, [], ◌∷◌, ◌++◌, not, IfOk, IsTrue};
 ghost use Rattle.model.specs.Keyed.{is_key};

@@ -14,7 +14,14 @@ content_of (content.Directory names) = model.Directory names.items
 
 -- whether a node is this one or below it, so many steps at most
 abbrev pub is_among_ancestors : (steps : ℕ) → model.Tree → (upper number : ℕ) → Bool
-is_among_ancestors steps tree upper number = list_any (λ of. of == upper) (ancestors_in steps tree number)
+is_among_ancestors steps tree upper number =
+    list_any (λ of. of == upper) (ancestors_in steps tree number)
 
 abbrev pub shown_of : Shown → edit.Shown
-shown_of shown = record { owner = shown.owner; group = shown.group; acl = shown.acl; change = shown.change; time_modify = shown.time_modify }
+shown_of shown = record {
+  owner = shown.owner;
+  group = shown.group;
+  acl = shown.acl;
+  change = shown.change;
+  time_modify = shown.time_modify;
+}

@@ -202,7 +202,8 @@ pub fn moded(alloc: Global, kind: NodeKind, acl: &[Ace], mode: u32) -> Result<Ac
     with_mode(alloc, kind, acl, mode % 512).map_err(|_| AllocError)
 }
 
-/// The list of a new node, by what its creation gave: a list, a mode, other attributes alone, or no attribute.
+/// The list of a new node, by what its creation gave: a list, a mode, other attributes alone, or no
+/// attribute.
 pub fn created(
     alloc: Global,
     parent: &[Ace],

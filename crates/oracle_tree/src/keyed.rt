@@ -25,7 +25,8 @@ pub fn is_key<T>(key: u128, entries: &[(u128, T)]) -> bool
     at(key, entries).is_some()
 }
 
-// Where the key puts an entry: in place of the one of that key, or in front of the first one of a greater key.
+// Where the key puts an entry: in place of the one of that key, or in front of the first one of a
+// greater key.
 fn place_of<T>(key: u128, entries: &[(u128, T)]) -> Result<usize, usize>
     ensures { MatchResult result
         (λ place. (place < length entries.now)

@@ -1,4 +1,5 @@
-//! The reference of tests, which may be slow: the tree, its edits, what it is charged, and the tests of names.
+//! The reference of tests, which may be slow: the tree, its edits, what it is charged, and the
+//! tests of names.
 //!
 //! Each function is proved to be the definition of its name.
 #![tactic(auto)]

@@ -18,7 +18,9 @@ told value = (attribute_of value, value_text value)
 
 -- the spellings of those that are asked
 abbrev pub asked_bytes : (asked : List ℕ) → List (ℕ × List ℕ) → List ℕ
-asked_bytes asked texts = flat_map (λ (text : ℕ × List ℕ). text.1) (filter (λ (text : ℕ × List ℕ). is_among asked text.0) texts)
+asked_bytes asked texts =
+    flat_map (λ (text : ℕ × List ℕ). text.1)
+    (filter (λ (text : ℕ × List ℕ). is_among asked text.0) texts)
 
 -- the values of a node, in parts
 

@@ -1,4 +1,5 @@
-//! The entries of a page of READDIR (RFC 8881, section 18.23): what each shows, how it is spelled, and how many have room.
+//! The entries of a page of READDIR (RFC 8881, section 18.23): what each shows, how it is spelled,
+//! and how many have room.
 
 ghost use Rattle.std.specs.Prelude.{◌≡◌, IfOk};
 ghost use Rattle.std.specs.Option.{option_copied};

@@ -1,4 +1,5 @@
-//! The reference of tests, which may be slow: the attributes that a client sets, those that a node shows, and how they are spelled.
+//! The reference of tests, which may be slow: the attributes that a client sets, those that a node
+//! shows, and how they are spelled.
 //!
 //! Each function is proved to be the definition of its name.
 #![tactic(auto)]

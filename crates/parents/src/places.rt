@@ -13,8 +13,8 @@ use directory::Entry;
 use std::alloc::{AllocError, Global};
 use std::marker::Model;
 
-/// The parent of each node of a volume, by the place of the node: 8 bytes a place. Contracts see the
-/// list of the numbers; 0 stands for none.
+/// The parent of each node of a volume, by the place of the node: 8 bytes a place. Contracts see
+/// the list of the numbers; 0 stands for none.
 #[derive(Drop)]
 pub struct Parents {
     numbers: Vec<u64>,

@@ -26,7 +26,8 @@ pub struct Caller<S> {
     connection: Option<Connection<S>>,
 }
 
-/// The results of a reply: of the operations that ended well, and the status of the one that did not.
+/// The results of a reply: of the operations that ended well, and the status of the one that did
+/// not.
 #[derive(Drop)]
 pub struct Results<'a> {
     pub done: Vec<Outcome<'a>>,

@@ -1,4 +1,5 @@
-//! A server and its peers, one after the other: a peer's bytes go to the server piece by piece, and each reply goes back in one write.
+//! A server and its peers, one after the other: a peer's bytes go to the server piece by piece, and
+//! each reply goes back in one write.
 
 use crate::link;
 use crate::moment::moment;
@@ -10,7 +11,8 @@ use std::io::{BufRead, BufReader, ErrorKind, Read, Write};
 use std::time::{Clock, Duration};
 use std::{io, thread};
 
-/// The most bytes of a piece. The longest record of a request fits, with the headers of all its fragments.
+/// The most bytes of a piece. The longest record of a request fits, with the headers of all its
+/// fragments.
 const PIECE_BYTES: usize = 32_768;
 /// How often a call of the server is made for which there is no memory, and the pause after each.
 const TRIES: u32 = 8;
@@ -21,7 +23,8 @@ const PAUSE_MILLIS: u64 = 10;
 #[derive(Drop)]
 pub struct Host<D: Device> {
     server: Server<D>,
-    /// The connection of the peer, or of the one before, where it could not be hung up for want of memory.
+    /// The connection of the peer, or of the one before, where it could not be hung up for want of
+    /// memory.
     conn: Option<usize>,
 }
 
@@ -58,7 +61,8 @@ impl<D: Device> Host<D> {
         })
     }
 
-    /// Serves a peer up to its end, and hangs it up. What ends a peer is no refusal: that is a failure of the device or the clock.
+    /// Serves a peer up to its end, and hangs it up. What ends a peer is no refusal: that is a
+    /// failure of the device or the clock.
     pub fn serve<R, S>(&mut self, rt: &R, peer: S) -> Result<(), Refused>
     where
         R: Clock + AllocGlobal,
@@ -93,8 +97,8 @@ impl<D: Device> Host<D> {
         parting
     }
 
-    /// Takes what the peer sends, and answers it, until the peer's bytes end. What the server does not take of a piece is offered
-    /// again after the reply.
+    /// Takes what the peer sends, and answers it, until the peer's bytes end. What the server does
+    /// not take of a piece is offered again after the reply.
     fn converse<C, S>(
         &mut self,
         clock: &C,
@@ -150,7 +154,8 @@ impl<D: Device> Host<D> {
         Err(Refused::Memory)
     }
 
-    /// Ends the connection, if there is one. A request of it that has begun is run to its end, so that may want memory too.
+    /// Ends the connection, if there is one. A request of it that has begun is run to its end, so
+    /// that may want memory too.
     fn hang_up<C: Clock>(&mut self, clock: &C) -> Result<(), Refused> {
         let Some(conn) = self.conn else {
             return Ok(());

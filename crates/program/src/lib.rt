@@ -1,4 +1,5 @@
-//! The program `nfs41`, apart from the process around it: it formats volumes, serves them over TCP, and runs scripts of clients against a server.
+//! The program `nfs41`, apart from the process around it: it formats volumes, serves them over TCP,
+//! and runs scripts of clients against a server.
 #![tactic(auto)]
 
 mod actions;

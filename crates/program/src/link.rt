@@ -1,4 +1,5 @@
-//! The calls of the server, of the file system below it, and of a client's records, as the program makes them: each stands here once, so that what is above need not see all that they promise.
+//! The calls of the server, of the file system below it, and of a client's records, as the program
+//! makes them: each stands here once, so that what is above need not see all that they promise.
 
 ghost use Rattle.std.specs.Prelude.{All};
 ghost use Rattle.wire_client.specs.ArgumentFits.{ArgumentFits};

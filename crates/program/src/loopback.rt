@@ -1,5 +1,5 @@
-//! Connections between the users of a script and the server, over the loopback interface and in one thread: what one end writes,
-//! the other reads before anything else is done.
+//! Connections between the users of a script and the server, over the loopback interface and in one
+//! thread: what one end writes, the other reads before anything else is done.
 
 use crate::link;
 use crate::refused::Refused;
@@ -61,8 +61,8 @@ impl<S: Read + Write + Drop> Connection<S> {
         self.awaits_reply = true;
     }
 
-    /// Sends what is left of the record whose reply is to come, up to what the server does not take yet: that is offered to it again
-    /// the next time.
+    /// Sends what is left of the record whose reply is to come, up to what the server does not take
+    /// yet: that is offered to it again the next time.
     pub fn send<D: Device>(
         &mut self,
         server: &mut Server<D>,

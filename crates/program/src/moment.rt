@@ -5,7 +5,8 @@ use std::time::{Clock, Duration, SystemTime, UNIX_EPOCH};
 
 const NANOS_OF_SECOND: u64 = 1_000_000_000;
 
-/// The moment, in nanoseconds since 1970. A clock that cannot be read, or shows what cannot be counted so, is a failure of input.
+/// The moment, in nanoseconds since 1970. A clock that cannot be read, or shows what cannot be
+/// counted so, is a failure of input.
 pub fn moment<C: Clock>(clock: &C) -> Result<u64, Refused> {
     let now = SystemTime::now(clock)?;
     match now.duration_since(UNIX_EPOCH) {

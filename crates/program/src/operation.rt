@@ -47,7 +47,8 @@ pub enum Operation<'a> {
     /// SETATTR of a mode, and of a size.
     SetMode(Mode),
     SetSize(Size),
-    /// OPEN by a name, to read and to write: of a file that may be made, with this mode, or has to be there.
+    /// OPEN by a name, to read and to write: of a file that may be made, with this mode, or has to
+    /// be there.
     CreateFile {
         name: &'a str,
         mode: Mode,

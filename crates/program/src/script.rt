@@ -22,7 +22,8 @@ enum End {
     Restart,
 }
 
-/// Mounts the volume on the device, and runs the script's lines on it. Users reach the server over the loopback interface.
+/// Mounts the volume on the device, and runs the script's lines on it. Users reach the server over
+/// the loopback interface.
 pub fn script<R, D, I, O>(rt: &R, device: &mut D, input: &mut I, out: &mut O) -> Result<(), Refused>
 where
     R: Net + AllocGlobal,

@@ -8,8 +8,8 @@ use std::io::{ErrorKind, Read, Write};
 use std::net::{Ipv4Addr, OpenListener, OpenStream, TcpListener};
 use std::time::Clock;
 
-/// Mounts the device's volume, listens on this port of 127.0.0.1, or on one that the system picks for 0, tells the port, and
-/// serves so many connections, one after the other.
+/// Mounts the device's volume, listens on this port of 127.0.0.1, or on one that the system picks
+/// for 0, tells the port, and serves so many connections, one after the other.
 pub fn serve<R, D, O>(rt: &R, device: D, port: u16, count: u32, out: &mut O) -> Result<(), Refused>
 where
     R: Machine,
@@ -65,7 +65,8 @@ where
 {
     match listener.accept() {
         Ok((stream, _)) => {
-            // Without this a reply may wait in the system for the peer's acknowledgement of the one before. It is sent all the same.
+            // Without this a reply may wait in the system for the peer's acknowledgement of the one
+            // before. It is sent all the same.
             let _ = stream.set_nodelay(true);
             Ok(Some(stream))
         }

@@ -1,4 +1,5 @@
--- What an assembler keeps of a connection's next record (RFC 5531, section 11), and what a piece of the stream makes of it.
+-- What an assembler keeps of a connection's next record (RFC 5531, section 11), and what a piece of
+-- the stream makes of it.
 use Rattle.std.specs.Prelude.{◌≡◌, ℕ, ◌+◌, ◌-◌, ◌≤◌, ◌<◌, Bool, true, false, List, [], ◌++◌, length, take, drop, Option, Some, None, if◌then◌else◌}
 use Rattle.model.specs.Record as spec
 use Rattle.model.specs.Record.{RecordLimits, Gathered, Front, Partial, Refused, Whole, front, fragment}
@@ -7,6 +8,7 @@ use Rattle.model.specs.World.{Connection, Quiet, Waiting, Closed, arrives_at, ta
 use Rattle.rpc.specs.declared.fault.RecordFault.{RecordFault}
 use Rattle.rpc.specs.declared.fault.RecordFault.TheVariants as faults
 use Rattle.rpc.specs.declared.fragment.Fragment.{Fragment}
+use Rattle.rpc.specs.declared.fragment.TheConstants.{MAX_FRAGMENTS, MAX_RECORD_BYTES}
 use Rattle.rpc.specs.declared.fragment.Fragment.TheVariants as found
 use Rattle.rpc.specs.declared.scan.Scan.{Scan}
 use Rattle.rpc.specs.declared.scan.Scan.TheVariants as scans
@@ -15,9 +17,9 @@ use Rattle.rpc.specs.declared.receive.Progress.TheVariants as progress
 use Rattle.rpc.specs.declared.state.State.{State}
 use Rattle.rpc.specs.declared.state.State.TheVariants as states
 
--- a record has at most 16,384 bytes and 64 fragments
+-- the most of a record's bytes and fragments
 abbrev pub record_limits : RecordLimits
-record_limits = record { bytes = 16384; fragments = 64 }
+record_limits = record { bytes = MAX_RECORD_BYTES; fragments = MAX_FRAGMENTS }
 
 pub data Assembly : Type 0 where
   -- what has come of the next record, headers included
@@ -55,7 +57,8 @@ fault_of spec.TooManyFragments = faults.TooManyFragments
 abbrev pub fault_in : Front → Option RecordFault
 fault_in Partial = None
 fault_in (Refused fault) = Some (fault_of fault)
-fault_in (Whole request rest) = if is_call_read (read_call request) then None else Some faults.NotACall
+fault_in (Whole request rest) =
+    if is_call_read (read_call request) then None else Some faults.NotACall
 
 -- why a piece is refused, now or before
 abbrev pub fault_at : (piece : List ℕ) → Assembly → Option RecordFault
@@ -101,11 +104,16 @@ pub record Stands (state : State) (bytes : List ℕ) (spare : ℕ) : Type 0 wher
 -- what stands at the front of the bytes, by its size
 abbrev pub Finds : Gathered → List ℕ → Fragment → Type 0
 Finds gathered bytes found.Waits = fragment record_limits gathered bytes ≡ spec.Waits
-Finds gathered bytes found.TooBig = (4 ≤ length bytes) × (fragment record_limits gathered bytes ≡ spec.Refuses spec.RecordTooBig)
-Finds gathered bytes found.TooMany = (4 ≤ length bytes) × (fragment record_limits gathered bytes ≡ spec.Refuses spec.TooManyFragments)
+Finds gathered bytes found.TooBig =
+    (4 ≤ length bytes) × (fragment record_limits gathered bytes ≡ spec.Refuses spec.RecordTooBig)
+Finds gathered bytes found.TooMany =
+    (4 ≤ length bytes)
+    × (fragment record_limits gathered bytes ≡ spec.Refuses spec.TooManyFragments)
 Finds gathered bytes (found.Brings size is_last) =
-    (4 + size ≤ length bytes) × (length gathered.bytes + size ≤ 16384) × (gathered.fragments < 64)
-    × (fragment record_limits gathered bytes ≡ spec.Brings (take size (drop 4 bytes)) is_last (drop size (drop 4 bytes)))
+    (4 + size ≤ length bytes) × (length gathered.bytes + size ≤ MAX_RECORD_BYTES)
+    × (gathered.fragments < MAX_FRAGMENTS)
+    × (fragment record_limits gathered bytes
+    ≡ spec.Brings (take size (drop 4 bytes)) is_last (drop size (drop 4 bytes)))
 
 -- where the record at the front of the bytes ends
 abbrev pub scan_of : List ℕ → Front → Scan
@@ -119,8 +127,11 @@ IsWhole bytes = (request : List ℕ) × (front record_limits bytes ≡ Whole req
 
 -- what a piece makes of the bytes before
 abbrev pub Receives : (old piece : List ℕ) → Progress → (new : List ℕ) → Type 0
-Receives old piece progress.More new = (front record_limits (old ++ piece) ≡ Partial) × (new ≡ old ++ piece)
+Receives old piece progress.More new =
+    (front record_limits (old ++ piece) ≡ Partial) × (new ≡ old ++ piece)
 Receives old piece (progress.Whole taken start) new =
-    (rest : List ℕ) × (front record_limits (old ++ piece) ≡ Whole (drop start new) rest) × (taken ≡ length piece - length rest)
+    (rest : List ℕ) × (front record_limits (old ++ piece) ≡ Whole (drop start new) rest)
+    × (taken ≡ length piece - length rest)
     × (is_call_read (read_call (drop start new)) ≡ true) × (start ≤ length new)
-Receives old piece (progress.Refused fault) new = fault_in (front record_limits (old ++ piece)) ≡ Some fault
+Receives old piece (progress.Refused fault) new =
+    fault_in (front record_limits (old ++ piece)) ≡ Some fault

@@ -31,7 +31,10 @@ abbrev pub auth_view : Auth → ℕ × List ℕ
 auth_view auth = (auth.flavour, auth.body.now)
 
 abbrev pub header_view : Header → ℕ × (ℕ × (ℕ × ((ℕ × List ℕ) × (ℕ × List ℕ))))
-header_view header = (header.program, (header.version, (header.procedure, (auth_view header.credential, auth_view header.verifier))))
+header_view header = (
+  header.program,
+  (header.version, (header.procedure, (auth_view header.credential, auth_view header.verifier))),
+)
 
 abbrev pub call_view : Call → spec.Call
 call_view call = record {
@@ -57,7 +60,8 @@ auth_stat_of stats.TooWeak = 5
 
 -- a COMPOUND's result
 abbrev pub result_text : CompoundResult → List ℕ
-result_text compound = spec.compound_text compound.status compound.tag.bytes.now compound.count compound.results.now
+result_text compound =
+    spec.compound_text compound.status compound.tag.bytes.now compound.count compound.results.now
 
 abbrev pub reply_view : Reply → spec.Reply
 reply_view replies.VersionRefused = spec.VersionRefused
@@ -90,7 +94,8 @@ front_of xid replies.ProgramMismatch = spec.words (xid ∷ 1 ∷ 0 ∷ 0 ∷ 0 �
 front_of xid replies.ProcedureUnavailable = spec.words (xid ∷ 1 ∷ 0 ∷ 0 ∷ 0 ∷ 3 ∷ [])
 front_of xid replies.GarbageArguments = spec.words (xid ∷ 1 ∷ 0 ∷ 0 ∷ 0 ∷ 4 ∷ [])
 front_of xid (replies.Success result) = success_head xid
-front_of xid (replies.Compound compound) = success_head xid ++ compound_front compound.status compound.tag.bytes.now compound.count
+front_of xid (replies.Compound compound) =
+    success_head xid ++ compound_front compound.status compound.tag.bytes.now compound.count
 
 abbrev pub tail_of : Reply → List ℕ
 tail_of replies.VersionRefused = []
@@ -108,7 +113,11 @@ abbrev pub head_view : Head → List ℕ × (ℕ × ℕ)
 head_view head = (head.tag.bytes.now, (head.minor, head.count))
 
 abbrev pub compound_view : Compound → spec.Compound
-compound_view compound = record { tag = compound.tag.bytes.now; count = compound.count; operations = compound.operations.now }
+compound_view compound = record {
+  tag = compound.tag.bytes.now;
+  count = compound.count;
+  operations = compound.operations.now;
+}
 
 abbrev pub request_view : Request → spec.Request
 request_view (requests.Answers reply) = spec.Answers (reply_view reply)

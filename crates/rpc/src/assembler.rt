@@ -16,8 +16,8 @@ use std::marker::Model;
 
 /// What has come of a connection's next record, up to a whole one that holds a call.
 ///
-/// A record has at most 16,384 bytes in at most 64 fragments. The memory for one with its headers is taken once, and kept
-/// from record to record.
+/// A record has at most 16,384 bytes in at most 64 fragments. The memory for one with its headers
+/// is taken once, and kept from record to record.
 #[derive(Drop)]
 pub struct Assembler {
     buffer: BytesMut,
@@ -45,9 +45,10 @@ impl Assembler {
         })
     }
 
-    /// Takes the front of the piece, up to the end of the first whole record, and answers how many bytes that is; none
-    /// while a whole record waits. `RecordTooBig` and `TooManyFragments` refuse a fragment's header as soon as it is
-    /// there, in this order, and `NotACall` a whole record; each is answered for good. It takes no memory.
+    /// Takes the front of the piece, up to the end of the first whole record, and answers how many
+    /// bytes that is; none while a whole record waits. `RecordTooBig` and `TooManyFragments` refuse
+    /// a fragment's header as soon as it is there, in this order, and `NotACall` a whole record;
+    /// each is answered for good. It takes no memory.
     pub fn feed(&mut self, piece: &[u8]) -> Result<usize, RecordFault>
         ensures arrived { IfOk result
             (λ n. connection_of self.new
@@ -92,8 +93,8 @@ impl Assembler {
         }
     }
 
-    /// Lets the whole record go that waits, and keeps its memory: what comes next begins another one. Where none waits,
-    /// nothing changes.
+    /// Lets the whole record go that waits, and keeps its memory: what comes next begins another
+    /// one. Where none waits, nothing changes.
     pub fn release(&mut self)
         ensures assembly { self.new ≡ released self.old }
         ensures connection { connection_of self.new ≡ let_go (connection_of self.old) }

@@ -8,8 +8,8 @@ use model::acl::Cred;
 use wire::SystemCredential;
 use xdr::Reader;
 
-/// The credential of AUTH_SYS, where the body is exactly its form: a stamp, a machine name of at most 255 bytes, a uid,
-/// a gid, and at most 16 further gids.
+/// The credential of AUTH_SYS, where the body is exactly its form: a stamp, a machine name of at
+/// most 255 bytes, a uid, a gid, and at most 16 further gids.
 pub(crate) fn read_auth_sys(body: &[u8]) -> Option<SystemCredential<'_>>
     ensures { MatchOption result (credential_in body.now ≡ None)
         (λ found. credential_in body.now ≡ Some (credential_view found)) }

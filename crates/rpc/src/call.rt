@@ -63,8 +63,9 @@ pub struct Header<'a> {
     pub verifier: Auth<'a>,
 }
 
-/// The call that a record's bytes are (RFC 5531, section 9). `NotACall` where it ends within the call's header, is another
-/// message, or has a credential or a verifier that is above 400 bytes or padded with other bytes than zero.
+/// The call that a record's bytes are (RFC 5531, section 9). `NotACall` where it ends within the
+/// call's header, is another message, or has a credential or a verifier that is above 400 bytes or
+/// padded with other bytes than zero.
 #[tactic(auto, unfolding(model::specs::Rpc::read_call))]
 pub fn read_call(bytes: &[u8]) -> Result<CallRead<'_>, RecordFault>
     ensures { MatchResult result (λ read. read_call bytes.now ≡ call_read_view read)

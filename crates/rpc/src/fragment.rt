@@ -1,5 +1,5 @@
-//! Fragments of a record (RFC 5531, section 11): a header, whose top bit says that it is the last one and whose other
-//! bits are its size, and so many bytes.
+//! Fragments of a record (RFC 5531, section 11): a header, whose top bit says that it is the last
+//! one and whose other bits are its size, and so many bytes.
 
 ghost use Rattle.std.specs.Prelude.{◌≡◌, ◌+◌, ◌<◌, ◌≤◌, ◌^◌, ◌++◌, length, take, drop, slice_index};
 ghost use Rattle.std.specs.Int.{w32, from_be_bytes};
@@ -14,7 +14,8 @@ pub const HEADER_BYTES: usize = 4;
 pub const MAX_RECORD_BYTES: usize = 16384;
 /// The most fragments of a record.
 pub const MAX_FRAGMENTS: usize = 64;
-/// The most bytes of a stream that are kept of one record: the record's, a header for each fragment, and one that is not whole.
+/// The most bytes of a stream that are kept of one record: the record's, a header for each
+/// fragment, and one that is not whole.
 pub const MAX_RECEIVED: usize = MAX_RECORD_BYTES + (MAX_FRAGMENTS + 1) * HEADER_BYTES;
 
 /// A place in a record, between two fragments.
@@ -67,8 +68,8 @@ pub enum Fragment {
     Brings { size: usize, is_last: bool },
 }
 
-/// What stands at a place in the bytes of `old` and `piece`, one after the other. A header is refused as soon as it is
-/// there.
+/// What stands at a place in the bytes of `old` and `piece`, one after the other. A header is
+/// refused as soon as it is there.
 pub fn fragment_at(old: &[u8], piece: &[u8], place: Place) -> Fragment
     requires within { place.at ≤ length old.now + length piece.now }
     requires small { place.size ≤ MAX_RECORD_BYTES }

@@ -1,4 +1,5 @@
-//! Calls over TCP (RFC 5531): the records of a stream, a call and the tests that it has to pass, and the replies.
+//! Calls over TCP (RFC 5531): the records of a stream, a call and the tests that it has to pass,
+//! and the replies.
 #![tactic(auto)]
 
 mod assembler;

@@ -1,5 +1,5 @@
-//! The numbers of records and messages, and those by which a call names what it asks for (RFC 5531, sections 9 and 11;
-//! RFC 8881, section 16; RFC 5662).
+//! The numbers of records and messages, and those by which a call names what it asks for (RFC 5531,
+//! sections 9 and 11; RFC 8881, section 16; RFC 5662).
 
 /// The mark of a record's last fragment, in its header.
 pub const LAST_FRAGMENT: u32 = 1 << 31;

@@ -21,8 +21,8 @@ pub enum Progress {
     Refused(RecordFault),
 }
 
-/// Takes the front of the piece, up to the end of the record, into memory that is there. Of a whole record what its
-/// fragments hold is left.
+/// Takes the front of the piece, up to the end of the record, into memory that is there. Of a whole
+/// record what its fragments hold is left.
 pub fn receive_piece(bytes: &mut BytesMut, piece: &[u8]) -> Progress
     requires partial { front record_limits bytes.old.items ≡ Partial }
     requires room { max_received ≤ length bytes.old.items + bytes.old.spare }

@@ -1,6 +1,7 @@
 //! Replies (RFC 5531, section 9; RFC 8881, section 16.2).
 //!
-//! No write is refused where memory was reserved for it. A refused one may leave a front of its text.
+//! No write is refused where memory was reserved for it. A refused one may leave a front of its
+//! text.
 
 ghost use Rattle.std.specs.Prelude.{◌≡◌, ℕ, ◌+◌, ◌<◌, ◌^◌, ◌∷◌, ◌++◌, [], length, IfOk, OnErr, IfErr};
 ghost use Rattle.xdr.specs.Clauses.{Wrote};
@@ -118,8 +119,8 @@ impl<'a> Reply<'a> {
     }
 }
 
-/// The record of a reply, as it is sent, after the bytes of `out`: one fragment (RFC 5531, section 11). It is refused
-/// only where `out` has no memory for it.
+/// The record of a reply, as it is sent, after the bytes of `out`: one fragment (RFC 5531, section
+/// 11). It is refused only where `out` has no memory for it.
 pub fn write_reply(out: Writer, xid: u32, reply: &Reply<'_>) -> Result<Vec<u8>, Refusal>
     requires { length (tail_of reply.now) < 2 ^ 30 }
     ensures ok { IfOk result (λ bytes.
@@ -194,7 +195,8 @@ fn write_compound_head(
     w.write_u32(count)
 }
 
-/// Writes the header of a record of `size` bytes that is sent as one fragment (RFC 5531, section 11).
+/// Writes the header of a record of `size` bytes that is sent as one fragment (RFC 5531, section
+/// 11).
 pub fn write_frame_header(w: &mut Writer, size: u32) -> Result<(), Refusal>
     requires { size < 2 ^ 31 }
     ensures { Wrote w.old w.new result (frame_header size) }

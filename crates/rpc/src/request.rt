@@ -33,8 +33,9 @@ pub struct Head<'a> {
 }
 
 impl<'a> Call<'a> {
-    /// What the call asks for, by the tests in their order: program, version and procedure; the credential; the head of
-    /// the COMPOUND, its minor version, and that no bytes follow where no operation is counted.
+    /// What the call asks for, by the tests in their order: program, version and procedure; the
+    /// credential; the head of the COMPOUND, its minor version, and that no bytes follow where no
+    /// operation is counted.
     #[tactic(auto, unfolding(model::specs::Rpc::request_of))]
     pub fn request(self) -> Request<'a>
         ensures request { request_of (call_view self.entry) ≡ request_view result }

@@ -19,8 +19,8 @@ pub enum Scan {
     Whole(usize),
 }
 
-/// Looks for the end of the record in the bytes of `old` and `piece`, one after the other. It goes from header to
-/// header, of which there are at most 65.
+/// Looks for the end of the record in the bytes of `old` and `piece`, one after the other. It goes
+/// from header to header, of which there are at most 65.
 pub fn scan_record(old: &[u8], piece: &[u8]) -> Scan
     ensures end { result ≡ scan_of (old.now ++ piece.now)
         (front record_limits (old.now ++ piece.now)) }

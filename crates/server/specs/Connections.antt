@@ -35,23 +35,28 @@ abbrev pub IsRising : Keyed world.Connection → Type 0
 IsRising [] = Unit {0}
 IsRising (entry ∷ rest) = IsAbove entry.0 rest
 
--- in each such world, on each connection, what is done by the definition is this turn, and leaves this world
-abbrev pub Leads : (World → ℕ → Turned) → (old new : SharedState) → (after : world.Connection) → world.Turn → Type 0
+-- in each such world, on each connection, what is done by the definition is this turn, and leaves
+-- this world
+abbrev pub Leads : (World → ℕ → Turned) → (old new : SharedState) → (after : world.Connection)
+    → world.Turn → Type 0
 Leads by old new after done =
     (world : World) (number : ℕ) → HasState world old
     → ((by world number).turn ≡ done)
     × ((by world number).world ≡ with_connection (with_state world new) number after)
 
 -- in each such world that has this connection, its turn is this one, and leaves this world
-abbrev pub Turns : (now : ℕ) → (old new : SharedState) → (before after : world.Connection) → Turn → Type 0
+abbrev pub Turns : (now : ℕ) → (old new : SharedState) → (before after : world.Connection) → Turn
+    → Type 0
 Turns now old new before after done =
-    (world : World) (number : ℕ) → HasState world old → IsRising world.connections → at number world.connections ≡ Some before
+    (world : World) (number : ℕ) → HasState world old → IsRising world.connections
+    → at number world.connections ≡ Some before
     → ((one world number now).turn ≡ turn_view done)
     × ((one world number now).world ≡ with_connection (with_state world new) number after)
 
 -- a request that has begun goes on in this run of the server
 abbrev pub IsOfRun : (run : ℕ) → world.Connection → Type 0
-IsOfRun run connection = (request : InProgress) → connection ≡ Busy request → request.context.run ≡ run
+IsOfRun run connection =
+    (request : InProgress) → connection ≡ Busy request → request.context.run ≡ run
 
 -- after a turn a request that had begun has one result more, or its reply is there
 abbrev pub HasGoneOn : (before after : Option world.Connection) → Type 0
@@ -74,9 +79,11 @@ replied old number reply = record {
 -- what the turn of a whole record is, in each world of this run
 abbrev pub OpensTo : (run : ℕ) → (request : List ℕ) → Opened → Type 0
 OpensTo run request (opened.Answers reply) =
-    (world : World) (number now : ℕ) → called world number now (read_call request) ≡ replied world number reply.items
+    (world : World) (number now : ℕ)
+    → called world number now (read_call request) ≡ replied world number reply.items
 OpensTo run request (opened.Begins running) =
     (asked_in request ≡ Some (asked_of running))
     × ((in_progress_of running).context.run ≡ run)
     × ((world : World) (number now : ℕ) → world.run ≡ run
-    → called world number now (read_call request) ≡ stepped_on world number now (in_progress_of running))
+    → called world number now (read_call request)
+    ≡ stepped_on world number now (in_progress_of running))

@@ -18,7 +18,11 @@ pub record View : Type 0 where
   pub failures : ℕ
 
 abbrev pub view : {D : Type 0} {g : Ghosts D} → Server D g → View
-view server = record { world = world_of server; volume = volume_of server; failures = failures_of server }
+view server = record {
+  world = world_of server;
+  volume = volume_of server;
+  failures = failures_of server;
+}
 
 abbrev pub IsUntouched : (old new : View) → Type 0
 IsUntouched old new = (new.world ≡ old.world) × (new.volume ≡ old.volume)
@@ -36,23 +40,26 @@ KeepsWorld old new = new.world ≡ record old.world { tree = new.world.tree }
 
 -- a turn, by why it is refused: it leaves the world in any case
 abbrev pub RefusesTurn : (old new : View) → (number : ℕ) → ServerFault → Type 0
-RefusesTurn old new number faults.NoConnection = (connection_at old number ≡ None) × IsUntouched old new
-RefusesTurn old new number faults.Closed = (connection_at old number ≡ Some Closed) × IsUntouched old new
+RefusesTurn old new number faults.NoConnection =
+    (connection_at old number ≡ None) × IsUntouched old new
+RefusesTurn old new number faults.Closed =
+    (connection_at old number ≡ Some Closed) × IsUntouched old new
 RefusesTurn old new number faults.Memory = IsUntouched old new
 RefusesTurn old new number faults.Device = KeepsWorld old new × HasCause old new
 RefusesTurn old new number faults.Full = ⊥
 
 -- a hang-up; for want of memory it leaves what was run
 abbrev pub RefusesHangUp : (old new : View) → (number : ℕ) → ServerFault → Type 0
-RefusesHangUp old new number faults.NoConnection = (connection_at old number ≡ None) × IsUntouched old new
+RefusesHangUp old new number faults.NoConnection =
+    (connection_at old number ≡ None) × IsUntouched old new
 RefusesHangUp old new number faults.Memory = ⊤
 RefusesHangUp old new number faults.Device = HasCause old new
 RefusesHangUp old new number faults.Closed = ⊥
 RefusesHangUp old new number faults.Full = ⊥
 
 -- A turn that was done. On any device the server was up and is so, on the same volume; the other
--- connections are as they were, and a request that has begun has gone on. Where the device keeps its
--- word the world is that of the definition.
+-- connections are as they were, and a request that has begun has gone on. Where the device keeps
+-- its word the world is that of the definition.
 pub record HasTurned (keeps_word : Type 0) (old new : View) (number now : ℕ) : Type 0 where
   pub up : old.volume.is_down ≡ false
   pub still_up : new.volume.is_down ≡ false

@@ -12,14 +12,19 @@ use Rattle.server.specs.Seen.{Seen, Call, IsServed, IsTurned}
 abbrev pub IsReady : Seen → Type 0
 IsReady seen = IsRecent seen.volume seen.serving.recent
 
--- The turns of a hang-up are calls, as those of a run, and further calls can be made after them, also where it was refused for memory
+-- The turns of a hang-up are calls, as those of a run, and further calls can be made after them,
+-- also where it was refused for memory
 abbrev pub HangUpIsCalls : Type 0
-HangUpIsCalls = (connection now : ℕ) (first old new : Seen) (calls : List Call) → IsServed first calls old → IsTurned connection now old new
+HangUpIsCalls =
+    (connection now : ℕ) (first old new : Seen) (calls : List Call) → IsServed first calls old
+    → IsTurned connection now old new
     → ((more : List Call) × IsServed first more new) × (IsReady old → IsReady new)
 
 -- one that claims that a stop leaves nothing
 abbrev pub NeverEmpty : Type 0
-NeverEmpty = (run : ℕ) (start : Tree) (first last : Seen) (calls : List Call) → IsMounted run start first → IsServed first calls last → last.serving.recent ≡ [] → ⊥
+NeverEmpty =
+    (run : ℕ) (start : Tree) (first last : Seen) (calls : List Call) → IsMounted run start first
+    → IsServed first calls last → last.serving.recent ≡ [] → ⊥
 
 -- nothing to do: no whole call waits, and no request has begun
 abbrev pub IsIdle : Option Connection → Type 0
@@ -29,4 +34,6 @@ IsIdle connection = Unit {0}
 
 -- Idle is told exactly then
 abbrev pub OnlyIdle : Type 0
-OnlyIdle = (world : World) (number now : ℕ) → ((one world number now).turn ≡ Idle) ↔ IsIdle (at number world.connections)
+OnlyIdle =
+    (world : World) (number now : ℕ) → ((one world number now).turn ≡ Idle)
+    ↔ IsIdle (at number world.connections)

@@ -1,4 +1,5 @@
--- A server as its caller sees it from call to call: the machine of the headline, and the volume below it.
+-- A server as its caller sees it from call to call: the machine of the headline, and the volume
+-- below it.
 use Rattle.std.specs.Prelude.{ℕ, true, List, [], ◌∷◌, Option, Some, None, ◌≡◌}
 use Rattle.disk.specs.Moments.{AddsOnly}
 use Rattle.volume.specs.Held.{Held, IsSameVolume, StandsForOne, LeavesOne, IsRecent}
@@ -14,9 +15,11 @@ pub record Seen : Type 0 where
 abbrev pub LeavesNow : Seen → Type 0
 LeavesNow seen = LeavesOne seen.volume seen.serving.recent
 
--- what a call adds to what a stop may leave, at each moment of it: trees that the machine may leave while the event happens
+-- what a call adds to what a stop may leave, at each moment of it: trees that the machine may leave
+-- while the event happens
 pub record Moves (old : Seen) (event : Event) (new : Seen) : Type 0 where
-  pub moments : AddsOnly (StandsForOne old.volume (MayLeave old.serving event)) old.volume.history new.volume.history
+  pub moments : AddsOnly (StandsForOne old.volume (MayLeave old.serving event)) old.volume.history
+      new.volume.history
   pub leaves : LeavesNow new
   pub same : IsSameVolume old.volume new.volume
 
@@ -36,7 +39,8 @@ taken_on world piece (Some connection) = taken_at world.limits.records piece con
 
 -- by the definition
 abbrev pub told : World → Event → Said
-told world (Arrives connection piece) = Took (taken_on world piece (at connection world.connections))
+told world (Arrives connection piece) =
+    Took (taken_on world piece (at connection world.connections))
 told world (Turns connection now) = Turned (one world connection now).turn
 told world (HangsUp connection) = Done
 told world (Connects connection) = Done
@@ -44,7 +48,8 @@ told world (Takes connection) = Gave (reply_at world connection)
 
 -- Calls
 
--- a call that did an event; one in which the device failed; and a reply given by a server that is down
+-- a call that did an event; one in which the device failed; and a reply given by a server that is
+-- down
 pub record Does (old : Seen) (event : Event) (said : Said) (new : Seen) : Type 0 where
   pub happens : Happens old.serving event new.serving
   pub says : said ≡ told old.serving.world event
@@ -68,11 +73,14 @@ pub data Call : Type 0 where
 
 pub data IsServed (first : Seen) : List Call → Seen → Type 0 where
   Begins : IsServed first [] first
-  Goes_on : {calls : List Call} {old new : Seen} (event : Event) (said : Said) → IsServed first calls old → Does old event said new
+  Goes_on : {calls : List Call} {old new : Seen} (event : Event) (said : Said)
+      → IsServed first calls old → Does old event said new
       → IsServed first (Did event said ∷ calls) new
-  Fails_at : {calls : List Call} {old new : Seen} (event : Event) → IsServed first calls old → Breaks old event new
+  Fails_at : {calls : List Call} {old new : Seen} (event : Event) → IsServed first calls old
+      → Breaks old event new
       → IsServed first (Failed event ∷ calls) new
-  Stays_down : {calls : List Call} {old new : Seen} (connection : ℕ) (said : Said) → IsServed first calls old → GivesDown old connection said new
+  Stays_down : {calls : List Call} {old new : Seen} (connection : ℕ) (said : Said)
+      → IsServed first calls old → GivesDown old connection said new
       → IsServed first (Did (Takes connection) said ∷ calls) new
 
 -- By the definition
@@ -84,16 +92,21 @@ world_after start (Failed event ∷ calls) = world_after start calls
 
 abbrev pub history_of : World → List Call → History
 history_of start [] = no_history
-history_of start (Did event said ∷ calls) = history_after (history_of start calls) (world_after start calls) event
-history_of start (Failed event ∷ calls) = history_failing (history_of start calls) (world_after start calls) event
+history_of start (Did event said ∷ calls) =
+    history_after (history_of start calls) (world_after start calls) event
+history_of start (Failed event ∷ calls) =
+    history_failing (history_of start calls) (world_after start calls) event
 
 abbrev pub AreTold : World → List Call → Type 0
 AreTold start [] = Unit {0}
-AreTold start (Did event said ∷ calls) = (said ≡ told (world_after start calls) event) × AreTold start calls
+AreTold start (Did event said ∷ calls) =
+    (said ≡ told (world_after start calls) event) × AreTold start calls
 AreTold start (Failed event ∷ calls) = AreTold start calls
 
 -- A hang-up: the further turns of a request that has begun, and then the connection goes
 pub data IsTurned (connection now : ℕ) : Seen → Seen → Type 0 where
   Stays : {seen : Seen} → IsTurned connection now seen seen
-  Goes_on : {old between new : Seen} {said : Said} → is_busy (at connection old.serving.world.connections) ≡ true → Does old (Turns connection now) said between
+  Goes_on : {old between new : Seen} {said : Said}
+      → is_busy (at connection old.serving.world.connections) ≡ true
+      → Does old (Turns connection now) said between
       → IsTurned connection now between new → IsTurned connection now old new

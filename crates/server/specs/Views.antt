@@ -20,9 +20,16 @@ use Rattle.server.specs.declared.server.Server.{Server}
 use Rattle.server.specs.declared.server.TheConstants.{MAX_CONNECTIONS}
 use Rattle.server.specs.Seen.{Seen, Said, Gave, Does, Breaks, GivesDown, IsTurned}
 
--- 64 clients, 32 sessions, 8 slots; records of 16,384 bytes; 16 connections; an OK result ends within 16,368 bytes of its reply
+-- 64 clients, 32 sessions, 8 slots; records of 16,384 bytes; 16 connections; an OK result ends
+-- within 16,368 bytes of its reply
 abbrev pub server_limits : Limits → ServerLimits
-server_limits volume = record { volume = volume; sessions = served; records = record_limits; connections = MAX_CONNECTIONS; reply_bytes = MAX_REPLY_BYTES }
+server_limits volume = record {
+  volume = volume;
+  sessions = served;
+  records = record_limits;
+  connections = MAX_CONNECTIONS;
+  reply_bytes = MAX_REPLY_BYTES;
+}
 
 abbrev pub world_by : SharedState → (connections : List (ℕ × world.Connection)) → World
 world_by state connections = record {
@@ -36,7 +43,8 @@ world_by state connections = record {
 }
 
 unfoldable pub world_of : {D : Type 0} {g : Ghosts D} → Server D g → World
-world_of server = world_by (shared_of server.fs server.table server.opens) (connections_of server.connections)
+world_of server =
+    world_by (shared_of server.fs server.table server.opens) (connections_of server.connections)
 
 -- the file system that it serves
 unfoldable pub files_of : {D : Type 0} {g : Ghosts D} → Server D g → FileSystem
@@ -49,7 +57,8 @@ volume_of server = (fs_of server.fs).volume
 -- it has the tree of its volume, and neither a client nor a connection
 abbrev pub BeginsEmpty : {D : Type 0} {g : Ghosts D} → Server D g → Type 0
 BeginsEmpty server = world_of server
-    ≡ mounted_world (server_limits (volume_of server).limits) (volume_of server).run (volume_of server).tree
+    ≡ mounted_world (server_limits (volume_of server).limits) (volume_of server).run
+    (volume_of server).tree
 
 -- how often the device has failed
 unfoldable pub failures_of : {D : Type 0} {g : Ghosts D} → Server D g → ℕ
@@ -57,7 +66,11 @@ failures_of server = fs_failures server.fs
 
 -- the server as the machine of the headline has it: a stop may leave these trees now
 abbrev pub serving : {D : Type 0} {g : Ghosts D} → Server D g → List Tree → Serving
-serving server recent = record { world = world_of server; recent = recent; is_down = (volume_of server).is_down }
+serving server recent = record {
+  world = world_of server;
+  recent = recent;
+  is_down = (volume_of server).is_down;
+}
 
 -- the same with the volume below it
 abbrev pub seen_with : {D : Type 0} {g : Ghosts D} → Server D g → List Tree → Seen
@@ -79,7 +92,8 @@ seen_down server tree recent = record {
 abbrev pub gave : Option (Vec ℕ) → Said
 gave output = Gave (option_map (λ reply. reply.items) output)
 
--- Whichever trees a stop may leave before a call: it does the event, and a stop may leave these trees after it.
+-- Whichever trees a stop may leave before a call: it does the event, and a stop may leave these
+-- trees after it.
 abbrev pub Serves : {D : Type 0} {g : Ghosts D} → (old new : Server D g) → Event → Said → Type 0
 Serves old new event said = (recent : List Tree) → IsRecent (volume_of old) recent
     → (after : List Tree) × Does (seen_with old recent) event said (seen_with new after)
@@ -91,12 +105,14 @@ Fails old new event = (recent : List Tree) → IsRecent (volume_of old) recent
     × Breaks (seen_with old recent) event (seen_down new (volume_of old).tree after)
 
 -- a server that is down gives a reply, whichever tree it had
-abbrev pub Gives : {D : Type 0} {g : Ghosts D} → (old new : Server D g) → (connection : ℕ) → Said → Type 0
+abbrev pub Gives : {D : Type 0} {g : Ghosts D} → (old new : Server D g) → (connection : ℕ) → Said
+    → Type 0
 Gives old new connection said = (tree : Tree) (recent : List Tree)
     → LeavesOne (volume_of old) recent
     → GivesDown (seen_down old tree recent) connection said (seen_down new tree recent)
 
 -- so many turns of a connection, and then what comes
-abbrev pub Turning : {D : Type 0} {g : Ghosts D} → (old : Server D g) → (connection now : ℕ) → (Seen → Type 0) → Type 0
+abbrev pub Turning : {D : Type 0} {g : Ghosts D} → (old : Server D g) → (connection now : ℕ)
+    → (Seen → Type 0) → Type 0
 Turning old connection now then = (recent : List Tree) → IsRecent (volume_of old) recent
     → (between : Seen) × IsTurned connection now (seen_with old recent) between × then between

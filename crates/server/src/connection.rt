@@ -7,11 +7,13 @@ use crate::stage::Stage;
 use rpc::Assembler;
 use std::alloc::Global;
 
-/// A connection: bytes come in pieces, a whole record waits for its turn, its COMPOUND runs, and its reply waits to be taken.
+/// A connection: bytes come in pieces, a whole record waits for its turn, its COMPOUND runs, and
+/// its reply waits to be taken.
 #[derive(Drop)]
 pub struct Connection {
     pub(crate) alloc: Global,
-    /// Has the memory for each record that comes. It holds the record while its request runs, and nothing while a reply waits.
+    /// Has the memory for each record that comes. It holds the record while its request runs, and
+    /// nothing while a reply waits.
     pub(crate) assembler: Assembler,
     pub(crate) stage: Stage,
     ghost ready: { is_ready stage assembler ≡ true },

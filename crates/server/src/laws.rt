@@ -3,13 +3,15 @@
 ghost use Rattle.server.specs.Headline.{EveryRun, EveryStop, EveryTrace, EveryLife, EveryStamping};
 ghost use Rattle.server.specs.RunLaws.{HangUpIsCalls, NeverEmpty, OnlyIdle};
 
-/// Whatever bytes arrive on whatever connections, and wherever the server is stopped: however often the volume is mounted since,
-/// and those mounts are refused or stopped, the next mount that serves has the tree that a prefix of the executed operations
-/// gives, under a greater restart count. None of them is skipped and none is there in part; the prefix holds every change and
-/// COMMIT whose reply was handed out (an unstable write apart), and every change in it was permitted.
+/// Whatever bytes arrive on whatever connections, and wherever the server is stopped: however often
+/// the volume is mounted since, and those mounts are refused or stopped, the next mount that serves
+/// has the tree that a prefix of the executed operations gives, under a greater restart count. None
+/// of them is skipped and none is there in part; the prefix holds every change and COMMIT whose
+/// reply was handed out (an unstable write apart), and every change in it was permitted.
 ///
-/// `Server::mount` says that a run begins; `Server::{connect, feed, turn, hangup, take_output}` that each call is one of the run, or
-/// leaves all as it was; and a mount, served or refused, what it adds to what a stop may leave.
+/// `Server::mount` says that a run begins; `Server::{connect, feed, turn, hangup, take_output}`
+/// that each call is one of the run, or leaves all as it was; and a mount, served or refused, what
+/// it adds to what a stop may leave.
 pub fn every_run()
     ensures headline { EveryRun }
     // what a stop leaves is such a tree, and no other

@@ -1,4 +1,5 @@
-//! The server: connections, and one operation of one COMPOUND a turn, on a volume that survives a stop at any moment.
+//! The server: connections, and one operation of one COMPOUND a turn, on a volume that survives a
+//! stop at any moment.
 #![tactic(auto)]
 
 mod connection;

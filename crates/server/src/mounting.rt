@@ -24,12 +24,13 @@ impl<D: Device> Server<D> {
         Fs::format(alloc, device, nodes)
     }
 
-    /// Serves the volume on this device, without a client or a connection yet: `Fs::mount`. Every map that a stop leaves from then
-    /// on has the new restart count.
+    /// Serves the volume on this device, without a client or a connection yet: `Fs::mount`. Every
+    /// map that a stop leaves from then on has the new restart count.
     ///
     /// # Errors
-    /// The device comes back with the reason. NotVolume, then Worn, by the first sector, and then nothing was written; then
-    /// Damaged exactly where no tree stands; Device where the device failed, and Memory.
+    /// The device comes back with the reason. NotVolume, then Worn, by the first sector, and then
+    /// nothing was written; then Damaged exactly where no tree stands; Device where the device
+    /// failed, and Memory.
     pub fn mount(alloc: Global, device: D) -> Result<Server<D>, Unmounted<D>>
         ensures world { IfOk result BeginsEmpty }
         ensures serves { IfOk result (λ server. MountServes D.keeps_word D.size D.failed D.history

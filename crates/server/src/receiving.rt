@@ -52,8 +52,9 @@ impl Connection {
         })
     }
 
-    /// Takes the front of a piece up to the end of the first whole record, and answers how many bytes that is; none while a
-    /// whole request or a reply waits. A refused header, and a whole record that is no call, close the connection.
+    /// Takes the front of a piece up to the end of the first whole record, and answers how many
+    /// bytes that is; none while a whole request or a reply waits. A refused header, and a whole
+    /// record that is no call, close the connection.
     #[tactic(auto, unfolding(crate::specs::Connections::connection_view, model::specs::World::taken_at))]
     pub fn feed(&mut self, piece: &[u8]) -> Result<usize, RecordFault>
         ensures arrived { IfOk result (λ n. (connection_view self.new

@@ -38,7 +38,8 @@ pub enum Opened<'a> {
     Begins(Running<'a>),
 }
 
-/// The first turn of a whole record: its call is answered at once, or the first operation of its COMPOUND runs.
+/// The first turn of a whole record: its call is answered at once, or the first operation of its
+/// COMPOUND runs.
 pub fn first_turn<D: Device>(
     alloc: Global,
     request: &[u8],

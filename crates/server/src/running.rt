@@ -27,7 +27,8 @@ impl Connection {
     ghost use Rattle.server.specs.Connections.{connection_view, turn_view, Turns, Leads, IsOfRun, HasGoneOn};
     ghost use Rattle.server.specs.Stages.{asked_held, begun, left_by, can_go_on, can_follow};
 
-    /// Runs one operation of the request that waits or has begun, at this moment in nanoseconds since 1970.
+    /// Runs one operation of the request that waits or has begun, at this moment in nanoseconds
+    /// since 1970.
     pub fn turn<D: Device>(
         &mut self,
         fs: &mut Fs<D>,

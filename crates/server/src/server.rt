@@ -53,7 +53,8 @@ impl<D: Device> Server<D> {
         self.fs.restart_count()
     }
 
-    /// The device, as it is now: clients, sessions and connections are gone, and what stands on it is the next mount's.
+    /// The device, as it is now: clients, sessions and connections are gone, and what stands on it
+    /// is the next mount's.
     pub fn into_device(self) -> D
         ensures history { D.history result ≡ (volume_of self).history }
         ensures size { D.size result ≡ (volume_of self).sectors }
@@ -65,7 +66,8 @@ impl<D: Device> Server<D> {
     /// A new connection, and its number.
     ///
     /// # Errors
-    /// Device where the file system is down; Full where there are 16 connections; Memory. Nothing changed then.
+    /// Device where the file system is down; Full where there are 16 connections; Memory. Nothing
+    /// changed then.
     pub fn connect(&mut self) -> Result<usize, ServerFault>
         ensures ok { D.keeps_word
             → IfOk result (λ conn. Serves self.old self.new (runs.Connects conn) Done) }
@@ -92,12 +94,12 @@ impl<D: Device> Server<D> {
         Ok(self.connections.insert(connection)?)
     }
 
-    /// Takes the front of a piece up to the end of the connection's first whole record, and answers how many bytes that is;
-    /// none while a whole request or a reply waits.
+    /// Takes the front of a piece up to the end of the connection's first whole record, and answers
+    /// how many bytes that is; none while a whole request or a reply waits.
     ///
     /// # Errors
-    /// Device where the file system is down; NoConnection; Closed where the piece brings a refused header or ends a record that
-    /// is no call, and from then on. It takes no memory.
+    /// Device where the file system is down; NoConnection; Closed where the piece brings a refused
+    /// header or ends a record that is no call, and from then on. It takes no memory.
     pub fn feed(&mut self, conn: usize, piece: &[u8]) -> Result<usize, ServerFault>
         ensures ok { D.keeps_word → IfOk result (λ n.
             Serves self.old self.new (runs.Arrives conn piece.now) (Took (Some n))) }
@@ -124,12 +126,13 @@ impl<D: Device> Server<D> {
         Ok(connection.feed(piece)?)
     }
 
-    /// Gives the connection a turn at this moment, in nanoseconds since 1970: one operation of its request runs. A change is kept
-    /// on the device before its result is there.
+    /// Gives the connection a turn at this moment, in nanoseconds since 1970: one operation of its
+    /// request runs. A change is kept on the device before its result is there.
     ///
     /// # Errors
-    /// Device where the file system is down, or goes down in this call: then no reply tells of the operation. NoConnection; Closed
-    /// where the connection was closed; Memory, and then nothing changed and the request stays.
+    /// Device where the file system is down, or goes down in this call: then no reply tells of the
+    /// operation. NoConnection; Closed where the connection was closed; Memory, and then nothing
+    /// changed and the request stays.
     pub fn turn(&mut self, conn: usize, now: u64) -> Result<Turn, ServerFault>
         // Done
         ensures ok { D.keeps_word → IfOk result (λ turn.
@@ -161,10 +164,12 @@ impl<D: Device> Server<D> {
         Ok(connection.turn(&mut self.fs, &mut self.table, &mut self.opens, now)?)
     }
 
-    /// Drops the connection, and all that it holds. A request that has begun is run to its end first, and its slot keeps the reply.
+    /// Drops the connection, and all that it holds. A request that has begun is run to its end
+    /// first, and its slot keeps the reply.
     ///
     /// # Errors
-    /// Device and NoConnection as in `turn`. After Memory what was run stays run, and the connection stays.
+    /// Device and NoConnection as in `turn`. After Memory what was run stays run, and the
+    /// connection stays.
     pub fn hangup(&mut self, conn: usize, now: u64) -> Result<(), ServerFault>
         // Done
         ensures ok { D.keeps_word → OnOk result
@@ -210,7 +215,8 @@ impl<D: Device> Server<D> {
         }
     }
 
-    /// Hands out the connection's reply record, once; None where there is no reply. A server that is down does so too.
+    /// Hands out the connection's reply record, once; None where there is no reply. A server that
+    /// is down does so too.
     ///
     /// # Errors
     /// NoConnection.

@@ -1,5 +1,5 @@
-//! The calls of a server and of a file system as tests make them. Each stands here once: a call brings all that it promises
-//! into the proof of its caller.
+//! The calls of a server and of a file system as tests make them. Each stands here once: a call
+//! brings all that it promises into the proof of its caller.
 #![tactic(auto)]
 
 use acl_eval::Cred;

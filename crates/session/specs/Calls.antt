@@ -21,28 +21,41 @@ abbrev pub Refuses : NotDone → Type 0
 Refuses (refusal.Status reason) = IsRefusal reason
 Refuses refusal.Memory = Unit {0}
 
--- EXCHANGE_ID answers what is wanted, and leaves that table. For want of memory, which only a new record has, the table stays.
-abbrev pub Exchanged : Result answer.ExchangeIdAnswer Status × model.Table → model.Table → model.Table → Result ExchangeIdAnswer NotDone → Type 0
+-- EXCHANGE_ID answers what is wanted, and leaves that table. For want of memory, which only a new
+-- record has, the table stays.
+abbrev pub Exchanged : Result answer.ExchangeIdAnswer Status × model.Table → model.Table
+    → model.Table → Result ExchangeIdAnswer NotDone → Type 0
 Exchanged wanted old new (Ok known) = wanted ≡ (Ok (exchange_id_view known), new)
 Exchanged wanted old new (Err (refusal.Status reason)) = wanted ≡ (Err reason, new)
-Exchanged wanted old new (Err refusal.Memory) = (wanted.1.client_serial ≡ old.client_serial + 1) × (new ≡ old)
+Exchanged wanted old new (Err refusal.Memory) =
+    (wanted.1.client_serial ≡ old.client_serial + 1) × (new ≡ old)
 
--- So does CREATE_SESSION, which tells whose opens end. For want of memory, which only a new session has, the table stays.
-abbrev pub Created : model.CreateSessionOutcome → model.Table → model.Table → Result CreatedSession NotDone → Type 0
+-- So does CREATE_SESSION, which tells whose opens end. For want of memory, which only a new session
+-- has, the table stays.
+abbrev pub Created : model.CreateSessionOutcome → model.Table → model.Table
+    → Result CreatedSession NotDone → Type 0
 Created wanted old new (Ok created) =
-    (wanted.answer ≡ Ok (create_session_view created.answer)) × (wanted.ended_clients ≡ created.ended.items) × (wanted.table ≡ new)
-Created wanted old new (Err (refusal.Status reason)) = (wanted.answer ≡ Err reason) × (wanted.table ≡ new)
-Created wanted old new (Err refusal.Memory) = (wanted.table.session_serial ≡ old.session_serial + 1) × (new ≡ old)
+    (wanted.answer ≡ Ok (create_session_view created.answer))
+    × (wanted.ended_clients ≡ created.ended.items) × (wanted.table ≡ new)
+Created wanted old new (Err (refusal.Status reason)) =
+    (wanted.answer ≡ Err reason) × (wanted.table ≡ new)
+Created wanted old new (Err refusal.Memory) =
+    (wanted.table.session_serial ≡ old.session_serial + 1) × (new ≡ old)
 
 -- what a SEQUENCE that runs answers, and by which client
 abbrev pub IsBegun : SequenceArguments → model.Session → ℕ → answer.SequenceAnswer → Type 0
-IsBegun arguments session client answered = (client ≡ session.client) × (answered ≡ sequence_answer arguments session)
+IsBegun arguments session client answered =
+    (client ≡ session.client) × (answered ≡ sequence_answer arguments session)
 
 -- SEQUENCE runs, replays the kept reply or refuses, and only a slot that runs changes.
-abbrev pub Begins : ℕ → ℕ → SequenceArguments → model.Table → model.Table → Result Begun Status → Type 0
+abbrev pub Begins : ℕ → ℕ → SequenceArguments → model.Table → model.Table → Result Begun Status
+    → Type 0
 Begins uid count arguments old new (Ok begun.Replays) =
-    (reply : List ℕ) × (begin uid count arguments old ≡ model.Replays reply) × (reply_kept arguments.session arguments.slot old ≡ Some reply) × (new ≡ old)
+    (reply : List ℕ) × (begin uid count arguments old ≡ model.Replays reply)
+    × (reply_kept arguments.session arguments.slot old ≡ Some reply) × (new ≡ old)
 Begins uid count arguments old new (Ok (begun.Runs client answered)) =
-    (session : model.Session) × (find (is_session arguments.session) old.sessions ≡ Some session) × IsBegun arguments session client (sequence_view answered)
+    (session : model.Session) × (find (is_session arguments.session) old.sessions ≡ Some session)
+    × IsBegun arguments session client (sequence_view answered)
     × (begin uid count arguments old ≡ model.Runs) × (new ≡ started uid arguments old)
-Begins uid count arguments old new (Err reason) = (begin uid count arguments old ≡ model.Refuses reason) × (new ≡ old)
+Begins uid count arguments old new (Err reason) =
+    (begin uid count arguments old ≡ model.Refuses reason) × (new ≡ old)

@@ -44,11 +44,18 @@ abbrev pub Adds : ℕ → ExchangeIdArguments → Option ℕ → Clients → Cli
 Adds uid arguments dropped old new (Ok number) =
     (is_full_beside (records_staying arguments.owner dropped (clients_of old)) old.serial ≡ false)
     × (number ≡ client_number old.run (old.serial + 1))
-    × (roll_of new ≡ (old.run, old.serial + 1, records_staying arguments.owner dropped (clients_of old) ++ record_of uid arguments number ∷ []))
+    × (roll_of new ≡ (
+      old.run,
+      old.serial + 1,
+      records_staying arguments.owner dropped (clients_of old) ++ record_of uid arguments number
+          ∷ [],
+    ))
 Adds uid arguments dropped old new (Err (refusal.Status reason)) =
-    (is_full_beside (records_staying arguments.owner dropped (clients_of old)) old.serial ≡ true) × (reason ≡ status.Delay) × (roll_of new ≡ roll_of old)
+    (is_full_beside (records_staying arguments.owner dropped (clients_of old)) old.serial ≡ true)
+    × (reason ≡ status.Delay) × (roll_of new ≡ roll_of old)
 Adds uid arguments dropped old new (Err refusal.Memory) =
-    (is_full_beside (records_staying arguments.owner dropped (clients_of old)) old.serial ≡ false) × (roll_of new ≡ roll_of old)
+    (is_full_beside (records_staying arguments.owner dropped (clients_of old)) old.serial ≡ false)
+    × (roll_of new ≡ roll_of old)
 
 -- the numbers of the clients that a session of `client` ends
 abbrev pub ended_by : model.Client → List model.Client → List ℕ
@@ -57,7 +64,8 @@ ended_by client clients = map (λ other. other.number) (filter (is_replaced_by c
 abbrev pub reclaimed : model.Client → model.Client
 reclaimed known = record known { has_reclaimed = true }
 
--- why CREATE_SESSION is refused where the record's next number is `next`: by its arguments, and then for want of room
+-- why CREATE_SESSION is refused where the record's next number is `next`: by its arguments, and
+-- then for want of room
 abbrev pub argument_refusals : ℕ → CreateSessionArguments → Refusals
 argument_refusals next arguments =
     (not (arguments.sequence == next), status.SeqMisordered)
@@ -67,7 +75,9 @@ argument_refusals next arguments =
 
 -- a session that gives way to one of `client` runs a request
 abbrev pub ends_running : model.Client → model.Table → Bool
-ends_running client table = list_any (λ session. is_of_clients (replaced_by client table) session && is_running session) table.sessions
+ends_running client table =
+    list_any (λ session. is_of_clients (replaced_by client table) session && is_running session)
+    table.sessions
 
 abbrev pub room_refusals : model.Client → model.Table → Refusals
 room_refusals client table =

@@ -55,7 +55,13 @@ abbrev pub book_with : Sessions → List model.Session → ℕ × List model.Ses
 book_with sessions list = (sessions.serial, list)
 
 abbrev pub table_by : ℕ × ℕ × List model.Client → ℕ × List model.Session → model.Table
-table_by roll book = record { run = roll.0; client_serial = roll.1; session_serial = book.0; clients = roll.2; sessions = book.1 }
+table_by roll book = record {
+  run = roll.0;
+  client_serial = roll.1;
+  session_serial = book.0;
+  clients = roll.2;
+  sessions = book.1;
+}
 
 unfoldable pub table_of : Table → model.Table
 table_of table = table_by (roll_of table.clients) (book_of table.sessions)

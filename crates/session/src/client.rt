@@ -8,7 +8,8 @@ ghost use Rattle.session.specs.Views.{client_of};
 
 use wire::CreateSessionAnswer;
 
-/// What is known of a client. `sequence` is the number of its next CREATE_SESSION, and `kept` the last one's result.
+/// What is known of a client. `sequence` is the number of its next CREATE_SESSION, and `kept` the
+/// last one's result.
 #[derive(Drop)]
 pub struct Client {
     pub number: u64,
@@ -36,7 +37,8 @@ impl Client {
         !self.is_confirmed && self.owner.as_slice() == owner
     }
 
-    /// Whether confirming `client` ends this record: it is another one, the confirmed one of the same owner id.
+    /// Whether confirming `client` ends this record: it is another one, the confirmed one of the
+    /// same owner id.
     pub fn is_replaced_by(&self, client: &Client) -> bool
         ensures { result ≡ is_replaced_by (client_of client.now) (client_of self.now) }
     {

@@ -4,7 +4,7 @@ ghost use Rattle.std.specs.Prelude.{◌<◌, ◌≤◌, ◌+◌, ◌*◌, ◌^�
 ghost use Rattle.std.specs.List.{AllPairs};
 
 use crate::client::Client;
-use crate::limits::CLIENTS;
+use crate::limits::MAX_CLIENTS;
 use model::not_done::NotDone;
 use model::status::Status;
 use std::alloc::{AllocError, Global};
@@ -94,7 +94,8 @@ impl Clients {
             .count()
     }
 
-    /// A new unconfirmed record, in place of an unconfirmed one of the owner and of the record `dropped`: its client id.
+    /// A new unconfirmed record, in place of an unconfirmed one of the owner and of the record
+    /// `dropped`: its client id.
     pub fn add(
         &mut self,
         alloc: Global,
@@ -105,7 +106,7 @@ impl Clients {
         ensures { Adds uid (exchange_id_view arguments.now) dropped self.old self.new result }
     {
         let owner = arguments.owner;
-        if CLIENTS <= self.count_staying(owner, dropped) || self.serial == u32::MAX {
+        if MAX_CLIENTS <= self.count_staying(owner, dropped) || self.serial == u32::MAX {
             return Err(NotDone::Status(Status::Delay));
         }
         let number = u64::from(self.run) * 0x1_0000_0000 + u64::from(self.serial) + 1;

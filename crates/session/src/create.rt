@@ -13,7 +13,7 @@ ghost use Rattle.session.specs.Rooms.{argument_refusals, room_refusals, ends_run
 ghost use Rattle.session.specs.Views.{table_of, client_of};
 
 use crate::client::Client;
-use crate::limits::{OPERATIONS, RECORD_BYTES, SESSIONS, SLOTS};
+use crate::limits::{MAX_OPERATIONS, MAX_RECORD_BYTES, MAX_SESSIONS, MAX_SLOTS};
 use crate::session::{Session, session_id};
 use crate::table::Table;
 use model::not_done::NotDone;
@@ -34,10 +34,12 @@ impl Table {
     /// CREATE_SESSION by this uid.
     ///
     /// # Errors
-    /// In this order: STALE_CLIENTID for an unknown client; CLID_INUSE for another principal's; SEQ_MISORDERED for a number
-    /// other than the record's next, unless it is the one before and its result is kept; INVAL for a flag that may not be set;
-    /// TOOSMALL for a fore channel below the record size or without operations or requests; DELAY where a session that would
-    /// end runs a request, where the session would be the 33rd, or where no serial is left. `Memory` leaves the table as it was.
+    /// In this order: STALE_CLIENTID for an unknown client; CLID_INUSE for another principal's;
+    /// SEQ_MISORDERED for a number other than the record's next, unless it is the one before and
+    /// its result is kept; INVAL for a flag that may not be set; TOOSMALL for a fore channel below
+    /// the record size or without operations or requests; DELAY where a session that would end runs
+    /// a request, where the session would be the 33rd, or where no serial is left. `Memory` leaves
+    /// the table as it was.
     pub fn create_session(
         &mut self,
         uid: u32,
@@ -64,7 +66,8 @@ impl Table {
         self.add_session(arguments, ended)
     }
 
-    // DELAY where a session that would end runs a request, and where there is no place or no serial for one more.
+    // DELAY where a session that would end runs a request, and where there is no place or no serial
+    // for one more.
     fn check_room(&self, client: &Client) -> Result<(), Status>
         ensures first { result_err result
             ≡ first_refusal (room_refusals (client_of client.now) (table_of self.now)) }
@@ -94,10 +97,11 @@ impl Table {
             .iter()
             .filter(|session| !clients.is_ending(client, session.client))
             .count();
-        SESSIONS <= staying || self.sessions.serial == u64::MAX
+        MAX_SESSIONS <= staying || self.sessions.serial == u64::MAX
     }
 
-    // The session of the client that the arguments name, where those of the ended clients give way to it.
+    // The session of the client that the arguments name, where those of the ended clients give way
+    // to it.
     fn add_session(
         &mut self,
         arguments: &CreateSessionArguments<'_>,
@@ -151,8 +155,8 @@ fn check_arguments(next: u32, arguments: &CreateSessionArguments<'_>) -> Result<
 fn is_too_small(fore: &Channel) -> bool
     ensures { result ≡ is_too_small served (channel_view fore.now) }
 {
-    fore.max_request_size < RECORD_BYTES
-        || fore.max_response_size < RECORD_BYTES
+    fore.max_request_size < MAX_RECORD_BYTES
+        || fore.max_response_size < MAX_RECORD_BYTES
         || fore.max_operations == 0
         || fore.max_requests == 0
 }
@@ -163,11 +167,11 @@ fn fore_channel(asked: &Channel) -> Channel
 {
     Channel {
         header_pad_size: 0,
-        max_request_size: RECORD_BYTES,
-        max_response_size: RECORD_BYTES,
-        max_response_size_cached: asked.max_response_size_cached.min(RECORD_BYTES),
-        max_operations: asked.max_operations.min(OPERATIONS),
-        max_requests: asked.max_requests.min(SLOTS),
+        max_request_size: MAX_RECORD_BYTES,
+        max_response_size: MAX_RECORD_BYTES,
+        max_response_size_cached: asked.max_response_size_cached.min(MAX_RECORD_BYTES),
+        max_operations: asked.max_operations.min(MAX_OPERATIONS),
+        max_requests: asked.max_requests.min(MAX_SLOTS),
         rdma_ird: None,
     }
 }

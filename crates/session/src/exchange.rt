@@ -15,7 +15,8 @@ use model::not_done::NotDone;
 use model::status::Status;
 use wire::{ExchangeIdAnswer, ExchangeIdArguments};
 
-/// SUPP_MOVED_REFER, SUPP_MOVED_MIGR, BIND_PRINC_STATEID, USE_NON_PNFS, USE_PNFS_MDS and USE_PNFS_DS may be set.
+/// SUPP_MOVED_REFER, SUPP_MOVED_MIGR, BIND_PRINC_STATEID, USE_NON_PNFS, USE_PNFS_MDS and
+/// USE_PNFS_DS may be set.
 const EXCHANGE_FLAGS: u32 = 0x7_0103;
 
 const USE_NON_PNFS: u32 = 0x1_0000;
@@ -28,9 +29,10 @@ impl Table {
     /// EXCHANGE_ID by this uid, where the clients of `with_opens` have opens.
     ///
     /// # Errors
-    /// INVAL where a flag is set that may not be; CLID_INUSE where the owner id's confirmed record is another principal's and
-    /// has a session or an open; DELAY where the new record would be the 65th, or no serial is left. `Memory` leaves the table
-    /// as it was, and comes only where a record would be made.
+    /// INVAL where a flag is set that may not be; CLID_INUSE where the owner id's confirmed record
+    /// is another principal's and has a session or an open; DELAY where the new record would be the
+    /// 65th, or no serial is left. `Memory` leaves the table as it was, and comes only where a
+    /// record would be made.
     pub fn exchange_id(
         &mut self,
         uid: u32,

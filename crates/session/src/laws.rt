@@ -2,8 +2,8 @@
 
 ghost use Rattle.model.specs.SessionRuns.{EverySlot};
 
-/// A slot runs its numbers in their order from 1 on, whatever calls are made in one run of the server; so a number runs
-/// again only after the 2^32 - 1 others (RFC 8881, section 2.10.6.1).
+/// A slot runs its numbers in their order from 1 on, whatever calls are made in one run of the
+/// server; so a number runs again only after the 2^32 - 1 others (RFC 8881, section 2.10.6.1).
 pub fn every_slot()
     ensures { EverySlot }
 {

@@ -1,7 +1,8 @@
-//! Client records, sessions and their slots (RFC 8881, section 2.10): what a server knows of its clients in one run.
+//! Client records, sessions and their slots (RFC 8881, section 2.10): what a server knows of its
+//! clients in one run.
 //!
-//! `Table` takes EXCHANGE_ID, CREATE_SESSION, DESTROY_SESSION, DESTROY_CLIENTID, RECLAIM_COMPLETE and SEQUENCE. A slot keeps
-//! the reply to its last request, which a retry gets again.
+//! `Table` takes EXCHANGE_ID, CREATE_SESSION, DESTROY_SESSION, DESTROY_CLIENTID, RECLAIM_COMPLETE
+//! and SEQUENCE. A slot keeps the reply to its last request, which a retry gets again.
 #![tactic(auto)]
 
 mod client;
@@ -20,6 +21,6 @@ mod table;
 
 pub use create::CreatedSession;
 pub use laws::every_slot;
-pub use limits::{CLIENTS, OPERATIONS, RECORD_BYTES, SESSIONS, SLOTS};
+pub use limits::{MAX_CLIENTS, MAX_OPERATIONS, MAX_RECORD_BYTES, MAX_SESSIONS, MAX_SLOTS};
 pub use sequence::Begun;
 pub use table::Table;

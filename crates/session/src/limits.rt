@@ -1,16 +1,16 @@
 //! How many there may be.
 
 /// Client records.
-pub const CLIENTS: usize = 64;
+pub const MAX_CLIENTS: usize = 64;
 
 /// Sessions.
-pub const SESSIONS: usize = 32;
+pub const MAX_SESSIONS: usize = 32;
 
 /// Slots of a session.
-pub const SLOTS: u32 = 8;
+pub const MAX_SLOTS: u32 = 8;
 
 /// Operations of a COMPOUND.
-pub const OPERATIONS: u32 = 16;
+pub const MAX_OPERATIONS: u32 = 16;
 
 /// Bytes of a request's or a reply's record.
-pub const RECORD_BYTES: u32 = 16_384;
+pub const MAX_RECORD_BYTES: u32 = 16_384;

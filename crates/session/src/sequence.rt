@@ -8,7 +8,7 @@ ghost use Rattle.wire.specs.Short.{IsRefusal};
 ghost use Rattle.session.specs.Calls.{Begins};
 ghost use Rattle.session.specs.Views.{table_of, reply_kept};
 
-use crate::limits::RECORD_BYTES;
+use crate::limits::MAX_RECORD_BYTES;
 use crate::slot::Next;
 use crate::table::Table;
 use model::status::Status;
@@ -27,9 +27,10 @@ impl Table {
     /// SEQUENCE by this uid, first in a COMPOUND of `count` operations.
     ///
     /// # Errors
-    /// In this order: BADSESSION; BADSLOT; of a slot whose request runs, DELAY for its number and SEQ_MISORDERED for another;
-    /// SEQ_FALSE_RETRY for the number of a kept reply by another uid; SEQ_MISORDERED for a number that is not the next;
-    /// TOO_MANY_OPS above the session's operations. Each leaves the table as it was.
+    /// In this order: BADSESSION; BADSLOT; of a slot whose request runs, DELAY for its number and
+    /// SEQ_MISORDERED for another; SEQ_FALSE_RETRY for the number of a kept reply by another uid;
+    /// SEQ_MISORDERED for a number that is not the next; TOO_MANY_OPS above the session's
+    /// operations. Each leaves the table as it was.
     pub fn begin(
         &mut self,
         uid: u32,
@@ -64,17 +65,18 @@ impl Table {
     /// The reply, a whole COMPOUND result, that the slot keeps.
     #[tactic(auto, unfolding(crate::specs::Views::table_of, crate::specs::Views::reply_kept))]
     pub fn kept(&self, id: &[u8; 16], slot: u32) -> Option<&[u8]>
-        ensures short { IfSome result (λ bytes. length bytes.now ≤ RECORD_BYTES) }
+        ensures short { IfSome result (λ bytes. length bytes.now ≤ MAX_RECORD_BYTES) }
         ensures kept { option_map (λ bytes. bytes.now) result
             ≡ reply_kept id.now slot (table_of self.now) }
     {
         self.sessions.find(id)?.kept(slot)
     }
 
-    /// The slot keeps the reply, whatever it held. Where no session has this id, or the session no such slot, nothing changes.
+    /// The slot keeps the reply, whatever it held. Where no session has this id, or the session no
+    /// such slot, nothing changes.
     #[tactic(auto, unfolding(crate::specs::Views::table_of, model::specs::Session::finish))]
     pub fn finish(&mut self, id: &[u8; 16], slot: u32, reply: Vec<u8>)
-        requires small { length reply.items ≤ RECORD_BYTES }
+        requires small { length reply.items ≤ MAX_RECORD_BYTES }
         ensures { table_of self.new ≡ finish id.now slot reply.items (table_of self.old) }
     {
         self.sessions.keep(id, slot, reply);

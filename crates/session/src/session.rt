@@ -3,9 +3,9 @@
 ghost use Rattle.std.specs.Prelude.{◌≡◌, ◌≤◌};
 ghost use Rattle.std.specs.Vec.{vec_len};
 ghost use Rattle.model.specs.Session.{session_id};
-ghost use Rattle.session.specs.declared.limits.TheConstants.{SLOTS};
+ghost use Rattle.session.specs.declared.limits.TheConstants.{MAX_SLOTS};
 
-use crate::limits::{RECORD_BYTES, SLOTS};
+use crate::limits::{MAX_RECORD_BYTES, MAX_SLOTS};
 use crate::slot::{Next, Slot, SlotState, free_slots};
 use model::status::Status;
 use std::alloc::{AllocError, Global};
@@ -18,7 +18,7 @@ pub struct Session {
     pub serial: u64,
     pub max_operations: u32,
     pub slots: Vec<Slot>,
-    ghost few: { vec_len slots ≤ SLOTS },
+    ghost few: { vec_len slots ≤ MAX_SLOTS },
 }
 
 /// The id of a session (RFC 8881, section 2.10.3): its client's id and its serial, 8 bytes each.
@@ -48,7 +48,7 @@ impl Session {
         serial: u64,
         fore: &Channel,
     ) -> Result<Session, AllocError>
-        requires { fore.now.max_requests ≤ SLOTS }
+        requires { fore.now.max_requests ≤ MAX_SLOTS }
         ensures { IfOk result (λ session. session_of session ≡ record {
           client = client;
           serial = serial;
@@ -145,7 +145,7 @@ impl Session {
 
     /// The slot keeps the reply to what it ran. Where there is no such slot the session stays.
     pub fn keep(&mut self, slot: u32, reply: Vec<u8>)
-        requires small { length reply.items ≤ RECORD_BYTES }
+        requires small { length reply.items ≤ MAX_RECORD_BYTES }
         ensures { session_of self.new ≡ finished_slot slot reply.items (session_of self.old) }
     {
         let place = slot as usize;
@@ -156,7 +156,7 @@ impl Session {
 
     /// The reply that the slot keeps.
     pub fn kept(&self, slot: u32) -> Option<&[u8]>
-        ensures short { IfSome result (λ bytes. length bytes.now ≤ RECORD_BYTES) }
+        ensures short { IfSome result (λ bytes. length bytes.now ≤ MAX_RECORD_BYTES) }
         ensures kept { option_map (λ bytes. bytes.now) result
             ≡ reply_at slot (session_of self.now) }
     {

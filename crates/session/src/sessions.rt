@@ -3,7 +3,7 @@
 ghost use Rattle.std.specs.Prelude.{◌<◌, ◌≤◌, ◌^◌, All};
 ghost use Rattle.std.specs.List.{AllPairs};
 
-use crate::limits::RECORD_BYTES;
+use crate::limits::MAX_RECORD_BYTES;
 use crate::session::Session;
 use std::alloc::{AllocError, Global};
 use wire::SequenceArguments;
@@ -77,7 +77,7 @@ impl Sessions {
 
     /// The slot of the session keeps the reply to what it ran.
     pub fn keep(&mut self, id: &[u8; 16], slot: u32, reply: Vec<u8>)
-        requires small { length reply.items ≤ RECORD_BYTES }
+        requires small { length reply.items ≤ MAX_RECORD_BYTES }
         ensures { book_of self.new ≡ book_with self.old
             (changed_where (is_session id.now) (finished_slot slot reply.items)
             (sessions_of self.old)) }
@@ -95,7 +95,8 @@ impl Sessions {
         self.list.retain(|session| !session.has_id(id));
     }
 
-    /// A new session, of a later serial than those before, in place of those of the ended clients. Without memory nothing changes.
+    /// A new session, of a later serial than those before, in place of those of the ended clients.
+    /// Without memory nothing changes.
     pub fn add(&mut self, ended: &[u64], session: Session) -> Result<(), AllocError>
         requires { self.old.serial < session.serial }
         ensures ok { let staying = without_where (is_of_clients ended.now) (sessions_of self.old) in

@@ -5,7 +5,7 @@ ghost use Rattle.model.specs.Session.{no_slot};
 ghost use Rattle.session.specs.Slots.{slot_of};
 
 use crate::held::KeptReply;
-use crate::limits::RECORD_BYTES;
+use crate::limits::MAX_RECORD_BYTES;
 use std::alloc::{AllocError, Global};
 
 /// What a slot holds: nothing yet, a request that runs, or the COMPOUND result of the last one.
@@ -59,7 +59,7 @@ impl Slot {
 
     /// The reply that it keeps.
     pub fn kept(&self) -> Option<&[u8]>
-        ensures short { IfSome result (λ bytes. length bytes.now ≤ RECORD_BYTES) }
+        ensures short { IfSome result (λ bytes. length bytes.now ≤ MAX_RECORD_BYTES) }
         ensures kept { option_map (λ bytes. bytes.now) result
             ≡ kept_reply (slot_of self.now).state }
     {
@@ -80,7 +80,7 @@ impl Slot {
 
     /// Keeps the reply to its last request.
     pub fn keep(&mut self, reply: Vec<u8>)
-        requires small { length reply.items ≤ RECORD_BYTES }
+        requires small { length reply.items ≤ MAX_RECORD_BYTES }
         ensures { slot_of self.new ≡ kept_slot reply.items (slot_of self.old) }
     {
         self.state = SlotState::Kept(KeptReply { bytes: reply });

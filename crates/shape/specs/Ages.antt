@@ -13,4 +13,6 @@ pub record IsCardBefore (stamp : ℕ) (card : Card) : Type 0 where
   pub names : AreNamesBefore stamp card.names
 
 abbrev pub AreBefore : (stamp : ℕ) → List (Option Card) → Type 0
-AreBefore stamp cards = (place : ℕ) (card : Card) → slice_index_or cards place None ≡ Some card → IsCardBefore stamp card
+AreBefore stamp cards =
+    (place : ℕ) (card : Card) → slice_index_or cards place None ≡ Some card
+    → IsCardBefore stamp card

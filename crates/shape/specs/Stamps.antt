@@ -21,4 +21,5 @@ AreStampsApart cards = (stamp : ℕ) → times stamp (entry_stamps cards) ≤ 1
 
 -- each differs from the next one
 abbrev pub AreDifferent : List ℕ → Type 0
-AreDifferent stamps = (i : ℕ) → i + 1 < length stamps → slice_index_or stamps i 0 ≢ slice_index_or stamps (i + 1) 0
+AreDifferent stamps =
+    (i : ℕ) → i + 1 < length stamps → slice_index_or stamps i 0 ≢ slice_index_or stamps (i + 1) 0

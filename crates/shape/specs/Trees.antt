@@ -1,4 +1,5 @@
--- When the nodes at the places of a table make one tree: what the sums of `layout` make of a well-formed tree's links.
+-- When the nodes at the places of a table make one tree: what the sums of `layout` make of a
+-- well-formed tree's links.
 use Rattle.std.specs.Prelude.{◌≡◌, ◌<◌, ℕ, List, [], Option, Some, None, length, slice_index_or}
 use Rattle.model.specs.Tree.{root}
 use Rattle.cards.specs.Tables.{number_at}
@@ -18,13 +19,15 @@ led_at cards place = led_by (slice_index_or cards place None)
 -- reached: the root, and what a name in a reached directory leads to
 pub data IsReached (cards : List (Option Card)) : ℕ → Type 0 where
   Root : IsReached cards root
-  Named : (place number i : ℕ) → number_at cards place ≡ Some number → IsReached cards number → i < length (led_at cards place)
+  Named : (place number i : ℕ) → number_at cards place ≡ Some number → IsReached cards number
+      → i < length (led_at cards place)
       → IsReached cards (slice_index_or (led_at cards place) i 0)
 
 pub record IsOneTree (cards : List (Option Card)) : Type 0 where
   -- there is a root
   pub rooted : (place : ℕ) × (number_at cards place ≡ Some root)
   -- each other node has one name, and neither the root nor a number without a node has one
-  pub linked : (number : ℕ) → times number (entry_numbers cards) ≡ times number (other_numbers cards)
+  pub linked : (number : ℕ)
+      → times number (entry_numbers cards) ≡ times number (other_numbers cards)
   -- each is reached
   pub reached : (place number : ℕ) → number_at cards place ≡ Some number → IsReached cards number

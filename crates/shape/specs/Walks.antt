@@ -26,15 +26,19 @@ led_from cards (place ∷ places) = led_at cards place ++ led_from cards places
 pub record IsWalk (cards : List (Option Card)) (seen : List Bool) (order : List ℕ) : Type 0 where
   pub marks : length seen ≡ length cards
   pub once : (place : ℕ) → times place order ≡ once_if (slice_index_or seen place false)
-  pub there : (i : ℕ) → i < length order → number_at cards (slice_index_or order i 0) ≡ Some (number_in cards (slice_index_or order i 0))
-  pub reached : (i : ℕ) → i < length order → IsReached cards (number_in cards (slice_index_or order i 0))
+  pub there : (i : ℕ) → i < length order
+      → number_at cards (slice_index_or order i 0)
+      ≡ Some (number_in cards (slice_index_or order i 0))
+  pub reached : (i : ℕ) → i < length order
+      → IsReached cards (number_in cards (slice_index_or order i 0))
 
 -- no node has the number, or one of these is it
 abbrev pub IsMissing : List (Option Card) → List ℕ → (number : ℕ) → Type 0
 IsMissing cards met number = HasNot cards number ⊎ (0 < times number met)
 
 -- the walk goes on, and has met the nodes of these numbers too
-pub record Meets (cards : List (Option Card)) (seen : List Bool) (old new numbers : List ℕ) : Type 0 where
+pub record Meets (cards : List (Option Card)) (seen : List Bool) (old new numbers : List ℕ) : Type
+    0 where
   pub walk : IsWalk cards seen new
   pub more : List ℕ
   pub front : new ≡ old ++ more
@@ -44,4 +48,5 @@ pub record Meets (cards : List (Option Card)) (seen : List Bool) (old new number
 pub record IsStuck (cards : List (Option Card)) (order : List ℕ) (place : ℕ) : Type 0 where
   pub i : ℕ
   pub within : i < length (led_at cards place)
-  pub missing : IsMissing cards (numbers_at cards order ++ take i (led_at cards place)) (slice_index_or (led_at cards place) i 0)
+  pub missing : IsMissing cards (numbers_at cards order ++ take i (led_at cards place))
+      (slice_index_or (led_at cards place) i 0)

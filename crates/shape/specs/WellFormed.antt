@@ -13,7 +13,8 @@ pub record DoFit (limits : Limits) (cards : List (Option Card)) : Type 0 where
   pub charge : charge_of_all cards ≤ limits.data_sectors
   pub count : count_of_all cards ≤ limits.nodes
 
--- one tree of allowed nodes that fit, with its stamps apart and below this one: what else a well-formed tree has, laid cards have
+-- one tree of allowed nodes that fit, with its stamps apart and below this one: what else a
+-- well-formed tree has, laid cards have
 pub record AreWellFormed (limits : Limits) (stamp : ℕ) (cards : List (Option Card)) : Type 0 where
   pub tree : IsOneTree cards
   pub stamps : AreStampsApart cards

@@ -26,7 +26,8 @@ fn is_card_before(card: &Card, last: u64) -> bool
         && are_names_before(card.names.entries(), last)
 }
 
-/// Whether nothing that a volume's nodes have of stamps is past this last one: numbers, change values and stamps of names.
+/// Whether nothing that a volume's nodes have of stamps is past this last one: numbers, change
+/// values and stamps of names.
 pub(crate) fn are_before(table: &Table, last: u64) -> bool
     ensures { IsTrue result ↔ AreBefore (last + 1) table.now }
 {

@@ -64,8 +64,9 @@ fn has_root_directory(table: &Table) -> bool
     false
 }
 
-/// Whether each of a volume's nodes is one that the limits allow, and the root is a directory: each node may have its list, a
-/// file has no more bytes than the limits allow, and each name passes the tests of names.
+/// Whether each of a volume's nodes is one that the limits allow, and the root is a directory: each
+/// node may have its list, a file has no more bytes than the limits allow, and each name passes the
+/// tests of names.
 pub(crate) fn are_nodes_allowed(table: &Table, limits: &Limits) -> bool
     ensures { IsTrue result ↔ AreNodesAllowed limits.now table.now }
 {

@@ -62,7 +62,8 @@ impl Walk {
         }
     }
 
-    /// Follows the names at a place, up to one that leads to no node or to one that was met: whether there is none such.
+    /// Follows the names at a place, up to one that leads to no node or to one that was met:
+    /// whether there is none such.
     fn visit(&mut self, table: &Table, place: u32) -> Result<bool, AllocError>
         requires walk { IsWalk table.now self.old.seen.items self.old.order.items }
         requires there { number_at table.now place ≡ Some (number_in table.now place) }
@@ -84,8 +85,8 @@ impl Walk {
     }
 }
 
-/// Whether a volume's nodes make one tree: there is a root, one name leads to each other node and none to the root or to no node,
-/// and all are reached from the root.
+/// Whether a volume's nodes make one tree: there is a root, one name leads to each other node and
+/// none to the root or to no node, and all are reached from the root.
 ///
 /// # Errors
 ///

@@ -17,8 +17,9 @@ fn do_fit(table: &Table, limits: &Limits) -> bool
     table.charge() <= limits.data_sectors as u64 && table.count() as usize <= limits.nodes
 }
 
-/// Whether a volume's nodes are a well-formed tree with no stamp past a last one: they make one tree within the limits, of nodes
-/// that the limits allow, no stamp stands at two names, and none is above this last one.
+/// Whether a volume's nodes are a well-formed tree with no stamp past a last one: they make one
+/// tree within the limits, of nodes that the limits allow, no stamp stands at two names, and none
+/// is above this last one.
 ///
 /// # Errors
 ///

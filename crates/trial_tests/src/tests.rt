@@ -1,5 +1,5 @@
-//! What no contract says of one run: that a script's calls are answered so, that what a stop leaves is mounted, and that the
-//! replies of many clients are those of a small model, byte for byte.
+//! What no contract says of one run: that a script's calls are answered so, that what a stop leaves
+//! is mounted, and that the replies of many clients are those of a small model, byte for byte.
 
 mod calls;
 mod choices;

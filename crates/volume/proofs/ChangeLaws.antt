@@ -68,7 +68,7 @@ journal_targets size updates are =
     let between : (i : ℕ) → i < length (targets updates) → (98 ≤ target_of updates i) × (target_of updates i < size) =
     λ i within. are.between i (omega (arith, within, length-targets updates)) in
     record {
-      from_98 = λ i other within. omega (arith, there i other within, (between i within).0);
+      from_first = λ i other within. omega (arith, there i other within, (between i within).0);
       on_device = λ i other within. omega (arith, there i other within, (between i within).1);
       apart = λ i j other less within same.
           apart_at updates are.apart i j less (omega (arith, within, length-targets updates))

@@ -33,8 +33,8 @@ impl<D: Device> Volume<D> {
     ///
     /// # Errors
     ///
-    /// [`VolumeFault::Device`] where the device failed, [`VolumeFault::Down`] after such a call, and
-    /// [`VolumeFault::Memory`]: `out` is as it was.
+    /// [`VolumeFault::Device`] where the device failed, [`VolumeFault::Down`] after such a call,
+    /// and [`VolumeFault::Memory`]: `out` is as it was.
     pub fn bytes(
         &mut self,
         number: u64,

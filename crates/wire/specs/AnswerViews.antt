@@ -27,17 +27,27 @@ abbrev pub create_view : CreateAnswer → spec.CreateAnswer
 create_view a = record { change = change_view a.change; was_set = a.was_set }
 
 abbrev pub open_view : OpenAnswer → spec.OpenAnswer
-open_view a = record { state = state_view a.state; change = change_view a.change; flags = a.flags; was_set = a.was_set }
+open_view a = record {
+  state = state_view a.state;
+  change = change_view a.change;
+  flags = a.flags;
+  was_set = a.was_set;
+}
 
 -- what is spelled after the change
 abbrev pub open_rest : OpenAnswer → List ℕ
-open_rest a = (unsigned_int & trimmed_bitmap & always 0 unsigned_int).spelling (a.flags, (a.was_set, tt))
+open_rest a =
+    (unsigned_int & trimmed_bitmap & always 0 unsigned_int).spelling (a.flags, (a.was_set, tt))
 
 abbrev pub read_view : ReadAnswer → spec.ReadAnswer
 read_view a = record { is_end = a.is_end; data_bytes = a.data.now }
 
 abbrev pub entry_view : Entry → spec.Entry
-entry_view e = record { cookie = e.cookie; name = e.name.now; attributes = attributes_view e.attributes }
+entry_view e = record {
+  cookie = e.cookie;
+  name = e.name.now;
+  attributes = attributes_view e.attributes;
+}
 
 -- the lengths of its name and of its attributes' values have a spelling
 abbrev pub EntryFits : Entry → Type 0
@@ -63,17 +73,30 @@ abbrev pub write_view : WriteAnswer → spec.WriteAnswer
 write_view a = record { count = a.count; committed = a.committed; verifier = a.verifier }
 
 abbrev pub exchange_id_view : ExchangeIdAnswer → spec.ExchangeIdAnswer
-exchange_id_view a = record { client = a.client; sequence = a.sequence; flags = a.flags; major_id = a.major_id.now; scope = a.scope.now }
+exchange_id_view a = record {
+  client = a.client;
+  sequence = a.sequence;
+  flags = a.flags;
+  major_id = a.major_id.now;
+  scope = a.scope.now;
+}
 
 -- what is spelled after the flags, and after the minor id
 abbrev pub exchange_id_names : ExchangeIdAnswer → List ℕ
-exchange_id_names a = (any_opaque & any_opaque & always 0 unsigned_int).spelling (a.major_id.now, (a.scope.now, tt))
+exchange_id_names a =
+    (any_opaque & any_opaque & always 0 unsigned_int).spelling (a.major_id.now, (a.scope.now, tt))
 
 abbrev pub exchange_id_rest : ExchangeIdAnswer → List ℕ
 exchange_id_rest a = number w32 0 ++ (unsigned_hyper.spelling 0 ++ exchange_id_names a)
 
 abbrev pub create_session_view : CreateSessionAnswer → spec.CreateSessionAnswer
-create_session_view a = record { session = a.session; sequence = a.sequence; flags = a.flags; fore = channel_view a.fore; back = channel_view a.back }
+create_session_view a = record {
+  session = a.session;
+  sequence = a.sequence;
+  flags = a.flags;
+  fore = channel_view a.fore;
+  back = channel_view a.back;
+}
 
 abbrev pub create_session_rest : CreateSessionAnswer → List ℕ
 create_session_rest a = (channel & channel).spelling (channel_view a.fore, channel_view a.back)
@@ -89,4 +112,6 @@ sequence_view a = record {
 }
 
 abbrev pub sequence_rest : SequenceAnswer → List ℕ
-sequence_rest a = (unsigned_int & unsigned_int & unsigned_int).spelling (a.highest_slot, (a.target_highest_slot, a.flags))
+sequence_rest a =
+    (unsigned_int & unsigned_int & unsigned_int).spelling
+    (a.highest_slot, (a.target_highest_slot, a.flags))

@@ -39,19 +39,31 @@ abbrev pub read_view : ReadArguments → spec.ReadArguments
 read_view a = record { state = state_view a.state; offset = a.offset; count = a.count }
 
 abbrev pub write_view : WriteArguments → spec.WriteArguments
-write_view a = record { state = state_view a.state; offset = a.offset; stable = a.stable; data_bytes = a.data.now }
+write_view a = record {
+  state = state_view a.state;
+  offset = a.offset;
+  stable = a.stable;
+  data_bytes = a.data.now;
+}
 
 abbrev pub set_attr_view : SetAttrArguments → spec.SetAttrArguments
 set_attr_view a = record { state = state_view a.state; attributes = attributes_view a.attributes }
 
 abbrev pub read_dir_view : ReadDirArguments → spec.ReadDirArguments
-read_dir_view a = record { cookie = a.cookie; verifier = a.verifier; dir_count = a.dir_count; max_count = a.max_count; bitmap = a.bitmap }
+read_dir_view a = record {
+  cookie = a.cookie;
+  verifier = a.verifier;
+  dir_count = a.dir_count;
+  max_count = a.max_count;
+  bitmap = a.bitmap;
+}
 
 abbrev pub rename_view : RenameArguments → spec.RenameArguments
 rename_view a = record { old_name = a.old_name.now; new_name = a.new_name.now }
 
 abbrev pub create_view : CreateArguments → spec.CreateArguments
-create_view (create.NewDirectory name attributes) = spec.NewDirectory name.now (attributes_view attributes)
+create_view (create.NewDirectory name attributes) =
+    spec.NewDirectory name.now (attributes_view attributes)
 create_view (create.OtherType number) = spec.OtherType number
 
 abbrev pub open_type_view : OpenType → spec.OpenType
@@ -69,10 +81,22 @@ opening_view (openings.Opens how claim) = spec.Opens (open_type_view how) (claim
 opening_view (openings.Exclusive mode) = spec.Exclusive mode
 
 abbrev pub open_view : OpenArguments → spec.OpenArguments
-open_view a = record { seqid = a.seqid; access = a.access; deny = a.deny; client = a.client; owner = a.owner.now; opening = opening_view a.opening }
+open_view a = record {
+  seqid = a.seqid;
+  access = a.access;
+  deny = a.deny;
+  client = a.client;
+  owner = a.owner.now;
+  opening = opening_view a.opening;
+}
 
 abbrev pub exchange_id_view : ExchangeIdArguments → spec.ExchangeIdArguments
-exchange_id_view a = record { verifier = a.verifier; owner = a.owner.now; flags = a.flags; implementation = option_map implementation_view a.implementation }
+exchange_id_view a = record {
+  verifier = a.verifier;
+  owner = a.owner.now;
+  flags = a.flags;
+  implementation = option_map implementation_view a.implementation;
+}
 
 abbrev pub create_session_view : CreateSessionArguments → spec.CreateSessionArguments
 create_session_view a = record {
@@ -86,9 +110,17 @@ create_session_view a = record {
 }
 
 abbrev pub sequence_view : SequenceArguments → spec.SequenceArguments
-sequence_view a = record { session = a.session; sequence = a.sequence; slot = a.slot; highest_slot = a.highest_slot; cache_this = a.cache_this }
+sequence_view a = record {
+  session = a.session;
+  sequence = a.sequence;
+  slot = a.slot;
+  highest_slot = a.highest_slot;
+  cache_this = a.cache_this;
+}
 
 -- what a loop over `count` security parameters has read, and what is left
 abbrev pub ReadsSecurities : ℕ → List ℕ → Result (Vec CallbackSecurity × List ℕ) Refusal → Type 0
-ReadsSecurities count old (Ok x) = each_at callback_security.read count old ≡ Ok (map security_view x.0.items, x.1)
-ReadsSecurities count old (Err e) = (e ≡ Memory) ⊎ (each_at callback_security.read count old ≡ Err e)
+ReadsSecurities count old (Ok x) =
+    each_at callback_security.read count old ≡ Ok (map security_view x.0.items, x.1)
+ReadsSecurities count old (Err e) =
+    (e ≡ Memory) ⊎ (each_at callback_security.read count old ≡ Err e)

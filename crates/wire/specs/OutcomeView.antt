@@ -50,4 +50,5 @@ done_text a = number w32 (answer_told a).number ++ (number w32 0 ++ (answer_told
 
 -- number, status, and what follows it
 abbrev pub refused_text : ℕ → Status → List ℕ
-refused_text operation status = number w32 operation ++ (number w32 (code_of status) ++ behind_refusal operation)
+refused_text operation status =
+    number w32 operation ++ (number w32 (code_of status) ++ behind_refusal operation)

@@ -33,10 +33,21 @@ channel_view c = record {
 }
 
 abbrev pub implementation_view : Implementation → spec.Implementation
-implementation_view i = record { domain = i.domain.now; name = i.name.now; seconds = i.seconds; nanoseconds = i.nanoseconds }
+implementation_view i = record {
+  domain = i.domain.now;
+  name = i.name.now;
+  seconds = i.seconds;
+  nanoseconds = i.nanoseconds;
+}
 
 abbrev pub credential_view : SystemCredential → spec.SystemCredential
-credential_view c = record { stamp = c.stamp; machine_name = c.machine_name.now; uid = c.uid; gid = c.gid; gids = c.gids }
+credential_view c = record {
+  stamp = c.stamp;
+  machine_name = c.machine_name.now;
+  uid = c.uid;
+  gid = c.gid;
+  gids = c.gids;
+}
 
 abbrev pub security_view : CallbackSecurity → spec.CallbackSecurity
 security_view security.NoSecurity = spec.NoSecurity

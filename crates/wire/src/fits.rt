@@ -1,4 +1,5 @@
-//! Results that are short fit their grammar: their numbers have the sizes of their types, which functions that do nothing else say.
+//! Results that are short fit their grammar: their numbers have the sizes of their types, which
+//! functions that do nothing else say.
 
 ghost use Rattle.std.specs.Prelude.{◌≡◌, ◌<◌, ◌≤◌, ◌^◌, IsTrue, length};
 ghost use Rattle.std.specs.List.{AllByRecursion};
@@ -193,7 +194,8 @@ impl Answer<'_> {
 }
 
 impl<'a> Outcome<'a> {
-    /// The result OK of an operation whose answer is short: it fits its grammar, and takes at most 256 bytes.
+    /// The result OK of an operation whose answer is short: it fits its grammar, and takes at most
+    /// 256 bytes.
     pub fn short(answer: Answer<'a>) -> Outcome<'a>
         requires { IsShortAnswer (answer_view answer) }
         ensures is { result ≡ outcomes.Done answer.entry }
@@ -204,7 +206,8 @@ impl<'a> Outcome<'a> {
         Outcome::Done(answer)
     }
 
-    /// The result of an operation that is refused: it fits its grammar, and takes at most 256 bytes.
+    /// The result of an operation that is refused: it fits its grammar, and takes at most 256
+    /// bytes.
     pub fn refused(operation: Operation, status: Status) -> Outcome<'a>
         requires { IsRefusal status }
         ensures is { result ≡ outcomes.Refused (number_of operation) status }

@@ -1,4 +1,5 @@
-//! The laws of the grammars: each is exact, and so one value has one spelling and no spelling begins another.
+//! The laws of the grammars: each is exact, and so one value has one spelling and no spelling
+//! begins another.
 
 ghost use Rattle.xdr.specs.Laws.{Exact, OneSpelling};
 ghost use Rattle.model.specs.WireArguments.{argument};

@@ -41,7 +41,8 @@ impl<'a> Claim<'a> {
     }
 }
 
-/// How a file is opened. At an exclusive create nothing that follows is looked at, the claim neither.
+/// How a file is opened. At an exclusive create nothing that follows is looked at, the claim
+/// neither.
 #[derive(Drop)]
 pub enum Opening<'a> {
     Opens { how: OpenType<'a>, claim: Claim<'a> },

@@ -119,7 +119,8 @@ impl Answer<'_> {
 #[derive(Drop)]
 pub enum Outcome<'a> {
     Done(Answer<'a>),
-    /// The status is not OK. The number is that of the operation, or 10044 where the operation is none (section 15.2).
+    /// The status is not OK. The number is that of the operation, or 10044 where the operation is
+    /// none (section 15.2).
     Refused { operation: u32, status: Status },
 }
 

@@ -48,7 +48,8 @@ fn ends_in_a_bit(words: &[u32]) -> bool
 /// The length of a name, of data or of attribute values has no limit of its own.
 pub const ANY_LENGTH: u32 = u32::MAX;
 
-/// The most bytes of the owner id of a client or of an open (NFS4_OPAQUE_LIMIT, RFC 8881, section 3.1).
+/// The most bytes of the owner id of a client or of an open (NFS4_OPAQUE_LIMIT, RFC 8881, section
+/// 3.1).
 pub(crate) const MAX_OWNER_BYTES: u32 = 1024;
 
 /// The most bytes of a machine's name (RFC 5531, appendix A).

@@ -109,7 +109,8 @@ spelled_if false text = []
 
 unfoldable pub asked_text : NodeAttributes → (bitmap : List ℕ) → Attribute → List ℕ
 asked_text node bitmap attribute =
-    spelled_if (is_among (attributes_of bitmap) (number_of attribute)) (value_spelled node attribute)
+    spelled_if (is_among (attributes_of bitmap) (number_of attribute))
+    (value_spelled node attribute)
 
 -- what is answered of these attributes
 unfoldable pub attributes_answered : NodeAttributes → (bitmap : List ℕ) → operation.Attributes

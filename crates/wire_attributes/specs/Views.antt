@@ -45,8 +45,8 @@ value_view (value.OwnerGroup v) = spec.OwnerGroup v.now
 value_view (value.TimeModify v) = spec.TimeModify (time_view v)
 value_view (value.SuppattrExclcreat v) = spec.SuppattrExclcreat v
 
--- which values have a spelling, as far as their types leave it open: the lengths of texts and lists, and bitmaps without zero
--- words at the end
+-- which values have a spelling, as far as their types leave it open: the lengths of texts and
+-- lists, and bitmaps without zero words at the end
 abbrev pub EntryFits : AclEntry → Type 0
 EntryFits e = length e.who.now < 2 ^ 32
 

@@ -10,8 +10,8 @@ use crate::who::who_of;
 use bitflags::Flags;
 use model::acl::{Ace, AceFlags, AceKind, Mask, Who};
 
-/// The entry that one on the wire stands for, where its type is ALLOW or DENY and its text names somebody. Which flags and
-/// rights it has is not looked at.
+/// The entry that one on the wire stands for, where its type is ALLOW or DENY and its text names
+/// somebody. Which flags and rights it has is not looked at.
 #[tactic(auto, unfolding(model::specs::AclText::ace_in))]
 pub fn ace_of(entry: &AclEntry<'_>) -> Option<Ace>
     ensures { result ≡ ace_in (entry_view entry.now) }

@@ -1,6 +1,8 @@
-//! The values of attributes on the wire, and the entries of access control lists (RFC 8881, sections 5 and 6.2; RFC 5662).
+//! The values of attributes on the wire, and the entries of access control lists (RFC 8881,
+//! sections 5 and 6.2; RFC 5662).
 //!
-//! A typed value for each attribute that the server has; handles and texts are borrowed from the record that was read.
+//! A typed value for each attribute that the server has; handles and texts are borrowed from the
+//! record that was read.
 #![tactic(auto)]
 
 mod ace;

@@ -25,6 +25,9 @@ use xdr::{Refusal, Writer, opaque_size};
 /// The words of the bitmap of all attributes.
 pub(crate) const SUPPORTED: [u32; 3] = [0xE818_3FFF, 0x0020_003A, 0x0000_0800];
 
+/// The most bytes of a text that names whom an entry is for: a number's ten digits.
+const MAX_WHO_BYTES: usize = 10;
+
 /// Seconds after which a lease would expire; none does.
 const LEASE_TIME: u32 = 90;
 
@@ -57,7 +60,7 @@ pub struct NodeAttributes<'a> {
 /// The text that names this one. The buffer holds the digits of a number.
 fn who_bytes(digits: &mut Buffer, who: Who) -> &[u8]
     ensures text { result.now ≡ who_text who }
-    ensures short { length result.now ≤ Acl.MAX_STORED }
+    ensures short { length result.now ≤ MAX_WHO_BYTES }
 {
     match who {
         Who::Owner => b"OWNER@",

@@ -21,18 +21,25 @@ use Rattle.wire.specs.ArgumentViews.{claim_view, opening_view}
 
 -- after the machine's name
 abbrev pub credential_rest : SystemCredential → List ℕ
-credential_rest c = (unsigned_int & unsigned_int & array 16 unsigned_int).spelling (c.uid, (c.gid, c.gids))
+credential_rest c =
+    (unsigned_int & unsigned_int & array 16 unsigned_int).spelling (c.uid, (c.gid, c.gids))
 
 -- after the flags
 abbrev pub exchange_id_rest : ExchangeIdArguments → List ℕ
-exchange_id_rest a = (always 0 unsigned_int & optional implementation).spelling (tt, option_map implementation_view a.implementation)
+exchange_id_rest a =
+    (always 0 unsigned_int & optional implementation).spelling
+    (tt, option_map implementation_view a.implementation)
 
 -- after the flags, and after the channels
 abbrev pub create_session_end : CreateSessionArguments → List ℕ
-create_session_end a = (unsigned_int & array 4 callback_security).spelling (a.callback_program, map security_view a.security.items)
+create_session_end a =
+    (unsigned_int & array 4 callback_security).spelling
+    (a.callback_program, map security_view a.security.items)
 
 abbrev pub create_session_rest : CreateSessionArguments → List ℕ
-create_session_rest a = channel.spelling (channel_view a.fore) ++ (channel.spelling (channel_view a.back) ++ create_session_end a)
+create_session_rest a =
+    channel.spelling (channel_view a.fore)
+    ++ (channel.spelling (channel_view a.back) ++ create_session_end a)
 
 -- after the slot
 abbrev pub sequence_rest : SequenceArguments → List ℕ
@@ -40,11 +47,13 @@ sequence_rest a = (unsigned_int & boolean).spelling (a.highest_slot, a.cache_thi
 
 -- after the cookie verifier
 abbrev pub read_dir_rest : ReadDirArguments → List ℕ
-read_dir_rest a = (unsigned_int & unsigned_int & bitmap).spelling (a.dir_count, (a.max_count, a.bitmap))
+read_dir_rest a =
+    (unsigned_int & unsigned_int & bitmap).spelling (a.dir_count, (a.max_count, a.bitmap))
 
 -- after the share that is denied
 abbrev pub open_rest : OpenArguments → List ℕ
-open_rest a = (unsigned_hyper & owner_id & opening).spelling (a.client, (a.owner.now, opening_view a.opening))
+open_rest a =
+    (unsigned_hyper & owner_id & opening).spelling (a.client, (a.owner.now, opening_view a.opening))
 
 -- an open type and a claim, but of an exclusive create
 abbrev pub opens_text : OpenType → Claim → List ℕ
@@ -52,4 +61,6 @@ opens_text how by = opening.spelling (opening_view (openings.Opens how by))
 
 -- a created file's mode, UNCHECKED4 or GUARDED4, its attributes and the claim
 abbrev pub created_text : ℕ → Attributes → Claim → List ℕ
-created_text mode a by = number w32 1 ++ (number w32 mode ++ (attributes & claim).spelling (attributes_view a, claim_view by))
+created_text mode a by =
+    number w32 1
+    ++ (number w32 mode ++ (attributes & claim).spelling (attributes_view a, claim_view by))

@@ -1,7 +1,9 @@
-//! The client's direction of NFS version 4.1 on the wire (RFC 8881, section 18; RFC 5662): arguments are written, and
-//! results read, by the grammars by which a server reads and writes them.
+//! The client's direction of NFS version 4.1 on the wire (RFC 8881, section 18; RFC 5662):
+//! arguments are written, and results read, by the grammars by which a server reads and writes
+//! them.
 //!
-//! The types are those of `wire`; names and data of a result are borrowed from the record that was read.
+//! The types are those of `wire`; names and data of a result are borrowed from the record that was
+//! read.
 #![tactic(auto)]
 
 mod answers;

@@ -19,7 +19,8 @@ use xdr::{Reader, Refusal};
 
 /// Reads a result: an operation's number, its status, and the values after it (`nfs_resop4`).
 ///
-/// What is read is exactly its spelling; a refusal other than `Memory` comes only where no front of the bytes is one.
+/// What is read is exactly its spelling; a refusal other than `Memory` comes only where no front of
+/// the bytes is one.
 #[tactic(auto, using(crate::proofs::Accepted::outcome_accepted))]
 pub fn read_outcome<'a>(alloc: Global, r: &mut Reader<'a>) -> Result<Outcome<'a>, Refusal>
     ensures accepts { Accepts outcome_view outcome r.old r.new result }

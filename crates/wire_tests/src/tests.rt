@@ -1,4 +1,5 @@
-//! What no contract says: the bytes of worked vectors, and that a call succeeds where there is memory.
+//! What no contract says: the bytes of worked vectors, and that a call succeeds where there is
+//! memory.
 
 mod asking;
 mod attributes;

@@ -4,13 +4,16 @@ use Rattle.xdr.specs.declared.refusal.Refusal.{Refusal}
 use Rattle.xdr.specs.declared.refusal.Refusal.TheVariants.{Memory}
 use Rattle.xdr.specs.Grammar.{Grammar}
 
--- A reader that takes no memory gives, seen by `view`, what `read` gives. A refusal leaves it where it was.
-abbrev pub Scans : {X V : Type 0} → (X → V) → (List ℕ → Result (V × List ℕ) Refusal) → List ℕ → List ℕ → Result X Refusal → Type 0
+-- A reader that takes no memory gives, seen by `view`, what `read` gives. A refusal leaves it where
+-- it was.
+abbrev pub Scans : {X V : Type 0} → (X → V) → (List ℕ → Result (V × List ℕ) Refusal) → List ℕ
+    → List ℕ → Result X Refusal → Type 0
 Scans view read old new (Ok x) = read old ≡ Ok (view x, new)
 Scans view read old new (Err e) = (read old ≡ Err e) × (new ≡ old)
 
 -- one that may want memory
-abbrev pub Reads : {X V : Type 0} → (X → V) → (List ℕ → Result (V × List ℕ) Refusal) → List ℕ → List ℕ → Result X Refusal → Type 0
+abbrev pub Reads : {X V : Type 0} → (X → V) → (List ℕ → Result (V × List ℕ) Refusal) → List ℕ
+    → List ℕ → Result X Refusal → Type 0
 Reads view read old new (Ok x) = read old ≡ Ok (view x, new)
 Reads view read old new (Err e) = ((e ≡ Memory) ⊎ (read old ≡ Err e)) × (new ≡ old)
 
@@ -18,8 +21,10 @@ Reads view read old new (Err e) = ((e ≡ Memory) ⊎ (read old ≡ Err e)) × (
 abbrev pub NoFront : {V : Type 0} → Grammar V → List ℕ → Type 0
 NoFront {V = V} g bytes = (v : V) (rest : List ℕ) → g.Fits v → bytes ≡ g.spelling v ++ rest → ⊥
 
--- The reader took exactly the spelling of what it gave; it refuses, but for memory, only where none is at the front.
-abbrev pub Accepts : {X V : Type 0} → (X → V) → Grammar V → List ℕ → List ℕ → Result X Refusal → Type 0
+-- The reader took exactly the spelling of what it gave; it refuses, but for memory, only where none
+-- is at the front.
+abbrev pub Accepts : {X V : Type 0} → (X → V) → Grammar V → List ℕ → List ℕ → Result X Refusal
+    → Type 0
 Accepts view g old new (Ok x) = g.Fits (view x) × (old ≡ g.spelling (view x) ++ new)
 Accepts view g old new (Err e) = ((e ≡ Memory) ⊎ NoFront g old) × (new ≡ old)
 
@@ -33,9 +38,10 @@ pub record Written : Type 0 where
   pub bytes : List ℕ
   pub capacity : ℕ
 
--- The text stands after what was written before, unless there was no memory for it; then what was written before stands,
--- and perhaps a front of the text.
-pub record Wrote (old new : Written) (result : Result (Unit {0}) Refusal) (text : List ℕ) : Type 0 where
+-- The text stands after what was written before, unless there was no memory for it; then what was
+-- written before stands, and perhaps a front of the text.
+pub record Wrote (old new : Written) (result : Result (Unit {0}) Refusal) (text : List ℕ) : Type
+    0 where
   pub ok : OnOk result (new.bytes ≡ old.bytes ++ text)
   pub full : OnErr result (old.capacity < length old.bytes + length text)
   pub memory : IfErr result (λ e. e ≡ Memory)

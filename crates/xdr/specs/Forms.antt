@@ -61,11 +61,17 @@ are_zeros bytes = list_all (λ b. b == 0) bytes
 unfoldable pub padded_at : ℕ → List ℕ → Result (List ℕ × List ℕ) Refusal
 padded_at n bytes =
     if nat_lt (length bytes) (n + padding n) then Err Short
-    else (if are_zeros (take (padding n) (drop n bytes)) then Ok (take n bytes, drop (n + padding n) bytes) else Err Value)
+    else (if are_zeros (take (padding n) (drop n bytes))
+    then Ok (take n bytes, drop (n + padding n) bytes)
+    else Err Value)
 
 -- n bytes
 abbrev pub fixed_opaque : ℕ → Grammar (List ℕ)
-fixed_opaque n = record { Fits = λ s. length s ≡ n; spelling = λ s. padded s; read = λ bytes. padded_at n bytes }
+fixed_opaque n = record {
+  Fits = λ s. length s ≡ n;
+  spelling = λ s. padded s;
+  read = λ bytes. padded_at n bytes;
+}
 
 -- their number, at most the limit, and the bytes
 unfoldable pub counted : List ℕ → List ℕ
@@ -77,18 +83,24 @@ counted_at limit bytes =
 
 -- opaque data and strings: at most `limit` bytes
 abbrev pub opaque : ℕ → Grammar (List ℕ)
-opaque limit = record { Fits = λ s. length s ≤ limit; spelling = λ s. counted s; read = λ bytes. counted_at limit bytes }
+opaque limit = record {
+  Fits = λ s. length s ≤ limit;
+  spelling = λ s. counted s;
+  read = λ bytes. counted_at limit bytes;
+}
 
 -- Arrays: the number of elements, and the elements (section 4.13)
 
-unfoldable pub each_at : {V : Type 0} → (List ℕ → Result (V × List ℕ) Refusal) → ℕ → List ℕ → Result (List V × List ℕ) Refusal
+unfoldable pub each_at : {V : Type 0} → (List ℕ → Result (V × List ℕ) Refusal) → ℕ → List ℕ
+    → Result (List V × List ℕ) Refusal
 each_at read zero bytes = Ok ([], bytes)
 each_at read (suc n) bytes = read bytes >>= λ x. each_at read n x.1 >>= λ xs. Ok (x.0 ∷ xs.0, xs.1)
 
 unfoldable pub elements : {V : Type 0} → (V → List ℕ) → List V → List ℕ
 elements spelling vs = number w32 (length vs) ++ flat_map spelling vs
 
-unfoldable pub elements_at : {V : Type 0} → ℕ → (List ℕ → Result (V × List ℕ) Refusal) → List ℕ → Result (List V × List ℕ) Refusal
+unfoldable pub elements_at : {V : Type 0} → ℕ → (List ℕ → Result (V × List ℕ) Refusal) → List ℕ
+    → Result (List V × List ℕ) Refusal
 elements_at limit read bytes =
     number_at w32 bytes >>= λ n. if nat_lt limit n.0 then Err Long else each_at read n.0 n.1
 
@@ -101,8 +113,12 @@ array limit g = record {
 }
 
 -- an array of at most one element
-abbrev pub one_at_most : {V : Type 0} → (List ℕ → Result (V × List ℕ) Refusal) → ℕ × List ℕ → Result (Option V × List ℕ) Refusal
-one_at_most read n = if n.0 == 0 then Ok (None, n.1) else (if n.0 == 1 then read n.1 >>= (λ x. Ok (Some x.0, x.1)) else Err Long)
+abbrev pub one_at_most : {V : Type 0} → (List ℕ → Result (V × List ℕ) Refusal) → ℕ × List ℕ
+    → Result (Option V × List ℕ) Refusal
+one_at_most read n =
+    if n.0 == 0
+    then Ok (None, n.1)
+    else (if n.0 == 1 then read n.1 >>= (λ x. Ok (Some x.0, x.1)) else Err Long)
 
 abbrev pub optional_text : {V : Type 0} → Grammar V → Option V → List ℕ
 optional_text g None = number w32 0
@@ -126,11 +142,14 @@ links spelling [] = number w32 0
 links spelling (v ∷ vs) = number w32 1 ++ (spelling v ++ links spelling vs)
 
 -- at most `fuel` elements
-unfoldable pub links_at : {V : Type 0} → (List ℕ → Result (V × List ℕ) Refusal) → ℕ → List ℕ → Result (List V × List ℕ) Refusal
+unfoldable pub links_at : {V : Type 0} → (List ℕ → Result (V × List ℕ) Refusal) → ℕ → List ℕ
+    → Result (List V × List ℕ) Refusal
 links_at read zero bytes = Err Short
 links_at read (suc fuel) bytes =
     number_at w32 bytes >>= truth_at >>= λ more.
-    if more.0 then (read more.1 >>= λ x. links_at read fuel x.1 >>= λ xs. Ok (x.0 ∷ xs.0, xs.1)) else Ok ([], more.1)
+    if more.0
+    then (read more.1 >>= λ x. links_at read fuel x.1 >>= λ xs. Ok (x.0 ∷ xs.0, xs.1))
+    else Ok ([], more.1)
 
 -- no chain has more elements than bytes
 abbrev pub chain : {V : Type 0} → Grammar V → Grammar (List V)

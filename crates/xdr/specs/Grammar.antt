@@ -1,5 +1,6 @@
--- A grammar of XDR (RFC 4506): which values have a spelling, the bytes of it, and how bytes are read from the left.
--- `Laws` says what makes a grammar exact; each of the forms here and in `Forms` and `Union` keeps it.
+-- A grammar of XDR (RFC 4506): which values have a spelling, the bytes of it, and how bytes are
+-- read from the left. `Laws` says what makes a grammar exact; each of the forms here and in `Forms`
+-- and `Union` keeps it.
 use Rattle.std.specs.Prelude.{ℕ, ◌<◌, ◌^◌, List, [], ◌++◌, length, take, drop, Result, Ok, Err, nat_lt, if◌then◌else◌}
 use Rattle.std.specs.Int.{Width, w32, w64, byte_len, to_be_bytes, from_be_bytes}
 use Rattle.xdr.specs.declared.refusal.Refusal.{Refusal}
@@ -28,10 +29,18 @@ number_at w bytes =
     else Ok (from_be_bytes w (take (byte_len w) bytes), drop (byte_len w) bytes)
 
 abbrev pub unsigned_int : Grammar ℕ
-unsigned_int = record { Fits = λ n. n < 2 ^ 32; spelling = λ n. number w32 n; read = λ bytes. number_at w32 bytes }
+unsigned_int = record {
+  Fits = λ n. n < 2 ^ 32;
+  spelling = λ n. number w32 n;
+  read = λ bytes. number_at w32 bytes;
+}
 
 abbrev pub unsigned_hyper : Grammar ℕ
-unsigned_hyper = record { Fits = λ n. n < 2 ^ 64; spelling = λ n. number w64 n; read = λ bytes. number_at w64 bytes }
+unsigned_hyper = record {
+  Fits = λ n. n < 2 ^ 64;
+  spelling = λ n. number w64 n;
+  read = λ bytes. number_at w64 bytes;
+}
 
 -- Structures: their fields one after the other (section 4.14)
 

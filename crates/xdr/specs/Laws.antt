@@ -14,7 +14,8 @@ Takes {V = V} g =
 
 -- what fits is read again, whatever follows
 abbrev pub ReadsAgain : {V : Type 0} → Grammar V → Type 0
-ReadsAgain {V = V} g = (v : V) (rest : List ℕ) → g.Fits v → g.read (g.spelling v ++ rest) ≡ Ok (v, rest)
+ReadsAgain {V = V} g =
+    (v : V) (rest : List ℕ) → g.Fits v → g.read (g.spelling v ++ rest) ≡ Ok (v, rest)
 
 pub record Exact {V : Type 0} (g : Grammar V) : Type 0 where
   pub takes : Takes g
@@ -23,4 +24,5 @@ pub record Exact {V : Type 0} (g : Grammar V) : Type 0 where
 -- One value has one spelling, one spelling is of one value, and no spelling begins another.
 abbrev pub OneSpelling : {V : Type 0} → Grammar V → Type 0
 OneSpelling {V = V} g =
-    (v w : V) (x y : List ℕ) → g.Fits v → g.Fits w → g.spelling v ++ x ≡ g.spelling w ++ y → (v ≡ w) × (x ≡ y)
+    (v w : V) (x y : List ℕ) → g.Fits v → g.Fits w → g.spelling v ++ x ≡ g.spelling w ++ y
+    → (v ≡ w) × (x ≡ y)

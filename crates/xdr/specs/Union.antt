@@ -5,7 +5,8 @@ use Rattle.xdr.specs.declared.refusal.Refusal.{Refusal}
 use Rattle.xdr.specs.declared.refusal.Refusal.TheVariants.{Value}
 use Rattle.xdr.specs.Grammar.{Grammar, ◌>>=◌, number, number_at}
 
--- what a value of a union says: its number, whether it has a spelling, and what is spelled after the number
+-- what a value of a union says: its number, whether it has a spelling, and what is spelled after
+-- the number
 pub record Told : Type 1 where
   pub number : ℕ
   pub Fits : Type 0

@@ -1,4 +1,5 @@
-//! The laws of the grammars: each is exact, and so one value has one spelling and no spelling begins another.
+//! The laws of the grammars: each is exact, and so one value has one spelling and no spelling
+//! begins another.
 
 ghost use Rattle.std.specs.Prelude.{ℕ, ◌<◌, ◌^◌};
 ghost use Rattle.xdr.specs.Grammar.{unsigned_int, unsigned_hyper};

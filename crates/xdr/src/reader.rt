@@ -181,8 +181,8 @@ impl<'a> Reader<'a> {
         Ok(array)
     }
 
-    /// A length of at most `limit`, so many bytes, and zero bytes up to a multiple of 4 (RFC 4506, sections 4.10 and
-    /// 4.11). A greater length is `Long`, whatever follows.
+    /// A length of at most `limit`, so many bytes, and zero bytes up to a multiple of 4 (RFC 4506,
+    /// sections 4.10 and 4.11). A greater length is `Long`, whatever follows.
     #[tactic(auto, unfolding(crate::specs::Forms::counted_at))]
     pub fn read_opaque(&mut self, limit: u32) -> Result<&'a [u8], Refusal>
         ensures { Scans (λ bytes. bytes.now) ((opaque limit).read) self.old self.new result }

@@ -49,7 +49,8 @@ impl<const N: usize> Words<N> {
         &self.words[..self.count]
     }
 
-    /// Their number, and so many numbers (RFC 4506, section 4.13). More than `N` are `Long`, whatever follows.
+    /// Their number, and so many numbers (RFC 4506, section 4.13). More than `N` are `Long`,
+    /// whatever follows.
     #[tactic(auto, unfolding(crate::specs::Forms::elements_at))]
     pub fn read(r: &mut Reader<'_>) -> Result<Words<N>, Refusal>
         ensures { Scans (λ words. words) ((array N unsigned_int).read) r.old r.new result }

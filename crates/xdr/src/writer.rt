@@ -14,7 +14,8 @@ use std::marker::Model;
 
 /// The bytes written so far. In a contract it is these bytes, and for how many there is memory.
 ///
-/// A write refused for want of memory leaves the bytes as they were; it is never refused where there is memory for it.
+/// A write refused for want of memory leaves the bytes as they were; it is never refused where
+/// there is memory for it.
 #[derive(Drop)]
 pub struct Writer {
     bytes: Vec<u8>,
@@ -151,7 +152,8 @@ impl Writer {
         self.undo(mark, result)
     }
 
-    /// The length, the bytes, and zero bytes up to a multiple of 4 (RFC 4506, sections 4.10 and 4.11).
+    /// The length, the bytes, and zero bytes up to a multiple of 4 (RFC 4506, sections 4.10 and
+    /// 4.11).
     #[tactic(auto, using(crate::proofs::Writing::wrote_undone, crate::proofs::Writing::unchanged))]
     pub fn write_opaque(&mut self, bytes: &[u8]) -> Result<(), Refusal>
         requires { length bytes.now < 2 ^ 32 }
@@ -163,9 +165,11 @@ impl Writer {
         self.undo(mark, result)
     }
 
-    /// Gives `outcome` back; where it is a refusal, all but the first `mark` bytes are dropped first.
+    /// Gives `outcome` back; where it is a refusal, all but the first `mark` bytes are dropped
+    /// first.
     ///
-    /// So several writes are one: with the length before them as `mark`, a refusal leaves the bytes as they were.
+    /// So several writes are one: with the length before them as `mark`, a refusal leaves the bytes
+    /// as they were.
     pub fn undo(&mut self, mark: usize, outcome: Result<(), Refusal>) -> Result<(), Refusal>
         ensures same { result ≡ outcome }
         ensures ok { OnOk result (self.new.bytes ≡ self.old.bytes) }

@@ -27,7 +27,8 @@ const NAMES: [&[u8]; 10] = [
 /// Names that no node has.
 const BAD_NAMES: [&[u8]; 6] = [b"", b".", b"..", b"a/b", b"\xC3", &[b'n'; 256]];
 
-/// Bitmaps that are asked: nothing, change and size, the number, mode and owner, the acl, without and with rdattr_error.
+/// Bitmaps that are asked: nothing, change and size, the number, mode and owner, the acl, without
+/// and with rdattr_error.
 const ASKED: [&[u32]; 6] = [
     &[],
     &[0x18],
@@ -98,7 +99,8 @@ const GIVEN: [Given<'static>; 14] = [
     },
 ];
 
-/// Seldom: sizes that a volume has no room for and that no file has, and attributes that are refused.
+/// Seldom: sizes that a volume has no room for and that no file has, and attributes that are
+/// refused.
 const ODD: [Given<'static>; 10] = [
     Given {
         bitmap: &[0x10, 0],

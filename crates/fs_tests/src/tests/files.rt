@@ -297,8 +297,8 @@ const ENOUGH_LATER: [Row; 1] = [(
     b"\0\0\0\0last",
 )];
 
-/// A file of 16,777,216 bytes is charged for 4,096 blocks and 9 sectors of runs, and the root for 2, of what 148 sectors and 16
-/// nodes leave.
+/// A file of 16,777,216 bytes is charged for 4,096 blocks and 9 sectors of runs, and the root for
+/// 2, of what 148 sectors and 16 nodes leave.
 #[test]
 fn the_longest_file_takes_4105_sectors(rt: HostRuntime) -> Result<(), Fail> {
     try_sized(&rt, rt.alloc(), 4_270, &ONE_SECTOR_LESS, &[])?;

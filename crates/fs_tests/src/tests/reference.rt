@@ -1,4 +1,5 @@
-//! The oracle, asked what a file system is asked: one step of its state, and its answer in the same words.
+//! The oracle, asked what a file system is asked: one step of its state, and its answer in the same
+//! words.
 
 ghost use Rattle.std.specs.Prelude.{IsTrue};
 ghost use Rattle.wire.specs.ArgumentView.{argument_view};

@@ -1,4 +1,5 @@
-//! Long lists of calls, of a file system and of the oracle: each answer is the same, and at intervals the whole tree.
+//! Long lists of calls, of a file system and of the oracle: each answer is the same, and at
+//! intervals the whole tree.
 
 use super::choices::USERS;
 use super::reference::{Reference, short};
@@ -19,8 +20,8 @@ const SECTORS: u32 = 256;
 
 const NODES: u32 = 24;
 
-/// How many lists there are, of so many parts of so many calls each. After each part the whole tree is looked at, also as the
-/// next mount finds it.
+/// How many lists there are, of so many parts of so many calls each. After each part the whole tree
+/// is looked at, also as the next mount finds it.
 const LISTS: u64 = 8;
 
 const PARTS: u64 = 12;
@@ -193,7 +194,8 @@ impl<'a> Twin<'a> {
         Ok(())
     }
 
-    /// The bytes of a file, or the names of a directory with their stamps and numbers, part by part.
+    /// The bytes of a file, or the names of a directory with their stamps and numbers, part by
+    /// part.
     fn compare_content(
         &mut self,
         rt: &impl Abort,

@@ -58,10 +58,12 @@ fn image_of(alloc: Global, device: &mut MemDevice) -> Result<Image, Fail> {
     Ok(image)
 }
 
-/// A directory `a` with `b` in it and `c` in that, a file `f` of 5,000 bytes, and a file `g` with a hole, of two runs.
+/// A directory `a` with `b` in it and `c` in that, a file `f` of 5,000 bytes, and a file `g` with a
+/// hole, of two runs.
 ///
-/// The nodes are those of the sectors 148 (the root), 163, 162, 161, 160 and 159. From 164 on stand the block of the root and its
-/// run sector, those of `a` and of `b`, two blocks of `f` and its run sector, and the first block of `g`, its run sector and its other block.
+/// The nodes are those of the sectors 148 (the root), 163, 162, 161, 160 and 159. From 164 on stand
+/// the block of the root and its run sector, those of `a` and of `b`, two blocks of `f` and its run
+/// sector, and the first block of `g`, its run sector and its other block.
 fn filled(alloc: Global) -> Result<Image, Fail> {
     let mut fs = mounted(alloc, SECTORS, NODES)?;
     for call in FILLING {
@@ -121,7 +123,8 @@ fn try_byte(
     Ok(found.is_ok())
 }
 
-/// Each byte of these parts of sectors, one by one, changed in the lowest bit, in the highest and in all.
+/// Each byte of these parts of sectors, one by one, changed in the lowest bit, in the highest and
+/// in all.
 fn try_parts(
     rt: &impl Abort,
     alloc: Global,
@@ -208,7 +211,8 @@ type Put = (usize, usize, &'static [u8]);
 
 /// Volumes on which no tree stands, each of one fault.
 const FAULTS: [&[Put]; 22] = [
-    // gates: of no targets, of 97, of the target 97, of the sector after the last, of a target twice
+    // gates: of no targets, of 97, of the target 97, of the sector after the last, of a target
+    // twice
     &[(1, 0, &[0, 0, 0, 1, 0, 0, 0, 0])],
     &[(1, 0, &[0, 0, 0, 1, 0, 0, 0, 97])],
     &[(1, 0, &[0, 0, 0, 1, 0, 0, 0, 1, 0, 0, 0, 97])],

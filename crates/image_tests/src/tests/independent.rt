@@ -1,4 +1,5 @@
-//! Whether a tree stands on the sectors of a volume, by docs/FORMAT.md alone: none of the crates that a mount is made of has a part in it.
+//! Whether a tree stands on the sectors of a volume, by docs/FORMAT.md alone: none of the crates
+//! that a mount is made of has a part in it.
 
 use std::alloc::{AllocError, AllocFailed, Global};
 use std::str;

@@ -14,7 +14,8 @@ const NULL: &str = "80000028 1 0 2 186a3 4 0 0 0 0 0";
 
 const NULL_REPLY: &str = "80000018 1 1 0 0 0 0";
 
-/// EXCHANGE_ID, CREATE_SESSION, and, after SEQUENCE, PUTROOTFH, CREATE of the directory `a` and GETFH.
+/// EXCHANGE_ID, CREATE_SESSION, and, after SEQUENCE, PUTROOTFH, CREATE of the directory `a` and
+/// GETFH.
 const MAKES: &str = "80000068 2 0 2 186a3 4 1 1 14 0 0 7 7 0 0 0 0 1 1
     2a 01020304 05060708 2 636c0000 0 0 0
     800000a0 3 0 2 186a3 4 1 1 14 0 0 7 7 0 0 0 0 1 1
@@ -36,8 +37,9 @@ const LOOKS_UP: &str = "8000007c a 0 2 186a3 4 1 1 14 0 0 7 7 0 0 0 0 1 3
 const LOOKED_UP: &str = "80000060 a 1 0 0 0 0 0 0 3
     35 0 1 1 0 1 2 0 7 7 0 18 0 f 0";
 
-/// What each peer sends and what it is answered, both in parts: no record at all; nothing; half a record; a whole session; a
-/// record and half a record; a record and a header of no record, with more after it; the same session over another connection.
+/// What each peer sends and what it is answered, both in parts: no record at all; nothing; half a
+/// record; a whole session; a record and half a record; a record and a header of no record, with
+/// more after it; the same session over another connection.
 const PEERS: [[&str; 4]; 7] = [
     ["47455420 2f204854 54502f31 2e310d0a", "", "", ""],
     ["", "", "", ""],
@@ -67,7 +69,8 @@ fn port_of(line: &[u8]) -> Option<u16> {
     str::from_utf8(digits).ok()?.parse::<u16>().ok()
 }
 
-/// An output that has peers connect as soon as it is told the port. Each sends its bytes, and then only reads.
+/// An output that has peers connect as soon as it is told the port. Each sends its bytes, and then
+/// only reads.
 #[derive(Drop)]
 struct Door<'a> {
     rt: &'a HostRuntime,

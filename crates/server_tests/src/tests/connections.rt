@@ -1,6 +1,8 @@
-//! Whole connections that are no rows of steps: a record is cut after each byte, a table is filled, a volume is changed.
+//! Whole connections that are no rows of steps: a record is cut after each byte, a table is filled,
+//! a volume is changed.
 //!
-//! A record is written as words of four bytes in hex, its header first; leading zeros may be left out.
+//! A record is written as words of four bytes in hex, its header first; leading zeros may be left
+//! out.
 
 mod cuts;
 mod ends;
@@ -31,7 +33,8 @@ fn put(record: &mut [u8], place: usize, number: u32) {
     }
 }
 
-/// A server of run 1 over a new volume of 256 sectors and 16 nodes, with the connections 0, 1 and 2.
+/// A server of run 1 over a new volume of 256 sectors and 16 nodes, with the connections 0, 1 and
+/// 2.
 fn new_server(alloc: Global) -> Result<Server<MemDevice>, Fail> {
     let mut device = MemDevice::new(alloc, 256)?;
     drivers::format(alloc, &mut device, 16)?;

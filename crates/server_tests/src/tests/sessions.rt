@@ -1,4 +1,5 @@
-//! Calls of the table of sessions: records that give way, sessions that are answered again, slots, and full tables.
+//! Calls of the table of sessions: records that give way, sessions that are answered again, slots,
+//! and full tables.
 
 mod asking;
 mod clients;

@@ -1,4 +1,5 @@
-//! Parents and ancestors in a small volume: a directory in the root, a file in that one, and a file beside it.
+//! Parents and ancestors in a small volume: a directory in the root, a file in that one, and a file
+//! beside it.
 
 ghost use Rattle.std.specs.Prelude.{ℕ, IfOk};
 ghost use Rattle.cards.specs.Tables.{HaveOwnPlaces};

@@ -13,7 +13,8 @@ fn run(block: u16, length: u16, sector: u32) -> Run {
     }
 }
 
-// The calls of runs and lists, each of which stands here once: a call brings all that it promises into the proof of its caller.
+// The calls of runs and lists, each of which stands here once: a call brings all that it promises
+// into the proof of its caller.
 
 fn runs_in(alloc: Global, sector: &[u8; 4096]) -> Result<Vec<Run>, ExtentsFault> {
     read_run_sector(alloc, sector)

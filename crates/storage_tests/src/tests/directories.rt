@@ -6,7 +6,8 @@ use std::alloc::{AllocError, Global};
 use std::process::Abort;
 use std::test::Fail;
 
-// The calls of names, each of which stands here once: a call brings all that it promises into the proof of its caller.
+// The calls of names, each of which stands here once: a call brings all that it promises into the
+// proof of its caller.
 
 /// A name that no directory has is refused as no memory.
 fn put(names: &mut Names, name: &[u8], stamp: u64, number: u64) -> Result<usize, DirectoryFault> {

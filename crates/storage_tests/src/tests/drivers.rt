@@ -1,5 +1,5 @@
-//! The calls of devices and of sectors, each of which stands here once, with no contract: a call brings all that it promises
-//! into the proof of its caller.
+//! The calls of devices and of sectors, each of which stands here once, with no contract: a call
+//! brings all that it promises into the proof of its caller.
 
 use disk::{CrashDevice, Device, DiskFault, Landed, MemDevice, SECTOR, Stop};
 use std::alloc::Global;

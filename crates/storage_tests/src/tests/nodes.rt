@@ -6,8 +6,8 @@ use model::node::NodeKind;
 use std::alloc::{AllocError, Global};
 use std::test::Fail;
 
-/// A directory, number 0x0000000100000002, owner 7, group 8, change 3, time 4, one name in one run, and two entries:
-/// ALLOW EVERYONE@ 0x1F01E7, and DENY group 9 with the flags 1 and 2, mask 1.
+/// A directory, number 0x0000000100000002, owner 7, group 8, change 3, time 4, one name in one run,
+/// and two entries: ALLOW EVERYONE@ 0x1F01E7, and DENY group 9 with the flags 1 and 2, mask 1.
 const HEAD: [u8; 52] = [
     b'N', b'O', b'D', b'E', 2, 2, 0, 1, 0, 0, 0, 1, 0, 0, 0, 2, 0, 0, 0, 7, 0, 0, 0, 8, 0, 0, 0, 0,
     0, 0, 0, 3, 0, 0, 0, 0, 0, 0, 0, 4, 0, 0, 0, 0, 0, 0, 0, 1, 0, 0, 1, 5,
@@ -25,7 +25,8 @@ fn vector() -> [u8; 4096] {
     sector
 }
 
-// The calls of nodes, each of which stands here once: a call brings all that it promises into the proof of its caller.
+// The calls of nodes, each of which stands here once: a call brings all that it promises into the
+// proof of its caller.
 
 fn node_in(alloc: Global, sector: &[u8; 4096]) -> Result<Inode, InodeFault> {
     from_sector(alloc, Form::One, sector)
@@ -91,7 +92,8 @@ fn writes_the_layout(rt: HostRuntime) -> Result<(), Fail> {
     Ok(())
 }
 
-/// Magic, kind, counts, each place that has to be zero, an entry's type, who, flags and number: the byte of a place.
+/// Magic, kind, counts, each place that has to be zero, an entry's type, who, flags and number: the
+/// byte of a place.
 const CHANGES: [(usize, u8); 17] = [
     (0, b'M'),
     (4, 0),

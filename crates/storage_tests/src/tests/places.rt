@@ -4,7 +4,8 @@ use freemap::{Bitmap, BitmapFault, Full};
 use std::alloc::{AllocError, Global};
 use std::test::Fail;
 
-// The map's calls, each of which stands here once: a call brings all that it promises into the proof of its caller.
+// The map's calls, each of which stands here once: a call brings all that it promises into the
+// proof of its caller.
 
 fn empty(alloc: Global, count: u32) -> Result<Bitmap, AllocError>
     requires { count ≤ 65536 }
@@ -134,7 +135,8 @@ fn fills_and_empties(rt: HostRuntime) -> Result<(), Fail> {
     Ok(())
 }
 
-/// Places 64 to 127 and the last one are marked: a mount reads which places are used. A copy is the same set.
+/// Places 64 to 127 and the last one are marked: a mount reads which places are used. A copy is the
+/// same set.
 #[test]
 fn marks_and_copies(rt: HostRuntime) -> Result<(), Fail> {
     let mut places = empty(rt.alloc(), 200)?;

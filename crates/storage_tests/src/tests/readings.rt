@@ -105,7 +105,8 @@ fn are_answered(rows: &mut Rows, card: &Card, parts: &[Row], out: &mut Vec<u8>) 
     true
 }
 
-/// What these parts of the file give, one after the other, behind what was read before, and whether each is answered so.
+/// What these parts of the file give, one after the other, behind what was read before, and whether
+/// each is answered so.
 fn read_all(
     alloc: Global,
     broken: Option<u32>,

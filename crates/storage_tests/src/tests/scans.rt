@@ -29,7 +29,8 @@ const FILE: [u8; 52] = [
 /// The name `a`, stamp 5, which leads to node 2.
 const NAME: [u8; 18] = [0, 0, 0, 0, 0, 0, 0, 2, 0, 0, 0, 0, 0, 0, 0, 5, 1, b'a'];
 
-/// Places 0 and 2 of the table have nodes; the data region begins with sector 164, of which four sectors are used.
+/// Places 0 and 2 of the table have nodes; the data region begins with sector 164, of which four
+/// sectors are used.
 const VOLUME: [Part<'static>; 9] = [
     (98, 0, &[0xf0]),
     (148, 0, &DIRECTORY),
@@ -53,7 +54,8 @@ pub(super) fn read(alloc: Global, rows: &mut Rows) -> Result<Contents, ScanFault
     read_volume(alloc, rows, SIZE, NODES)
 }
 
-/// The number of a node, how many names it has, what `a` leads to, and the sectors of its first two blocks.
+/// The number of a node, how many names it has, what `a` leads to, and the sectors of its first two
+/// blocks.
 type Shown = (u64, usize, Option<(u64, u64)>, [Option<u32>; 2]);
 
 fn shown(card: &Card) -> Shown {

@@ -18,7 +18,8 @@ const PAYLOAD: u32 = 2;
 
 const ROOT: u32 = 148;
 
-// The calls of volumes, each of which stands here once: a call brings all that it promises into the proof of its caller.
+// The calls of volumes, each of which stands here once: a call brings all that it promises into the
+// proof of its caller.
 
 fn format_on(alloc: Global, device: &mut MemDevice, nodes: u32) -> Result<(), FormatFault> {
     format(alloc, device, nodes)

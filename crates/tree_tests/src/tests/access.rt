@@ -88,7 +88,8 @@ const READS: Row = (Call::Read(ANONYMOUS, 0, 9), Told::Read(true), b"");
 
 const READS_NOT: Row = (Call::Read(ANONYMOUS, 0, 9), NO_ACCESS, b"");
 
-/// The kind of a node of user 9, its list, who calls, what ACCESS asks and grants, and the rows after it.
+/// The kind of a node of user 9, its list, who calls, what ACCESS asks and grants, and the rows
+/// after it.
 type Case = (NodeKind, &'static [Entry], u32, (u32, u32), &'static [Row]);
 
 const CASES: [Case; 7] = [
@@ -174,7 +175,8 @@ const PARENT: [Entry; 4] = [
 
 const OF_FILE: [Entry; 2] = [(ALLOW, Who::User(5), 0, 1), (ALLOW, Who::Everyone, 0, 1)];
 
-/// A directory is made with a mode or with nothing; what it inherits stands in the list of its mode.
+/// A directory is made with a mode or with nothing; what it inherits stands in the list of its
+/// mode.
 const OF_DIRECTORY: [Entry; 7] = [
     (ALLOW, Who::Owner, 0, 0x67),
     (ALLOW, Who::User(6), 0, 0x21),

@@ -145,8 +145,8 @@ fn is_computed(operation: &Argument<'_>) -> bool
     )
 }
 
-/// The operation, done. The call of the oracle stands here once, since it brings all that it promises to its caller;
-/// what it asks for is tested, so that nobody has to show it.
+/// The operation, done. The call of the oracle stands here once, since it brings all that it
+/// promises to its caller; what it asks for is tested, so that nobody has to show it.
 pub(super) fn run(world: &mut World<'_>, call: Call<'_>) -> Result<Outcome, Fail> {
     let operation = operation_of(call).ok_or("no operation")?;
     if !is_computed(&operation) {
@@ -173,8 +173,8 @@ fn put_shown(shown: &ShownAttributes, out: &mut Vec<u8>) -> Result<(), Fail> {
     Ok(())
 }
 
-/// The bytes of an answer, put after those in `out`: of attributes their bitmap, then their values; of a page's entries each
-/// cookie and name.
+/// The bytes of an answer, put after those in `out`: of attributes their bitmap, then their values;
+/// of a page's entries each cookie and name.
 fn put_bytes(answer: &Answer, out: &mut Vec<u8>) -> Result<(), Fail> {
     match answer {
         Answer::GetFh(handle) => Ok(out.extend_from_slice(handle)?),

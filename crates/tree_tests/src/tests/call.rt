@@ -19,7 +19,8 @@ pub(super) enum Make<'a> {
     Guarded(Given<'a>),
 }
 
-/// What is asked. An operation is one on the current node, and works on its names where it gives names.
+/// What is asked. An operation is one on the current node, and works on its names where it gives
+/// names.
 #[derive(Clone, Copy)]
 pub(super) enum Call<'a> {
     PutRoot,

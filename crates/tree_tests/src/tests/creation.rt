@@ -1,4 +1,5 @@
-//! CREATE and LOOKUP of directories, computed by the oracle: refusals in their order, and what is made.
+//! CREATE and LOOKUP of directories, computed by the oracle: refusals in their order, and what is
+//! made.
 
 use super::asking::ask;
 use super::call::{Call, Entry, Given, Told};
@@ -21,7 +22,8 @@ const NODES: [(u128, u8, NodeKind, &[Entry]); 2] = [
     (3, b'd', NodeKind::Directory, &NO_RIGHTS),
 ];
 
-// A root that holds the file `f`, number 2, and the directory `d`, number 3, on which no one has a right.
+// A root that holds the file `f`, number 2, and the directory `d`, number 3, on which no one has a
+// right.
 fn grown<'a>(alloc: Global, callers: &'a [Cred; 2]) -> Result<World<'a>, Fail> {
     let mut world = fresh(alloc, callers)?;
     for (number, name, kind, entries) in NODES {
@@ -42,8 +44,8 @@ const TO_ROOT: Row = (Call::MoveTo(ROOT), Told::Done, b"");
 
 const NOTHING: Given<'static> = (&[], b"");
 
-// Where, the name, the bitmap's two words, the values, and what is answered. What a row is refused for stands in front of what
-// the rows after it are.
+// Where, the name, the bitmap's two words, the values, and what is answered. What a row is refused
+// for stands in front of what the rows after it are.
 const REFUSED: [(u128, &[u8], &[u32], &[u8], Status); 10] = [
     (9, b"", &[0x4000, 2], b"", Status::Stale),
     (2, b"", &[0x4000, 2], b"", Status::NotDir),

@@ -18,7 +18,8 @@ fn entry(kind: AceKind, who: Who, mask: u32, flags: u32) -> Ace {
     }
 }
 
-// The calls of lists, each of which stands here once: a call brings all that it promises into the proof of its caller.
+// The calls of lists, each of which stands here once: a call brings all that it promises into the
+// proof of its caller.
 
 fn moded(alloc: Global, kind: NodeKind, old: &[Ace], mode: u32) -> Result<Acl, AclFault>
     requires { mode ≤ 511 }
@@ -56,7 +57,8 @@ fn mode_640_on_a_file(rt: HostRuntime) -> Result<(), Fail> {
     Ok(())
 }
 
-// A directory's write bit is three rights, and what is handed down stays, in its order, and no longer counts.
+// A directory's write bit is three rights, and what is handed down stays, in its order, and no
+// longer counts.
 #[test]
 fn mode_751_on_a_directory(rt: HostRuntime) -> Result<(), Fail> {
     let old = [

@@ -89,7 +89,8 @@ pub(super) fn on_slot(session: [u8; 16], slot: u32, number: u32) -> SequenceArgu
     }
 }
 
-/// A call up to its operations: RPC version 2, the program NFS of version 4, COMPOUND; AUTH_SYS; an empty tag, minor version 1.
+/// A call up to its operations: RPC version 2, the program NFS of version 4, COMPOUND; AUTH_SYS; an
+/// empty tag, minor version 1.
 fn begin_call(alloc: Global, caller: Caller, count: u32) -> Result<Writer, Refusal> {
     let mut call = Writer::new(alloc);
     for number in [caller.xid, 0, 2, 100003, 4, 1] {

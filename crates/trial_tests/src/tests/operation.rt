@@ -1,4 +1,5 @@
-//! The operations that the trials send after a SEQUENCE (RFC 8881, section 18), as what they ask. A name is one letter.
+//! The operations that the trials send after a SEQUENCE (RFC 8881, section 18), as what they ask. A
+//! name is one letter.
 
 ghost use Rattle.std.specs.Prelude.{◌<◌, ◌≤◌, length};
 ghost use Rattle.wire_client.specs.ArgumentFits.{AttributesFit, CreateFits, OpenTypeFits};

@@ -44,7 +44,8 @@ enum What {
     Moves(u8, u8),
 }
 
-/// What a caller does in the directory to which the path's names lead from the root, and its status.
+/// What a caller does in the directory to which the path's names lead from the root, and its
+/// status.
 #[derive(Clone, Copy)]
 struct Change {
     uid: u32,
@@ -149,8 +150,8 @@ fn fresh(alloc: Global) -> Result<Tree, Fail> {
     Ok(tree)
 }
 
-/// What the oracle makes of the script: the trees after each change, what each of them tells, and how many changes each front of
-/// the records has.
+/// What the oracle makes of the script: the trees after each change, what each of them tells, and
+/// how many changes each front of the records has.
 #[derive(Drop)]
 struct Fronts {
     trees: Vec<Tree>,
@@ -354,7 +355,8 @@ fn change_record(alloc: Global, number: u32, change: Change) -> Result<Vec<u8>, 
     compound(alloc, caller, sequence, &operations)
 }
 
-/// Sends the records one after the other, up to the device's stop, and gives the replies that were taken.
+/// Sends the records one after the other, up to the device's stop, and gives the replies that were
+/// taken.
 fn play<D: Device>(
     alloc: Global,
     server: &mut Server<D>,
@@ -510,7 +512,8 @@ fn expect_statuses(rt: &impl Abort, script: &[Change], replies: &[Vec<u8>]) {
     }
 }
 
-/// Plays the script with a stop before and within each step after the mount. Each front is found after some stop.
+/// Plays the script with a stop before and within each step after the mount. Each front is found
+/// after some stop.
 fn try_stops(rt: &impl Abort, alloc: Global, script: &[Change]) -> Result<(), Fail> {
     let volume = volume(alloc)?;
     let records = records(alloc, script)?;
@@ -543,7 +546,8 @@ fn stops_of_a_rename_that_replaces(rt: HostRuntime) -> Result<(), Fail> {
     try_stops(&rt, rt.alloc(), &REPLACEMENT)
 }
 
-/// Plays the records, takes the device from the server, and begins a second life on it: the device, wherever that ended.
+/// Plays the records, takes the device from the server, and begins a second life on it: the device,
+/// wherever that ended.
 fn two_lives(alloc: Global, device: CrashDevice, records: &[Vec<u8>]) -> Result<CrashDevice, Fail> {
     let Ok(mut server) = Server::mount(alloc, device) else {
         return Err("not mounted".into());
@@ -567,7 +571,8 @@ fn count_after(rt: &impl Abort, alloc: Global, left: MemDevice, told: &Told) -> 
     Ok(fs.restart_count())
 }
 
-/// Stops within the mount of a second life: each leaves the first one's tree, with the restart count as it was or one more.
+/// Stops within the mount of a second life: each leaves the first one's tree, with the restart
+/// count as it was or one more.
 #[test]
 fn stops_of_a_second_mount(rt: HostRuntime) -> Result<(), Fail> {
     let alloc = rt.alloc();

@@ -1,4 +1,5 @@
-//! A small model of the server: files and directories as a list, opens, slots with their last number, and the bytes of each reply.
+//! A small model of the server: files and directories as a list, opens, slots with their last
+//! number, and the bytes of each reply.
 
 mod files;
 mod naming;

@@ -1,5 +1,6 @@
-//! Eight clients on up to 16 connections, whose bytes arrive in pieces, beside a small model: each reply is the model's, byte for
-//! byte. And what a stop at any moment leaves is one of the model's trees.
+//! Eight clients on up to 16 connections, whose bytes arrive in pieces, beside a small model: each
+//! reply is the model's, byte for byte. And what a stop at any moment leaves is one of the model's
+//! trees.
 
 use super::left::{Left, Tally, volume};
 use super::seed::Seed;

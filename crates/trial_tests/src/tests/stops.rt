@@ -1,4 +1,5 @@
-//! Stops before and within each write and each sync of a server whose two clients use files at the same time.
+//! Stops before and within each write and each sync of a server whose two clients use files at the
+//! same time.
 
 use super::left::{Left, Tally, volume};
 use super::operation::{
@@ -359,7 +360,8 @@ impl<D: Device> Twin<D> {
     }
 }
 
-/// Mounts the volume on this device, and plays the rounds: the world, and whether the device stopped.
+/// Mounts the volume on this device, and plays the rounds: the world, and whether the device
+/// stopped.
 fn serve(
     rt: &impl Abort,
     alloc: Global,
@@ -435,7 +437,8 @@ impl<'a> Trial<'a> {
         }
     }
 
-    /// Stops before and within each step after the mount and the first so many rounds. How many trees were found.
+    /// Stops before and within each step after the mount and the first so many rounds. How many
+    /// trees were found.
     fn run(&mut self, rt: &impl Abort, after: usize) -> Result<usize, Fail> {
         let front = self.rounds.get(..after).ok_or("too few rounds")?;
         let (first, _) = self.measure(rt, front)?;
@@ -449,7 +452,8 @@ impl<'a> Trial<'a> {
     }
 }
 
-/// The first half of the operations. The trees after three unstable writes are never alone on the device.
+/// The first half of the operations. The trees after three unstable writes are never alone on the
+/// device.
 #[test]
 fn stops_of_unstable_writes(rt: HostRuntime) -> Result<(), Fail> {
     let rounds = unstable_rounds();

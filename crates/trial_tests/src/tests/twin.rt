@@ -1,4 +1,5 @@
-//! A server beside its model: both are told the same, and each answer of the one is the other's, byte for byte.
+//! A server beside its model: both are told the same, and each answer of the one is the other's,
+//! byte for byte.
 
 use super::calls::{self, Caller, on_slot};
 use super::line::{Line, Stage};
@@ -148,7 +149,8 @@ impl<D: Device> Twin<D> {
         }
     }
 
-    /// Begins to send a request over a quiet connection, in two fragments where the first one has a length.
+    /// Begins to send a request over a quiet connection, in two fragments where the first one has a
+    /// length.
     pub(super) fn send(
         &mut self,
         at: usize,

@@ -1,6 +1,8 @@
-//! A client as the tests use it. Each of its calls stands here once, since it brings all that it promises to its caller.
+//! A client as the tests use it. Each of its calls stands here once, since it brings all that it
+//! promises to its caller.
 //!
-//! Records are written as words of four bytes in hex, the header first; leading zeros may be left out.
+//! Records are written as words of four bytes in hex, the header first; leading zeros may be left
+//! out.
 
 ghost use Rattle.std.specs.Prelude.{All, IfOk};
 ghost use Rattle.wire_client.specs.ArgumentFits.{ArgumentFits};

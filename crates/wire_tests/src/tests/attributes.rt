@@ -44,7 +44,8 @@ fn entry(kind: u32, flags: u32, mask: u32, who: &[u8]) -> AclEntry<'_>
     }
 }
 
-/// The values that the bytes are. The call stands here once, since it brings all that it promises to its caller.
+/// The values that the bytes are. The call stands here once, since it brings all that it promises
+/// to its caller.
 fn values_in<'a>(
     alloc: Global,
     attributes: &[u32],

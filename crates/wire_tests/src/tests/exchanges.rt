@@ -1,4 +1,5 @@
-//! A client over readers and writers: in one piece, in pieces of one byte, in fragments, cut short and garbled.
+//! A client over readers and writers: in one piece, in pieces of one byte, in fragments, cut short
+//! and garbled.
 
 use super::asking::{
     Ask, EXCHANGE_ID, EXCHANGED, Told, bytes_of, exchange, kept, new_client, request, resend,
@@ -13,7 +14,8 @@ use std::test::*;
 const IN_FRAGMENTS: &str = "4 2 0 20 1 0 0 0 0 0 0 1 80000040
     2a 0 1 1 1 10000 0 0 0 8 6e667334 31737276 8 6e667334 31737276 0";
 
-/// Records that are no reply to it: another xid, a call, and more than 16,384 bytes at once and in the second fragment.
+/// Records that are no reply to it: another xid, a call, and more than 16,384 bytes at once and in
+/// the second fragment.
 const GARBLED: [&str; 4] = [
     "80000018 3 1 0 0 0 1",
     "80000028 2 0 2 186a3 4 0 0 0 0 0",
@@ -21,8 +23,8 @@ const GARBLED: [&str; 4] = [
     "4 2 80003ffd",
 ];
 
-/// A stream that gives a byte at each other call, takes one at each other call, and is interrupted between. It fails after the
-/// bytes that it gives, and after those that it has room for.
+/// A stream that gives a byte at each other call, takes one at each other call, and is interrupted
+/// between. It fails after the bytes that it gives, and after those that it has room for.
 #[derive(Drop)]
 struct Slow<'a> {
     gives: &'a [u8],
@@ -151,7 +153,8 @@ fn comes(alloc: Global, client: &mut Client, turn: &Turn<'_>) -> bool {
     told == turn.told && reader == turn.left && writer.as_slice() == turn.written
 }
 
-/// Whether it comes so where they are slow, and the writer fails after so many bytes. Nothing is read before a flush.
+/// Whether it comes so where they are slow, and the writer fails after so many bytes. Nothing is
+/// read before a flush.
 fn comes_slowly(alloc: Global, client: &mut Client, turn: &Turn<'_>, room: usize) -> bool {
     let mut reader = slow_stream(alloc, turn.gives, 0);
     let mut writer = slow_stream(alloc, &[], room);
@@ -212,7 +215,8 @@ fn a_request_is_exchanged(rt: HostRuntime) -> Result<(), Fail> {
     Ok(())
 }
 
-/// Whether a record is kept where the reader ends after this front of the reply, and where it then fails there.
+/// Whether a record is kept where the reader ends after this front of the reply, and where it then
+/// fails there.
 fn outlasts_readers(alloc: Global, front: &[u8], worked: &Dialogue) -> Result<bool, Fail> {
     let record = worked.record.as_slice();
     let ends = Turn::unanswered(Sends::New, front, Told::Io, record);

@@ -77,7 +77,8 @@ const READ: [(&[u8], Form<'static>, usize); 4] = [
     ),
 ];
 
-/// The next operation. Each call stands here once, since it brings all that it promises to its caller.
+/// The next operation. Each call stands here once, since it brings all that it promises to its
+/// caller.
 fn read<'a>(alloc: Global, r: &mut Reader<'a>) -> Result<Argument<'a>, Refusal> {
     match Operation::from_number(r.read_u32()?) {
         Some(operation) => Argument::read(alloc, operation, r),

@@ -16,9 +16,9 @@ no_place count stay serial e full = grind (arith, nat_tests)
 serial_tells : (count stay serial : ℕ) → count ≡ stay → count < 32 → serial < 2 ^ 64 → (serial == 2 ^ 64 - 1) ≡ (nat_le 32 stay || nat_le (2 ^ 64 - 1) serial)
 serial_tells count stay serial e left small = grind (arith, nat_tests)
 
-pub returns-then-staying-ge-SESSIONS : goal.returns-then-staying-ge-SESSIONS
+pub returns-then-staying-ge-MAX_SESSIONS : goal.returns-then-staying-ge-MAX_SESSIONS
 unfolding table_of
-returns-then-staying-ge-SESSIONS c =
+returns-then-staying-ge-MAX_SESSIONS c =
     let ended = ended_by (client_of c.args.client.now) (clients_of c.args.self.now.clients) in
     let stays = λ (session : Session). not (is_of_clients ended (session_of session)) in
     let count : c.count-staying.result ≡ length (filter (λ (session : Known). not (is_of_clients ended session)) (sessions_of c.args.self.now.sessions)) =
@@ -28,9 +28,9 @@ returns-then-staying-ge-SESSIONS c =
     ∙ sym (ap length (filter-map (λ (session : Known). not (is_of_clients ended session)) session_of c.args.self.now.sessions.list.items)) in
     no_place c.count-staying.result _ c.args.self.now.sessions.serial count (omega arith)
 
-pub returns-else-staying-ge-SESSIONS : goal.returns-else-staying-ge-SESSIONS
+pub returns-else-staying-ge-MAX_SESSIONS : goal.returns-else-staying-ge-MAX_SESSIONS
 unfolding table_of
-returns-else-staying-ge-SESSIONS c =
+returns-else-staying-ge-MAX_SESSIONS c =
     let ended = ended_by (client_of c.args.client.now) (clients_of c.args.self.now.clients) in
     let stays = λ (session : Session). not (is_of_clients ended (session_of session)) in
     let count : c.count-staying.result ≡ length (filter (λ (session : Known). not (is_of_clients ended session)) (sessions_of c.args.self.now.sessions)) =
