@@ -17,9 +17,10 @@ use Rattle.rpc.specs.declared.receive.Progress.TheVariants as progress
 use Rattle.rpc.specs.declared.state.State.{State}
 use Rattle.rpc.specs.declared.state.State.TheVariants as states
 
--- the most of a record's bytes and fragments
+-- the most of a record's bytes and fragments: numbers, so that a constant of the code that is
+-- changed is refused
 abbrev pub record_limits : RecordLimits
-record_limits = record { bytes = MAX_RECORD_BYTES; fragments = MAX_FRAGMENTS }
+record_limits = record { bytes = 16384; fragments = 64 }
 
 pub data Assembly : Type 0 where
   -- what has come of the next record, headers included

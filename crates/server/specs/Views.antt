@@ -3,7 +3,6 @@ use Rattle.std.specs.Prelude.{ℕ, List, Option, ◌≡◌}
 use Rattle.std.specs.Global.{Vec}
 use Rattle.std.specs.Option.{option_map}
 use Rattle.compound.specs.States.{SharedState, shared_of}
-use Rattle.compound.specs.declared.results.TheConstants.{MAX_REPLY_BYTES}
 use Rattle.disk.specs.declared.device.Device.{Ghosts}
 use Rattle.fs.specs.FileSystem.{FileSystem}
 use Rattle.fs.specs.Views.{fs_of, fs_failures}
@@ -17,18 +16,17 @@ use Rattle.session.specs.Limits.{served}
 use Rattle.volume.specs.Held.{Held, IsRecent, LeavesOne}
 use Rattle.server.specs.Connections.{connections_of}
 use Rattle.server.specs.declared.server.Server.{Server}
-use Rattle.server.specs.declared.server.TheConstants.{MAX_CONNECTIONS}
 use Rattle.server.specs.Seen.{Seen, Said, Gave, Does, Breaks, GivesDown, IsTurned}
 
 -- 64 clients, 32 sessions, 8 slots; records of 16,384 bytes; 16 connections; an OK result ends
--- within 16,368 bytes of its reply
+-- within 16,368 bytes of its reply. A constant of the code that is changed is refused.
 abbrev pub server_limits : Limits → ServerLimits
 server_limits volume = record {
   volume = volume;
   sessions = served;
   records = record_limits;
-  connections = MAX_CONNECTIONS;
-  reply_bytes = MAX_REPLY_BYTES;
+  connections = 16;
+  reply_bytes = 16368;
 }
 
 abbrev pub world_by : SharedState → (connections : List (ℕ × world.Connection)) → World

@@ -1,12 +1,6 @@
--- How many clients, sessions, slots and operations are served.
+-- How many clients, sessions, slots and operations are served: numbers, and not the constants of
+-- the code, so that a constant that is changed is refused.
 use Rattle.model.specs.Session.{SessionLimits}
-use Rattle.session.specs.declared.limits.TheConstants.{MAX_CLIENTS, MAX_SESSIONS, MAX_SLOTS, MAX_OPERATIONS, MAX_RECORD_BYTES}
 
 abbrev pub served : SessionLimits
-served = record {
-  clients = MAX_CLIENTS;
-  sessions = MAX_SESSIONS;
-  slots = MAX_SLOTS;
-  operations = MAX_OPERATIONS;
-  record_bytes = MAX_RECORD_BYTES;
-}
+served = record { clients = 64; sessions = 32; slots = 8; operations = 16; record_bytes = 16384 }
