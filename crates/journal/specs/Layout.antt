@@ -10,11 +10,19 @@ use Rattle.byteorder.specs.Endian.{big_bytes, big_number}
 use Rattle.disk.specs.declared.update.Update.{Update}
 use Rattle.disk.specs.Moments.{Image}
 use Rattle.disk.specs.Calls.{zero_sector}
-use Rattle.journal.specs.declared.layout.TheConstants.{FIRST_TARGET, PAYLOAD_SECTORS}
 
--- sectors that a transaction may write: from the first one on, on the device, and all different
+-- how many sectors the payload has
+abbrev pub payload_sectors : ℕ
+payload_sectors = 96
+
+-- the first sector after it
+abbrev pub first_target : ℕ
+first_target = 98
+
+-- sectors that a transaction may write: from the first one after the payload on, on the device, and
+-- all different
 pub record AreTargets (size : ℕ) (to : List ℕ) : Type 0 where
-  pub from_first : All (λ t. FIRST_TARGET ≤ t) to
+  pub from_first : All (λ t. first_target ≤ t) to
   pub on_device : All (λ t. t < size) to
   pub apart : AllPairs (λ a b. a ≢ b) to
 
@@ -61,7 +69,7 @@ copies image place (target ∷ targets) =
 
 -- a gate sector names these targets
 pub record NamesTargets (size : ℕ) (sector : List ℕ) (to : List ℕ) : Type 0 where
-  pub few : length to ≤ PAYLOAD_SECTORS
+  pub few : length to ≤ payload_sectors
   pub fit : AreTargets size to
   pub gate_is : sector ≡ gate to
 

@@ -1,12 +1,11 @@
 -- What an image stands for: an open gate's payload counts as copied to its targets.
 use Rattle.std.specs.Prelude.{◌≡◌, ◌≤◌, ◌<◌, ◌⊎◌, ℕ, List, length}
 use Rattle.disk.specs.Moments.{Image}
-use Rattle.journal.specs.Layout.{AreTargets, gate, through}
-use Rattle.journal.specs.declared.layout.TheConstants.{FIRST_TARGET, PAYLOAD_SECTORS}
+use Rattle.journal.specs.Layout.{payload_sectors, first_target, AreTargets, gate, through}
 
 -- a sector that the journal keeps for its caller
 abbrev pub IsKept : ℕ → ℕ → Type 0
-IsKept size n = ((n ≡ 0) ⊎ (FIRST_TARGET ≤ n)) × (n < size)
+IsKept size n = ((n ≡ 0) ⊎ (first_target ≤ n)) × (n < size)
 
 -- two images with the same kept sectors
 abbrev pub AreSame : ℕ → Image → Image → Type 0
@@ -15,7 +14,7 @@ AreSame size a b = (n : ℕ) → IsKept size n → a n ≡ b n
 -- the gate of an image has a form, and through it the image reads as this one
 pub record Settles (size : ℕ) (image settled : Image) : Type 0 where
   pub to : List ℕ
-  pub few : length to ≤ PAYLOAD_SECTORS
+  pub few : length to ≤ payload_sectors
   pub fit : AreTargets size to
   pub gate_is : image 1 ≡ gate to
   pub same : AreSame size settled (through to image)

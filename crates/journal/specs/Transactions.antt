@@ -2,8 +2,7 @@
 use Rattle.std.specs.Prelude.{◌≡◌, ℕ, Bool, false, List, [], ◌∷◌, ◌++◌, ◌==◌, ◌+◌, ◌<◌, ◌≤◌, length, drop, get_or, if◌then◌else◌}
 use Rattle.std.specs.List.{list_any}
 use Rattle.disk.specs.declared.update.Update.{Update}
-use Rattle.journal.specs.Layout.{targets}
-use Rattle.journal.specs.declared.layout.TheConstants.{PAYLOAD_SECTORS}
+use Rattle.journal.specs.Layout.{payload_sectors, targets}
 
 -- the sectors that they write, one after the other
 abbrev pub sectors_of : List (List Update) → List ℕ
@@ -22,7 +21,7 @@ gathered seen (number ∷ numbers) =
 
 -- transactions whose different sectors the payload has room for
 abbrev pub FitTogether : List (List Update) → Type 0
-FitTogether list = length (gathered [] (sectors_of list)) ≤ PAYLOAD_SECTORS
+FitTogether list = length (gathered [] (sectors_of list)) ≤ payload_sectors
 
 -- the last place of a number
 pub record IsLastPlace (numbers : List ℕ) (number place : ℕ) : Type 0 where

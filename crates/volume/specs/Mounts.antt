@@ -1,8 +1,8 @@
 -- What a mount finds on the base of a journal.
 use Rattle.std.specs.Prelude.{ℕ, ⊤, false, [], Result, Ok, Err, ◌≡◌, ◌<◌, ◌≤◌, ◌+◌, ◌^◌, ◌⊎◌, List, IsTrue}
 use Rattle.disk.specs.Moments.{Image, History, AddsOnly}
+use Rattle.journal.specs.Layout.{first_target}
 use Rattle.journal.specs.Log.{Log, IsSettled}
-use Rattle.journal.specs.declared.layout.TheConstants.{FIRST_TARGET}
 use Rattle.layout.specs.Superblock.{is_size}
 use Rattle.model.specs.Tree.{Tree}
 use Rattle.volume.specs.Held.{Held, Holds}
@@ -61,7 +61,7 @@ pub record IsRaised (keeps_word : Type 0) (found : Superblock) (old new : Log) :
   pub still_up : new.is_down ≡ false
   pub stands : keeps_word → (tree : Tree) → StandsOn found old.base tree
       → Stands found.sectors found.nodes new.base (found.run + 1) tree
-  pub same : keeps_word → (n : ℕ) → FIRST_TARGET ≤ n → n < old.size → new.base n ≡ old.base n
+  pub same : keeps_word → (n : ℕ) → first_target ≤ n → n < old.size → new.base n ≡ old.base n
   pub settled : keeps_word → IsSettled new
 
 -- a run that begins on a base
