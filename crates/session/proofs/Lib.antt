@@ -1,4 +1,5 @@
 pub mod Adding
+pub mod Allowed
 pub mod Beginning
 pub mod Creating
 pub mod Ending

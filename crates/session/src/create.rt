@@ -13,15 +13,14 @@ ghost use Rattle.session.specs.Rooms.{argument_refusals, room_refusals, ends_run
 ghost use Rattle.session.specs.Views.{table_of, client_of};
 
 use crate::client::Client;
+use crate::flags::SessionFlags;
 use crate::limits::{MAX_OPERATIONS, MAX_RECORD_BYTES, MAX_SESSIONS, MAX_SLOTS};
 use crate::session::{Session, session_id};
 use crate::table::Table;
+use bitflags::Flags;
 use model::not_done::NotDone;
 use model::status::Status;
 use wire::{Channel, CreateSessionAnswer, CreateSessionArguments};
-
-/// PERSIST, CONN_BACK_CHAN and CONN_RDMA may be set.
-const SESSION_FLAGS: u32 = 7;
 
 /// What CREATE_SESSION answers, and the clients that ended with it: their opens are to end.
 #[derive(Drop)]
@@ -143,7 +142,7 @@ fn check_arguments(next: u32, arguments: &CreateSessionArguments<'_>) -> Result<
     if arguments.sequence != next {
         return Err(Status::SeqMisordered);
     }
-    if arguments.flags | SESSION_FLAGS != SESSION_FLAGS {
+    if !SessionFlags::from_bits_retain(arguments.flags).may_be_asked() {
         return Err(Status::Inval);
     }
     if is_too_small(&arguments.fore) {

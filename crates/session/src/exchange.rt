@@ -10,18 +10,12 @@ ghost use Rattle.session.specs.Calls.{Exchanged, Refuses};
 ghost use Rattle.session.specs.Limits.{served};
 ghost use Rattle.session.specs.Views.{table_of, among, cleared_of};
 
+use crate::flags::ExchangeFlags;
 use crate::table::Table;
+use bitflags::Flags;
 use model::not_done::NotDone;
 use model::status::Status;
 use wire::{ExchangeIdAnswer, ExchangeIdArguments};
-
-/// SUPP_MOVED_REFER, SUPP_MOVED_MIGR, BIND_PRINC_STATEID, USE_NON_PNFS, USE_PNFS_MDS and
-/// USE_PNFS_DS may be set.
-const EXCHANGE_FLAGS: u32 = 0x7_0103;
-
-const USE_NON_PNFS: u32 = 0x1_0000;
-
-const CONFIRMED: u32 = 0x8000_0000;
 
 const SERVER_NAME: &[u8] = b"nfs41srv";
 
@@ -46,7 +40,7 @@ impl Table {
             (λ known. IsShortAnswer (Answer.ExchangeId (answer_view known))) }
         ensures refused { IfErr result Refuses }
     {
-        if arguments.flags | EXCHANGE_FLAGS != EXCHANGE_FLAGS {
+        if !ExchangeFlags::from_bits_retain(arguments.flags).may_be_asked() {
             return Err(NotDone::Status(Status::Inval));
         }
         let Some(client) = self.clients.confirmed(arguments.owner) else {
@@ -62,7 +56,8 @@ impl Table {
         if client.verifier != arguments.verifier {
             return self.add_client(uid, arguments, None);
         }
-        let answer = answer(number, client.sequence, CONFIRMED | USE_NON_PNFS);
+        let flags = ExchangeFlags::CONFIRMED.union(ExchangeFlags::USE_NON_PNFS);
+        let answer = answer(number, client.sequence, flags);
         self.clients.remove_unconfirmed(arguments.owner);
         Ok(answer)
     }
@@ -82,18 +77,18 @@ impl Table {
         ensures refused { IfErr result Refuses }
     {
         let number = self.clients.add(self.alloc, uid, arguments, dropped)?;
-        Ok(answer(number, 1, USE_NON_PNFS))
+        Ok(answer(number, 1, ExchangeFlags::USE_NON_PNFS))
     }
 }
 
-fn answer(client: u64, sequence: u32, flags: u32) -> ExchangeIdAnswer<'static>
-    ensures answered { answer_view result ≡ exchange_answer client sequence flags }
+fn answer(client: u64, sequence: u32, flags: ExchangeFlags) -> ExchangeIdAnswer<'static>
+    ensures answered { answer_view result ≡ exchange_answer client sequence flags.0 }
     ensures short { IsShortAnswer (Answer.ExchangeId (answer_view result)) }
 {
     ExchangeIdAnswer {
         client,
         sequence,
-        flags,
+        flags: flags.bits(),
         major_id: SERVER_NAME,
         scope: SERVER_NAME,
     }

@@ -10,6 +10,7 @@ mod clients;
 mod create;
 mod destroy;
 mod exchange;
+mod flags;
 mod held;
 mod laws;
 mod limits;

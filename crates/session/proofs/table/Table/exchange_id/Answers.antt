@@ -2,7 +2,7 @@ use Rattle.std.proofs.Common.{◌≡◌, ℕ, ◌==◌, true, false, List, Resul
 use Rattle.std.specs.Option.{option_map, option_copied}
 use Rattle.model.specs.declared.status.Status.{Status}
 use Rattle.model.specs.Answer.{ExchangeIdAnswer as Answered}
-use Rattle.model.specs.Session.{exchange_flags, has_only, is_unconfirmed_of, without_where, Client as Known, Table}
+use Rattle.model.specs.Session.{exchange_answer, exchange_flags, has_only, is_unconfirmed_of, without_where, Client as Known, Table}
 use Rattle.wire.specs.ArgumentViews.{exchange_id_view}
 use Rattle.wire.specs.AnswerViews.{exchange_id_view as answer_view}
 use Rattle.session.specs.Calls.{Exchanged}
@@ -10,9 +10,9 @@ use Rattle.session.specs.Views.{table_of, table_by, book_of, client_of, clients_
 use Rattle.session.proofs.Exchanging.{exchange_inval, exchange_unknown, exchange_other, exchange_same}
 use Rattle.session.proofs.table.Table.exchange_id.Goals as goal
 
-pub returns-then-arguments-ne-EXCHANGE_FLAGS-clause-answered : goal.returns-then-arguments-ne-EXCHANGE_FLAGS-clause-answered
+pub returns-then-not-may_be_asked-clause-answered : goal.returns-then-not-may_be_asked-clause-answered
 unfolding table_of
-returns-then-arguments-ne-EXCHANGE_FLAGS-clause-answered c =
+returns-then-not-may_be_asked-clause-answered c =
     let flags : has_only exchange_flags c.args.arguments.now.flags ≡ false = search (rules, tests) in
     exchange_inval (among c.args.with_opens.now) c.args.uid (exchange_id_view c.args.arguments.now) (table_of c.args.self.now) flags
 
@@ -62,6 +62,7 @@ returns-clause-answered c =
     let found = sym c.confirmed.ensures ∙ ap (λ r. option_map client_of (option_copied r)) c.in-Some.is in
     let same : (c.in-Some.client.now.principal == c.args.uid) ≡ true = search (rules, tests) in
     let verifier : bytes_eq c.in-Some.client.now.verifier c.args.arguments.now.verifier ≡ true = search (rules, tests) in
+    let told = ap (exchange_answer c.in-Some.client.now.number c.in-Some.client.now.sequence) (sym (c.union-flags.ensures tt)) in
     exchange_same (among c.args.with_opens.now) c.args.uid (exchange_id_view c.args.arguments.now) (table_of c.args.self.now) (client_of c.in-Some.client.now) true flags found same verifier
-    ∙ ap (λ (a : Answered). (Ok a, table_by (c.args.self.now.clients.run, c.args.self.now.clients.serial, without_where (is_unconfirmed_of c.args.arguments.now.owner.now) (clients_of c.args.self.now.clients)) (book_of c.args.self.now.sessions))) (sym c.answer-answer.ensures.answered)
+    ∙ ap (λ (a : Answered). (Ok a, table_by (c.args.self.now.clients.run, c.args.self.now.clients.serial, without_where (is_unconfirmed_of c.args.arguments.now.owner.now) (clients_of c.args.self.now.clients)) (book_of c.args.self.now.sessions))) (told ∙ sym c.answer-answer.ensures.answered)
     ∙ ap (λ (roll : ℕ × ℕ × List Known). (Ok (answer_view c.answer-answer.result), table_by roll (book_of c.args.self.now.sessions))) (sym c.remove_unconfirmed.ensures)
