@@ -8,7 +8,7 @@ use Rattle.model.specs.Rpc.{is_call_read, read_call}
 use Rattle.model.specs.Runs.{Serving, Event, Happens, Fails, StaysDown, MayLeave, effect_of, executed_of, executed_by}
 use Rattle.model.specs.Tree.{Tree}
 use Rattle.model.specs.World as world
-use Rattle.model.specs.World.{World, Quiet, Closed, arrives, arrives_at, arrived, taken_at, takes, without_reply, connects, can_connect, connection_changed, with_connection, hangs_up, is_busy}
+use Rattle.model.specs.World.{World, Quiet, Closed, arrives, arrives_at, arrived, takes, without_reply, connects, can_connect, connection_changed, with_connection, hangs_up, is_busy}
 use Rattle.model.proofs.KeyedLaws.{at-with_same, at-with_other, at-without_same, at-without_other}
 use Rattle.compound.specs.States.{SharedState}
 use Rattle.compound.specs.Volumes.{lasts}
@@ -246,14 +246,6 @@ module _ (state : SharedState) (old new : Keyed world.Connection) (number : ℕ)
 
   pub hung_up : is_busy (at number old) ≡ false → new ≡ without old number → world_by state new ≡ hangs_up (world_by state old) number
   hung_up quiet written = ap (world_by state) written ∙ sym (dropped (world_by state old) number quiet)
-
--- What a feed leaves of a connection
-pub feeds_of_run : {E : Type 0} (run : ℕ) (piece : List ℕ) (before after : world.Connection) (result : Result ℕ E)
-    → IfOk result (λ n. (after ≡ arrives_at record_limits piece before) × (taken_at record_limits piece before ≡ Some n))
-    → OnErr result ((after ≡ Closed) × (arrives_at record_limits piece before ≡ Closed) × (taken_at record_limits piece before ≡ None))
-    → IsOfRun run before → IsOfRun run after
-feeds_of_run run piece before after (Ok n) arrived closed here = subst (IsOfRun run) (sym arrived.0) (arrived_of_run run record_limits piece before here)
-feeds_of_run run piece before after (Err fault) arrived closed here = subst (IsOfRun run) (sym closed.0) (not_busy_of_run run Closed refl)
 
 -- A slab after an insert that may have failed
 

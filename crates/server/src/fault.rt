@@ -5,7 +5,6 @@ ghost use Rattle.server.specs.Faults.{turn_fault};
 ghost use Rattle.server.specs.declared.fault.ServerFault.TheVariants as faults;
 
 use compound::Fault;
-use rpc::RecordFault;
 use std::alloc::{AllocError, AllocFailed};
 use thiserror::Error;
 
@@ -42,14 +41,6 @@ impl<T: Drop> From<AllocFailed<T>> for ServerFault {
 
     fn from(_: AllocFailed<T>) -> ServerFault {
         ServerFault::Memory
-    }
-}
-
-impl From<RecordFault> for ServerFault {
-    ghost from_gives = { λ _ fault. fault ≡ faults.Closed };
-
-    fn from(_: RecordFault) -> ServerFault {
-        ServerFault::Closed
     }
 }
 

@@ -4,7 +4,7 @@ ghost use Rattle.std.specs.Prelude.{◌≡◌};
 
 use crate::connection::Connection;
 use crate::stage::Stage;
-use rpc::{Assembler, RecordFault};
+use rpc::Assembler;
 use std::alloc::{AllocError, Global};
 use std::mem;
 
@@ -35,8 +35,8 @@ impl Connection {
 
 #[tactic(auto, unfolding(crate::specs::Connections::connection_view))]
 impl Connection {
-    ghost use Rattle.std.specs.Prelude.{◌≡◌, [], Some, None, option_map, IfOk, OnErr};
-    ghost use Rattle.model.specs.World.{Quiet, Closed, arrives_at, taken_at, reply_in, without_reply};
+    ghost use Rattle.std.specs.Prelude.{◌≡◌, [], Some, option_map, IfOk};
+    ghost use Rattle.model.specs.World.{Quiet, arrives_at, taken_at, reply_in, without_reply};
     ghost use Rattle.rpc.specs.Assembly.{record_limits};
     ghost use Rattle.server.specs.Connections.{connection_view};
 
@@ -53,20 +53,17 @@ impl Connection {
     }
 
     /// Takes the front of a piece up to the end of the first whole record, and answers how many
-    /// bytes that is; none while a whole request or a reply waits. A refused header, and a whole
-    /// record that is no call, close the connection.
+    /// bytes that is: 0 while a whole request or a reply waits, and `None` once the connection is
+    /// closed. A refused header closes it, and a whole record that is no call.
     #[tactic(auto, unfolding(crate::specs::Connections::connection_view, model::specs::World::taken_at))]
-    pub fn feed(&mut self, piece: &[u8]) -> Result<usize, RecordFault>
-        ensures arrived { IfOk result (λ n. (connection_view self.new
-            ≡ arrives_at record_limits piece.now (connection_view self.old))
-            × (taken_at record_limits piece.now (connection_view self.old) ≡ Some n)) }
-        ensures closed { OnErr result ((connection_view self.new ≡ Closed)
-            × (arrives_at record_limits piece.now (connection_view self.old) ≡ Closed)
-            × (taken_at record_limits piece.now (connection_view self.old) ≡ None)) }
+    pub fn feed(&mut self, piece: &[u8]) -> Option<usize>
+        ensures arrived { connection_view self.new
+            ≡ arrives_at record_limits piece.now (connection_view self.old) }
+        ensures taken { result ≡ taken_at record_limits piece.now (connection_view self.old) }
     {
         match &self.stage {
-            Stage::Receiving => self.assembler.feed(piece),
-            Stage::Running(_) | Stage::Replied(_) => Ok(0),
+            Stage::Receiving => self.assembler.feed(piece).ok(),
+            Stage::Running(_) | Stage::Replied(_) => Some(0),
         }
     }
 

@@ -123,7 +123,10 @@ impl<D: Device> Server<D> {
         let Some(connection) = self.connections.get_mut(conn) else {
             return Err(ServerFault::NoConnection);
         };
-        Ok(connection.feed(piece)?)
+        let Some(taken) = connection.feed(piece) else {
+            return Err(ServerFault::Closed);
+        };
+        Ok(taken)
     }
 
     /// Gives the connection a turn at this moment, in nanoseconds since 1970: one operation of its

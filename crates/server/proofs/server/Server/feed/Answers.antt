@@ -2,12 +2,13 @@ use Rattle.std.proofs.Common.{refl, sym, ap, ◌∙◌, subst, arith}
 use Rattle.compound.specs.States.{shared_of}
 use Rattle.fs.specs.Views.{fs_of}
 use Rattle.model.specs.Runs as runs
-use Rattle.server.specs.Connections.{connections_of, connection_view}
+use Rattle.rpc.specs.Assembly.{record_limits}
+use Rattle.server.specs.Connections.{IsOfRun, connections_of, connection_view}
 use Rattle.server.specs.Seen.{Took, taken_on}
 use Rattle.server.specs.Views.{world_of, volume_of, world_by}
 use Rattle.server.proofs.Moves.{does_quietly}
 use Rattle.server.proofs.SlabLaws.{stands, stands_none, wrote, wrote_count}
-use Rattle.server.proofs.Worlds.{AllOfRun, all_of_run_with, fed, feeds_of_run}
+use Rattle.server.proofs.Worlds.{AllOfRun, all_of_run_with, arrived_of_run, fed}
 use Rattle.server.proofs.server.Server.feed.Goals as goal
 
 pub returns-in_default-clause-no_connection : goal.returns-in_default-clause-no_connection
@@ -24,27 +25,27 @@ invariant_of-self-2 g c =
       few = omega (arith, wrote_count s.connections c.args.conn before after c.in-Some.ensures.value, s.few);
       of_run = subst (AllOfRun run) (sym (wrote s.connections c.args.conn before after c.in-Some.ensures.value))
           (all_of_run_with run (connections_of s.connections) c.args.conn (connection_view after) s.of_run
-          (feeds_of_run run c.args.piece.now (connection_view before) (connection_view after) c.feed.result c.feed.ensures.arrived c.feed.ensures.closed
-          (s.of_run c.args.conn (connection_view before) (stands s.connections c.args.conn before c.in-Some.ensures.value))));
+          (subst (IsOfRun run) (sym c.feed.ensures.arrived) (arrived_of_run run record_limits c.args.piece.now (connection_view before)
+          (s.of_run c.args.conn (connection_view before) (stands s.connections c.args.conn before c.in-Some.ensures.value)))));
     }
 
-pub returns-in_err-feed-clause-closed : goal.returns-in_err-feed-clause-closed
+pub returns-in_default-feed-clause-closed : goal.returns-in_default-feed-clause-closed
 unfolding world_of volume_of
-returns-in_err-feed-clause-closed g c =
+returns-in_default-feed-clause-closed g c =
     let s = c.args.self.now in
     let before = c.in-Some.connection.now in
     let after = c.feed.new.self in
     let there = stands s.connections c.args.conn before c.in-Some.ensures.value in
-    let all = rw c.in_err-feed.was at c.feed.ensures.closed in
+    let none = sym c.feed.ensures.taken ∙ c.in_default-feed.is in
     let up = sym c.if-is_down.ensures in
     λ keeps is. does_quietly (fs_of s.fs).volume _ _ _ (runs.Arrives c.args.conn c.args.piece.now) _ refl up
     (fed (shared_of s.fs s.table s.opens) (connections_of s.connections) _ c.args.conn c.args.piece.now (connection_view before) (connection_view after)
-    there (wrote s.connections c.args.conn before after c.in-Some.ensures.value) (all.0 ∙ sym all.1))
-    (ap Took (sym (ap (taken_on (world_by (shared_of s.fs s.table s.opens) (connections_of s.connections)) c.args.piece.now) there ∙ all.2)))
+    there (wrote s.connections c.args.conn before after c.in-Some.ensures.value) c.feed.ensures.arrived)
+    (ap Took (sym (ap (taken_on (world_by (shared_of s.fs s.table s.opens) (connections_of s.connections)) c.args.piece.now) there ∙ none)))
 
-pub returns-in_err-feed-clause-is_none : goal.returns-in_err-feed-clause-is_none
+pub returns-in_default-feed-clause-is_none : goal.returns-in_default-feed-clause-is_none
 unfolding world_of
-returns-in_err-feed-clause-is_none g c =
+returns-in_default-feed-clause-is_none g c =
     let there = stands c.args.self.now.connections c.args.conn c.in-Some.connection.now c.in-Some.ensures.value in
     λ up free. let never : ⊥ = cc in absurd never
 
@@ -55,12 +56,12 @@ returns-clause-ok g c =
     let before = c.in-Some.connection.now in
     let after = c.feed.new.self in
     let there = stands s.connections c.args.conn before c.in-Some.ensures.value in
-    let e = rw c.in_ok-feed.was at c.feed.ensures.arrived in
+    let some = sym c.feed.ensures.taken ∙ c.in-Some-feed.is in
     let up = sym c.if-is_down.ensures in
     λ keeps. does_quietly (fs_of s.fs).volume _ _ _ (runs.Arrives c.args.conn c.args.piece.now) _ refl up
     (fed (shared_of s.fs s.table s.opens) (connections_of s.connections) _ c.args.conn c.args.piece.now (connection_view before) (connection_view after)
-    there (wrote s.connections c.args.conn before after c.in-Some.ensures.value) e.0)
-    (ap Took (sym (ap (taken_on (world_by (shared_of s.fs s.table s.opens) (connections_of s.connections)) c.args.piece.now) there ∙ e.1)))
+    there (wrote s.connections c.args.conn before after c.in-Some.ensures.value) c.feed.ensures.arrived)
+    (ap Took (sym (ap (taken_on (world_by (shared_of s.fs s.table s.opens) (connections_of s.connections)) c.args.piece.now) there ∙ some)))
 
 pub returns-clause-is_none : goal.returns-clause-is_none
 unfolding world_of
