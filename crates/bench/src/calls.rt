@@ -10,7 +10,7 @@ use model::acl::{Cred, Gids};
 use std::alloc::Global;
 use wire::{
     Answer, Argument, Bitmap, Channel, CreateSessionAnswer, CreateSessionArguments,
-    ExchangeIdAnswer, ExchangeIdArguments, StateId, WriteArguments,
+    ExchangeIdAnswer, ExchangeIdArguments, StableHow, StateId, WriteArguments,
 };
 
 /// How many calls a stream has.
@@ -145,7 +145,7 @@ fn argument_of(kind: Kind, bytes: &[u8]) -> Argument<'_>
                 other: [5; 12],
             },
             offset: 0,
-            stable: 2,
+            stable: StableHow::FileSync,
             data: bytes,
         }),
         Kind::GetAttr => {

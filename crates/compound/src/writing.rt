@@ -1,10 +1,11 @@
 //! WRITE (RFC 8881, section 18.32).
 
-ghost use Rattle.std.specs.Prelude.{◌≡◌, ◌<◌, ◌^◌, true, length};
-ghost use Rattle.model.specs.Files.{are_bytes};
+ghost use Rattle.std.specs.Prelude.{◌≡◌, ◌==◌, ◌<◌, ◌^◌, true, not, length};
+ghost use Rattle.model.specs.Files.{are_bytes, committed_as};
 ghost use Rattle.model.specs.Answer.{Done};
 ghost use Rattle.model.specs.World.{outcome_text};
 ghost use Rattle.model.specs.WireAnswers as answers;
+ghost use Rattle.wire.specs.ArgumentViews.{stable_number};
 ghost use Rattle.wire.specs.OutcomeView.{outcome_view};
 ghost use Rattle.compound.specs.Files.{committed_answer, written_answer};
 
@@ -15,13 +16,7 @@ use crate::running::Running;
 use disk::Device;
 use fs::{Fs, Writing};
 use opens::{Access, Opens};
-use wire::{Answer, Operation, Outcome, WriteAnswer, WriteArguments};
-
-/// `UNSTABLE4`: the bytes may be lost until the next COMMIT.
-const UNSTABLE: u32 = 0;
-
-/// `FILE_SYNC4`: the bytes and all of the file's attributes are on the device.
-const FILE_SYNC: u32 = 2;
+use wire::{Answer, Operation, Outcome, StableHow, WriteAnswer, WriteArguments};
 
 impl Running<'_> {
     ghost use Rattle.std.specs.Prelude.{◌≡◌, false, nat_le, length, IfOk};
@@ -71,7 +66,7 @@ impl Running<'_> {
         let asked = Writing {
             offset: arguments.offset,
             bytes: arguments.data,
-            is_stable: arguments.stable != UNSTABLE,
+            is_stable: is_to_be_stable(arguments.stable),
         };
         match fs.write(&self.cred, now, number, verdict, asked, has_room) {
             Ok(count) => Ok(Operated::Gives {
@@ -87,7 +82,7 @@ impl Running<'_> {
         ensures { result ≡ nat_le (length (reply_with (in_progress_of self.now)
             (Done (written_answer 0 0 0)))) MAX_REPLY_BYTES }
     {
-        self.has_room(&written(0, 0, 0))
+        self.has_room(&written(0, StableHow::Unstable, 0))
     }
 
     /// COMMIT (section 18.3): all changes so far are kept. Nothing is where the reply has no room
@@ -137,22 +132,39 @@ fn tell_bytes(data: &[u8])
     ensures { are_bytes «data».now ≡ true }
 {}
 
+/// Whether the bytes are to be on the device before the answer.
+fn is_to_be_stable(stable: StableHow) -> bool
+    ensures { (stable_number stable == 0) ≡ not result }
+{
+    match stable {
+        StableHow::Unstable => false,
+        StableHow::DataSync | StableHow::FileSync => true,
+    }
+}
+
 /// The result of a WRITE in this run of the server: how many bytes it took. What is to be stable is
 /// on the device.
-fn written(run: u32, stable: u32, count: u32) -> Outcome<'static>
-    ensures is { outcome_view result ≡ Done (written_answer run stable count) }
+fn written(run: u32, stable: StableHow, count: u32) -> Outcome<'static>
+    ensures is { outcome_view result ≡ Done (written_answer run (stable_number stable) count) }
     ensures fits { answers.outcome.Fits (outcome_view result) }
     ensures small { length (outcome_text (outcome_view result)) < 2 ^ 63 }
 {
     Outcome::short(Answer::Write(WriteAnswer {
         count,
-        committed: if stable == UNSTABLE {
-            UNSTABLE
-        } else {
-            FILE_SYNC
-        },
+        committed: committed_as(stable).number(),
         verifier: u64::from(run).to_be_bytes(),
     }))
+}
+
+/// How stable a WRITE that asks for this is answered to be: what is to be stable is on the device
+/// with all of the file's attributes.
+fn committed_as(stable: StableHow) -> StableHow
+    ensures { stable_number result ≡ committed_as (stable_number stable) }
+{
+    match stable {
+        StableHow::Unstable => StableHow::Unstable,
+        StableHow::DataSync | StableHow::FileSync => StableHow::FileSync,
+    }
 }
 
 /// The result of a COMMIT in this run of the server.

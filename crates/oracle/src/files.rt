@@ -1,8 +1,8 @@
 //! What READ, WRITE and COMMIT do (RFC 8881, sections 18.22, 18.32 and 18.3).
 
 ghost use Rattle.std.specs.Prelude.{◌≡◌, false, IfOk, take};
-ghost use Rattle.model.specs.Files.{has_bytes, part_of, read, write, write_verifier, wrote, commit};
-ghost use Rattle.wire.specs.ArgumentViews.{read_view, write_view};
+ghost use Rattle.model.specs.Files.{committed_as, has_bytes, part_of, read, write, write_verifier, wrote, commit};
+ghost use Rattle.wire.specs.ArgumentViews.{read_view, stable_number, write_view};
 ghost use Rattle.oracle.specs.Answers.{answer_of, effect_of};
 ghost use Rattle.oracle_refusals.specs.States.{state_of};
 
@@ -16,7 +16,7 @@ use oracle_tree::edit::put_bytes;
 use oracle_tree::places::bytes_at;
 use oracle_tree::tree::clone_tree;
 use std::alloc::{AllocError, Global};
-use wire::{ReadArguments, WriteArguments};
+use wire::{ReadArguments, StableHow, WriteArguments};
 
 // The first bytes, so many at most.
 fn front(bytes: &[u8], most: usize) -> &[u8]
@@ -64,13 +64,23 @@ fn verifier(state: &State<'_>) -> [u8; 8]
     u64::from(state.context.run).to_be_bytes()
 }
 
-// What WRITE answers: what is to be stable is answered FILE_SYNC4.
+// What is to be stable is answered FILE_SYNC4.
+fn committed_as(stable: StableHow) -> StableHow
+    ensures { stable_number result ≡ committed_as (stable_number stable) }
+{
+    match stable {
+        StableHow::Unstable => StableHow::Unstable,
+        StableHow::DataSync | StableHow::FileSync => StableHow::FileSync,
+    }
+}
+
+// What WRITE answers.
 fn wrote(limits: &Limits, state: &State<'_>, arguments: &WriteArguments<'_>) -> Answer
     ensures { answer_of result ≡ wrote limits.now (state_of state.now) (write_view arguments.now) }
 {
     Answer::Write {
         count: front(arguments.data, limits.transfer_bytes).len(),
-        committed: if arguments.stable == 0 { 0 } else { 2 },
+        committed: committed_as(arguments.stable).number(),
         verifier: verifier(state),
     }
 }

@@ -1,9 +1,8 @@
 //! A server and its peers, one after the other: a peer's bytes go to the server piece by piece, and
 //! each reply goes back in one write.
 
-use crate::link;
 use crate::moment::moment;
-use crate::refused::Refused;
+use callers::{Refused, link};
 use disk::Device;
 use server::{Server, Turn};
 use std::alloc::Global;
@@ -145,7 +144,7 @@ impl<D: Device> Host<D> {
     /// A turn. For want of memory it leaves all as it was, so it is tried again.
     fn turn<C: Clock>(&mut self, clock: &C, conn: usize) -> Result<Turn, Refused> {
         for _ in 0..TRIES {
-            let outcome = link::turn_at(&mut self.server, conn, moment(clock)?);
+            let outcome = link::turn(&mut self.server, conn, moment(clock)?);
             if !matches!(outcome, Err(Refused::Memory)) {
                 return outcome;
             }
@@ -161,7 +160,7 @@ impl<D: Device> Host<D> {
             return Ok(());
         };
         for _ in 0..TRIES {
-            let outcome = link::hangup_at(&mut self.server, conn, moment(clock)?);
+            let outcome = link::hangup(&mut self.server, conn, moment(clock)?);
             if !matches!(outcome, Err(Refused::Memory)) {
                 self.conn = None;
                 return outcome;

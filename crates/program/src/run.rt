@@ -1,13 +1,12 @@
 //! One run of the program, apart from the process around it.
 
-use crate::link;
 use crate::machine::Machine;
-use crate::refused::Refused;
-use crate::script::script;
 use crate::serve::serve;
 use crate::words::{Request, read_words};
+use callers::{Refused, link};
 use disk::{FileDevice, MemDevice};
 use fs::Checked;
+use script::run_script;
 use server::is_volume_size;
 use std::convert::AsStr;
 use std::fs::{File, read_to_string};
@@ -95,7 +94,7 @@ where
 {
     let mut device = MemDevice::new(rt.alloc(), MEMORY_SECTORS)?;
     link::format(rt.alloc(), &mut device, MEMORY_NODES)?;
-    script(rt, &mut device, input, out)
+    run_script(rt, &mut device, input, out)
 }
 
 fn format_file<R, O>(
@@ -143,7 +142,7 @@ where
     O: Write,
 {
     let mut device = open_volume(rt, file)?;
-    script(rt, &mut device, &mut text.as_bytes(), out)
+    run_script(rt, &mut device, &mut text.as_bytes(), out)
 }
 
 /// Tells what a mount would find, and writes nothing.

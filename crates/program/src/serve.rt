@@ -2,7 +2,7 @@
 
 use crate::host::Host;
 use crate::machine::Machine;
-use crate::refused::Refused;
+use callers::Refused;
 use disk::Device;
 use std::io::{ErrorKind, Read, Write};
 use std::net::{Ipv4Addr, OpenListener, OpenStream, TcpListener};

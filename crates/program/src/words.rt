@@ -1,8 +1,8 @@
 //! The words of a command line.
 
-use crate::line::decimal;
 use clap::error::ErrorKind;
 use clap::{Arg, ArgMatches, Command};
+use script::decimal;
 use std::alloc::{AllocError, Global};
 use std::convert::AsStr;
 

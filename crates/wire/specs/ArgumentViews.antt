@@ -11,6 +11,8 @@ use Rattle.wire.specs.declared.small.CallbackSecurity.{CallbackSecurity}
 use Rattle.wire.specs.declared.file.CloseArguments.{CloseArguments}
 use Rattle.wire.specs.declared.file.CommitArguments.{CommitArguments}
 use Rattle.wire.specs.declared.file.ReadArguments.{ReadArguments}
+use Rattle.wire.specs.declared.file.StableHow.{StableHow}
+use Rattle.wire.specs.declared.file.StableHow.TheVariants as stable
 use Rattle.wire.specs.declared.file.WriteArguments.{WriteArguments}
 use Rattle.wire.specs.declared.file.SetAttrArguments.{SetAttrArguments}
 use Rattle.wire.specs.declared.directory.ReadDirArguments.{ReadDirArguments}
@@ -21,6 +23,8 @@ use Rattle.wire.specs.declared.open.OpenType.{OpenType}
 use Rattle.wire.specs.declared.open.OpenType.TheVariants as open_type
 use Rattle.wire.specs.declared.open.Claim.{Claim}
 use Rattle.wire.specs.declared.open.Claim.TheVariants as claims
+use Rattle.wire.specs.declared.open.ExclusiveCreate.{ExclusiveCreate}
+use Rattle.wire.specs.declared.open.ExclusiveCreate.TheVariants as exclusive
 use Rattle.wire.specs.declared.open.Opening.{Opening}
 use Rattle.wire.specs.declared.open.Opening.TheVariants as openings
 use Rattle.wire.specs.declared.open.OpenArguments.{OpenArguments}
@@ -38,11 +42,17 @@ commit_view a = record { offset = a.offset; count = a.count }
 abbrev pub read_view : ReadArguments → spec.ReadArguments
 read_view a = record { state = state_view a.state; offset = a.offset; count = a.count }
 
+-- stable_how4
+abbrev pub stable_number : StableHow → ℕ
+stable_number stable.Unstable = 0
+stable_number stable.DataSync = 1
+stable_number stable.FileSync = 2
+
 abbrev pub write_view : WriteArguments → spec.WriteArguments
 write_view a = record {
   state = state_view a.state;
   offset = a.offset;
-  stable = a.stable;
+  stable = stable_number a.stable;
   data_bytes = a.data.now;
 }
 
@@ -76,9 +86,14 @@ claim_view (claims.ByName name) = spec.ByName name.now
 claim_view claims.ByHandle = spec.ByHandle
 claim_view (claims.OtherClaim number) = spec.OtherClaim number
 
+-- the exclusive modes of createmode4
+abbrev pub exclusive_number : ExclusiveCreate → ℕ
+exclusive_number exclusive.ByVerifier = 2
+exclusive_number exclusive.ByVerifierAndAttributes = 3
+
 abbrev pub opening_view : Opening → spec.Opening
 opening_view (openings.Opens how claim) = spec.Opens (open_type_view how) (claim_view claim)
-opening_view (openings.Exclusive mode) = spec.Exclusive mode
+opening_view (openings.Exclusive mode) = spec.Exclusive (exclusive_number mode)
 
 abbrev pub open_view : OpenArguments → spec.OpenArguments
 open_view a = record {

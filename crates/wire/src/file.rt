@@ -1,11 +1,13 @@
 //! Arguments of the operations on files and their attributes (RFC 8881, section 18).
 
-ghost use Rattle.xdr.specs.Clauses.{Scans};
+ghost use Rattle.std.specs.Prelude.{◌≡◌};
+ghost use Rattle.xdr.specs.Clauses.{Scans, Wrote};
+ghost use Rattle.xdr.specs.Forms.{below};
 ghost use Rattle.model.specs.WireArguments.{close_arguments, commit_arguments, read_arguments, write_arguments, set_attr_arguments};
-ghost use Rattle.wire.specs.ArgumentViews.{close_view, commit_view, read_view, write_view, set_attr_view};
+ghost use Rattle.wire.specs.ArgumentViews.{close_view, commit_view, read_view, stable_number, write_view, set_attr_view};
 
 use crate::small::{ANY_LENGTH, Attributes, StateId};
-use xdr::{Reader, Refusal};
+use xdr::{Reader, Refusal, Writer};
 
 /// `CLOSE4args`: the seqid is ignored.
 #[derive(Clone, Copy, Debug, PartialEq, Eq)]
@@ -73,12 +75,57 @@ impl ReadArguments {
     }
 }
 
-/// `WRITE4args`: `stable` is 0 (UNSTABLE4), 1 (DATA_SYNC4) or 2 (FILE_SYNC4).
+/// `stable_how4`: what of a WRITE is to be on the device before its answer.
+#[derive(Clone, Copy, Debug, PartialEq, Eq)]
+pub enum StableHow {
+    /// UNSTABLE4: nothing; the bytes may be lost until the next COMMIT.
+    Unstable,
+    /// DATA_SYNC4: the bytes, and what of the attributes it takes to find them again.
+    DataSync,
+    /// FILE_SYNC4: the bytes and all of the file's attributes.
+    FileSync,
+}
+
+impl StableHow {
+    /// Reads it.
+    pub fn read(r: &mut Reader<'_>) -> Result<StableHow, Refusal>
+        ensures { Scans stable_number ((below 3).read) r.old r.new result }
+    {
+        let mut at = r.fork();
+        let how = match at.read_below(3)? {
+            0 => StableHow::Unstable,
+            1 => StableHow::DataSync,
+            _ => StableHow::FileSync,
+        };
+        *r = at;
+        Ok(how)
+    }
+
+    /// Writes it. A refusal may leave a front of it.
+    pub fn write(self, w: &mut Writer) -> Result<(), Refusal>
+        ensures { Wrote w.old w.new result ((below 3).spelling (stable_number self)) }
+    {
+        w.write_u32(self.number())
+    }
+
+    /// Its number on the wire.
+    pub fn number(self) -> u32
+        ensures { result ≡ stable_number self }
+    {
+        match self {
+            StableHow::Unstable => 0,
+            StableHow::DataSync => 1,
+            StableHow::FileSync => 2,
+        }
+    }
+}
+
+/// `WRITE4args`.
 #[derive(Drop)]
 pub struct WriteArguments<'a> {
     pub state: StateId,
     pub offset: u64,
-    pub stable: u32,
+    pub stable: StableHow,
     pub data: &'a [u8],
 }
 
@@ -90,7 +137,7 @@ impl<'a> WriteArguments<'a> {
         let mut at = r.fork();
         let state = StateId::read(&mut at)?;
         let offset = at.read_u64()?;
-        let stable = at.read_below(3)?;
+        let stable = StableHow::read(&mut at)?;
         let data = at.read_opaque(ANY_LENGTH)?;
         *r = at;
         Ok(WriteArguments {

@@ -22,9 +22,11 @@ pub use answers::{
 };
 pub use argument::{Argument, MAX_HANDLE_BYTES, Operation};
 pub use directory::{CreateArguments, ReadDirArguments, RenameArguments};
-pub use file::{CloseArguments, CommitArguments, ReadArguments, SetAttrArguments, WriteArguments};
+pub use file::{
+    CloseArguments, CommitArguments, ReadArguments, SetAttrArguments, StableHow, WriteArguments,
+};
 pub use laws::{arguments_are_exact, outcomes_are_exact};
-pub use open::{Claim, OpenArguments, OpenType, Opening};
+pub use open::{Claim, ExclusiveCreate, OpenArguments, OpenType, Opening};
 pub use outcome::{Answer, Outcome};
 pub use session::{CreateSessionArguments, ExchangeIdArguments, SequenceArguments};
 pub use small::{

@@ -1,8 +1,9 @@
 //! Arguments of OPEN (RFC 8881, section 18.16).
 
+ghost use Rattle.std.specs.Prelude.{◌≡◌};
 ghost use Rattle.xdr.specs.Clauses.{Scans};
 ghost use Rattle.model.specs.WireArguments.{claim, create_how, opening, open_arguments};
-ghost use Rattle.wire.specs.ArgumentViews.{claim_view, opening_view, open_view};
+ghost use Rattle.wire.specs.ArgumentViews.{claim_view, exclusive_number, opening_view, open_view};
 
 use crate::small::{ANY_LENGTH, Attributes, MAX_OWNER_BYTES};
 use xdr::{Reader, Refusal};
@@ -41,13 +42,33 @@ impl<'a> Claim<'a> {
     }
 }
 
+/// The two exclusive modes of `createmode4`.
+#[derive(Clone, Copy, Debug, PartialEq, Eq)]
+pub enum ExclusiveCreate {
+    /// EXCLUSIVE4: a verifier follows.
+    ByVerifier,
+    /// EXCLUSIVE4_1: a verifier and attributes follow.
+    ByVerifierAndAttributes,
+}
+
+impl ExclusiveCreate {
+    /// Its number on the wire.
+    pub fn number(self) -> u32
+        ensures { result ≡ exclusive_number self }
+    {
+        match self {
+            ExclusiveCreate::ByVerifier => 2,
+            ExclusiveCreate::ByVerifierAndAttributes => 3,
+        }
+    }
+}
+
 /// How a file is opened. At an exclusive create nothing that follows is looked at, the claim
 /// neither.
 #[derive(Drop)]
 pub enum Opening<'a> {
     Opens { how: OpenType<'a>, claim: Claim<'a> },
-    /// EXCLUSIVE4 (2) or EXCLUSIVE4_1 (3).
-    Exclusive(u32),
+    Exclusive(ExclusiveCreate),
 }
 
 impl<'a> Opening<'a> {
@@ -72,23 +93,21 @@ impl<'a> Opening<'a> {
         ensures { Scans opening_view (create_how.read) r.old r.new result }
     {
         let mut at = r.fork();
-        let mode = at.read_u32()?;
-        if mode >= 4 {
-            return Err(Refusal::Value);
-        }
-        if mode >= 2 {
-            *r = at;
-            return Ok(Opening::Exclusive(mode));
-        }
-        let attributes = Attributes::read(&mut at)?;
-        let claim = Claim::read(&mut at)?;
-        *r = at;
-        let how = if mode == 0 {
-            OpenType::Unchecked(attributes)
-        } else {
-            OpenType::Guarded(attributes)
+        let how = match at.read_u32()? {
+            0 => Opening::Opens {
+                how: OpenType::Unchecked(Attributes::read(&mut at)?),
+                claim: Claim::read(&mut at)?,
+            },
+            1 => Opening::Opens {
+                how: OpenType::Guarded(Attributes::read(&mut at)?),
+                claim: Claim::read(&mut at)?,
+            },
+            2 => Opening::Exclusive(ExclusiveCreate::ByVerifier),
+            3 => Opening::Exclusive(ExclusiveCreate::ByVerifierAndAttributes),
+            _ => return Err(Refusal::Value),
         };
-        Ok(Opening::Opens { how, claim })
+        *r = at;
+        Ok(how)
     }
 }
 

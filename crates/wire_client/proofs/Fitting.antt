@@ -3,7 +3,6 @@ use Rattle.std.proofs.Common.{ℕ, ◌≤◌, List, [], ◌∷◌, length, Optio
 use Rattle.std.specs.Prelude.{map}
 use Rattle.std.specs.Option.{option_map}
 use Rattle.std.specs.List.{AllByRecursion}
-use Rattle.std.proofs.lemmas.Bool.{ltb-true}
 use Rattle.std.proofs.lemmas.List.Elements.{All-from_recursion}
 use Rattle.xdr.specs.Forms.{OptionalFits}
 use Rattle.model.specs.WireTypes.{implementation, callback_security}
@@ -54,7 +53,7 @@ opening_fits : (how : Opening) → opening.Fits (opening_view how) → OpeningFi
 opening_fits (openings.Opens open_type.NoCreate by) fits = (tt, claim_fits by fits.1)
 opening_fits (openings.Opens (open_type.Unchecked attributes) by) fits = (has_length attributes.values.now fits.1.1.0.1, claim_fits by fits.1.1.1)
 opening_fits (openings.Opens (open_type.Guarded attributes) by) fits = (has_length attributes.values.now fits.1.1.0.1, claim_fits by fits.1.1.1)
-opening_fits (openings.Exclusive mode) fits = fits.1.1
+opening_fits (openings.Exclusive mode) fits = tt
 
 pub argument_fits : (a : Argument) → argument.Fits (argument_view a) → ArgumentFits a
 argument_fits (arguments.Create a) fits = create_fits a fits.1
@@ -64,7 +63,7 @@ argument_fits (arguments.PutFh handle) fits = fits.1
 argument_fits (arguments.Remove name) fits = has_length name.now fits.1
 argument_fits (arguments.Rename a) fits = (has_length a.old_name.now fits.1.0, has_length a.new_name.now fits.1.1)
 argument_fits (arguments.SetAttr a) fits = has_length a.attributes.values.now fits.1.1.1
-argument_fits (arguments.Write a) fits = (ltb-true _ _ fits.1.1.1.0.1, has_length a.data.now fits.1.1.1.1)
+argument_fits (arguments.Write a) fits = has_length a.data.now fits.1.1.1.1
 argument_fits (arguments.ExchangeId a) fits = (fits.1.1.0, implementation_fits a.implementation fits.1.1.1.1.1)
 argument_fits (arguments.CreateSession a) fits =
     let list = a.security.items in

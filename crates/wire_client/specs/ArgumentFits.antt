@@ -58,10 +58,9 @@ ClaimFits (claims.ByName name) = HasLength name.now
 ClaimFits claims.ByHandle = Unit {0}
 ClaimFits (claims.OtherClaim number) = (number ≢ 0) × (number ≢ 4)
 
--- EXCLUSIVE4 is 2 and EXCLUSIVE4_1 is 3
 abbrev pub OpeningFits : Opening → Type 0
 OpeningFits (openings.Opens how claim) = OpenTypeFits how × ClaimFits claim
-OpeningFits (openings.Exclusive mode) = (mode ≢ 0) × (mode ≢ 1) × (mode < 4)
+OpeningFits (openings.Exclusive mode) = Unit {0}
 
 abbrev pub OpenFits : OpenArguments → Type 0
 OpenFits a = (length a.owner.now ≤ 1024) × OpeningFits a.opening
@@ -70,7 +69,7 @@ abbrev pub RenameFits : RenameArguments → Type 0
 RenameFits a = HasLength a.old_name.now × HasLength a.new_name.now
 
 abbrev pub WriteFits : WriteArguments → Type 0
-WriteFits a = (a.stable < 3) × HasLength a.data.now
+WriteFits a = HasLength a.data.now
 
 abbrev pub ExchangeIdFits : ExchangeIdArguments → Type 0
 ExchangeIdFits a = (length a.owner.now ≤ 1024) × MaybeImplementationFits a.implementation

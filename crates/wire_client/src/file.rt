@@ -40,7 +40,7 @@ pub(crate) fn write_write(w: &mut Writer, a: &WriteArguments<'_>) -> Result<(), 
 {
     a.state.write(w)?;
     w.write_u64(a.offset)?;
-    w.write_u32(a.stable)?;
+    a.stable.write(w)?;
     w.write_opaque(a.data)
 }
 

@@ -33,7 +33,7 @@ fn write_opening(w: &mut Writer, how: &Opening<'_>) -> Result<(), Refusal>
         Opening::Opens { how, claim } => write_opens(w, how, claim),
         Opening::Exclusive(mode) => {
             w.write_u32(1)?;
-            w.write_u32(*mode)
+            w.write_u32(mode.number())
         }
     }
 }

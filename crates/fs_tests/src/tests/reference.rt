@@ -18,8 +18,8 @@ use std::alloc::Global;
 use std::test::Fail;
 use wire::{
     Argument, Attributes, Bitmap, Claim, CommitArguments, CreateArguments, OpenArguments, OpenType,
-    Opening, ReadArguments, ReadDirArguments, RenameArguments, SetAttrArguments, StateId,
-    WriteArguments,
+    Opening, ReadArguments, ReadDirArguments, RenameArguments, SetAttrArguments, StableHow,
+    StateId, WriteArguments,
 };
 use xdr::{Words, Writer};
 
@@ -127,7 +127,11 @@ fn writing<'a>(state: StateId, part: (u64, &'a [u8]), is_stable: bool) -> Argume
     ensures { IsTrue (is_computed (argument_view result)) }
 {
     let (offset, data) = part;
-    let stable = if is_stable { 2 } else { 0 };
+    let stable = if is_stable {
+        StableHow::FileSync
+    } else {
+        StableHow::Unstable
+    };
     Argument::Write(WriteArguments {
         state,
         offset,

@@ -2,7 +2,7 @@
 
 use acl_eval::{AceKind, NodeKind, Who};
 use model::status::Status;
-use wire::{Claim, StateId};
+use wire::{Claim, StableHow, StateId};
 
 /// Attributes that are given: their bitmap, of two words at most, and their values.
 pub(super) type Given<'a> = (&'a [u32], &'a [u8]);
@@ -44,7 +44,7 @@ pub(super) enum Call<'a> {
     /// READ by a stateid, from an offset on, of so many bytes.
     Read(StateId, u64, u32),
     /// WRITE from an offset on, and how stable it is to be.
-    Write(u64, u32, &'a [u8]),
+    Write(u64, StableHow, &'a [u8]),
     Commit,
     Close(StateId),
     /// The user of this number calls from here on.

@@ -8,7 +8,7 @@ use super::rows::{
 use super::world::{FIRST, ROOT, callers, fresh};
 use model::status::Status;
 use std::test::Fail;
-use wire::{Claim, StateId};
+use wire::{Claim, StableHow, StateId};
 
 /// The attribute size.
 const SIZE: &[u32] = &[0x10, 0];
@@ -21,7 +21,7 @@ const HOLES: [Row; 9] = [
     AT_ROOT,
     MAKES_F,
     (
-        Call::Write(8190, 2, b"AAAAAAAAAA"),
+        Call::Write(8190, StableHow::FileSync, b"AAAAAAAAAA"),
         Told::Wrote(10, 2, RUN_1),
         b"",
     ),
@@ -46,7 +46,11 @@ fn writes_leave_holes(rt: HostRuntime) -> Result<(), Fail> {
 const UNSTABLE: [Row; 5] = [
     AT_ROOT,
     MAKES_F,
-    (Call::Write(0, 0, b"hello"), Told::Wrote(5, 0, RUN_1), b""),
+    (
+        Call::Write(0, StableHow::Unstable, b"hello"),
+        Told::Wrote(5, 0, RUN_1),
+        b"",
+    ),
     (Call::Run(2), Told::Done, b""),
     (Call::Commit, Told::Committed(RUN_2), b""),
 ];
@@ -62,9 +66,13 @@ const ROOM: [Row; 9] = [
     AT_ROOT,
     MAKES_F,
     (Call::Set(SIZE_364543), Told::Done, b""),
-    (Call::Write(364_543, 2, b"x"), Told::Wrote(1, 2, RUN_1), b""),
     (
-        Call::Write(364_544, 2, b"x"),
+        Call::Write(364_543, StableHow::FileSync, b"x"),
+        Told::Wrote(1, 2, RUN_1),
+        b"",
+    ),
+    (
+        Call::Write(364_544, StableHow::FileSync, b"x"),
         Told::Refused(Status::NoSpc),
         b"",
     ),
@@ -72,12 +80,12 @@ const ROOM: [Row; 9] = [
     (Call::Changes, Told::Number(3), b""),
     // One WRITE takes 8,192 bytes, and a file ends at 16,777,216.
     (
-        Call::Write(0, 2, &[1; 8193]),
+        Call::Write(0, StableHow::FileSync, &[1; 8193]),
         Told::Wrote(8192, 2, RUN_1),
         b"",
     ),
     (
-        Call::Write(16_777_216, 2, b"x"),
+        Call::Write(16_777_216, StableHow::FileSync, b"x"),
         Told::Refused(Status::FBig),
         b"",
     ),
@@ -130,7 +138,11 @@ fn stateids_grow(rt: HostRuntime) -> Result<(), Fail> {
 const CUTS: [Row; 10] = [
     AT_ROOT,
     MAKES_F,
-    (Call::Write(0, 2, b"hello"), Told::Wrote(5, 2, RUN_1), b""),
+    (
+        Call::Write(0, StableHow::FileSync, b"hello"),
+        Told::Wrote(5, 2, RUN_1),
+        b"",
+    ),
     (Call::Open(b"o", Claim::ByHandle, MAKE_NEW), INVALID, b""),
     AT_ROOT,
     (

@@ -9,7 +9,7 @@ use super::rows::{
 use super::world::{FIRST, ROOT};
 use model::status::Status;
 use std::test::Fail;
-use wire::{Claim, StateId};
+use wire::{Claim, StableHow, StateId};
 
 const RENAMES: [Row; 17] = [
     AT_ROOT,
@@ -76,14 +76,22 @@ const REPLACED: [Row; 14] = [
         Told::Opened(OPENED),
         b"",
     ),
-    (Call::Write(0, 2, b"1"), Told::Wrote(1, 2, RUN_1), b""),
+    (
+        Call::Write(0, StableHow::FileSync, b"1"),
+        Told::Wrote(1, 2, RUN_1),
+        b"",
+    ),
     AT_ROOT,
     (
         Call::Open(b"o", Claim::ByName(b"y"), MAKE),
         Told::Opened(OPENED_NEXT),
         b"",
     ),
-    (Call::Write(0, 2, b"2"), Told::Wrote(1, 2, RUN_1), b""),
+    (
+        Call::Write(0, StableHow::FileSync, b"2"),
+        Told::Wrote(1, 2, RUN_1),
+        b"",
+    ),
     AT_ROOT,
     SAVES,
     (Call::Rename(b"x", b"y"), Told::Done, b""),

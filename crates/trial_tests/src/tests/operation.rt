@@ -1,7 +1,7 @@
 //! The operations that the trials send after a SEQUENCE (RFC 8881, section 18), as what they ask. A
 //! name is one letter.
 
-ghost use Rattle.std.specs.Prelude.{◌<◌, ◌≤◌, length};
+ghost use Rattle.std.specs.Prelude.{◌≤◌, length};
 ghost use Rattle.wire_client.specs.ArgumentFits.{AttributesFit, CreateFits, OpenTypeFits};
 
 use std::alloc::{AllocError, Global};
@@ -9,7 +9,7 @@ use std::test::Fail;
 use wire::{
     Argument, Attributes, Bitmap, Claim, CloseArguments, CommitArguments, CreateArguments,
     OpenArguments, OpenType, Opening as OpeningArguments, ReadArguments, RenameArguments,
-    SetAttrArguments, StateId, WriteArguments,
+    SetAttrArguments, StableHow, StateId, WriteArguments,
 };
 use wire_client::write_argument;
 use xdr::Writer;
@@ -137,12 +137,17 @@ pub(super) enum Stable {
 
 impl Stable {
     /// `UNSTABLE4` or `FILE_SYNC4`.
-    pub(super) fn number(self) -> u32
-        ensures { result < 3 }
-    {
+    pub(super) fn number(self) -> u32 {
         match self {
             Stable::Unstable => 0,
             Stable::FileSync => 2,
+        }
+    }
+
+    fn on_wire(self) -> StableHow {
+        match self {
+            Stable::Unstable => StableHow::Unstable,
+            Stable::FileSync => StableHow::FileSync,
         }
     }
 }
@@ -363,11 +368,10 @@ fn write_write(alloc: Global, call: &mut Writer, writing: Writing) -> Result<(),
     if bytes.len() > MAX_BYTES {
         return Err("too many bytes".into());
     }
-    let stable = writing.stable.number();
     let asked = WriteArguments {
         state: writing.state.on_wire(),
         offset: writing.offset,
-        stable,
+        stable: writing.stable.on_wire(),
         data: &bytes,
     };
     Ok(write_argument(call, &Argument::Write(asked))?)

@@ -7,8 +7,8 @@ returns-in_err-write c = search writes
 pub returns-in_err-write_u64 : goal.returns-in_err-write_u64
 returns-in_err-write_u64 c = search writes
 
-pub returns-in_err-write_u32 : goal.returns-in_err-write_u32
-returns-in_err-write_u32 c = search writes
+pub returns-in_err-write-2 : goal.returns-in_err-write-2
+returns-in_err-write-2 c = search writes
 
 pub returns : goal.returns
 returns c = search writes

@@ -1,4 +1,4 @@
-use Rattle.std.proofs.Common.{◌≡◌, ℕ, ◌==◌, Bool, not, true, false, Result, refl, sym, subst, ◌∙◌, arith, IfOk}
+use Rattle.std.proofs.Common.{◌≡◌, true, Result, refl, sym, subst, ◌∙◌, arith, IfOk}
 use Rattle.fs.proofs.ChangeLaws.{changes_by}
 use Rattle.fs.specs.Changes.{Changes}
 use Rattle.fs.specs.Views.{fs_of, fs_failures}
@@ -23,13 +23,6 @@ use Rattle.compound.proofs.Trees.{is_on}
 use Rattle.compound.proofs.VolumeLaws.{refusal_changes}
 use Rattle.compound.proofs.WriteLaws.{wants_file, write_on_tree, write_sized, does_write, write_makes, write_up, written_room}
 use Rattle.compound.proofs.running.Running.write.Goals as goal
-
-stable_test : (stable : ℕ) → (stable == 0) ≡ not (not (stable == 0))
-stable_test stable = twice (stable == 0)
-  where
-    twice : (b : Bool) → b ≡ not (not b)
-    twice true = refl
-    twice false = refl
 
 pub returns-in-Err-clause-gives : goal.returns-in-Err-clause-gives
 returns-in-Err-clause-gives g c = λ keeps table.
@@ -71,7 +64,7 @@ returns-in-Ok-write-clause-gives g c = λ keeps table.
     (done_runs c.args.now fs request kind (write_on_tree c.args.now fs request arguments) new table opens opens request.context answer
     (λ state there known. does_write c.args.now fs request arguments new opens c.in-Ok-write.count state there known
     (c.in-Ok-write.ensures.step state arguments (is_on fs request _ state c.requires.run c.in-Ok.ensures.ok.0 c.in-Ok.ensures.ok.1 there)
-    (record { verdict_is = c.verdict-verdict.ensures state known there.context_is; offset_is = refl; bytes_are = refl; stable_is = stable_test arguments.stable }) keeps))))
+    (record { verdict_is = c.verdict-verdict.ensures state known there.context_is; offset_is = refl; bytes_are = refl; stable_is = c.is_to_be_stable.ensures }) keeps))))
 
 pub returns-in-Ok-write-clause-answered : goal.returns-in-Ok-write-clause-answered
 unfolding in_progress_of
@@ -95,7 +88,7 @@ returns-in-Ok-write-clause-volume g c = λ table.
     let arguments = write_view c.args.arguments.now in
     changes_by g.D.Device.keeps_word _ _
     (write_makes c.args.now fs request arguments table opens _ _ _ c.requires.run c.in-Ok.ensures.ok.0 c.in-Ok.ensures.ok.1
-    (λ state there known. record { verdict_is = c.verdict-verdict.ensures state known there.context_is; offset_is = refl; bytes_are = refl; stable_is = stable_test arguments.stable })
+    (λ state there known. record { verdict_is = c.verdict-verdict.ensures state known there.context_is; offset_is = refl; bytes_are = refl; stable_is = c.is_to_be_stable.ensures })
     _ c.has_written_room-has_room.ensures c.in-Ok-write.ensures.room)
     _ _ _ _ _ c.in-Ok-write.ensures.volume
 
@@ -110,7 +103,7 @@ tell_fault-requires g c =
     let arguments = write_view c.args.arguments.now in
     write_up c.args.now fs request arguments opens c.in-Err-write.fault c.requires.up
     (λ state there known. c.in-Err-write.ensures.step state arguments (is_on fs request _ state c.requires.run c.in-Ok.ensures.ok.0 c.in-Ok.ensures.ok.1 there)
-    (record { verdict_is = c.verdict-verdict.ensures state known there.context_is; offset_is = refl; bytes_are = refl; stable_is = stable_test arguments.stable }))
+    (record { verdict_is = c.verdict-verdict.ensures state known there.context_is; offset_is = refl; bytes_are = refl; stable_is = c.is_to_be_stable.ensures }))
 
 pub returns-in-Err-write-clause-gives : goal.returns-in-Err-write-clause-gives
 unfolding in_progress_of
@@ -125,7 +118,7 @@ returns-in-Err-write-clause-gives g c = λ keeps.
     (told_gives c.args.now fs request kind (write_on_tree c.args.now fs request arguments) _ (write_sized c.args.now fs request arguments _ c.has_written_room-has_room.ensures)
     g.D.Device.keeps_word _ new _ _ c.requires.up _ opens opens c.in-Err-write.fault refl
     (λ state there known. c.in-Err-write.ensures.step state arguments (is_on fs request _ state c.requires.run c.in-Ok.ensures.ok.0 c.in-Ok.ensures.ok.1 there)
-    (record { verdict_is = c.verdict-verdict.ensures state known there.context_is; offset_is = refl; bytes_are = refl; stable_is = stable_test arguments.stable }))
+    (record { verdict_is = c.verdict-verdict.ensures state known there.context_is; offset_is = refl; bytes_are = refl; stable_is = c.is_to_be_stable.ensures }))
     c.in-Err-write.ensures.no_room c.in-Err-write.ensures.volume)
 
 pub returns-in-Err-write-clause-answered : goal.returns-in-Err-write-clause-answered
@@ -138,7 +131,7 @@ returns-in-Err-write-clause-answered g c =
     subst (λ (r : Result Operated Fault). IfOk r (IsAnswered request)) (sym c.tell_fault.ensures)
     (told_spelled request 38 c.in-Err-write.fault (omega arith) (write_up c.args.now fs request arguments opens c.in-Err-write.fault c.requires.up
     (λ state there known. c.in-Err-write.ensures.step state arguments (is_on fs request _ state c.requires.run c.in-Ok.ensures.ok.0 c.in-Ok.ensures.ok.1 there)
-    (record { verdict_is = c.verdict-verdict.ensures state known there.context_is; offset_is = refl; bytes_are = refl; stable_is = stable_test arguments.stable }))))
+    (record { verdict_is = c.verdict-verdict.ensures state known there.context_is; offset_is = refl; bytes_are = refl; stable_is = c.is_to_be_stable.ensures }))))
 
 pub returns-in-Err-write-clause-kept : goal.returns-in-Err-write-clause-kept
 returns-in-Err-write-clause-kept g c = λ table.
@@ -153,7 +146,7 @@ returns-in-Err-write-clause-volume g c = λ table.
     let request = in_progress_of c.args.self.now in
     let arguments = write_view c.args.arguments.now in
     let kind = Argument.Write arguments in
-    let writing = λ (state : State) (there : IsHere fs request state) (known : state.opens ≡ opens). let is : IsWriting state _ _ arguments = record { verdict_is = c.verdict-verdict.ensures state known there.context_is; offset_is = refl; bytes_are = refl; stable_is = stable_test arguments.stable } in is in
+    let writing = λ (state : State) (there : IsHere fs request state) (known : state.opens ≡ opens). let is : IsWriting state _ _ arguments = record { verdict_is = c.verdict-verdict.ensures state known there.context_is; offset_is = refl; bytes_are = refl; stable_is = c.is_to_be_stable.ensures } in is in
     let step = λ (state : State) (there : IsHere fs request state) (known : state.opens ≡ opens). c.in-Err-write.ensures.step state arguments (is_on fs request _ state c.requires.run c.in-Ok.ensures.ok.0 c.in-Ok.ensures.ok.1 there) (writing state there known) in
     subst (λ (r : Result Operated Fault). Changes g.D.Device.keeps_word (OperationGives (shared fs table opens) request c.args.now kind) fs new (fs_failures c.args.fs.now) (fs_failures c.write.new.self) (ending r))
     (sym c.tell_fault.ensures)

@@ -2,7 +2,7 @@ use Rattle.std.proofs.Common.{List, All, subst, sym}
 use Rattle.std.proofs.lemmas.List.Elements.{All-push}
 use Rattle.wire.specs.declared.argument.Argument.{Argument}
 use Rattle.wire_client.specs.ArgumentFits.{ArgumentFits}
-use Rattle.program.proofs.operation.arguments_of.Goals as goal
+use Rattle.script.proofs.operation.arguments_of.Goals as goal
 
 pub loop-operation-preserved : goal.loop-operation-preserved
 loop-operation-preserved c =

@@ -1,5 +1,5 @@
-//! Connections between the users of a script and the server, over the loopback interface and in one
-//! thread: what one end writes, the other reads before anything else is done.
+//! Connections between callers and the server, over the loopback interface and in one thread: what
+//! one end writes, the other reads before anything else is done.
 
 use crate::link;
 use crate::refused::Refused;
@@ -12,33 +12,36 @@ use std::net::{Ipv4Addr, Net, OpenListener, OpenStream, TcpListener, TcpStream};
 /// The most bytes that an end writes before the other reads. A socket holds more.
 const PIECE_BYTES: usize = 4096;
 
-/// A connection of a user to the server: both of its ends.
+/// A connection of a caller to the server: both of its ends.
 #[derive(Drop)]
 pub struct Connection<S> {
     alloc: Global,
     /// Its number at the server.
-    pub number: usize,
-    users: S,
+    pub(crate) number: usize,
+    callers: S,
     servers: S,
-    /// How many bytes of the user's record were written.
+    /// How many bytes of the caller's record were written.
     written: usize,
     /// What came to the server's end, and the server did not take yet.
     arrived: Vec<u8>,
     /// Whether a reply is to come.
-    pub awaits_reply: bool,
+    pub(crate) awaits_reply: bool,
 }
 
-/// Connects a user to the server.
+/// Connects a caller to the server.
+///
+/// # Errors
+/// Io where a socket fails; Full, Device and Memory as the server answers them.
 pub fn connect<R, D>(rt: &R, server: &mut Server<D>) -> Result<Connection<R::Stream>, Refused>
 where
     R: Net + AllocGlobal,
     D: Device,
 {
-    let (users, servers) = ends(rt)?;
+    let (callers, servers) = ends(rt)?;
     Ok(Connection {
         alloc: rt.alloc(),
         number: link::connect(server)?,
-        users,
+        callers,
         servers,
         written: 0,
         arrived: Vec::new(rt.alloc()),
@@ -46,24 +49,24 @@ where
     })
 }
 
-/// A user's end, and the server's.
+/// A caller's end, and the server's.
 fn ends<R: Net>(rt: &R) -> Result<(R::Stream, R::Stream), Refused> {
     let listener = TcpListener::bind(rt, (Ipv4Addr::LOCALHOST, 0))?;
-    let users = TcpStream::connect(rt, listener.local_addr()?)?;
+    let callers = TcpStream::connect(rt, listener.local_addr()?)?;
     let (servers, _) = listener.accept()?;
-    Ok((users, servers))
+    Ok((callers, servers))
 }
 
 impl<S: Read + Write + Drop> Connection<S> {
     /// A record is to be sent from its beginning.
-    pub fn begin(&mut self) {
+    pub(crate) fn begin(&mut self) {
         self.written = 0;
         self.awaits_reply = true;
     }
 
     /// Sends what is left of the record whose reply is to come, up to what the server does not take
     /// yet: that is offered to it again the next time.
-    pub fn send<D: Device>(
+    pub(crate) fn send<D: Device>(
         &mut self,
         server: &mut Server<D>,
         record: &[u8],
@@ -84,7 +87,12 @@ impl<S: Read + Write + Drop> Connection<S> {
 
     /// Has a piece of the record come to the server's end.
     fn write(&mut self, piece: &[u8]) -> Result<(), Refused> {
-        carry(&mut self.users, &mut self.servers, piece, &mut self.arrived)?;
+        carry(
+            &mut self.callers,
+            &mut self.servers,
+            piece,
+            &mut self.arrived,
+        )?;
         self.written = self.written.saturating_add(piece.len());
         Ok(())
     }
@@ -98,8 +106,8 @@ impl<S: Read + Write + Drop> Connection<S> {
         Ok(self.arrived.is_empty())
     }
 
-    /// The reply, if the server has made it, as it comes to the user's end.
-    pub fn receive<D: Device>(
+    /// The reply, if the server has made it, as it comes to the caller's end.
+    pub(crate) fn receive<D: Device>(
         &mut self,
         server: &mut Server<D>,
     ) -> Result<Option<Vec<u8>>, Refused> {
@@ -109,10 +117,10 @@ impl<S: Read + Write + Drop> Connection<S> {
         }
     }
 
-    /// Has a reply come to the user's end.
+    /// Has a reply come to the caller's end.
     fn read(&mut self, reply: &[u8]) -> Result<Vec<u8>, Refused> {
         self.awaits_reply = false;
-        carry_all(self.alloc, &mut self.servers, &mut self.users, reply)
+        carry_all(self.alloc, &mut self.servers, &mut self.callers, reply)
     }
 }
 

@@ -1,7 +1,6 @@
 //! A user of the script.
 
-use crate::caller::Caller;
-use crate::refused::Refused;
+use callers::{Caller, Refused};
 use std::alloc::Global;
 
 /// What EXCHANGE_ID answers of a client.
@@ -17,7 +16,9 @@ pub struct Known {
 #[derive(Drop)]
 pub struct User<S> {
     pub name: String,
+    /// What the server answered it last.
     pub known: Known,
+    /// Whether it may send operations.
     pub has_session: bool,
     /// The words for what its last record asks.
     pub words: Vec<&'static str>,

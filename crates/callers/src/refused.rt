@@ -1,4 +1,4 @@
-//! Why the program stops.
+//! Why a command or a script stops.
 
 use client::ClientFault;
 use disk::DiskFault;

@@ -4,14 +4,14 @@ ghost use Rattle.std.specs.Prelude.{All, IfOk};
 ghost use Rattle.wire_client.specs.ArgumentFits.{ArgumentFits};
 
 use crate::arguments::{
-    Mode, Size, Stable, closing, committing, handle_bytes, name_bytes, new_directory, opening,
-    reading, renaming, setting_mode, setting_size, writing,
+    Mode, Size, closing, committing, handle_bytes, name_bytes, new_directory, opening, reading,
+    renaming, setting_mode, setting_size, writing,
 };
 use crate::line::{decimal, long_decimal};
-use crate::refused::Refused;
+use callers::Refused;
 use hex::{FromHexError, decode};
 use std::alloc::{AllocError, Global};
-use wire::Argument;
+use wire::{Argument, StableHow};
 
 /// An operation of a script.
 #[derive(Drop)]
@@ -64,7 +64,7 @@ pub enum Operation<'a> {
     /// WRITE of bytes at an offset.
     Write {
         offset: u64,
-        stable: Stable,
+        stable: StableHow,
         bytes: Vec<u8>,
     },
     /// COMMIT of the whole file.
@@ -285,11 +285,11 @@ fn write_bytes<'a>(
 }
 
 /// `UNSTABLE4` 0, `DATA_SYNC4` 1 or `FILE_SYNC4` 2.
-fn stable_of(how: &str) -> Option<Stable> {
+fn stable_of(how: &str) -> Option<StableHow> {
     match decimal(how)? {
-        0 => Some(Stable::Unstable),
-        1 => Some(Stable::DataSync),
-        2 => Some(Stable::FileSync),
+        0 => Some(StableHow::Unstable),
+        1 => Some(StableHow::DataSync),
+        2 => Some(StableHow::FileSync),
         _ => None,
     }
 }

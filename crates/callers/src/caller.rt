@@ -18,6 +18,9 @@ use wire::{Argument, Outcome};
 /// The number of a client's first record.
 const FIRST_XID: u32 = 1;
 
+/// The moment of each turn and each end of a caller's connection.
+const MOMENT: u64 = 0;
+
 /// A caller.
 #[derive(Drop)]
 pub struct Caller<S> {
@@ -30,7 +33,9 @@ pub struct Caller<S> {
 /// not.
 #[derive(Drop)]
 pub struct Results<'a> {
+    /// In their order.
     pub done: Vec<Outcome<'a>>,
+    /// None where all ended well.
     pub refusal: Option<Status>,
 }
 
@@ -53,8 +58,16 @@ impl<S: Read + Write + Drop> Caller<S> {
         })
     }
 
+    /// Ends its connection, if it has one.
+    pub fn hang_up<D: Device>(self, server: &mut Server<D>) -> Result<(), Refused> {
+        match self.number() {
+            Some(number) => link::hangup(server, number, MOMENT),
+            None => Ok(()),
+        }
+    }
+
     /// The number of its connection at the server, if it has one.
-    pub fn number(&self) -> Option<usize> {
+    fn number(&self) -> Option<usize> {
         match &self.connection {
             Some(connection) => Some(connection.number),
             None => None,
@@ -67,6 +80,9 @@ impl<S: Read + Write + Drop> Caller<S> {
     }
 
     /// Sends the record of these arguments, and runs turns until the reply to it is there.
+    ///
+    /// # Errors
+    /// Those of `ask` and of `await_reply`.
     pub fn call<D: Device>(
         &mut self,
         server: &mut Server<D>,
@@ -79,6 +95,10 @@ impl<S: Read + Write + Drop> Caller<S> {
     }
 
     /// Sends the record of these arguments.
+    ///
+    /// # Errors
+    /// Script without a connection; Pending where a reply is to come; Io where a socket fails;
+    /// Closed, Device and Memory as the server answers them.
     pub fn ask<D: Device>(
         &mut self,
         server: &mut Server<D>,
@@ -95,6 +115,9 @@ impl<S: Read + Write + Drop> Caller<S> {
     }
 
     /// Sends the last record again, over this connection, which is the caller's from now on.
+    ///
+    /// # Errors
+    /// Pending where there is no record; else those of `ask`.
     pub fn ask_again<D: Device>(
         &mut self,
         server: &mut Server<D>,
@@ -120,15 +143,22 @@ impl<S: Read + Write + Drop> Caller<S> {
     }
 
     /// Gives its connection a turn.
+    ///
+    /// # Errors
+    /// Script without a connection; else those of `ask`.
     pub fn turn<D: Device>(&mut self, server: &mut Server<D>) -> Result<Turn, Refused> {
         self.send(server)?;
         match self.number() {
-            Some(number) => link::turn(server, number),
+            Some(number) => link::turn(server, number, MOMENT),
             None => Err(Refused::Script),
         }
     }
 
     /// Runs turns until the reply is there, and takes it.
+    ///
+    /// # Errors
+    /// Script where no reply is to come; Garbled where a turn finds nothing to do before it is there;
+    /// else those of `turn`.
     pub fn await_reply<D: Device>(&mut self, server: &mut Server<D>) -> Result<Vec<u8>, Refused> {
         if !self.awaits_reply() {
             return Err(Refused::Script);
@@ -160,6 +190,10 @@ impl<S: Read + Write + Drop> Caller<S> {
     }
 
     /// The results in the reply to its record.
+    ///
+    /// # Errors
+    /// Garbled where the bytes are no reply to it; Rpc where the call was denied or not accepted;
+    /// Memory.
     pub fn read_reply<'a>(&mut self, reply: &'a [u8]) -> Result<Results<'a>, Refused> {
         match self.client.reply(reply) {
             Ok(done) => Ok(Results {

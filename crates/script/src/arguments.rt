@@ -3,10 +3,11 @@
 ghost use Rattle.std.specs.Prelude.{◌≤◌, length, IfOk};
 ghost use Rattle.wire_client.specs.ArgumentFits.{AttributesFit, CreateFits, OpenTypeFits, OpenFits, WriteFits, RenameFits};
 
-use crate::refused::Refused;
+use callers::Refused;
 use wire::{
     Attributes, Bitmap, Claim, CloseArguments, CommitArguments, CreateArguments, OpenArguments,
-    OpenType, Opening, ReadArguments, RenameArguments, SetAttrArguments, StateId, WriteArguments,
+    OpenType, Opening, ReadArguments, RenameArguments, SetAttrArguments, StableHow, StateId,
+    WriteArguments,
 };
 
 /// Of no open (RFC 8881, section 8.2.3).
@@ -32,14 +33,6 @@ const MAX_BYTES: usize = 65_536;
 
 /// The most bytes of a filehandle.
 const MAX_HANDLE_BYTES: usize = 128;
-
-/// How a WRITE is to be stored (`stable_how4`, section 18.32).
-#[derive(Clone, Copy)]
-pub enum Stable {
-    Unstable,
-    DataSync,
-    FileSync,
-}
 
 /// A mode, encoded: the value of attribute 33.
 #[derive(Clone, Copy)]
@@ -188,7 +181,7 @@ pub fn reading(offset: u64, count: u32) -> ReadArguments {
 }
 
 /// WRITE by the anonymous stateid.
-pub fn writing(offset: u64, stable: Stable, data: &[u8]) -> Result<WriteArguments<'_>, Refused>
+pub fn writing(offset: u64, stable: StableHow, data: &[u8]) -> Result<WriteArguments<'_>, Refused>
     ensures { IfOk result WriteFits }
 {
     if data.len() > MAX_BYTES {
@@ -197,11 +190,7 @@ pub fn writing(offset: u64, stable: Stable, data: &[u8]) -> Result<WriteArgument
     Ok(WriteArguments {
         state: ANONYMOUS,
         offset,
-        stable: match stable {
-            Stable::Unstable => 0,
-            Stable::DataSync => 1,
-            Stable::FileSync => 2,
-        },
+        stable,
         data,
     })
 }

@@ -4,11 +4,9 @@ ghost use Rattle.std.specs.Prelude.{◌≤◌, length, All, IfOk};
 ghost use Rattle.wire_client.specs.ArgumentFits.{ArgumentFits, SecurityFits};
 
 use crate::arguments::MAX_OWNER_BYTES;
-use crate::caller::{Caller, Results};
-use crate::loopback::connect;
 use crate::operation::{Operation, arguments_of};
-use crate::refused::Refused;
 use crate::user::{Known, User};
+use callers::{Caller, Refused, Results, connect};
 use disk::Device;
 use model::status::Status;
 use server::{Server, Turn};

@@ -1,12 +1,9 @@
 //! Running a script: its users and the server in one thread, which take turns.
 
 use crate::actions::{call, hello, retry, session, take, turn};
-use crate::caller::Caller;
 use crate::line::{Action, Line, read_line};
-use crate::link;
-use crate::loopback::connect;
-use crate::refused::Refused;
 use crate::user::User;
+use callers::{Caller, Refused, connect, link};
 use disk::Device;
 use server::Server;
 use std::alloc::Global;
@@ -24,7 +21,16 @@ enum End {
 
 /// Mounts the volume on the device, and runs the script's lines on it. Users reach the server over
 /// the loopback interface.
-pub fn script<R, D, I, O>(rt: &R, device: &mut D, input: &mut I, out: &mut O) -> Result<(), Refused>
+///
+/// # Errors
+/// Script where a line has no form, or lacks what it speaks of; Io where input, output or a socket
+/// fails; else what the server or a reply to a user is refused for.
+pub fn run_script<R, D, I, O>(
+    rt: &R,
+    device: &mut D,
+    input: &mut I,
+    out: &mut O,
+) -> Result<(), Refused>
 where
     R: Net + AllocGlobal,
     D: Device,
@@ -261,18 +267,7 @@ where
     D: Device,
 {
     match users.iter().position(|user| user.name.as_str() == name) {
-        Some(place) => hang_up(server, users.remove(place)),
-        None => Ok(()),
-    }
-}
-
-fn hang_up<S, D>(server: &mut Server<D>, user: User<S>) -> Result<(), Refused>
-where
-    S: Read + Write + Drop,
-    D: Device,
-{
-    match user.caller.number() {
-        Some(number) => link::hangup(server, number),
+        Some(place) => users.remove(place).caller.hang_up(server),
         None => Ok(()),
     }
 }

@@ -85,7 +85,7 @@ fn plain_action<'a>(verb: &str) -> Option<Action<'a>> {
     }
 }
 
-/// A number of 64 bits, of decimal digits alone.
+/// A number below 2^64, of decimal digits alone.
 pub fn long_decimal(text: &str) -> Option<u64> {
     if !text.bytes().all(|byte| byte.is_ascii_digit()) {
         return None;
@@ -93,7 +93,7 @@ pub fn long_decimal(text: &str) -> Option<u64> {
     text.parse::<u64>().ok()
 }
 
-/// A number of decimal digits alone.
+/// A number below 2^32, of decimal digits alone.
 pub fn decimal(text: &str) -> Option<u32> {
     if !text.bytes().all(|byte| byte.is_ascii_digit()) {
         return None;

@@ -1,5 +1,6 @@
-//! The calls of the server, of the file system below it, and of a client's records, as the program
-//! makes them: each stands here once, so that what is above need not see all that they promise.
+//! The calls of the server, of the file system below it, and of a client's records, as scripts and
+//! the program make them: each stands here once, so that what is above need not see all that they
+//! promise.
 
 ghost use Rattle.std.specs.Prelude.{All};
 ghost use Rattle.wire_client.specs.ArgumentFits.{ArgumentFits};
@@ -11,9 +12,6 @@ use fs::{Checked, Fs};
 use server::{Server, Turn};
 use std::alloc::Global;
 use wire::Argument;
-
-/// The moment that every turn of a script is handed.
-const MOMENT: u64 = 0;
 
 /// Makes the device a new volume.
 pub fn format<D: Device>(alloc: Global, device: &mut D, nodes: u32) -> Result<(), Refused> {
@@ -52,13 +50,8 @@ pub fn feed<D: Device>(
     Ok(server.feed(conn, bytes)?)
 }
 
-/// What the connection's turn in a script did.
-pub fn turn<D: Device>(server: &mut Server<D>, conn: usize) -> Result<Turn, Refused> {
-    turn_at(server, conn, MOMENT)
-}
-
-/// What the connection's turn at this moment did.
-pub fn turn_at<D: Device>(server: &mut Server<D>, conn: usize, now: u64) -> Result<Turn, Refused> {
+/// What the connection's turn at this moment did, in nanoseconds since 1970.
+pub fn turn<D: Device>(server: &mut Server<D>, conn: usize, now: u64) -> Result<Turn, Refused> {
     Ok(server.turn(conn, now)?)
 }
 
@@ -70,24 +63,19 @@ pub fn take_output<D: Device>(
     Ok(server.take_output(conn)?)
 }
 
-/// Ends the connection in a script.
-pub fn hangup<D: Device>(server: &mut Server<D>, conn: usize) -> Result<(), Refused> {
-    hangup_at(server, conn, MOMENT)
-}
-
-/// Ends the connection at this moment.
-pub fn hangup_at<D: Device>(server: &mut Server<D>, conn: usize, now: u64) -> Result<(), Refused> {
+/// Ends the connection at this moment, in nanoseconds since 1970.
+pub fn hangup<D: Device>(server: &mut Server<D>, conn: usize, now: u64) -> Result<(), Refused> {
     Ok(server.hangup(conn, now)?)
 }
 
 /// Makes the record of these arguments, which the client keeps.
-pub fn request(client: &mut Client, arguments: &[Argument<'_>]) -> Result<(), Refused>
+pub(crate) fn request(client: &mut Client, arguments: &[Argument<'_>]) -> Result<(), Refused>
     requires { All ArgumentFits arguments.now }
 {
     Ok(client.request(arguments)?)
 }
 
 /// The record that the client keeps.
-pub fn last_record(client: &Client) -> Result<&[u8], Refused> {
+pub(crate) fn last_record(client: &Client) -> Result<&[u8], Refused> {
     Ok(client.retry()?)
 }

@@ -1,0 +1,12 @@
+//! Scripts: their lines, and what each of them has a user do.
+#![tactic(auto)]
+
+mod actions;
+mod arguments;
+mod line;
+mod mounts;
+mod operation;
+mod user;
+
+pub use line::decimal;
+pub use mounts::run_script;
