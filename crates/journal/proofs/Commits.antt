@@ -1,25 +1,18 @@
 -- Recording a transaction behind the gate, and copying it home, phase by phase.
-use Rattle.std.proofs.Common.{◌≡◌, ◌≤◌, ◌⊎◌, ℕ, List, [], ◌∷◌, length, refl, sym, ap, ◌∙◌, subst, inl, inr, arith}
+use Rattle.std.proofs.Common.{◌≡◌, ◌≤◌, ◌⊎◌, ℕ, List, [], ◌∷◌, ◌++◌, ◌+◌, length, refl, sym, ap, ◌∙◌, subst, inl, inr, ⊎_elim, arith}
 use Rattle.disk.specs.declared.update.Update.{Update}
 use Rattle.disk.specs.Moments.{Image, History, seen, applied, put, newest}
 use Rattle.disk.proofs.MomentLemmas.{AddsOnly-weaken, AddsOnly-join}
 use Rattle.journal.specs.Layout.{AreTargets, gate, through, targets, placed, copies}
 use Rattle.journal.specs.Settled.{AreSame, Settles}
 use Rattle.journal.specs.Phase.{LeftWith, AddsUpdates, IsFixedAs, IsGated}
-use Rattle.journal.specs.Commit.{AddsEither, Records, IsShown, IsRecorded, KeepsShown, IsCopiedHome, IsCommitted}
-use Rattle.journal.proofs.Images.{Between, HoldsFrom, put_same, put_other, applied_placed, copies_held, holds_put, holds_at, length-targets}
+use Rattle.journal.specs.Behind.{way_cost}
+use Rattle.journal.specs.Commit.{AddsEither, IsRecorded, KeepsShown, IsCopiedHome, MakesWay, IsCommitted}
+use Rattle.journal.proofs.Images.{Between, put_same, put_other}
+use Rattle.journal.proofs.Fronts.{settles_same, applied_keeps}
 use Rattle.journal.proofs.Phases.{length-placed, length-copies}
 use Rattle.journal.proofs.Stages.{gate_update, payload_stage, gate_stage, through_payload, homes_stage, homes_done, closing_stage, kept_not_1}
 use Rattle.journal.proofs.Moments.{between_of}
-
-settles_as : (size : ℕ) (image a b : Image) → AreSame size a b → Settles size image a → Settles size image b
-settles_as size image a b e s = record {
-  to = s.to;
-  few = s.few;
-  fit = s.fit;
-  gate_is = s.gate_is;
-  same = λ n k. sym (e n k) ∙ s.same n k;
-}
 
 -- what a read gives after a phase
 pub seen_fixed : (us : List Update) (h h1 : History) → IsFixedAs us h h1 → seen h1.now ≡ applied us (seen h.now)
@@ -32,37 +25,38 @@ between_after us next h h1 image f w =
     let P : Image → Type 0 = λ F. Between F next image in
     subst P (seen_fixed us h h1 f) (between_of next h1.now image f.unsynced w)
 
-module _ (size : ℕ) (us : List Update) (h : History) (few : length us ≤ 96) (fit : AreTargets size (targets us)) (gated : IsGated [] h) where
-  pub payload_moments : (h1 : History) → AddsUpdates (placed 2 us) h h1 → Records size us h h1
+-- an image that settles to a base, or to it with the updates
+abbrev pub Either : ℕ → List Update → Image → Image → Type 0
+Either size us base image = Settles size image base ⊎ Settles size image (applied us base)
+
+-- updates are recorded behind what the gate shows
+module _ (size : ℕ) (to : List ℕ) (us : List Update) (h : History) (few : length to + length us ≤ 96) (fit : AreTargets size (to ++ targets us)) (gated : IsGated to h) where
+  pub payload_moments : (h1 : History) → AddsUpdates (placed (2 + length to) us) h h1 → AddsEither size us (through to (seen h.now)) h h1
   payload_moments h1 w =
-      AddsOnly-weaken (LeftWith (placed 2 us) h.now) (λ image. Settles size image (seen h.now) ⊎ Settles size image (applied us (seen h.now))) h h1
-      (λ image l. inl (payload_stage size us (seen h.now) image few gated.gate_is (between_of (placed 2 us) h.now image gated.rests l))) w
+      AddsOnly-weaken (LeftWith (placed (2 + length to) us) h.now) (Either size us (through to (seen h.now))) h h1
+      (λ image l. inl (payload_stage size to us (seen h.now) few fit gated.gate_is image (between_of (placed (2 + length to) us) h.now image gated.rests l))) w
 
-  pub gate_moments : (h1 h2 : History) → AddsUpdates (placed 2 us) h h1 → IsFixedAs (placed 2 us) h h1
-      → AddsUpdates (gate_update (targets us) ∷ []) h1 h2 → Records size us h h2
+  pub gate_moments : (h1 h2 : History) → AddsUpdates (placed (2 + length to) us) h h1 → IsFixedAs (placed (2 + length to) us) h h1
+      → AddsUpdates (gate_update (to ++ targets us) ∷ []) h1 h2 → AddsEither size us (through to (seen h.now)) h h2
   gate_moments h1 h2 w f v =
-      AddsOnly-join (λ image. Settles size image (seen h.now) ⊎ Settles size image (applied us (seen h.now))) h h1 h2 (payload_moments h1 w)
-      (AddsOnly-weaken (LeftWith (gate_update (targets us) ∷ []) h1.now) (λ image. Settles size image (seen h.now) ⊎ Settles size image (applied us (seen h.now))) h1 h2
-      (λ image l. gate_stage size us (seen h.now) few fit image gated.gate_is (between_after (placed 2 us) (gate_update (targets us) ∷ []) h h1 image f l)) v)
+      AddsOnly-join (Either size us (through to (seen h.now))) h h1 h2 (payload_moments h1 w)
+      (AddsOnly-weaken (LeftWith (gate_update (to ++ targets us) ∷ []) h1.now) (Either size us (through to (seen h.now))) h1 h2
+      (λ image l. gate_stage size to us (seen h.now) few fit gated.gate_is image
+      (between_after (placed (2 + length to) us) (gate_update (to ++ targets us) ∷ []) h h1 image f l)) v)
 
-  pub recorded : (h1 h2 : History) → IsFixedAs (placed 2 us) h h1 → IsFixedAs (gate_update (targets us) ∷ []) h1 h2 → IsRecorded size us h h2
+  pub recorded : (h1 h2 : History) → IsFixedAs (placed (2 + length to) us) h h1 → IsFixedAs (gate_update (to ++ targets us) ∷ []) h1 h2
+      → IsRecorded size us to (to ++ targets us) h h2
   recorded h1 h2 f q =
-      let last : seen h2.now ≡ put (seen h1.now) (gate_update (targets us)) = seen_fixed (gate_update (targets us) ∷ []) h1 h2 q in
-      let paid : HoldsFrom (seen h1.now) 2 us =
-      holds_at (applied (placed 2 us) (seen h.now)) (seen h1.now) 2 us (sym (seen_fixed (placed 2 us) h h1 f)) (applied_placed us (seen h.now) 2) in
+      let last : seen h2.now ≡ put (seen h1.now) (gate_update (to ++ targets us)) = seen_fixed (gate_update (to ++ targets us) ∷ []) h1 h2 q in
       record {
-        shown = record {
-          gated = record {
-            rests = q.unsynced;
-            gate_is = ap (λ (image : Image). image 1) last ∙ put_same (seen h1.now) (gate_update (targets us)) 1 refl;
-          };
-          payload = copies_held (seen h2.now) 2 us (holds_at (put (seen h1.now) (gate_update (targets us))) (seen h2.now) 2 us (sym last)
-              (holds_put (seen h1.now) (gate_update (targets us)) 2 us (omega arith) paid));
+        gated = record {
+          rests = q.unsynced;
+          gate_is = ap (λ (image : Image). image 1) last ∙ put_same (seen h1.now) (gate_update (to ++ targets us)) 1 refl;
         };
-        cost = omega (arith, f.cost, q.cost, length-placed 2 us);
-        same = through_payload size us (seen h.now) few fit (seen h2.now) (λ n ne.
-            ap (λ (image : Image). image n) last ∙ put_other (seen h1.now) (gate_update (targets us)) n ne
-            ∙ ap (λ (image : Image). image n) (seen_fixed (placed 2 us) h h1 f));
+        cost = omega (arith, f.cost, q.cost, length-placed (2 + length to) us);
+        same = through_payload size to us (seen h.now) few fit gated.gate_is (seen h2.now) (λ n ne.
+            ap (λ (image : Image). image n) last ∙ put_other (seen h1.now) (gate_update (to ++ targets us)) n ne
+            ∙ ap (λ (image : Image). image n) (seen_fixed (placed (2 + length to) us) h h1 f));
       }
 
 module _ (size : ℕ) (to : List ℕ) (h : History) (few : length to ≤ 96) (fit : AreTargets size to) (gated : IsGated to h) where
@@ -104,33 +98,42 @@ pub IsFixedAs-gate : (bytes : List ℕ) (to : List ℕ) (h h1 : History) → byt
 IsFixedAs-gate bytes to h h1 e w =
     let P : List ℕ → Type 0 = λ b. let u : Update = record { target = 1; content = b } in IsFixedAs (u ∷ []) h h1 in subst P e w
 
--- the homes' phase, where what is written from memory is the payload
-pub AddsUpdates-homes : (us : List Update) (h h1 : History) → IsShown us h → AddsUpdates us h h1 → AddsUpdates (copies (seen h.now) 2 (targets us)) h h1
-AddsUpdates-homes us h h1 shown w = let P : List Update → Type 0 = λ vs. AddsUpdates vs h h1 in subst P (sym shown.payload) w
+-- the payload's phase, where what is shown was counted
+pub payload_moments_at : (behind count : ℕ) (us : List Update) (h h1 : History) → behind ≡ count → AddsUpdates (placed (2 + behind) us) h h1
+    → AddsUpdates (placed (2 + count) us) h h1
+payload_moments_at behind count us h h1 e w = let P : ℕ → Type 0 = λ n. AddsUpdates (placed (2 + n) us) h h1 in subst P e w
 
-pub IsFixedAs-homes : (us : List Update) (h h1 : History) → IsShown us h → IsFixedAs us h h1 → IsFixedAs (copies (seen h.now) 2 (targets us)) h h1
-IsFixedAs-homes us h h1 shown w = let P : List Update → Type 0 = λ vs. IsFixedAs vs h h1 in subst P (sym shown.payload) w
+pub payload_fixed_at : (behind count : ℕ) (us : List Update) (h h1 : History) → behind ≡ count → IsFixedAs (placed (2 + behind) us) h h1
+    → IsFixedAs (placed (2 + count) us) h h1
+payload_fixed_at behind count us h h1 e w = let P : ℕ → Type 0 = λ n. IsFixedAs (placed (2 + n) us) h h1 in subst P e w
 
-pub few_targets : (us : List Update) → length us ≤ 96 → length (targets us) ≤ 96
-few_targets us few = omega (arith, few, length-targets us)
+-- what the gate names then
+pub IsRecorded-at : (size : ℕ) (us : List Update) (was shown now : List ℕ) (h h1 : History) → now ≡ shown
+    → IsRecorded size us was shown h h1 → IsRecorded size us was now h h1
+IsRecorded-at size us was shown now h h1 e w = let P : List ℕ → Type 0 = λ ts. IsRecorded size us was ts h h1 in subst P (sym e) w
 
--- a transaction is recorded, and then copied home
-module _ (size size1 : ℕ) (us : List Update) (h h1 : History) (same_size : size1 ≡ size) (records : Records size us h h1) (recorded : IsRecorded size us h h1) where
-  pub homed_moments : (h2 : History) → KeepsShown size1 (targets us) h1 h2 → AddsEither size us (seen h.now) h h2
-  homed_moments h2 w =
-      let P : ℕ → Type 0 = λ s. KeepsShown s (targets us) h1 h2 in
-      AddsOnly-join (λ image. Settles size image (seen h.now) ⊎ Settles size image (applied us (seen h.now))) h h1 h2 records
-      (AddsOnly-weaken (λ image. Settles size image (through (targets us) (seen h1.now)))
-      (λ image. Settles size image (seen h.now) ⊎ Settles size image (applied us (seen h.now))) h1 h2
-      (λ image s. inr (settles_as size image (through (targets us) (seen h1.now)) (applied us (seen h.now)) (λ n k. sym (recorded.same n k)) s))
-      (subst P same_size w))
+-- a way is made, and then a transaction is recorded
+module _ (size size1 : ℕ) (to : List ℕ) (us : List Update) (was shown : List ℕ) (h h1 : History) (same_size : size1 ≡ size) (keeps : KeepsShown size was h h1) (way : MakesWay size to was shown h h1) where
+  pub base_moments : AddsEither size us (through was (seen h.now)) h h1
+  base_moments = AddsOnly-weaken (λ image. Settles size image (through was (seen h.now))) (Either size us (through was (seen h.now))) h h1 (λ image s. inl s) keeps
 
-  pub committed : (h2 : History) → IsCopiedHome size1 (targets us) h1 h2 → IsCommitted size us h h2
-  committed h2 w =
-      let P : ℕ → Type 0 = λ s. IsCopiedHome s (targets us) h1 h2 in
-      let home : IsCopiedHome size (targets us) h1 h2 = subst P same_size w in
+  pub committed_moments : (h2 : History) → AddsEither size1 us (through shown (seen h1.now)) h1 h2 → AddsEither size us (through was (seen h.now)) h h2
+  committed_moments h2 w =
+      let P : ℕ → Type 0 = λ s. AddsEither s us (through shown (seen h1.now)) h1 h2 in
+      let back : AreSame size (through shown (seen h1.now)) (through was (seen h.now)) = λ n k. sym (way.same n k) in
+      AddsOnly-join (Either size us (through was (seen h.now))) h h1 h2 base_moments
+      (AddsOnly-weaken (Either size us (through shown (seen h1.now))) (Either size us (through was (seen h.now))) h1 h2
+      (λ image e. ⊎_elim
+      (λ (s : Settles size image (through shown (seen h1.now))). inl (settles_same size image _ _ back s))
+      (λ (s : Settles size image (applied us (through shown (seen h1.now)))). inr (settles_same size image _ _ (applied_keeps size us _ _ back) s))
+      e) (subst P same_size w))
+
+  pub committed : (h2 : History) (now : List ℕ) → to ≡ targets us → IsRecorded size1 us shown now h1 h2 → IsCommitted size us was now h h2
+  committed h2 now named w =
+      let P : ℕ → Type 0 = λ s. IsRecorded s us shown now h1 h2 in
+      let recorded_here : IsRecorded size us shown now h1 h2 = subst P same_size w in
       record {
-        gated = home.gated;
-        same = λ n k. recorded.same n k ∙ home.same n k;
-        cost = omega (arith, recorded.cost, home.cost, length-targets us);
+        gated = recorded_here.gated;
+        same = λ n k. applied_keeps size us _ _ way.same n k ∙ recorded_here.same n k;
+        cost = omega (arith, recorded_here.cost, way.cost, ap (λ (ts : List ℕ). way_cost was ts) named);
       }

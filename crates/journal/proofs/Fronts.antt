@@ -1,5 +1,5 @@
 -- Fronts of a list of transactions, and what a flush adds one after the other.
-use Rattle.std.proofs.Common.{◌≡◌, ◌≤◌, ◌⊎◌, ℕ, List, [], ◌∷◌, ◌++◌, length, take, drop, refl, sym, ap, ◌∙◌, subst, ⊎_elim, arith}
+use Rattle.std.proofs.Common.{◌≡◌, ◌≤◌, ◌⊎◌, ◌+◌, ℕ, List, [], ◌∷◌, ◌++◌, length, take, drop, refl, sym, ap, ◌∙◌, subst, ⊎_elim, arith}
 use Rattle.std.proofs.lemmas.List.{append-nil, length-append}
 use Rattle.std.proofs.lemmas.Bool.{cases_eq}
 use Rattle.disk.specs.declared.update.Update.{Update}
@@ -8,6 +8,8 @@ use Rattle.disk.proofs.MomentLemmas.{AddsOnly-weaken}
 use Rattle.journal.specs.Layout.{AreTargets, through, targets}
 use Rattle.journal.specs.Settled.{AreSame, Settles}
 use Rattle.journal.specs.Phase.{IsGated}
+use Rattle.journal.specs.Behind.{way_cost}
+use Rattle.journal.specs.Calls.{flush_cost}
 use Rattle.journal.specs.Commit.{AddsEither}
 use Rattle.journal.specs.Log.{Log, applied_all, contents, DoesAs, IsJoined, StandsForFront, Moved, Takes}
 use Rattle.journal.specs.Journal.{listed}
@@ -137,6 +139,18 @@ moved_all old new same e = record {
 pub listed_sectors : (us : List Update) → length (sectors_of (listed us)) ≡ length us
 listed_sectors [] = refl
 listed_sectors (u ∷ us) = ap (λ (ts : List ℕ). length ts) (append-nil (targets (u ∷ us))) ∙ length-targets (u ∷ us)
+
+pub listed_sectors_are : (us : List Update) → sectors_of (listed us) ≡ targets us
+listed_sectors_are [] = refl
+listed_sectors_are (u ∷ us) = append-nil (targets (u ∷ us))
+
+-- what it costs to take them through the gate
+pub listed_cost : (was : List ℕ) (us : List Update) → (length us ≡ 0 → ⊥)
+    → flush_cost was (sectors_of (listed us)) ≡ way_cost was (targets us) + (length us + 3)
+listed_cost was [] filled = absurd (filled refl)
+listed_cost was (u ∷ us) filled =
+    ap (λ (ts : List ℕ). flush_cost was ts) (append-nil (targets (u ∷ us)))
+    ∙ ap (λ (n : ℕ). way_cost was (targets (u ∷ us)) + (n + 3)) (length-targets (u ∷ us))
 
 pushed_sectors : (us vs : List Update) → sectors_of (listed us ++ vs ∷ []) ≡ targets us ++ targets vs
 pushed_sectors [] vs = append-nil (targets vs)

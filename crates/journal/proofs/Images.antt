@@ -1,5 +1,5 @@
 -- Images while writes are under way: which sectors they leave alone, and what they leave in the others.
-use Rattle.std.proofs.Common.{◌≡◌, ◌≤◌, ◌<◌, ◌⊎◌, ◌+◌, ◌==◌, ℕ, suc, List, [], ◌∷◌, length, refl, sym, ap, ◌∙◌, subst, inl, inr, ⊎_elim, arith, eq-eqb, ne_eqb, if◌then◌else◌}
+use Rattle.std.proofs.Common.{◌≡◌, ◌≤◌, ◌<◌, ◌⊎◌, ◌+◌, ◌==◌, ℕ, suc, List, [], ◌∷◌, ◌++◌, length, refl, sym, ap, ◌∙◌, subst, inl, inr, ⊎_elim, arith, eq-eqb, ne_eqb, if◌then◌else◌}
 use Rattle.std.proofs.lemmas.Bool.{cases_eq}
 use Rattle.disk.specs.declared.update.Update.{Update}
 use Rattle.disk.specs.Moments.{Image, put, applied, Among}
@@ -54,6 +54,50 @@ home_cases (t ∷ ts) place n = ⊎_elim
     (λ (w : Out ts n × (home ts (place + 1) n ≡ n)). inl (((λ q. e (sym q)), w.0), h ∙ w.1))
     (λ (w : (place + 1 ≤ home ts (place + 1) n) × (home ts (place + 1) n < place + 1 + length ts)). inr (omega (arith, h), omega (arith, h)))
     (home_cases ts (place + 1) n))
+    (cases_eq n t)
+
+pub home_of_out : (to : List ℕ) (place n : ℕ) → Out to n → home to place n ≡ n
+home_of_out [] place n o = refl
+home_of_out (t ∷ ts) place n o = home_other t ts place n (λ e. o.0 (sym e)) ∙ home_of_out ts (place + 1) n o.1
+
+pub Out-join : (a b : List ℕ) (n : ℕ) → Out a n → Out b n → Out (a ++ b) n
+Out-join [] b n o p = p
+Out-join (t ∷ a) b n o p = (o.0, Out-join a b n o.1 p)
+
+Out-back : (a b : List ℕ) (n : ℕ) → Out (a ++ b) n → Out b n
+Out-back [] b n o = o
+Out-back (t ∷ a) b n o = Out-back a b n o.1
+
+Out-front : (a b : List ℕ) (n : ℕ) → Out (a ++ b) n → Out a n
+Out-front [] b n o = tt
+Out-front (t ∷ a) b n o = (o.0, Out-front a b n o.1)
+
+pub Fit-front : (size : ℕ) (a b : List ℕ) → Fit size (a ++ b) → Fit size a
+Fit-front size [] b f = tt
+Fit-front size (t ∷ a) b f = (f.0, f.1, Out-front a b t f.2, Fit-front size a b f.3)
+
+pub Fit-back : (size : ℕ) (a b : List ℕ) → Fit size (a ++ b) → Fit size b
+Fit-back size [] b f = f
+Fit-back size (t ∷ a) b f = Fit-back size a b f.3
+
+-- where a sector stands behind a gate that names more targets after these: where it stands behind these, or else behind the others alone
+pub home_behind : (size : ℕ) (to ts : List ℕ) (place n : ℕ) → Fit size (to ++ ts)
+    → (Out to n × (home (to ++ ts) place n ≡ home ts (place + length to) n))
+    ⊎ (Out ts n × (home (to ++ ts) place n ≡ home to place n) × (place ≤ home to place n) × (home to place n < place + length to))
+home_behind size [] ts place n fit = inl (tt, ap (λ (p : ℕ). home ts p n) (let q : place ≡ place + 0 = omega arith in q))
+home_behind size (t ∷ to) ts place n fit = ⊎_elim
+    (λ (e : n ≡ t). inr (
+    let h = home_same t to place n e in
+    let P : ℕ → Type 0 = λ m. Out ts m in
+    (subst P (sym e) (Out-back to ts t fit.2), home_same t (to ++ ts) place n e ∙ sym h, omega (arith, h), omega (arith, h))))
+    (λ (e : n ≡ t → ⊥).
+    let h = home_other t (to ++ ts) place n e in
+    let g = home_other t to place n e in ⊎_elim
+    (λ (w : Out to n × (home (to ++ ts) (place + 1) n ≡ home ts (place + 1 + length to) n)).
+    inl (((λ q. e (sym q)), w.0), h ∙ w.1 ∙ ap (λ (p : ℕ). home ts p n) (let q : place + 1 + length to ≡ place + length (t ∷ to) = omega arith in q)))
+    (λ (w : Out ts n × (home (to ++ ts) (place + 1) n ≡ home to (place + 1) n) × (place + 1 ≤ home to (place + 1) n) × (home to (place + 1) n < place + 1 + length to)).
+    inr (w.0, h ∙ w.1 ∙ sym g, omega (arith, g, w.2), omega (arith, g, w.3)))
+    (home_behind size to ts (place + 1) n fit.3))
     (cases_eq n t)
 
 pub low_out : (size : ℕ) (to : List ℕ) (n : ℕ) → Fit size to → n < 98 → Out to n
@@ -119,21 +163,6 @@ targets_copies F place (t ∷ ts) = ap (λ xs. t ∷ xs) (targets_copies F (plac
 pub holds_copies : (F : Image) (place : ℕ) (to : List ℕ) → HoldsFrom F place (copies F place to)
 holds_copies F place [] = tt
 holds_copies F place (t ∷ ts) = (refl, holds_copies F (place + 1) ts)
-
--- a payload that holds the updates' contents, copied to their targets, gives the updates
-pub copies_held : (G : Image) (place : ℕ) (us : List Update) → HoldsFrom G place us → copies G place (targets us) ≡ us
-copies_held G place [] holds = refl
-copies_held G place (u ∷ us) holds =
-    ap (λ (content : List ℕ). let first : Update = record { target = u.target; content = content } in first ∷ copies G (place + 1) (targets us)) holds.0
-    ∙ ap (λ (rest : List Update). u ∷ rest) (copies_held G (place + 1) us holds.1)
-
-pub holds_put : (G : Image) (u : Update) (place : ℕ) (us : List Update) → u.target < place → HoldsFrom G place us → HoldsFrom (put G u) place us
-holds_put G u place [] below holds = tt
-holds_put G u place (v ∷ us) below holds =
-    (put_other G u place (λ e. omega (arith, below, e)) ∙ holds.0, holds_put G u (place + 1) us (omega (arith, below)) holds.1)
-
-pub holds_at : (F G : Image) (place : ℕ) (us : List Update) → F ≡ G → HoldsFrom F place us → HoldsFrom G place us
-holds_at F G place us e holds = let P : Image → Type 0 = λ image. HoldsFrom image place us in subst P e holds
 
 pub length-targets : (us : List Update) → length (targets us) ≡ length us
 length-targets [] = refl

@@ -1,4 +1,7 @@
 pub mod Answerings
+pub mod Behinds
+pub mod Ends
+pub mod Cachings
 pub mod Commits
 pub mod Formats
 pub mod Fronts

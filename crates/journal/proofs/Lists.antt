@@ -288,11 +288,6 @@ has-update us n place last =
     list_any_at (λ other. other == n) (targets us) place 0 (omega (arith, last.there, length-targets us))
     (eq-eqb (get_or (targets us) place 0) n (get_or-targets us place ∙ last.is))
 
-pub target_below : (size : ℕ) (us : List Update) (i : ℕ) → AreTargets size (targets us) → i < length us → (get_or us i no_update).target < size
-target_below size us i fit l =
-    let below : get_or (targets us) i 0 < size = fit.on_device i 0 (omega (arith, length-targets us)) in
-    omega (arith, below, get_or-targets us i)
-
 -- one more update is counted, if its sector is not named yet
 pub fresh_more : (named : List ℕ) (us : List Update) (i : ℕ) → i < length us
     → fresh_count named (targets (take (i + 1) us)) ≡ fresh_count named (targets (take i us)) + fresh_count named ((get_or us i no_update).target ∷ [])

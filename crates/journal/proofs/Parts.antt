@@ -1,29 +1,29 @@
 -- What a part of a call leaves to the call.
-use Rattle.std.proofs.Common.{◌≡◌, ℕ, [], length, false, refl, arith, Result, Err}
-use Rattle.disk.specs.Moments.{Image, History, Left, seen}
+use Rattle.std.proofs.Common.{◌≡◌, ℕ, false, refl, Result, Err}
 use Rattle.disk.specs.declared.fault.DiskFault.{DiskFault}
 use Rattle.disk.proofs.MomentLemmas.{AddsOnly-same}
 use Rattle.journal.specs.declared.fault.JournalFault.TheVariants as faults
 use Rattle.journal.specs.declared.journal.Journal.{Journal}
 use Rattle.journal.specs.Calls.{IsPart, IsSafe}
 use Rattle.journal.specs.Journal.{log_of}
-use Rattle.journal.specs.Layout.{gate}
-use Rattle.journal.specs.Log.{Log, Answers}
-use Rattle.journal.specs.Settled.{Settles}
+use Rattle.journal.specs.Log.{Log, Answers, IsSettled}
 use Rattle.journal.proofs.Answerings.{answers_fault}
 use Rattle.journal.proofs.Fronts.{settled_of}
 use Rattle.journal.proofs.Journals.{gated_of}
-use Rattle.journal.proofs.Stages.{no_targets}
 
-settled_closed : (size : ℕ) (h : History) → length h.now.unsynced ≡ 0 → seen h.now 1 ≡ gate [] → (image : Image) → Left h.now image → Settles size image (seen h.now)
-settled_closed size h rests gate_is = settled_of size [] h (omega arith) (no_targets size) (gated_of [] h rests gate_is)
+-- what a crash leaves of a journal that is up
+settled_up : {D : _} {g : _} (journal : Journal D g) → g.keeps_word → journal.is_down ≡ false → IsSettled (log_of journal)
+unfolding log_of
+settled_up {D} {g} journal k up =
+    settled_of (g.size journal.device) journal.shown.items (g.history journal.device) journal.shown_fits.few journal.shown_fits.fit
+    (gated_of journal.shown.items (g.history journal.device) (journal.rests k up) (journal.gate_is k up))
 
 pub stays_safe : {D : _} {g : _} (journal : Journal D g) → IsSafe g.keeps_word (log_of journal) (log_of journal)
 unfolding log_of
 stays_safe {D} {g} journal = record {
   size = refl;
   moments = λ k. AddsOnly-same _ (g.history journal.device);
-  settled = λ k up. settled_closed (g.size journal.device) (g.history journal.device) (journal.rests k up) (journal.gate_is k up);
+  settled = λ k up. settled_up journal k up;
 }
 
 pub part_is_safe : {D : _} {g : _} {T E : Type 0} (old new : Journal D g) (before after : ℕ) (r : Result T E)
@@ -32,7 +32,7 @@ unfolding log_of
 part_is_safe {D} {g} old new before after r part = record {
   size = part.size;
   moments = part.moments;
-  settled = λ k up. settled_closed (g.size new.device) (g.history new.device) (new.rests k up) (new.gate_is k up);
+  settled = λ k up. settled_up new k up;
 }
 
 pub part_failed : {W : Type 0} {T U : Type 0} (old new : Log) (before after : ℕ) (e : DiskFault) → old.is_down ≡ false

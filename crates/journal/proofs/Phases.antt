@@ -1,6 +1,6 @@
 -- Phases: how one ends, and what a failure within it leaves.
 use Rattle.std.proofs.Common.{◌≡◌, ◌≤◌, ◌<◌, ◌⊎◌, ◌+◌, ℕ, suc, zero, List, [], ◌∷◌, ◌++◌, length, get_or, take, drop, refl, sym, ap, ◌∙◌, subst, inl, inr, ⊎_elim, arith}
-use Rattle.std.proofs.lemmas.List.{get_or_default, take_more, take-append-drop}
+use Rattle.std.proofs.lemmas.List.{take_more, take-append-drop}
 use Rattle.disk.specs.declared.update.Update.{Update}
 use Rattle.disk.specs.Moments.{Image, History, MayHold, Among, AddsOnly, moment, wrote, synced, seen}
 use Rattle.disk.proofs.MomentLemmas.{AddsOnly-weaken, AddsOnly-join}
@@ -98,11 +98,11 @@ abbrev pub no_update : Update
 no_update = record { target = 0; content = [] }
 
 -- the payload's write at an index
-pub payload_at : (us : List Update) (i : ℕ) → i < length us
-    → (let u : Update = record { target = 2 + i; content = (get_or us i no_update).content } in get_or (placed 2 us) i u ≡ u)
-payload_at us i l =
-    let u : Update = record { target = 2 + i; content = (get_or us i no_update).content } in
-    get_or-placed 2 us i u no_update l
+pub payload_at : (place : ℕ) (us : List Update) (i : ℕ) → i < length us
+    → (let u : Update = record { target = place + i; content = (get_or us i no_update).content } in get_or (placed place us) i u ≡ u)
+payload_at place us i l =
+    let u : Update = record { target = place + i; content = (get_or us i no_update).content } in
+    get_or-placed place us i u no_update l
 
 Out-front : (us : List Update) (i n : ℕ) → Out (targets us) n → Out (targets (take i us)) n
 Out-front us zero n o = tt
@@ -130,8 +130,3 @@ home_at size to i h h1 content fit few l e read =
     get_or-copies (seen h.now) 2 to i u l
     ∙ ap (λ (bytes : List ℕ). let r : Update = record { target = get_or to i 0; content = bytes } in r)
     (sym (payload_stays size to i h h1 fit few l e) ∙ sym read)
-
--- an update's own write, at an index
-pub update_at : (us : List Update) (i : ℕ) (d : Update) → i < length us
-    → (let u : Update = record { target = (get_or us i d).target; content = (get_or us i d).content } in get_or us i u ≡ u)
-update_at us i d l = let u : Update = record { target = (get_or us i d).target; content = (get_or us i d).content } in get_or_default us i u d l

@@ -1,11 +1,12 @@
 -- Images within the phases of a flush, and what they settle to.
-use Rattle.std.proofs.Common.{◌≡◌, ◌≤◌, ◌<◌, ◌⊎◌, ◌+◌, ℕ, suc, List, [], ◌∷◌, length, refl, sym, ap, ◌∙◌, inl, inr, ⊎_elim, arith, subst}
+use Rattle.std.proofs.Common.{◌≡◌, ◌≤◌, ◌<◌, ◌⊎◌, ◌+◌, ℕ, suc, List, [], ◌∷◌, ◌++◌, length, refl, sym, ap, ◌∙◌, inl, inr, ⊎_elim, arith, subst}
+use Rattle.std.proofs.lemmas.List.{length-append}
 use Rattle.disk.specs.declared.update.Update.{Update}
 use Rattle.disk.specs.Moments.{Image, applied}
 use Rattle.journal.specs.Layout.{AreTargets, home, through, gate, targets, placed, copies}
 use Rattle.journal.specs.Settled.{IsKept, AreSame, Settles}
-use Rattle.journal.proofs.Images.{Out, Fit, Between, home_cases, home_out, low_out, applied_out, between_out, applied_home, placed_out_below, placed_out_above, applied_placed, targets_copies, holds_copies, length-targets}
-use Rattle.journal.proofs.Lists.{Out-each}
+use Rattle.journal.proofs.Images.{Out, Fit, Between, Fit-front, Fit-back, home_cases, home_of_out, home_behind, home_out, low_out, applied_out, between_out, applied_home, placed_out_below, placed_out_above, applied_placed, targets_copies, holds_copies, length-targets}
+use Rattle.journal.proofs.Lists.{Out-each, targets_of-Fit}
 
 AreTargets-rest : (size t : ℕ) (ts : List ℕ) → AreTargets size (t ∷ ts) → AreTargets size ts
 AreTargets-rest size t ts a = record {
@@ -43,11 +44,21 @@ home_not_1 size n to k e = ⊎_elim
     (λ (w : (2 ≤ home to 2 n) × (home to 2 n < 2 + length to)). omega arith)
     (home_cases to 2 n)
 
-kept_out_of_payload : (size n : ℕ) (us : List Update) → length us ≤ 96 → IsKept size n → Out (targets (placed 2 us)) n
-kept_out_of_payload size n us few k = ⊎_elim
-    (λ (l : n < 2). placed_out_below us 2 n l)
-    (λ (l : 98 ≤ n). placed_out_above us 2 n (omega arith))
+kept_out_of_payload : (size n : ℕ) (us : List Update) (behind : ℕ) → behind + length us ≤ 96 → IsKept size n → Out (targets (placed (2 + behind) us)) n
+kept_out_of_payload size n us behind few k = ⊎_elim
+    (λ (l : n < 2). placed_out_below us (2 + behind) n (omega arith))
+    (λ (l : 98 ≤ n). placed_out_above us (2 + behind) n (omega arith))
     (kept_cases size n k)
+
+-- where a sector stands while the gate is open is not behind what it shows
+home_out_of_payload : (size n : ℕ) (to : List ℕ) (us : List Update) → length to + length us ≤ 96 → IsKept size n
+    → Out (targets (placed (2 + length to) us)) (home to 2 n)
+home_out_of_payload size n to us few k = ⊎_elim
+    (λ (w : Out to n × (home to 2 n ≡ n)).
+    let P : ℕ → Type 0 = λ m. Out (targets (placed (2 + length to) us)) m in
+    subst P (sym w.1) (kept_out_of_payload size n us (length to) few k))
+    (λ (w : (2 ≤ home to 2 n) × (home to 2 n < 2 + length to)). placed_out_below us (2 + length to) (home to 2 n) w.1)
+    (home_cases to 2 n)
 
 -- only the sector of one update differs
 pub between_one : (F : Image) (u : Update) (image : Image) → Between F (u ∷ []) image
@@ -65,48 +76,66 @@ between_one F u image b = (
 abbrev pub gate_update : List ℕ → Update
 gate_update to = record { target = 1; content = gate to }
 
--- within the payload phase nothing has happened yet
-pub payload_stage : (size : ℕ) (us : List Update) (F image : Image) → length us ≤ 96 → F 1 ≡ gate [] → Between F (placed 2 us) image
-    → Settles size image F
-payload_stage size us F image few closed b = record {
-  to = [];
-  few = omega arith;
-  fit = no_targets size;
-  gate_is = between_out F (placed 2 us) image 1 b (placed_out_below us 2 1 (omega arith)) ∙ closed;
-  same = λ n k. sym (between_out F (placed 2 us) image n b (kept_out_of_payload size n us few k));
-}
-
--- what the payload phase leaves
-module _ (size : ℕ) (us : List Update) (F : Image) (few : length us ≤ 96) (fit : AreTargets size (targets us)) where
+-- What a payload behind the gate's targets leaves, and then more targets in the gate.
+module _ (size : ℕ) (to : List ℕ) (us : List Update) (F : Image) (few : length to + length us ≤ 96) (fit : AreTargets size (to ++ targets us))
+    (open_for : F 1 ≡ gate to) where
   paid : Image
-  paid = applied (placed 2 us) F
+  paid = applied (placed (2 + length to) us) F
 
-  -- through the gate of its targets, an image with the payload reads as with the updates
-  pub through_payload : (image : Image) → ((n : ℕ) → (1 ≡ n → ⊥) → image n ≡ applied (placed 2 us) F n)
-      → AreSame size (applied us F) (through (targets us) image)
-  through_payload image rest n k =
-      sym (applied_home size us F (applied (placed 2 us) F) 2 n (Fit-of size (targets us) fit) (applied_placed us F 2)
-      (applied_out (placed 2 us) F n (kept_out_of_payload size n us few k)))
-      ∙ sym (rest (home (targets us) 2 n) (λ e. home_not_1 size n (targets us) k (sym e)))
+  fitted : Fit size (to ++ targets us)
+  fitted = Fit-of size (to ++ targets us) fit
+
+  named : AreTargets size to
+  named = targets_of-Fit size to (Fit-front size to (targets us) fitted)
+
+  paid_1 : applied (placed (2 + length to) us) F 1 ≡ F 1
+  paid_1 = applied_out (placed (2 + length to) us) F 1 (placed_out_below us (2 + length to) 1 (omega arith))
+
+  -- within the payload phase nothing has happened yet
+  pub payload_stage : (image : Image) → Between F (placed (2 + length to) us) image → Settles size image (through to F)
+  payload_stage image b = record {
+    to = to;
+    few = omega arith;
+    fit = named;
+    gate_is = between_out F (placed (2 + length to) us) image 1 b (placed_out_below us (2 + length to) 1 (omega arith)) ∙ open_for;
+    same = λ n k. sym (between_out F (placed (2 + length to) us) image (home to 2 n) b (home_out_of_payload size n to us few k));
+  }
+
+  -- through the gate of all targets, an image with the payload reads as with the updates
+  pub through_payload : (image : Image) → ((n : ℕ) → (1 ≡ n → ⊥) → image n ≡ applied (placed (2 + length to) us) F n)
+      → AreSame size (applied us (through to F)) (through (to ++ targets us) image)
+  through_payload image rest n k = ⊎_elim
+      (λ (w : Out to n × (home (to ++ targets us) 2 n ≡ home (targets us) (2 + length to) n)).
+      let own : applied (placed (2 + length to) us) F n ≡ through to F n =
+      applied_out (placed (2 + length to) us) F n (kept_out_of_payload size n us (length to) few k) ∙ ap F (sym (home_of_out to 2 n w.0)) in
+      sym (applied_home size us (through to F) (applied (placed (2 + length to) us) F) (2 + length to) n (Fit-back size to (targets us) fitted)
+      (applied_placed us F (2 + length to)) own)
+      ∙ sym (rest (home (targets us) (2 + length to) n) (λ e. home_not_1 size n (to ++ targets us) k (w.1 ∙ sym e)))
+      ∙ ap image (sym w.1))
+      (λ (w : Out (targets us) n × (home (to ++ targets us) 2 n ≡ home to 2 n) × (2 ≤ home to 2 n) × (home to 2 n < 2 + length to)).
+      applied_out us (through to F) n w.0
+      ∙ sym (applied_out (placed (2 + length to) us) F (home to 2 n) (home_out_of_payload size n to us few k))
+      ∙ sym (rest (home to 2 n) (λ e. omega (arith, w.2, e)))
+      ∙ ap image (sym w.1))
+      (home_behind size to (targets us) 2 n fitted)
 
   -- within the gate's phase an image is as before, or with the whole transaction
-  pub gate_stage : (image : Image) → F 1 ≡ gate []
-      → Between (applied (placed 2 us) F) (gate_update (targets us) ∷ []) image
-      → Settles size image F ⊎ Settles size image (applied us F)
-  gate_stage image closed b =
-      let one = between_one (applied (placed 2 us) F) (gate_update (targets us)) image b in
-      let same_1 : applied (placed 2 us) F 1 ≡ F 1 = applied_out (placed 2 us) F 1 (placed_out_below us 2 1 (omega arith)) in
+  pub gate_stage : (image : Image) → Between (applied (placed (2 + length to) us) F) (gate_update (to ++ targets us) ∷ []) image
+      → Settles size image (through to F) ⊎ Settles size image (applied us (through to F))
+  gate_stage image b =
+      let one = between_one (applied (placed (2 + length to) us) F) (gate_update (to ++ targets us)) image b in
       ⊎_elim
-      (λ (e : image 1 ≡ applied (placed 2 us) F 1). inl (record {
-        to = [];
+      (λ (e : image 1 ≡ applied (placed (2 + length to) us) F 1). inl (record {
+        to = to;
         few = omega arith;
-        fit = no_targets size;
-        gate_is = e ∙ same_1 ∙ closed;
-        same = λ n k. sym (one.1 n (λ q. kept_not_1 size n k (sym q)) ∙ applied_out (placed 2 us) F n (kept_out_of_payload size n us few k));
+        fit = named;
+        gate_is = e ∙ paid_1 ∙ open_for;
+        same = λ n k. sym (one.1 (home to 2 n) (λ q. home_not_1 size n to k (sym q))
+            ∙ applied_out (placed (2 + length to) us) F (home to 2 n) (home_out_of_payload size n to us few k));
       }))
-      (λ (e : image 1 ≡ gate (targets us)). inr (record {
-        to = targets us;
-        few = rw (length-targets us) few;
+      (λ (e : image 1 ≡ gate (to ++ targets us)). inr (record {
+        to = to ++ targets us;
+        few = omega (arith, length-append to (targets us), length-targets us);
         fit = fit;
         gate_is = e;
         same = through_payload image one.1;

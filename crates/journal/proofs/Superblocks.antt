@@ -8,15 +8,11 @@ use Rattle.journal.specs.Layout.{AreTargets, gate, home, through, targets}
 use Rattle.journal.specs.Settled.{AreSame, Settles}
 use Rattle.journal.specs.Phase.{LeftWith, AddsUpdates, IsFixedAs, IsGated}
 use Rattle.journal.specs.Commit.{AddsEither}
-use Rattle.journal.proofs.Images.{Out, Fit, applied_out, Between, put_same, put_other, home_cases, home_other, low_out}
+use Rattle.journal.proofs.Images.{Out, Fit, applied_out, Between, put_same, put_other, home_cases, home_of_out, low_out}
 use Rattle.journal.proofs.Stages.{Fit-of, between_one}
 use Rattle.journal.proofs.Moments.{between_of}
 use Rattle.journal.proofs.Commits.{seen_fixed}
 use Rattle.journal.proofs.Lists.{applied_at}
-
-home_of_out : (to : List ℕ) (place n : ℕ) → Out to n → home to place n ≡ n
-home_of_out [] place n o = refl
-home_of_out (t ∷ ts) place n o = home_other t ts place n (λ e. o.0 (sym e)) ∙ home_of_out ts (place + 1) n o.1
 
 home_not_0 : (to : List ℕ) (n : ℕ) → (n ≡ 0 → ⊥) → 0 ≡ home to 2 n → ⊥
 home_not_0 to n ne e = ⊎_elim
@@ -94,3 +90,12 @@ module _ (size : ℕ) (to : List ℕ) (content : List ℕ) (h h1 : History) (few
   superblock_base f n k =
       let u : Update = record { target = 0; content = content } in
       superblock_same size to (seen h.now) content few fit n ∙ ap (λ (image : Image). through to image n) (sym (seen_fixed (u ∷ []) h h1 f))
+
+  -- the gate is as it was
+  pub superblock_gated : (let u : Update = record { target = 0; content = content } in IsFixedAs (u ∷ []) h h1 → IsGated to h1)
+  superblock_gated f =
+      let u : Update = record { target = 0; content = content } in
+      record {
+        rests = f.unsynced;
+        gate_is = ap (λ (image : Image). image 1) (seen_fixed (u ∷ []) h h1 f) ∙ put_other (seen h.now) u 1 (λ e. omega arith) ∙ gated.gate_is;
+      }

@@ -1,12 +1,13 @@
 -- What the calls of a journal do to its log.
-use Rattle.std.specs.Prelude.{ℕ, false, List, [], ◌∷◌, ◌++◌, ◌≡◌, Result, is_err}
+use Rattle.std.specs.Prelude.{ℕ, false, List, [], ◌∷◌, ◌++◌, ◌+◌, ◌≡◌, length, Result, is_err}
 use Rattle.disk.specs.declared.update.Update.{Update}
 use Rattle.disk.specs.Moments.{applied, put}
 use Rattle.journal.specs.Commit.{AddsEither}
-use Rattle.journal.specs.Log.{Log, AddsFronts, Costs, IsJoined, IsSettled, Moved, Takes, contents, flush_cost}
+use Rattle.journal.specs.Behind.{way_cost, way_for}
+use Rattle.journal.specs.Log.{Log, AddsFronts, Costs, IsJoined, IsSettled, Moved, Takes, contents}
 use Rattle.journal.specs.Phase.{FailsCounted}
 use Rattle.journal.specs.Settled.{AreSame}
-use Rattle.journal.specs.Transactions.{FitTogether}
+use Rattle.journal.specs.Transactions.{FitTogether, sectors_of}
 
 -- However a call answers: a stop within it leaves a front, and where the journal is still up, one
 -- after it leaves the base.
@@ -26,15 +27,31 @@ pub record HasApplied (keeps_word : Type 0) (updates : List Update) (old new : L
   pub flushed : (FitTogether (list_with old updates) → ⊥) → IsJoined (updates ∷ []) new.list
   pub moved : keeps_word → Moved (list_with old updates) old new
   pub contents : keeps_word → AreSame old.size (applied updates (contents old)) (contents new)
-  pub cost : keeps_word → (FitTogether (list_with old updates) → ⊥)
-      → Costs (flush_cost old.list) old new
 
 -- The whole list went into the base.
 pub record HasFlushed (keeps_word : Type 0) (old new : Log) : Type 0 where
   pub emptied : new.list ≡ []
   pub ok : keeps_word → AreSame old.size (contents old) new.base
   pub contents : keeps_word → AreSame old.size (contents old) (contents new)
-  pub cost : keeps_word → Costs (flush_cost old.list) old new
+
+-- What it costs to take a list into the base: its sectors are written to the payload, with a sync,
+-- and named in the gate, with a sync, once there is a way for them. Nothing costs nothing.
+abbrev pub flush_cost : List ℕ → List ℕ → ℕ
+flush_cost shown [] = 0
+flush_cost shown (sector ∷ sectors) =
+    way_cost shown (sector ∷ sectors) + (length (sector ∷ sectors) + 3)
+
+-- The whole list went through the gate, which shows its sectors from then on.
+pub record GoesThrough (keeps_word : Type 0) (was now : List ℕ) (old new : Log) : Type 0 where
+  pub shown : now ≡ way_for was (sectors_of old.list) ++ sectors_of old.list
+  pub cost : keeps_word → Costs (flush_cost was (sectors_of old.list)) old new
+
+-- Where the payload has no room for a list and this transaction together, the list went through the
+-- gate; else the gate is as it was.
+pub record GoesThroughFirst (keeps_word : Type 0) (updates : List Update) (was now : List ℕ)
+    (old new : Log) : Type 0 where
+  pub kept : FitTogether (list_with old updates) → now ≡ was
+  pub flushed : (FitTogether (list_with old updates) → ⊥) → GoesThrough keeps_word was now old new
 
 -- sector 0 with this content
 abbrev pub first_sector : List ℕ → Update

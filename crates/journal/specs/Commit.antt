@@ -1,10 +1,18 @@
 -- What opening and closing the gate do to a device.
-use Rattle.std.specs.Prelude.{◌≡◌, ◌⊎◌, ◌+◌, ◌*◌, ℕ, List, [], length}
+use Rattle.std.specs.Prelude.{◌≡◌, ◌≤◌, ◌⊎◌, ◌+◌, ℕ, List, [], length, vec_capacity}
+use Rattle.std.specs.Global.{Vec}
 use Rattle.disk.specs.declared.update.Update.{Update}
 use Rattle.disk.specs.Moments.{Image, History, AddsOnly, applied, seen, moment}
-use Rattle.journal.specs.Layout.{through, targets, copies}
+use Rattle.journal.specs.Layout.{AreTargets, payload_sectors, through, targets}
+use Rattle.journal.specs.Behind.{FitsGate, way_cost}
 use Rattle.journal.specs.Settled.{AreSame, Settles}
 use Rattle.journal.specs.Phase.{IsGated}
+
+-- updates of so many different sectors as the payload has, by their sectors
+pub record IsTransaction (size : ℕ) (to : List ℕ) (updates : List Update) : Type 0 where
+  pub named : to ≡ targets updates
+  pub few : length updates ≤ payload_sectors
+  pub fit : AreTargets size (targets updates)
 
 -- at every moment since, a map left is one left before, or settles to this base or to it with all
 -- of the updates
@@ -12,20 +20,12 @@ abbrev pub AddsEither : ℕ → List Update → Image → History → History �
 AddsEither size updates base old new =
     AddsOnly (λ image. Settles size image base ⊎ Settles size image (applied updates base)) old new
 
--- while updates are recorded, the base is what was seen before
-abbrev pub Records : ℕ → List Update → History → History → Type 0
-Records size updates old new = AddsEither size updates (seen old.now) old new
-
--- the gate is open for the updates, whose contents are the payload
-pub record IsShown (updates : List Update) (h : History) : Type 0 where
-  pub gated : IsGated (targets updates) h
-  pub payload : copies (seen h.now) 2 (targets updates) ≡ updates
-
--- and through it the device reads as with them
-pub record IsRecorded (size : ℕ) (updates : List Update) (old new : History) : Type 0 where
-  pub shown : IsShown updates new
-  pub same : AreSame size (applied updates (seen old.now))
-      (through (targets updates) (seen new.now))
+-- The gate names the updates' sectors too, and through it the device reads as with them.
+pub record IsRecorded (size : ℕ) (updates : List Update) (was shown : List ℕ) (old new : History)
+    : Type 0 where
+  pub gated : IsGated shown new
+  pub same : AreSame size (applied updates (through was (seen old.now)))
+      (through shown (seen new.now))
   pub cost : moment new ≡ moment old + (length updates + 3)
 
 -- while the payload is copied home, a map left settles to what the gate shows
@@ -39,8 +39,21 @@ pub record IsCopiedHome (size : ℕ) (to : List ℕ) (old new : History) : Type 
   pub same : AreSame size (through to (seen old.now)) (seen new.now)
   pub cost : moment new ≡ moment old + (length to + 3)
 
--- the gate is closed again, and the device reads as with the updates
-pub record IsCommitted (size : ℕ) (updates : List Update) (old new : History) : Type 0 where
-  pub gated : IsGated [] new
-  pub same : AreSame size (applied updates (seen old.now)) (seen new.now)
-  pub cost : moment new ≡ moment old + (2 * length updates + 6)
+-- There is a way for these targets: through the gate the device reads as it did.
+pub record MakesWay (size : ℕ) (to was shown : List ℕ) (old new : History) : Type 0 where
+  pub gated : IsGated shown new
+  pub same : AreSame size (through was (seen old.now)) (through shown (seen new.now))
+  pub cost : moment new ≡ moment old + way_cost was to
+
+-- Through the gate the device reads as with the updates.
+pub record IsCommitted (size : ℕ) (updates : List Update) (was shown : List ℕ) (old new : History)
+    : Type 0 where
+  pub gated : IsGated shown new
+  pub same : AreSame size (applied updates (through was (seen old.now)))
+      (through shown (seen new.now))
+  pub cost : moment new ≡ moment old + (way_cost was (targets updates) + (length updates + 3))
+
+-- what is named stays what a gate can name, with the room that there is
+pub record KeepsRoom (size : ℕ) (old new : Vec ℕ) : Type 0 where
+  pub fits : FitsGate size new.items
+  pub capacity : vec_capacity new ≡ vec_capacity old

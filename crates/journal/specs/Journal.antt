@@ -3,6 +3,7 @@ use Rattle.std.specs.Prelude.{ℕ, List, [], ◌∷◌}
 use Rattle.disk.specs.declared.update.Update.{Update}
 use Rattle.disk.specs.Moments.{seen}
 use Rattle.journal.specs.declared.journal.Journal.{Journal}
+use Rattle.journal.specs.Layout.{through}
 use Rattle.journal.specs.Log.{Log}
 
 -- what waits for a flush is one transaction, if there is one
@@ -12,7 +13,7 @@ listed (update ∷ updates) = (update ∷ updates) ∷ []
 
 unfoldable pub log_of : {D : _} {g : _} → Journal D g → Log
 log_of {D} {g} journal = record {
-  base = seen (g.history journal.device).now;
+  base = through journal.shown.items (seen (g.history journal.device).now);
   list = listed journal.list.items;
   is_down = journal.is_down;
   size = g.size journal.device;
@@ -22,3 +23,7 @@ log_of {D} {g} journal = record {
 -- how often its device has failed
 unfoldable pub failures_of : {D : _} {g : _} → Journal D g → ℕ
 failures_of {D} {g} journal = g.failed journal.device
+
+-- the sectors whose content in the base is not at home yet: the gate names them
+unfoldable pub shown_of : {D : _} {g : _} → Journal D g → List ℕ
+shown_of journal = journal.shown.items

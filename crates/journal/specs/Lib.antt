@@ -3,6 +3,8 @@ pub mod Settled
 pub mod Phase
 pub mod Commit
 pub mod Transactions
+pub mod Behind
+pub mod Cached
 pub mod Log
 pub mod Calls
 pub mod Journal
@@ -11,3 +13,4 @@ pub mod MountAnswers
 pub mod Format
 pub mod Viewed
 pub mod Views
+pub mod Laws

@@ -1,6 +1,6 @@
 -- What a journal is to its caller: a base, an ordered list of transactions that a stop may still
 -- take away from its end, and the moments of its device.
-use Rattle.std.specs.Prelude.{◌≡◌, ◌≤◌, ◌↔◌, ℕ, Bool, true, false, List, [], ◌∷◌, ◌++◌, ◌+◌, ◌*◌, length, take, drop, Result, IsErrOf}
+use Rattle.std.specs.Prelude.{◌≡◌, ◌≤◌, ◌↔◌, ℕ, Bool, true, false, List, [], ◌∷◌, ◌++◌, ◌+◌, length, take, drop, Result, IsErrOf}
 use Rattle.disk.specs.declared.update.Update.{Update}
 use Rattle.disk.specs.Moments.{Image, History, Left, AddsOnly, applied, moment}
 use Rattle.disk.specs.Cause.{IsCounted}
@@ -67,12 +67,6 @@ pub record Takes (updates : List Update) (old new : Log) : Type 0 where
 -- so many writes and syncs were done
 abbrev pub Costs : ℕ → Log → Log → Type 0
 Costs count old new = moment new.history ≡ moment old.history + count
-
--- What it costs to take a list into the base. Of each transaction: its contents are written to the
--- payload and to their homes, the gate is opened and closed, and after each of the four is a sync.
-abbrev pub flush_cost : List (List Update) → ℕ
-flush_cost [] = 0
-flush_cost (updates ∷ list) = 2 * length updates + 6 + flush_cost list
 
 -- how a call answers by its device: Down exactly where the journal was down, and then nothing
 -- happens; Fault exactly where the device counted a failure, and then the journal is down; else it

@@ -1,85 +1,105 @@
-//! How a transaction goes through the gate: it is recorded behind the open gate, and then copied
-//! home.
+//! How a transaction goes through the gate: it is recorded behind what the open gate shows, and
+//! copied home only where a later one has no room there.
 
-ghost use Rattle.std.specs.Prelude.{OnOk, ◌≡◌, ◌≤◌, ◌<◌, [], length};
+ghost use Rattle.std.specs.Prelude.{OnOk, ◌≡◌, ◌≤◌, ◌<◌, ◌++◌, ◌+◌, [], length, vec_capacity};
 ghost use Rattle.disk.specs.Moments.{seen};
-ghost use Rattle.journal.specs.Layout.{AreTargets, targets};
+ghost use Rattle.journal.specs.Layout.{AreTargets, targets, through};
+ghost use Rattle.journal.specs.Behind.{FitsGate, goes_behind, way_for};
 ghost use Rattle.journal.specs.Phase.{IsGated, FailsCounted};
-ghost use Rattle.journal.specs.Commit.{AddsEither, Records, IsShown, IsRecorded, KeepsShown, IsCopiedHome, IsCommitted};
+ghost use Rattle.journal.specs.Commit.{AddsEither, IsTransaction, IsRecorded, KeepsShown, IsCopiedHome, MakesWay, IsCommitted, KeepsRoom};
 
 use crate::layout::{FIRST_TARGET, GATE, PAYLOAD_SECTORS};
 use crate::{gate, phase};
 use disk::{Device, DiskFault, Update};
 
-/// Takes updates through the gate, which is closed before and after.
+/// Takes updates through the gate, which shows them afterwards, alone or after what it showed.
 pub(crate) fn commit<D: Device>(
     device: &mut D,
+    shown: &mut Vec<u32>,
     to: &[u32],
     updates: &[Update],
 ) -> Result<(), DiskFault>
-    requires named { to.now ≡ targets updates.now }
-    requires few { length updates.now ≤ PAYLOAD_SECTORS }
-    requires fit { AreTargets (D.size device.old) (targets updates.now) }
+    requires taken { IsTransaction (D.size device.old) to.now updates.now }
+    requires fits { FitsGate (D.size device.old) shown.old.items }
+    requires room { PAYLOAD_SECTORS ≤ vec_capacity shown.old }
     requires large { FIRST_TARGET ≤ D.size device.old }
     // On a device that keeps its word
-    ensures moments { D.keeps_word → IsGated [] (D.history device.old)
-        → AddsEither (D.size device.old) updates.now (seen (D.history device.old).now)
+    ensures moments { D.keeps_word → IsGated shown.old.items (D.history device.old)
+        → AddsEither (D.size device.old) updates.now
+        (through shown.old.items (seen (D.history device.old).now))
         (D.history device.old) (D.history device.new) }
-    ensures ok { D.keeps_word → IsGated [] (D.history device.old)
-        → OnOk result (IsCommitted (D.size device.old) updates.now
+    ensures ok { D.keeps_word → IsGated shown.old.items (D.history device.old)
+        → OnOk result (IsCommitted (D.size device.old) updates.now shown.old.items shown.new.items
         (D.history device.old) (D.history device.new)) }
     // On any device
+    ensures shown { OnOk result (shown.new.items ≡ way_for shown.old.items to.now ++ to.now) }
+    ensures kept { KeepsRoom (D.size device.old) shown.old shown.new }
     ensures size { D.size device.new ≡ D.size device.old }
     ensures failures { FailsCounted (D.failed device.old) (D.failed device.new) result }
 {
-    record(device, to, updates)?;
-    copy_home(device, updates)?;
+    make_way(device, shown, to)?;
+    record(device, shown, to, updates)?;
     Ok(())
 }
 
-/// Writes the payload and then opens the gate for its targets, which was closed.
+/// Where more targets do not go behind what the gate shows, copies that home and closes the gate.
+pub(crate) fn make_way<D: Device>(
+    device: &mut D,
+    shown: &mut Vec<u32>,
+    to: &[u32],
+) -> Result<(), DiskFault>
+    requires few { length to.now ≤ PAYLOAD_SECTORS }
+    requires fits { FitsGate (D.size device.old) shown.old.items }
+    requires large { FIRST_TARGET ≤ D.size device.old }
+    // On a device that keeps its word
+    ensures moments { D.keeps_word → IsGated shown.old.items (D.history device.old)
+        → KeepsShown (D.size device.old) shown.old.items
+        (D.history device.old) (D.history device.new) }
+    ensures ok { D.keeps_word → IsGated shown.old.items (D.history device.old)
+        → OnOk result (MakesWay (D.size device.old) to.now shown.old.items shown.new.items
+        (D.history device.old) (D.history device.new)) }
+    // On any device
+    ensures shown { OnOk result (shown.new.items ≡ way_for shown.old.items to.now) }
+    ensures kept { KeepsRoom (D.size device.old) shown.old shown.new }
+    ensures size { D.size device.new ≡ D.size device.old }
+    ensures failures { FailsCounted (D.failed device.old) (D.failed device.new) result }
+{
+    if gate::goes_behind(shown, to) {
+        return Ok(());
+    }
+    replay(device, shown)?;
+    shown.clear();
+    Ok(())
+}
+
+/// Writes the payload behind what the gate shows, and then names its targets in the gate.
 pub(crate) fn record<D: Device>(
     device: &mut D,
+    shown: &mut Vec<u32>,
     to: &[u32],
     updates: &[Update],
 ) -> Result<(), DiskFault>
-    requires named { to.now ≡ targets updates.now }
-    requires few { length updates.now ≤ PAYLOAD_SECTORS }
-    requires fit { AreTargets (D.size device.old) (targets updates.now) }
+    requires taken { IsTransaction (D.size device.old) to.now updates.now }
+    requires fits { FitsGate (D.size device.old) (shown.old.items ++ to.now) }
+    requires room { PAYLOAD_SECTORS ≤ vec_capacity shown.old }
     requires large { FIRST_TARGET ≤ D.size device.old }
     // On a device that keeps its word
-    ensures moments { D.keeps_word → IsGated [] (D.history device.old)
-        → Records (D.size device.old) updates.now (D.history device.old) (D.history device.new) }
-    ensures ok { D.keeps_word → IsGated [] (D.history device.old)
-        → OnOk result (IsRecorded (D.size device.old) updates.now
-        (D.history device.old) (D.history device.new)) }
-    // On any device
-    ensures size { D.size device.new ≡ D.size device.old }
-    ensures failures { FailsCounted (D.failed device.old) (D.failed device.new) result }
-{
-    phase::write_payload(device, updates)?;
-    phase::write_sector(device, GATE, &gate::encode(to))?;
-    Ok(())
-}
-
-/// Writes home, from memory, what the open gate shows, and then closes the gate.
-pub(crate) fn copy_home<D: Device>(device: &mut D, updates: &[Update]) -> Result<(), DiskFault>
-    requires few { length updates.now ≤ PAYLOAD_SECTORS }
-    requires fit { AreTargets (D.size device.old) (targets updates.now) }
-    requires large { FIRST_TARGET ≤ D.size device.old }
-    // On a device that keeps its word
-    ensures moments { D.keeps_word → IsShown updates.now (D.history device.old)
-        → KeepsShown (D.size device.old) (targets updates.now)
+    ensures moments { D.keeps_word → IsGated shown.old.items (D.history device.old)
+        → AddsEither (D.size device.old) updates.now
+        (through shown.old.items (seen (D.history device.old).now))
         (D.history device.old) (D.history device.new) }
-    ensures ok { D.keeps_word → IsShown updates.now (D.history device.old)
-        → OnOk result (IsCopiedHome (D.size device.old) (targets updates.now)
+    ensures ok { D.keeps_word → IsGated shown.old.items (D.history device.old)
+        → OnOk result (IsRecorded (D.size device.old) updates.now shown.old.items shown.new.items
         (D.history device.old) (D.history device.new)) }
     // On any device
+    ensures shown { OnOk result (shown.new.items ≡ shown.old.items ++ to.now) }
+    ensures kept { KeepsRoom (D.size device.old) shown.old shown.new }
     ensures size { D.size device.new ≡ D.size device.old }
     ensures failures { FailsCounted (D.failed device.old) (D.failed device.new) result }
 {
-    phase::write_homes(device, updates)?;
-    phase::write_sector(device, GATE, &gate::closed())?;
+    phase::write_payload(device, shown.len(), updates)?;
+    gate::name_all(shown, to);
+    phase::write_sector(device, GATE, &gate::encode(shown))?;
     Ok(())
 }
 

@@ -1,10 +1,11 @@
 //! The gate sector: zeros where it is closed, and else 1, the number of targets, and the targets.
 
-ghost use Rattle.std.specs.Prelude.{◌≡◌, ◌≤◌, ◌<◌, ◌*◌, ◌↔◌, ℕ, List, [], ◌++◌, length, drop, false, IsTrue, vec_capacity};
+ghost use Rattle.std.specs.Prelude.{◌≡◌, ◌≤◌, ◌<◌, ◌+◌, ◌*◌, ◌↔◌, ◌⊎◌, ℕ, List, [], ◌++◌, length, drop, false, IsTrue, vec_capacity};
 ghost use Rattle.byteorder.specs.Endian.{big_number};
-ghost use Rattle.journal.specs.Layout.{AreTargets, NamesTargets, gate, words, gate_words, words_in};
+ghost use Rattle.journal.specs.Layout.{AreTargets, NamesTargets, gate, home, words, gate_words, words_in};
+ghost use Rattle.journal.specs.Behind.{goes_behind};
 
-use crate::layout::{FIRST_TARGET, PAYLOAD_SECTORS};
+use crate::layout::{FIRST_TARGET, PAYLOAD, PAYLOAD_SECTORS};
 use byteorder::{BigEndian, ByteOrder};
 use disk::SECTOR;
 
@@ -87,4 +88,43 @@ pub(crate) fn are_targets(to: &[u32], sectors: u32) -> bool
         }
     }
     true
+}
+
+/// Where sector `n` stands, behind a gate that names these targets.
+pub(crate) fn place_of(named: &[u32], n: u32) -> u32
+    requires { length named.now ≤ PAYLOAD_SECTORS }
+    ensures place { result ≡ home named.now 2 n }
+    ensures within { (result < FIRST_TARGET) ⊎ (result ≡ n) }
+{
+    for (i, target) in named.iter().enumerate() {
+        if *target == n {
+            return PAYLOAD + i as u32;
+        }
+    }
+    n
+}
+
+/// Whether more targets go behind a gate: all others than it names, and few enough beside them.
+pub(crate) fn goes_behind(named: &[u32], to: &[u32]) -> bool
+    requires named { length named.now ≤ PAYLOAD_SECTORS }
+    requires few { length to.now ≤ PAYLOAD_SECTORS }
+    ensures { result ≡ goes_behind named.now to.now }
+{
+    for target in to {
+        if named.contains(target) {
+            return false;
+        }
+    }
+    named.len() + to.len() <= PAYLOAD_SECTORS
+}
+
+/// Puts targets after those that are named.
+pub(crate) fn name_all(named: &mut Vec<u32>, to: &[u32])
+    requires room { length named.old.items + length to.now ≤ vec_capacity named.old }
+    ensures items { named.new.items ≡ named.old.items ++ to.now }
+    ensures capacity { vec_capacity named.new ≡ vec_capacity named.old }
+{
+    for target in to {
+        named.push_reserved(*target);
+    }
 }

@@ -1,20 +1,27 @@
 //! The journal: a base, and a list of transactions that go into it through the gate.
 
 ghost use Rattle.std.specs.Prelude.{◌≡◌, ◌≤◌, ◌<◌, ◌⊎◌, ◌+◌, ◌↔◌, [], length, false, vec_capacity, OnOk, IfOk, IfErr, IsErrOf};
-ghost use Rattle.disk.specs.Moments.{seen, moment};
+ghost use Rattle.disk.specs.Moments.{applied, seen, moment};
 ghost use Rattle.journal.specs.declared.layout.TheConstants.{MIN_SECTORS, PAYLOAD_SECTORS};
-ghost use Rattle.journal.specs.Calls.{AddsFirst, HasApplied, HasFlushed, HasWritten, IsPart, IsSafe, list_with};
+ghost use Rattle.journal.specs.Behind.{FitsGate};
+ghost use Rattle.journal.specs.Calls.{AddsFirst, GoesThrough, GoesThroughFirst, HasApplied, HasFlushed, HasWritten, IsPart, IsSafe, list_with};
 ghost use Rattle.journal.specs.Format.{AddsFormats, IsFormatted};
-ghost use Rattle.journal.specs.Layout.{AreTargets, gate, targets};
+ghost use Rattle.journal.specs.Cached.{AreCopies};
+ghost use Rattle.journal.specs.Layout.{AreTargets, gate, targets, through};
 ghost use Rattle.journal.specs.Log.{Answers, Moved, contents};
 ghost use Rattle.journal.specs.MountAnswers.{ComesBack, HasMounted, IsNew, IsMountRefused};
 ghost use Rattle.journal.specs.Phase.{FailsCounted};
 ghost use Rattle.journal.specs.Transactions.{FitTogether, gathered, sectors_of};
 
+use crate::cache::Cache;
 use crate::layout::{self, MAX_UPDATES, MIN_SECTORS, PAYLOAD_SECTORS, SUPERBLOCK};
-use crate::{JournalFault, Unmounted, View, commit, list, phase, recover};
+use crate::{JournalFault, Unmounted, View, commit, gate, list, phase, recover};
 use disk::{Device, DiskFault, SECTOR, Update};
-use std::alloc::Global;
+use std::alloc::{AllocError, Global};
+use std::num::NonZeroUsize;
+
+/// How many sectors a mount keeps in memory.
+const CACHED_SECTORS: usize = 64;
 
 /// A journal over a device.
 ///
@@ -25,6 +32,10 @@ pub struct Journal<D: Device> {
     device: D,
     list: Vec<Update>,
     named: Vec<u32>,
+    /// The sectors that the open gate names: their content stands in the payload, in this order.
+    shown: Vec<u32>,
+    /// What was read last.
+    cache: Cache,
     is_down: bool,
     ghost large: { MIN_SECTORS ≤ D.size device },
     ghost few: { length list.items ≤ PAYLOAD_SECTORS },
@@ -32,13 +43,43 @@ pub struct Journal<D: Device> {
     ghost named_room: { PAYLOAD_SECTORS ≤ vec_capacity named },
     ghost named_are: { named.items ≡ targets list.items },
     ghost fit: { AreTargets (D.size device) (targets list.items) },
+    ghost shown_room: { PAYLOAD_SECTORS ≤ vec_capacity shown },
+    ghost shown_fits: { FitsGate (D.size device) shown.items },
     ghost rests: { D.keeps_word → is_down ≡ false → length (D.history device).now.unsynced ≡ 0 },
-    ghost gate_is: { D.keeps_word → is_down ≡ false → seen (D.history device).now 1 ≡ gate [] },
+    ghost gate_is: { D.keeps_word → is_down ≡ false → seen (D.history device).now 1 ≡ gate shown.items },
+    ghost cached: { D.keeps_word → is_down ≡ false → AreCopies (D.size device)
+        (applied list.items (through shown.items (seen (D.history device).now)))
+        cache.sectors.entries },
 }
 
-#[tactic(auto, unfolding(crate::specs::Journal::log_of, crate::specs::Journal::failures_of))]
+/// The memory of a journal in which nothing waits.
+#[derive(Drop)]
+struct Room {
+    list: Vec<Update>,
+    named: Vec<u32>,
+    shown: Vec<u32>,
+    cache: Cache,
+}
+
+/// Memory for a journal that keeps so many sectors.
+fn room_for(alloc: Global, cached: NonZeroUsize) -> Result<Room, AllocError>
+    ensures none { IfOk result (λ room. (room.list.items ≡ []) × (room.named.items ≡ [])
+        × (room.cache.sectors.entries ≡ [])) }
+    ensures room { IfOk result (λ room. (PAYLOAD_SECTORS ≤ vec_capacity room.list)
+        × (PAYLOAD_SECTORS ≤ vec_capacity room.named)
+        × (PAYLOAD_SECTORS ≤ vec_capacity room.shown)) }
+{
+    Ok(Room {
+        list: Vec::with_capacity(alloc, PAYLOAD_SECTORS)?,
+        named: Vec::with_capacity(alloc, PAYLOAD_SECTORS)?,
+        shown: Vec::with_capacity(alloc, PAYLOAD_SECTORS)?,
+        cache: Cache::new(alloc, cached)?,
+    })
+}
+
+#[tactic(auto, unfolding(crate::specs::Journal::log_of, crate::specs::Journal::failures_of, crate::specs::Journal::shown_of))]
 impl<D: Device> Journal<D> {
-    ghost use Rattle.journal.specs.Journal.{log_of, failures_of};
+    ghost use Rattle.journal.specs.Journal.{log_of, failures_of, shown_of};
     ghost use Rattle.journal.specs.Viewed.{HasNoForm, HasViewed, IsUnread};
     ghost use Rattle.journal.specs.Views.{view_of, view_failures, name_of};
 
@@ -72,26 +113,53 @@ impl<D: Device> Journal<D> {
         Ok(())
     }
 
-    /// Mounts the journal of a device: what an open gate shows is copied home first.
+    /// Mounts the journal of a device: what an open gate shows is copied home first. It keeps the
+    /// 64 sectors in memory that were read last.
     ///
     /// # Errors
     ///
-    /// The device comes back with the reason: `Damaged` where the gate has no form, and then
-    /// nothing was written; `Fault` where the device failed; `Memory`, and then it was not touched.
+    /// As [`Journal::mount_cached`].
     pub fn mount(alloc: Global, device: D) -> Result<Journal<D>, Unmounted<D>>
         requires { MIN_SECTORS ≤ D.size device }
         ensures new { IfOk result (λ journal.
             IsNew (D.size device) (D.failed device) (log_of journal) (failures_of journal)) }
         ensures mounted { D.keeps_word → IfOk result (λ journal.
             HasMounted (D.size device) (D.history device) (log_of journal)) }
+        ensures closed { IfOk result (λ journal. shown_of journal ≡ []) }
+        // Refused
+        ensures back { IfErr result (ComesBack D.size D.failed device) }
+        ensures refused { D.keeps_word → IfErr result (λ refused. IsMountRefused (D.size device)
+            (D.history device) (D.history refused.device) refused.fault) }
+    {
+        let cached = NonZeroUsize::new(CACHED_SECTORS).unwrap_or(NonZeroUsize::MIN);
+        Journal::mount_cached(alloc, device, cached)
+    }
+
+    /// The same, with so many sectors kept in memory.
+    ///
+    /// # Errors
+    ///
+    /// The device comes back with the reason: `Damaged` where the gate has no form, and then
+    /// nothing was written; `Fault` where the device failed; `Memory`, and then it was not touched.
+    pub fn mount_cached(
+        alloc: Global,
+        device: D,
+        cached: NonZeroUsize,
+    ) -> Result<Journal<D>, Unmounted<D>>
+        requires { MIN_SECTORS ≤ D.size device }
+        ensures new { IfOk result (λ journal.
+            IsNew (D.size device) (D.failed device) (log_of journal) (failures_of journal)) }
+        ensures mounted { D.keeps_word → IfOk result (λ journal.
+            HasMounted (D.size device) (D.history device) (log_of journal)) }
+        ensures closed { IfOk result (λ journal. shown_of journal ≡ []) }
         // Refused
         ensures back { IfErr result (ComesBack D.size D.failed device) }
         ensures refused { D.keeps_word → IfErr result (λ refused. IsMountRefused (D.size device)
             (D.history device) (D.history refused.device) refused.fault) }
     {
         let mut device = device;
-        let mut named = match Vec::with_capacity(alloc, PAYLOAD_SECTORS) {
-            Ok(named) => named,
+        let mut room = match room_for(alloc, cached) {
+            Ok(room) => room,
             Err(_) => {
                 return Err(Unmounted {
                     device,
@@ -99,20 +167,13 @@ impl<D: Device> Journal<D> {
                 });
             }
         };
-        let list = match Vec::with_capacity(alloc, PAYLOAD_SECTORS) {
-            Ok(list) => list,
-            Err(_) => {
-                return Err(Unmounted {
-                    device,
-                    fault: JournalFault::Memory,
-                });
-            }
-        };
-        match recover::recover(&mut device, &mut named) {
+        match recover::recover(&mut device, &mut room.shown) {
             Ok(()) => Ok(Journal {
                 device,
-                list,
-                named,
+                list: room.list,
+                named: room.named,
+                shown: room.shown,
+                cache: room.cache,
                 is_down: false,
             }),
             Err(fault) => Err(Unmounted { device, fault }),
@@ -189,6 +250,7 @@ impl<D: Device> Journal<D> {
         ensures log { log_of self.new ≡ record (log_of self.old)
             { is_down = (log_of self.new).is_down } }
         ensures contents { contents (log_of self.new) ≡ contents (log_of self.old) }
+        ensures shown { shown_of self.new ≡ shown_of self.old }
         // Refused
         ensures untouched { IsErrOf result JournalFault.Down → content.new ≡ content.old }
         ensures answers { Answers (log_of self.old) (log_of self.new)
@@ -203,10 +265,15 @@ impl<D: Device> Journal<D> {
             *content = self.list[place].content;
             return Ok(());
         }
-        if self.device.read(n, content).is_err() {
+        if self.cache.get(n, content) {
+            return Ok(());
+        }
+        let place = gate::place_of(&self.shown, n);
+        if self.device.read(place, content).is_err() {
             self.is_down = true;
             return Err(JournalFault::Fault);
         }
+        self.cache.keep(n, content);
         Ok(())
     }
 
@@ -221,6 +288,7 @@ impl<D: Device> Journal<D> {
         ensures ok { OnOk result
             (HasWritten D.keeps_word content.now (log_of self.old) (log_of self.new)) }
         ensures list { (log_of self.new).list ≡ (log_of self.old).list }
+        ensures shown { shown_of self.new ≡ shown_of self.old }
         ensures size { (log_of self.new).size ≡ (log_of self.old).size }
         // Refused
         ensures answers { Answers (log_of self.old) (log_of self.new)
@@ -246,6 +314,8 @@ impl<D: Device> Journal<D> {
             (failures_of self.old) (failures_of self.new) result }
         ensures flushed { OnOk result
             (HasFlushed D.keeps_word (log_of self.old) (log_of self.new)) }
+        ensures gate { OnOk result (GoesThrough D.keeps_word (shown_of self.old) (shown_of self.new)
+            (log_of self.old) (log_of self.new)) }
         ensures emptied { OnOk result (self.new.list.items ≡ []) }
         ensures nothing { (log_of self.old).list ≡ [] → log_of self.new ≡ log_of self.old }
     {
@@ -253,7 +323,7 @@ impl<D: Device> Journal<D> {
             return Ok(());
         }
         self.is_down = true;
-        if commit::commit(&mut self.device, &self.named, &self.list).is_err() {
+        if commit::commit(&mut self.device, &mut self.shown, &self.named, &self.list).is_err() {
             return Err(DiskFault::Fault);
         }
         self.list.clear();
@@ -273,9 +343,13 @@ impl<D: Device> Journal<D> {
             (failures_of self.old) (failures_of self.new) result }
         // It is flushed where there is no room, and only there
         ensures kept { FitTogether (list_with (log_of self.old) updates.now)
-            → (log_of self.new ≡ log_of self.old) × (self.new.list.items ≡ self.old.list.items) }
+            → (log_of self.new ≡ log_of self.old) × (self.new.list.items ≡ self.old.list.items)
+            × (shown_of self.new ≡ shown_of self.old) }
         ensures flushed { OnOk result ((FitTogether (list_with (log_of self.old) updates.now) → ⊥)
             → HasFlushed D.keeps_word (log_of self.old) (log_of self.new)) }
+        ensures gate { OnOk result ((FitTogether (list_with (log_of self.old) updates.now) → ⊥)
+            → GoesThrough D.keeps_word (shown_of self.old) (shown_of self.new)
+            (log_of self.old) (log_of self.new)) }
         ensures emptied { OnOk result ((FitTogether (list_with (log_of self.old) updates.now) → ⊥)
             → self.new.list.items ≡ []) }
         ensures room { OnOk result
@@ -302,6 +376,8 @@ impl<D: Device> Journal<D> {
         ensures bounded { length (sectors_of (log_of self.new).list) ≤ PAYLOAD_SECTORS }
         ensures ok { OnOk result
             (HasApplied D.keeps_word updates.items (log_of self.old) (log_of self.new)) }
+        ensures gate { OnOk result (GoesThroughFirst D.keeps_word updates.items
+            (shown_of self.old) (shown_of self.new) (log_of self.old) (log_of self.new)) }
         // Refused
         ensures too_many { (log_of self.old).is_down ≡ false
             → IsErrOf result JournalFault.TooMany ↔ (MAX_UPDATES < length updates.items) }
@@ -319,6 +395,7 @@ impl<D: Device> Journal<D> {
             return Err(JournalFault::TooMany);
         }
         self.make_room(&updates)?;
+        self.cache.forget(&updates);
         list::put_all(&mut self.list, &mut self.named, updates);
         Ok(())
     }
@@ -331,6 +408,8 @@ impl<D: Device> Journal<D> {
     pub fn flush(&mut self) -> Result<(), JournalFault>
         ensures safe { IsSafe D.keeps_word (log_of self.old) (log_of self.new) }
         ensures ok { OnOk result (HasFlushed D.keeps_word (log_of self.old) (log_of self.new)) }
+        ensures gate { OnOk result (GoesThrough D.keeps_word (shown_of self.old) (shown_of self.new)
+            (log_of self.old) (log_of self.new)) }
         ensures moved { D.keeps_word → (log_of self.new).is_down ≡ false
             → Moved (log_of self.old).list (log_of self.old) (log_of self.new) }
         ensures nothing { (log_of self.old).list ≡ [] → log_of self.new ≡ log_of self.old }

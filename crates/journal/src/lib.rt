@@ -1,10 +1,12 @@
 //! A journal of transactions on a device, which a crash cannot split.
 #![tactic(auto)]
 
+mod cache;
 mod commit;
 mod fault;
 mod gate;
 mod journal;
+mod laws;
 mod layout;
 mod list;
 mod phase;
@@ -13,5 +15,6 @@ mod view;
 
 pub use fault::{JournalFault, Unmounted};
 pub use journal::Journal;
+pub use laws::every_end;
 pub use layout::{FIRST_TARGET, MAX_UPDATES, MIN_SECTORS, PAYLOAD_SECTORS};
 pub use view::View;

@@ -2,7 +2,7 @@
 
 ghost use Rattle.std.specs.Prelude.{OnOk, ◌≡◌, ◌≤◌, ◌<◌, ◌+◌, [], ◌∷◌, length};
 ghost use Rattle.disk.specs.Moments.{seen};
-ghost use Rattle.journal.specs.Layout.{AreTargets, placed, copies, targets};
+ghost use Rattle.journal.specs.Layout.{AreTargets, placed, copies};
 ghost use Rattle.journal.specs.Format.{fresh};
 ghost use Rattle.journal.specs.Phase.{AddsUpdates, IsFixedAs, FailsCounted};
 
@@ -10,38 +10,26 @@ use crate::layout::{self, FIRST_TARGET, MIN_SECTORS, PAYLOAD, PAYLOAD_SECTORS};
 use crate::list;
 use disk::{Device, DiskFault, SECTOR, Update};
 
-/// Writes the updates' contents to the payload, one after the other.
-pub(crate) fn write_payload<D: Device>(device: &mut D, updates: &[Update]) -> Result<(), DiskFault>
-    requires few { length updates.now ≤ PAYLOAD_SECTORS }
+/// Writes the updates' contents to the payload, one after the other, behind so many sectors of it.
+pub(crate) fn write_payload<D: Device>(
+    device: &mut D,
+    behind: usize,
+    updates: &[Update],
+) -> Result<(), DiskFault>
+    requires few { behind + length updates.now ≤ PAYLOAD_SECTORS }
     requires large { FIRST_TARGET ≤ D.size device.old }
     // On a device that keeps its word
-    ensures moments { D.keeps_word → AddsUpdates (placed 2 updates.now)
+    ensures moments { D.keeps_word → AddsUpdates (placed (2 + behind) updates.now)
         (D.history device.old) (D.history device.new) }
-    ensures ok { D.keeps_word → OnOk result (IsFixedAs (placed 2 updates.now)
+    ensures ok { D.keeps_word → OnOk result (IsFixedAs (placed (2 + behind) updates.now)
         (D.history device.old) (D.history device.new)) }
     // On any device
     ensures size { D.size device.new ≡ D.size device.old }
     ensures failures { FailsCounted (D.failed device.old) (D.failed device.new) result }
 {
+    let first = PAYLOAD + behind as u32;
     for (i, update) in updates.iter().enumerate() {
-        device.write(PAYLOAD + i as u32, &update.content)?;
-    }
-    device.sync()?;
-    Ok(())
-}
-
-/// Writes the updates' contents to their targets, one after the other.
-pub(crate) fn write_homes<D: Device>(device: &mut D, updates: &[Update]) -> Result<(), DiskFault>
-    requires fit { AreTargets (D.size device.old) (targets updates.now) }
-    ensures moments { D.keeps_word → AddsUpdates updates.now
-        (D.history device.old) (D.history device.new) }
-    ensures ok { D.keeps_word → OnOk result (IsFixedAs updates.now
-        (D.history device.old) (D.history device.new)) }
-    ensures size { D.size device.new ≡ D.size device.old }
-    ensures failures { FailsCounted (D.failed device.old) (D.failed device.new) result }
-{
-    for update in updates {
-        device.write(update.target, &update.content)?;
+        device.write(first + i as u32, &update.content)?;
     }
     device.sync()?;
     Ok(())

@@ -2,10 +2,9 @@
 
 ghost use Rattle.std.specs.Prelude.{◌≡◌, ◌≤◌, ◌<◌, ◌⊎◌, take, length};
 ghost use Rattle.journal.specs.declared.layout.TheConstants.{MIN_SECTORS, PAYLOAD_SECTORS};
-ghost use Rattle.journal.specs.Layout.{home};
 
-use crate::JournalFault;
-use crate::layout::{FIRST_TARGET, MIN_SECTORS, PAYLOAD, PAYLOAD_SECTORS};
+use crate::layout::{MIN_SECTORS, PAYLOAD_SECTORS};
+use crate::{JournalFault, gate};
 use disk::{Device, SECTOR};
 
 /// What the journal of a device has in its base, without a mount.
@@ -31,20 +30,6 @@ fn padded(targets: &[u32]) -> [u32; PAYLOAD_SECTORS]
     let mut named = [0; PAYLOAD_SECTORS];
     named[..targets.len()].copy_from_slice(targets);
     named
-}
-
-/// Where sector `n` stands, behind a gate that names these targets.
-fn place_of(named: &[u32], n: u32) -> u32
-    requires { length named.now ≤ PAYLOAD_SECTORS }
-    ensures place { result ≡ home named.now 2 n }
-    ensures within { (result < FIRST_TARGET) ⊎ (result ≡ n) }
-{
-    for (i, target) in named.iter().enumerate() {
-        if *target == n {
-            return PAYLOAD + i as u32;
-        }
-    }
-    n
 }
 
 #[tactic(auto, unfolding(crate::specs::Views::view_of, crate::specs::Views::view_failures, crate::specs::Views::name_of))]
@@ -93,7 +78,7 @@ impl<'a, D: Device> View<'a, D> {
         if self.is_down {
             return Err(JournalFault::Down);
         }
-        let place = place_of(&self.targets[..self.count], n);
+        let place = gate::place_of(&self.targets[..self.count], n);
         if self.device.read(place, content).is_err() {
             self.is_down = true;
             return Err(JournalFault::Fault);

@@ -1,9 +1,11 @@
 //! What no contract says: that calls succeed, what a gate's bytes are, and what a mount finds after
 //! every stop, tried one by one.
 
+mod caching;
 mod calls;
 mod formats;
 mod gates;
+mod gathering;
 mod held;
 mod stops;
 mod work;

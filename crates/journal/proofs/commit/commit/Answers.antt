@@ -1,29 +1,43 @@
-use Rattle.journal.specs.Layout.{targets}
-use Rattle.journal.proofs.Journals.{same_fit}
-use Rattle.journal.proofs.Commits.{homed_moments, committed}
+use Rattle.std.proofs.Common.{◌++◌, ap, ℕ, List, length, arith, sym, subst}
+use Rattle.journal.specs.Behind.{FitsGate}
+use Rattle.journal.specs.Layout.{AreTargets}
+use Rattle.journal.proofs.Behinds.{fits_at, way_fits}
+use Rattle.journal.proofs.Images.{length-targets}
+use Rattle.journal.proofs.Commits.{committed_moments, committed}
 use Rattle.journal.proofs.commit.commit.Goals as goal
 
-pub copy_home-requires-clause-fit : goal.copy_home-requires-clause-fit
-copy_home-requires-clause-fit g c =
-    same_fit (g.D.Device.size c.args.device.now) (g.D.Device.size c.record.new.device) (targets c.args.updates.now) c.in_ok-record.ensures.size c.requires.fit
+pub make_way-requires-clause-few : goal.make_way-requires-clause-few
+make_way-requires-clause-few g c = omega (arith, c.requires.taken.few, ap (λ (ts : List ℕ). length ts) c.requires.taken.named, length-targets c.args.updates.now)
 
-pub returns-in_err-copy_home-clause-moments : goal.returns-in_err-copy_home-clause-moments
-returns-in_err-copy_home-clause-moments g c = λ k gated.
-    let recorded = c.in_ok-record.ensures.ok k gated in
-    homed_moments (g.D.Device.size c.args.device.now) (g.D.Device.size c.record.new.device) c.args.updates.now
-    (g.D.Device.history c.args.device.now) (g.D.Device.history c.record.new.device) c.in_ok-record.ensures.size (c.in_ok-record.ensures.moments k gated) recorded
-    (g.D.Device.history c.copy_home.new.device) (c.in_err-copy_home.ensures.moments k recorded.shown)
+pub record-requires-clause-fits : goal.record-requires-clause-fits
+record-requires-clause-fits g c =
+    let size = g.D.Device.size c.args.device.now in
+    let to = c.args.to.now in
+    let P : List ℕ → Type 0 = λ ts. AreTargets size ts in
+    let Q : List ℕ → Type 0 = λ ts. FitsGate size (ts ++ to) in
+    fits_at size (g.D.Device.size c.make_way.new.device) (c.make_way.new.shown.items ++ to) c.in_ok-make_way.ensures.size
+    (subst Q (sym c.in_ok-make_way.ensures.shown)
+    (way_fits size c.args.shown.now.items to c.requires.fits
+    (omega (arith, c.requires.taken.few, ap (λ (ts : List ℕ). length ts) c.requires.taken.named, length-targets c.args.updates.now))
+    (subst P (sym c.requires.taken.named) c.requires.taken.fit)))
+
+pub returns-in_err-record-clause-moments : goal.returns-in_err-record-clause-moments
+returns-in_err-record-clause-moments g c = λ k gated.
+    let way = c.in_ok-make_way.ensures.ok k gated in
+    committed_moments (g.D.Device.size c.args.device.now) (g.D.Device.size c.make_way.new.device) c.args.to.now c.args.updates.now c.args.shown.now.items c.make_way.new.shown.items
+    (g.D.Device.history c.args.device.now) (g.D.Device.history c.make_way.new.device) c.in_ok-make_way.ensures.size (c.in_ok-make_way.ensures.moments k gated) way
+    (g.D.Device.history c.record.new.device) (c.in_err-record.ensures.moments k way.gated)
 
 pub returns-clause-moments : goal.returns-clause-moments
 returns-clause-moments g c = λ k gated.
-    let recorded = c.in_ok-record.ensures.ok k gated in
-    homed_moments (g.D.Device.size c.args.device.now) (g.D.Device.size c.record.new.device) c.args.updates.now
-    (g.D.Device.history c.args.device.now) (g.D.Device.history c.record.new.device) c.in_ok-record.ensures.size (c.in_ok-record.ensures.moments k gated) recorded
-    (g.D.Device.history c.copy_home.new.device) (c.in_ok-copy_home.ensures.moments k recorded.shown)
+    let way = c.in_ok-make_way.ensures.ok k gated in
+    committed_moments (g.D.Device.size c.args.device.now) (g.D.Device.size c.make_way.new.device) c.args.to.now c.args.updates.now c.args.shown.now.items c.make_way.new.shown.items
+    (g.D.Device.history c.args.device.now) (g.D.Device.history c.make_way.new.device) c.in_ok-make_way.ensures.size (c.in_ok-make_way.ensures.moments k gated) way
+    (g.D.Device.history c.record.new.device) (c.in_ok-record.ensures.moments k way.gated)
 
 pub returns-clause-ok : goal.returns-clause-ok
 returns-clause-ok g c = λ k gated.
-    let recorded = c.in_ok-record.ensures.ok k gated in
-    committed (g.D.Device.size c.args.device.now) (g.D.Device.size c.record.new.device) c.args.updates.now
-    (g.D.Device.history c.args.device.now) (g.D.Device.history c.record.new.device) c.in_ok-record.ensures.size (c.in_ok-record.ensures.moments k gated) recorded
-    (g.D.Device.history c.copy_home.new.device) (c.in_ok-copy_home.ensures.ok k recorded.shown)
+    let way = c.in_ok-make_way.ensures.ok k gated in
+    committed (g.D.Device.size c.args.device.now) (g.D.Device.size c.make_way.new.device) c.args.to.now c.args.updates.now c.args.shown.now.items c.make_way.new.shown.items
+    (g.D.Device.history c.args.device.now) (g.D.Device.history c.make_way.new.device) c.in_ok-make_way.ensures.size (c.in_ok-make_way.ensures.moments k gated) way
+    (g.D.Device.history c.record.new.device) c.record.new.shown.items c.requires.taken.named (c.in_ok-record.ensures.ok k way.gated)

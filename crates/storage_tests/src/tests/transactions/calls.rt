@@ -129,8 +129,8 @@ fn transactions_of_the_same_sectors_become_one(rt: HostRuntime) -> Result<(), Fa
         ];
         play(&rt, rt.alloc(), &mut held, &rows);
     }
-    // the mount's sync; two sectors to the payload and home, the gate twice, and four syncs
-    assert_eq!(rt; device.steps(), 11);
+    // the mount's sync; two sectors to the payload, the gate, and two syncs
+    assert_eq!(rt; device.steps(), 6);
     Ok(())
 }
 
@@ -146,6 +146,6 @@ fn a_list_that_would_not_fit_is_flushed_first(rt: HostRuntime) -> Result<(), Fai
         let rows = [(Step::Byte(98), Ok(7)), (Step::Byte(241), Ok(7))];
         play(&rt, rt.alloc(), &mut held, &rows);
     }
-    assert_eq!(rt; device.steps(), 1 + 2 * 96 + 6);
+    assert_eq!(rt; device.steps(), 1 + 96 + 3);
     Ok(())
 }

@@ -201,17 +201,30 @@ const WIDE: [Step<'static>; 3] = [
     Step::Flush,
 ];
 
+// behind the gate, behind it again, and once what it shows was copied home
+const GATHERED: [Step<'static>; 8] = [
+    Step::Apply(&[98, 99], 1),
+    Step::Flush,
+    Step::Apply(&[100, 255], 2),
+    Step::Flush,
+    Step::Superblock(7),
+    Step::Apply(&[99, 101], 3),
+    Step::Flush,
+    Step::Flush,
+];
+
 // each list, and whether the mounts after a stop within a step are stopped too
-const LISTS: [(&[Step<'static>], bool); 5] = [
+const LISTS: [(&[Step<'static>], bool); 6] = [
     (&ONE, true),
     (&TWO, true),
     (&THREE, true),
     (&FOUR, true),
     (&WIDE, false),
+    (&GATHERED, true),
 ];
 
 fn play(rt: &impl Abort, alloc: Global, place: usize) -> Result<(), Fail>
-    requires { place < 5 }
+    requires { place < 6 }
 {
     let (steps, is_nested) = LISTS[place];
     try_stops(rt, alloc, steps, is_nested)
@@ -240,4 +253,9 @@ fn stops_of_four_transactions(rt: HostRuntime) -> Result<(), Fail> {
 #[test]
 fn stops_of_a_transaction_of_many_sectors(rt: HostRuntime) -> Result<(), Fail> {
     play(&rt, rt.alloc(), 4)
+}
+
+#[test]
+fn stops_of_transactions_behind_one_gate(rt: HostRuntime) -> Result<(), Fail> {
+    play(&rt, rt.alloc(), 5)
 }

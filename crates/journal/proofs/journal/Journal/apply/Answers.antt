@@ -3,11 +3,12 @@ use Rattle.std.proofs.lemmas.Bool.{cases_lt}
 use Rattle.disk.specs.declared.update.Update.{Update}
 use Rattle.disk.specs.Moments.{seen, applied}
 use Rattle.journal.specs.Journal.{failures_of, log_of, listed}
-use Rattle.journal.specs.Layout.{targets}
+use Rattle.journal.specs.Layout.{targets, through}
 use Rattle.journal.specs.Log.{Log, IsJoined, Moved, Takes}
 use Rattle.journal.specs.Transactions.{FitTogether, gathered, sectors_of}
 use Rattle.journal.proofs.Answerings.{answers_down, answers_up, is_fault}
 use Rattle.journal.proofs.Parts.{part_failed, part_is_safe, stays_safe}
+use Rattle.journal.proofs.Cachings.{copies_applied}
 use Rattle.journal.proofs.Fronts.{joined_as_one, listed_sectors, moved_flushed, moved_takes, put_alone, put_does}
 use Rattle.journal.proofs.Images.{Fit, length-targets}
 use Rattle.journal.proofs.Joins.{pushed_contents}
@@ -21,7 +22,7 @@ use Rattle.journal.proofs.journal.Journal.apply.Goals.{After-put_all}
 -- the log after the call
 after : (g : Over) (c : After-put_all g) → Log
 after g c = record {
-  base = seen (g.D.Device.history c.make_room.new.self.device).now;
+  base = through c.make_room.new.self.shown.items (seen (g.D.Device.history c.make_room.new.self.device).now);
   list = listed c.put_all.new.list.items;
   is_down = c.make_room.new.self.is_down;
   size = g.D.Device.size c.make_room.new.self.device;
@@ -110,15 +111,11 @@ pub returns-clause-ok : goal.returns-clause-ok
 unfolding log_of after
 returns-clause-ok g c =
     let at = (goal.at.returns-clause-ok g c).After-put_all in
-    let was = c.args.self.now.list.items in
     record {
       kept = λ fit. taken g at fit;
       flushed = λ over. alone g at over;
       moved = λ k. moved g at k;
       contents = λ k. pushed_contents c.args.updates.items (log_of c.args.self.now) (after g at) (moved g at k);
-      cost = λ k over.
-          let P : List Update → Type 0 = λ vs. FitTogether (listed was ++ vs ∷ []) in
-          (c.in_ok-make_room.ensures.flushed (λ fit. over (subst P c.deref.ensures.value fit))).cost k;
     }
 
 pub returns-then-self-clause-safe : goal.returns-then-self-clause-safe
@@ -153,3 +150,12 @@ unfolding log_of failures_of
 returns-clause-answers g c =
     let part = c.in_ok-make_room.ensures.part in
     answers_up _ _ _ _ _ (λ e. cc) (λ e. cc) c.if-self.false part.is_down part.failures.ok
+
+pub invariant_of-self-clause-cached : goal.invariant_of-self-clause-cached
+unfolding log_of
+invariant_of-self-clause-cached g c = λ k up.
+    let mid = c.make_room.new.self in
+    let image = through mid.shown.items (seen (g.D.Device.history mid.device).now) in
+    copies_applied (g.D.Device.size mid.device) c.args.updates.items c.deref-2.result.now (applied mid.list.items image) (applied c.put_all.new.list.items image)
+    mid.cache.sectors.entries c.forget.new.self.sectors.entries (mid.cached k up) c.forget.ensures.among c.forget.ensures.gone c.deref-2.ensures.value
+    (λ n. c.put_all.ensures.applied image n)

@@ -40,6 +40,12 @@ returns-then-fits-clause-flushed g c = λ over.
     let at = (goal.at.returns-then-fits-clause-flushed g c).After-fits in
     absurd (over (omega (arith, same g at, c.fits.ensures.0 c.if-fits.true)))
 
+pub returns-then-fits-clause-gate : goal.returns-then-fits-clause-gate
+unfolding log_of
+returns-then-fits-clause-gate g c = λ over.
+    let at = (goal.at.returns-then-fits-clause-gate g c).After-fits in
+    absurd (over (omega (arith, same g at, c.fits.ensures.0 c.if-fits.true)))
+
 pub returns-in_err-take_all-clause-kept : goal.returns-in_err-take_all-clause-kept
 unfolding log_of
 returns-in_err-take_all-clause-kept g c = λ fit.

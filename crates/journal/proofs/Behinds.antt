@@ -1,0 +1,100 @@
+-- What goes behind a gate.
+use Rattle.std.proofs.Common.{◌≡◌, ◌≤◌, ◌<◌, ◌+◌, ◌&&◌, ◌||◌, ℕ, suc, zero, Bool, true, false, not, leb, List, [], ◌∷◌, ◌++◌, length, take, get_or, refl, sym, ap, ◌∙◌, subst, arith, if◌then◌else◌}
+use Rattle.std.proofs.lemmas.Bool.{leb-true}
+use Rattle.std.proofs.lemmas.List.{append_assoc, length-append, take_more}
+use Rattle.std.proofs.lemmas.List.Folds.{list_any_at, list_any_more}
+use Rattle.journal.specs.Layout.{AreTargets}
+use Rattle.journal.specs.Behind.{FitsGate, meets, goes_behind, way_for}
+use Rattle.journal.specs.Transactions.{has}
+use Rattle.journal.proofs.Images.{Out, Fit, Fit-front, Out-join}
+use Rattle.journal.proofs.Lists.{Away, not_has-out, targets_of-Fit}
+use Rattle.journal.proofs.Stages.{Fit-of}
+
+neither : (a b : Bool) → (a || b) ≡ false → (a ≡ false) × (b ≡ false)
+neither true b e = absurd (let w : true ≡ false = e in cc)
+neither false b e = (refl, e)
+
+both : (a b : Bool) → (not a && b) ≡ true → (a ≡ false) × (b ≡ true)
+both true b e = absurd (let w : false ≡ true = e in cc)
+both false b e = (refl, e)
+
+away_of : (named to : List ℕ) → meets named to ≡ false → Away named to
+away_of named [] e = tt
+away_of named (t ∷ to) e = let each = neither (has named t) (meets named to) e in (not_has-out named t each.0, away_of named to each.1)
+
+Away-first : (s : ℕ) (a b : List ℕ) → Away (s ∷ a) b → Out b s
+Away-first s a [] w = tt
+Away-first s a (t ∷ b) w = ((λ e. w.0.0 (sym e)), Away-first s a b w.1)
+
+Away-rest : (s : ℕ) (a b : List ℕ) → Away (s ∷ a) b → Away a b
+Away-rest s a [] w = tt
+Away-rest s a (t ∷ b) w = (w.0.1, Away-rest s a b w.1)
+
+Fit-join : (size : ℕ) (a b : List ℕ) → Fit size a → Fit size b → Away a b → Fit size (a ++ b)
+Fit-join size [] b f g w = g
+Fit-join size (t ∷ a) b f g w = (f.0, f.1, Out-join a b t f.2 (Away-first t a b w), Fit-join size a b f.3 g (Away-rest t a b w))
+
+behind_fits : (size : ℕ) (named to : List ℕ) → FitsGate size named → AreTargets size to → goes_behind named to ≡ true → FitsGate size (named ++ to)
+behind_fits size named to fits fit e =
+    let each = both (meets named to) (leb (length named + length to) 96) e in
+    record {
+      few = omega (arith, length-append named to, leb-true (length named + length to) 96 each.1);
+      fit = targets_of-Fit size (named ++ to)
+          (Fit-join size named to (Fit-of size named fits.fit) (Fit-of size to fit) (away_of named to each.0));
+    }
+
+fits_for : (size : ℕ) (named to : List ℕ) (b : Bool) → goes_behind named to ≡ b → FitsGate size named → length to ≤ 96 → AreTargets size to
+    → FitsGate size ((if b then named else []) ++ to)
+fits_for size named to true e fits few fit = behind_fits size named to fits fit e
+fits_for size named to false e fits few fit = record { few = few; fit = fit }
+
+-- once there is a way for them, the gate can name them too
+pub way_fits : (size : ℕ) (named to : List ℕ) → FitsGate size named → length to ≤ 96 → AreTargets size to → FitsGate size (way_for named to ++ to)
+way_fits size named to fits few fit = fits_for size named to (goes_behind named to) refl fits few fit
+
+pub front_fits : (size : ℕ) (named to : List ℕ) → FitsGate size (named ++ to) → FitsGate size named
+front_fits size named to fits = record {
+  few = omega (arith, length-append named to, fits.few);
+  fit = targets_of-Fit size named (Fit-front size named to (Fit-of size (named ++ to) fits.fit));
+}
+
+-- the device's size stays
+pub fits_at : (old new : ℕ) (to : List ℕ) → new ≡ old → FitsGate old to → FitsGate new to
+fits_at old new to e fits = let P : ℕ → Type 0 = λ size. FitsGate size to in subst P (sym e) fits
+
+-- looking for a target that is named, one after the other
+pub meets_one : (named to : List ℕ) (i : ℕ) → i < length to → has named (get_or to i 0) ≡ true → meets named to ≡ true
+meets_one named to i l e = list_any_at (λ target. has named target) to i 0 l e
+
+either_false : (a b : Bool) → a ≡ false → b ≡ false → (a || b) ≡ false
+either_false true b e q = e
+either_false false b e q = q
+
+pub meets_more : (named to : List ℕ) (i : ℕ) → i < length to → meets named (take i to) ≡ false → has named (get_or to i 0) ≡ false
+    → meets named (take (i + 1) to) ≡ false
+meets_more named to i l e q =
+    list_any_more (λ target. has named target) to i 0 l ∙ either_false (meets named (take i to)) (has named (get_or to i 0)) e q
+
+take_whole : (xs : List ℕ) (i : ℕ) → length xs ≤ i → take i xs ≡ xs
+take_whole [] zero l = refl
+take_whole [] (suc i) l = refl
+take_whole (x ∷ xs) zero l = absurd (omega arith)
+take_whole (x ∷ xs) (suc i) l = ap (λ ys. x ∷ ys) (take_whole xs i (omega arith))
+
+pub meets_all : (named to : List ℕ) (i : ℕ) → length to ≤ i → meets named (take i to) ≡ false → meets named to ≡ false
+meets_all named to i l e = ap (λ (ts : List ℕ). meets named ts) (sym (take_whole to i l)) ∙ e
+
+pub stays_before : (named to : List ℕ) → meets named to ≡ true → goes_behind named to ≡ false
+stays_before named to e = ap (λ (b : Bool). not b && leb (length named + length to) 96) e
+
+pub goes_by_count : (named to : List ℕ) → meets named to ≡ false → goes_behind named to ≡ leb (length named + length to) 96
+goes_by_count named to e = ap (λ (b : Bool). not b && leb (length named + length to) 96) e
+
+-- naming them one after the other
+pub named_more : (was to now next : List ℕ) (i : ℕ) → i < length to → now ≡ was ++ take i to → next ≡ now ++ get_or to i 0 ∷ [] → next ≡ was ++ take (i + 1) to
+named_more was to now next i l e q =
+    q ∙ ap (λ (ts : List ℕ). ts ++ get_or to i 0 ∷ []) e ∙ append_assoc was (take i to) (get_or to i 0 ∷ [])
+    ∙ ap (λ (ts : List ℕ). was ++ ts) (sym (take_more to i 0 l))
+
+pub named_whole : (was to now : List ℕ) (i : ℕ) → length to ≤ i → now ≡ was ++ take i to → now ≡ was ++ to
+named_whole was to now i l e = e ∙ ap (λ (ts : List ℕ). was ++ ts) (take_whole to i l)

@@ -1,0 +1,14 @@
+use Rattle.std.proofs.Common.{◌∙◌, sym, arith}
+use Rattle.journal.proofs.Behinds.{meets_more, meets_one, meets_all, stays_before, goes_by_count}
+use Rattle.journal.proofs.gate.goes_behind.Goals as goal
+
+pub returns-then-contains : goal.returns-then-contains
+returns-then-contains c = sym (stays_before c.args.named.now c.args.to.now
+    (meets_one c.args.named.now c.args.to.now c.loop-target.target-index (omega arith) (sym c.contains.ensures.value ∙ c.if-contains.true)))
+
+pub loop-target-preserved : goal.loop-target-preserved
+loop-target-preserved c = meets_more c.args.named.now c.args.to.now c.loop-target.target-index (omega arith) c.loop-target.invariant
+    (sym c.contains.ensures.value ∙ c.if-contains.false)
+
+pub returns : goal.returns
+returns c = sym (goes_by_count c.args.named.now c.args.to.now (meets_all c.args.named.now c.args.to.now c.loop-target.target-index (omega arith) c.loop-target.invariant))

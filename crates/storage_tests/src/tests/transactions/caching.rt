@@ -1,0 +1,123 @@
+//! What a journal keeps in memory of what it read.
+
+use super::super::drivers::memory;
+use super::SECTORS;
+use super::held::{Held, Step};
+use disk::{Device, DiskFault, SECTOR};
+use journal::JournalFault;
+use std::alloc::Global;
+use std::test::Fail;
+
+// a device that counts how often each of these sectors is read
+#[derive(Drop)]
+struct Counting<D: Device> {
+    device: D,
+    reads: [u64; 256],
+}
+
+impl<D: Device> Device for Counting<D> {
+    ghost keeps_word = { D.keeps_word };
+
+    ghost size = { λ counting. D.size counting.device };
+
+    ghost failed = { λ counting. D.failed counting.device };
+
+    ghost history = { λ counting. D.history counting.device };
+
+    fn sectors(&self) -> u32 {
+        self.device.sectors()
+    }
+
+    fn failures(&self) -> u64 {
+        self.device.failures()
+    }
+
+    fn read(&mut self, n: u32, content: &mut [u8; SECTOR]) -> Result<(), DiskFault> {
+        if n < 256 {
+            let place = n as usize;
+            self.reads[place] = self.reads[place].saturating_add(1);
+        }
+        self.device.read(n, content)
+    }
+
+    fn write(&mut self, n: u32, content: &[u8; SECTOR]) -> Result<(), DiskFault> {
+        self.device.write(n, content)
+    }
+
+    fn sync(&mut self) -> Result<(), DiskFault> {
+        self.device.sync()
+    }
+
+    ghost holds_sectors = { λ keeps counting n there. D.holds_sectors keeps counting.device n there };
+}
+
+// what the steps answer, and how often the device read this sector
+fn reads_of(
+    alloc: Global,
+    steps: &[(Step<'_>, u8)],
+    sector: usize,
+) -> Result<(bool, u64), JournalFault> {
+    let mut counting = Counting {
+        device: memory(alloc, SECTORS)?,
+        reads: [0; 256],
+    };
+    let mut is_right = true;
+    {
+        let mut held = Held::mount(alloc, &mut counting)?;
+        for (step, wanted) in steps {
+            let answer = held.take(alloc, *step)?;
+            is_right = is_right && answer == *wanted;
+        }
+    }
+    Ok((is_right, counting.reads.get(sector).copied().unwrap_or(0)))
+}
+
+// steps with their answers, and how often a sector is then read
+const ROWS: [(&[(Step<'static>, u8)], usize, u64); 4] = [
+    // twice
+    (&[(Step::Byte(200), 0), (Step::Byte(200), 0)], 200, 1),
+    // what waits is read in memory, and what was flushed behind the gate
+    (
+        &[
+            (Step::Byte(200), 0),
+            (Step::Apply(&[200], 7), 0),
+            (Step::Byte(200), 7),
+            (Step::Flush, 0),
+            (Step::Byte(200), 7),
+            (Step::Byte(200), 7),
+        ],
+        200,
+        1,
+    ),
+    // behind the gate it is read once
+    (
+        &[
+            (Step::Apply(&[200], 7), 0),
+            (Step::Flush, 0),
+            (Step::Byte(200), 7),
+            (Step::Byte(200), 7),
+        ],
+        2,
+        1,
+    ),
+    // the first sector is not kept
+    (
+        &[
+            (Step::Byte(0), 0),
+            (Step::Superblock(9), 0),
+            (Step::Byte(0), 9),
+        ],
+        0,
+        2,
+    ),
+];
+
+#[test]
+fn sectors_are_read_once(rt: HostRuntime) -> Result<(), Fail> {
+    for (i, (steps, sector, wanted)) in ROWS.iter().enumerate() {
+        let (is_right, reads) = reads_of(rt.alloc(), steps, *sector)?;
+        assert!(rt; is_right, "row {i}");
+        assert_eq!(rt; reads, *wanted, "row {i}");
+    }
+    Ok(())
+}

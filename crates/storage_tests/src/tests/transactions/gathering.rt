@@ -1,0 +1,89 @@
+//! Flushes behind one gate: how many syncs they take, and what the gate names then.
+
+use super::super::drivers::{content_of, filled, memory, put};
+use super::SECTORS;
+use super::held::{Held, Step};
+use disk::{Call, MemDevice, SECTOR};
+use journal::JournalFault;
+use std::alloc::Global;
+use std::test::Fail;
+
+const STEPS: [Step<'static>; 17] = [
+    Step::Apply(&[200], 1),
+    Step::Apply(&[200], 2),
+    Step::Apply(&[200], 3),
+    Step::Apply(&[200], 4),
+    Step::Apply(&[200], 5),
+    Step::Apply(&[200], 6),
+    Step::Apply(&[200], 7),
+    Step::Apply(&[200], 8),
+    Step::Apply(&[200], 9),
+    Step::Apply(&[200], 10),
+    Step::Flush,
+    Step::Apply(&[201], 11),
+    Step::Flush,
+    Step::Flush,
+    Step::Apply(&[200], 12),
+    Step::Flush,
+    Step::Superblock(13),
+];
+
+// so many of the steps: the syncs since the mount, and what the gate names then
+const ROWS: [(usize, u64, &[u32]); 6] = [
+    (10, 0, &[]),
+    (11, 2, &[200]),
+    (13, 4, &[200, 201]),
+    (14, 4, &[200, 201]),
+    (16, 8, &[200]),
+    (17, 9, &[200]),
+];
+
+// a gate that names these, and zeros for none
+fn gate_of(targets: &[u32]) -> [u8; SECTOR] {
+    let mut sector = filled(0);
+    if targets.is_empty() {
+        return sector;
+    }
+    put(&mut sector, 3, &[1]);
+    put(&mut sector, 7, &[u8::try_from(targets.len()).unwrap_or(0)]);
+    for (i, target) in targets.iter().enumerate() {
+        put(
+            &mut sector,
+            i.saturating_mul(4).saturating_add(8),
+            &target.to_be_bytes(),
+        );
+    }
+    sector
+}
+
+fn play(alloc: Global, device: &mut MemDevice, steps: &[Step<'_>]) -> Result<(), JournalFault> {
+    let mut held = Held::mount(alloc, device)?;
+    for step in steps {
+        held.take(alloc, *step)?;
+    }
+    Ok(())
+}
+
+// the syncs after the mount's
+fn syncs(device: &MemDevice) -> u64 {
+    let mut syncs = 0u64;
+    for call in device.calls() {
+        if matches!(call, Call::Sync) {
+            syncs = syncs.saturating_add(1);
+        }
+    }
+    syncs.saturating_sub(1)
+}
+
+#[test]
+fn flushes_go_behind_one_gate(rt: HostRuntime) -> Result<(), Fail> {
+    for (count, wanted, targets) in ROWS {
+        let mut device = memory(rt.alloc(), SECTORS)?;
+        let steps = STEPS.get(..count).unwrap_or(&STEPS);
+        play(rt.alloc(), &mut device, steps)?;
+        assert_eq!(rt; syncs(&device), wanted, "{count} steps");
+        let gate = content_of(&mut device, 1)?;
+        assert!(rt; gate == gate_of(targets), "{count} steps");
+    }
+    Ok(())
+}
