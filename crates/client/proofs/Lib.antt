@@ -3,3 +3,4 @@ pub mod Lengths
 pub mod Ending
 pub mod Receiving
 pub mod Exchanging
+pub mod JoinedLaws

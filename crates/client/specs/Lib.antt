@@ -5,3 +5,4 @@ pub mod Views
 pub mod Replies
 pub mod Streams
 pub mod Exchanges
+pub mod Joined

@@ -6,6 +6,7 @@ mod call;
 mod client;
 mod fault;
 mod head;
+mod joined;
 mod known;
 mod receive;
 mod reply;
@@ -15,3 +16,4 @@ mod stream;
 
 pub use client::Client;
 pub use fault::ClientFault;
+pub use joined::every_exchange;

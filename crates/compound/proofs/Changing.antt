@@ -191,16 +191,16 @@ module _ (now : ℕ) (fs : FileSystem) (request : InProgress) (kind : Argument)
           → Changes keeps_word (OperationGives (shared fs table opens) request now kind) fs new before after (ending (told (operation_of kind) why))
       told_changes T table opens (fault.Status reason) step is no_room device_room gives changes =
           let same = left_all keeps_word given fs new before after changes in
-          refusal_changes keeps_word fs new table opens before after request now kind (operation_of kind) reason same changes.volume_changes.later up
+          refusal_changes keeps_word fs new table opens before after request now kind (operation_of kind) reason same (changes.volume_changes.none (λ broken. cc)) up
           (subst (λ (one : FileSystem). GivesIn now (shared fs table opens) (shared one table opens) request request kind (Refused (operation_of kind) reason)) (sym same)
           (refused_gives table opens reason step))
       told_changes T table opens fault.NoRoom step is no_room device_room gives changes =
           let same = left_all keeps_word given fs new before after changes in
-          refusal_changes keeps_word fs new table opens before after request now kind (operation_of kind) status.RepTooBig same changes.volume_changes.later up
+          refusal_changes keeps_word fs new table opens before after request now kind (operation_of kind) status.RepTooBig same (changes.volume_changes.none (λ broken. cc)) up
           (subst (λ (one : FileSystem). GivesIn now (shared fs table opens) (shared one table opens) request request kind (Refused (operation_of kind) status.RepTooBig)) (sym same)
           (full table opens (no_room refl) step))
       told_changes T table opens fault.Memory step is no_room device_room gives changes =
-          leaves_all keeps_word _ fs new before after (left_all keeps_word given fs new before after changes) changes.volume_changes.later
+          leaves_all keeps_word _ fs new before after (left_all keeps_word given fs new before after changes) (changes.volume_changes.none (λ broken. cc))
       told_changes T table opens fault.Device step is no_room device_room gives changes =
           changes_by keeps_word given (OperationGives (shared fs table opens) request now kind) (gives (device_room refl)) fs new before after Broken changes
       told_changes T table opens fault.Down step is no_room device_room gives changes = absurd (is)

@@ -169,11 +169,11 @@ pub open_still : {T : Type 0} (keeps_word : Type 0) (state : SharedState) (faile
     → state.files.volume.is_down ≡ false → ((one : State) → alters one (Argument.Open arguments) ≡ false) → ((reason : Fault) → result ≡ Err reason → reason ≡ faults.Memory)
     → Changes keeps_word (OperationGives state request now (Argument.Open arguments)) state.files state.files failed failed (ending result)
 open_still keeps_word state failed request now arguments (Ok done) up still memory =
-    answers_quietly keeps_word (OperationGives state request now (Argument.Open arguments)) state.files state.files failed failed refl (omega arith) up
+    answers_quietly keeps_word (OperationGives state request now (Argument.Open arguments)) state.files state.files failed failed refl refl up
     (λ after lasting gives. gives.lasting_is ∙ quiet_ran gives.world (with_rest request gives.rest) arguments
     (run_in_room gives.world (with_rest request gives.rest) now (Argument.Open arguments)) (still (state_of gives.world (with_rest request gives.rest))))
 open_still keeps_word state failed request now arguments (Err faults.Memory) up still memory =
-    leaves_all keeps_word (OperationGives state request now (Argument.Open arguments)) state.files state.files failed failed refl (omega arith)
+    leaves_all keeps_word (OperationGives state request now (Argument.Open arguments)) state.files state.files failed failed refl refl
 open_still keeps_word state failed request now arguments (Err faults.Device) up still memory =
     let is : faults.Device ≡ faults.Memory = memory faults.Device refl in
     let never : ⊥ = cc in absurd never

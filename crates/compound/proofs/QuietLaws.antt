@@ -18,13 +18,14 @@ adds_nothing old new after same =
     subst (λ (held : Held). AddsTrees old after held.history) (sym same) (λ recent is. record { later = omega arith; added = λ t image l left. inl left })
 
 -- a call that was refused, and left all as it was
-pub leaves_all : (keeps_word : Type 0) (given : Given) (old new : FileSystem) (before after : ℕ) → new ≡ old → before ≤ after → Changes keeps_word given old new before after Nothing
-leaves_all keeps_word given old new before after same later =
+pub leaves_all : (keeps_word : Type 0) (given : Given) (old new : FileSystem) (before after : ℕ) → new ≡ old → after ≡ before → Changes keeps_word given old new before after Nothing
+leaves_all keeps_word given old new before after same told =
     let held : new.volume ≡ old.volume = ap (λ (f : FileSystem). f.volume) same in
     record {
       volume_changes = record {
         same = same_volume old.volume new.volume held;
-        later = later;
+        later = omega (arith, told);
+        none = λ other. told;
         moments = λ keeps tree lasts is. adds_nothing old.volume new.volume tree held;
         ends = held;
       };
@@ -32,14 +33,15 @@ leaves_all keeps_word given old new before after same later =
     }
 
 -- one that answered, and neither changed the tree nor has to last
-pub answers_quietly : (keeps_word : Type 0) (given : Given) (old new : FileSystem) (before after : ℕ) → new ≡ old → before ≤ after → old.volume.is_down ≡ false
+pub answers_quietly : (keeps_word : Type 0) (given : Given) (old new : FileSystem) (before after : ℕ) → new ≡ old → after ≡ before → old.volume.is_down ≡ false
     → ((tree : Tree) (lasts : Bool) → given tree lasts → lasts ≡ false) → Changes keeps_word given old new before after Done
-answers_quietly keeps_word given old new before after same later up quiet =
+answers_quietly keeps_word given old new before after same told up quiet =
     let held : new.volume ≡ old.volume = ap (λ (f : FileSystem). f.volume) same in
     record {
       volume_changes = record {
         same = same_volume old.volume new.volume held;
-        later = later;
+        later = omega (arith, told);
+        none = λ other. told;
         moments = λ keeps tree lasts is. adds_nothing old.volume new.volume tree held;
         ends = record {
           still_up = ap (λ (h : Held). h.is_down) held ∙ up;

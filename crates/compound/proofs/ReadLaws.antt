@@ -137,11 +137,11 @@ module _ (now : ℕ) (fs : FileSystem) (opens : Opens) (request : InProgress) (a
     pub read_quietly : (table : Table) → fs.volume.is_down ≡ false → Changes keeps_word (IsTree fs.volume.tree) fs new before after Nothing
         → Changes keeps_word (OperationGives (shared fs table opens) request now (Argument.Read arguments)) fs new before after ended.Done
     read_quietly table up changes = answers_quietly keeps_word _ fs new before after (left_all keeps_word (IsTree fs.volume.tree) fs new before after changes)
-        changes.volume_changes.later up (quiet_gives (shared fs table opens) request now (Argument.Read arguments) refl)
+        (changes.volume_changes.none (λ broken. cc)) up (quiet_gives (shared fs table opens) request now (Argument.Read arguments) refl)
 
     pub read_nothing : (table : Table) → Changes keeps_word (IsTree fs.volume.tree) fs new before after Nothing
         → Changes keeps_word (OperationGives (shared fs table opens) request now (Argument.Read arguments)) fs new before after Nothing
-    read_nothing table changes = leaves_all keeps_word _ fs new before after (left_all keeps_word (IsTree fs.volume.tree) fs new before after changes) changes.volume_changes.later
+    read_nothing table changes = leaves_all keeps_word _ fs new before after (left_all keeps_word (IsTree fs.volume.tree) fs new before after changes) (changes.volume_changes.none (λ broken. cc))
 
     pub told_changes : (T : Type 0) (table : Table) (why : FsFault) → fs.volume.is_down ≡ false → Says fs opens request (λ state. IsNotRead fs state now (Argument.Read arguments) why)
         → Changes keeps_word (IsTree fs.volume.tree) fs new before after (reading_ending {T = T} (Err why))

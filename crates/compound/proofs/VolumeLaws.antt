@@ -90,7 +90,7 @@ refused_gives state request now operation number reason refuses after lasting gi
 
 -- one that comes to this refusal, and leaves the file system as it is
 pub refusal_changes : (keeps_word : Type 0) (fs new : FileSystem) (table : Table) (opens : Opens) (before after : ℕ) (request : InProgress) (now : ℕ) (operation : Argument) (number : ℕ) (reason : Status)
-    → new ≡ fs → before ≤ after → fs.volume.is_down ≡ false → GivesIn now (shared fs table opens) (shared new table opens) request request operation (model.Refused number reason)
+    → new ≡ fs → after ≡ before → fs.volume.is_down ≡ false → GivesIn now (shared fs table opens) (shared new table opens) request request operation (model.Refused number reason)
     → Changes keeps_word (OperationGives (shared fs table opens) request now operation) fs new before after Done
 refusal_changes keeps_word fs new table opens before after request now operation number reason same later up gives =
     answers_quietly keeps_word (OperationGives (shared fs table opens) request now operation) fs new before after same later up
@@ -111,7 +111,7 @@ other_quiet world request now kind = by_refusal _
 pub other_changes : (keeps_word : Type 0) (state : SharedState) (failed : ℕ) (request : InProgress) (now kind : ℕ) → state.files.volume.is_down ≡ false
     → Changes keeps_word (OperationGives state request now (Argument.Create (OtherType kind))) state.files state.files failed failed Done
 other_changes keeps_word state failed request now kind up =
-    answers_quietly keeps_word (OperationGives state request now (Argument.Create (OtherType kind))) state.files state.files failed failed refl (omega arith) up
+    answers_quietly keeps_word (OperationGives state request now (Argument.Create (OtherType kind))) state.files state.files failed failed refl refl up
     (λ after lasting gives. gives.lasting_is ∙ other_quiet gives.world (with_rest request gives.rest) now kind)
 
 -- CREATE of a directory, where the reply has room for its result, is that of the file system
@@ -130,7 +130,7 @@ made_gives fs table opens request now parent name given in_run has is room after
 pub quiet_changes : (keeps_word : Type 0) (state : SharedState) (failed : ℕ) (request : InProgress) (now : ℕ) (operation : Argument) → state.files.volume.is_down ≡ false → is_quiet operation ≡ true
     → Changes keeps_word (OperationGives state request now operation) state.files state.files failed failed Done
 quiet_changes keeps_word state failed request now operation up quiet =
-    answers_quietly keeps_word (OperationGives state request now operation) state.files state.files failed failed refl (omega arith) up (quiet_gives state request now operation quiet)
+    answers_quietly keeps_word (OperationGives state request now operation) state.files state.files failed failed refl refl up (quiet_gives state request now operation quiet)
 
 -- or is refused for memory alone
 pub quiet_result : {T : Type 0} (keeps_word : Type 0) (state : SharedState) (failed : ℕ) (request : InProgress) (now : ℕ) (operation : Argument) (result : Result T Fault)
@@ -138,7 +138,7 @@ pub quiet_result : {T : Type 0} (keeps_word : Type 0) (state : SharedState) (fai
     → Changes keeps_word (OperationGives state request now operation) state.files state.files failed failed (ending result)
 quiet_result keeps_word state failed request now operation (Ok done) up quiet memory = quiet_changes keeps_word state failed request now operation up quiet
 quiet_result keeps_word state failed request now operation (Err fault.Memory) up quiet memory =
-    leaves_all keeps_word (OperationGives state request now operation) state.files state.files failed failed refl (omega arith)
+    leaves_all keeps_word (OperationGives state request now operation) state.files state.files failed failed refl refl
 quiet_result keeps_word state failed request now operation (Err fault.Device) up quiet memory =
     let is : fault.Device ≡ fault.Memory = memory fault.Device refl in
     let never : ⊥ = cc in absurd never
@@ -147,7 +147,7 @@ quiet_result keeps_word state failed request now operation (Err fault.Device) up
 pub memory_changes : {T : Type 0} (keeps_word : Type 0) (given : Given) (fs : FileSystem) (failed : ℕ) (result : Result T Fault) (reason : Fault)
     → IsErrAnd result (λ told. told ≡ reason) → reason ≡ fault.Memory → Changes keeps_word given fs fs failed failed (ending result)
 memory_changes keeps_word given fs failed (Ok done) reason is memory = absurd is
-memory_changes keeps_word given fs failed (Err told) reason is memory = rw (is, memory) (leaves_all keeps_word given fs fs failed failed refl (omega arith))
+memory_changes keeps_word given fs failed (Err told) reason is memory = rw (is, memory) (leaves_all keeps_word given fs fs failed failed refl refl)
 
 -- Turns
 

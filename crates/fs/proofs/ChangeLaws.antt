@@ -18,6 +18,7 @@ module _ (keeps_word : Type 0) (given other : Given) (weaker : (after : Tree) (l
     volume_changes = record {
       same = changes.volume_changes.same;
       later = changes.volume_changes.later;
+      none = changes.volume_changes.none;
       moments = λ keeps tree lasts is. changes.volume_changes.moments keeps tree lasts (weaker tree lasts is);
       ends = ends_by ending changes.volume_changes.ends;
     };

@@ -13,6 +13,7 @@ pub mod ExactTypes
 pub mod FeedingLaws
 pub mod FileStepLaws
 pub mod FreshTree
+pub mod GivenLaws
 pub mod Headline
 pub mod KeptLaws
 pub mod KeyedChanges

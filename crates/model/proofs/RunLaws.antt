@@ -76,7 +76,7 @@ unless_lawful : (state : State) (operation : Argument) (stepped : Stepped) (refu
 unless_lawful state operation stepped (Some reason) permits alters differs = absurd (differs refl)
 unless_lawful state operation stepped None permits alters differs = (permits refl, (alters differs).0, (alters differs).1)
 
-does_lawful : (limits : Limits) (state : State) (now : ℕ) (operation : Argument) → Lawful state operation (does limits state now operation)
+pub does_lawful : (limits : Limits) (state : State) (now : ℕ) (operation : Argument) → Lawful state operation (does limits state now operation)
 unfolding does
 does_lawful limits state now operation =
     unless_lawful state operation (effect limits state now operation) _

@@ -134,7 +134,7 @@ module _ (limits : ServerLimits) (run : ℕ) (room : limits.volume.aces_set + 5 
     reclaimed_sound None = (sound, same)
     reclaimed_sound (Some reason) = (sound, same)
 
-    state_sound : IsSound limits.volume (state_of world request)
+    pub state_sound : IsSound limits.volume (state_of world request)
     state_sound = record {
       well_formed = sound.well_formed;
       before = subst (λ r. IsBefore (next_stamp r world.changes) world.tree) (sym same) sound.before;

@@ -53,6 +53,7 @@ pub mod SlotsHeld
 pub mod SoundRuns
 pub mod Stamp
 pub mod State
+pub mod StampRuns
 pub mod StateIdLaws
 pub mod StateIdRuns
 pub mod StateIds

@@ -3,6 +3,7 @@
 ghost use Rattle.model.specs.AnswerRuns.{EveryAnswerIsPermitted};
 ghost use Rattle.model.specs.OpensLaws.{EveryRunKeepsOpens};
 ghost use Rattle.model.specs.SoundRuns.{EveryTreeIsSound};
+ghost use Rattle.model.specs.StampRuns.{EveryStampIsGiven};
 ghost use Rattle.model.specs.World.{ServerLimits};
 
 /// Whatever bytes arrive on whatever connections, and wherever the server is stopped: the tree that
@@ -21,4 +22,10 @@ pub fn every_run_keeps_opens()
 /// change, was permitted to its caller by the lists of the tree that it was answered from.
 pub fn every_answer_is_permitted()
     ensures { EveryAnswerIsPermitted }
+{}
+
+/// In every run, each change gives the next stamp of that run to all that it makes or alters, and
+/// to nothing else: also one that a stop takes away, and the one under way.
+pub fn every_stamp_is_given()
+    ensures { EveryStampIsGiven }
 {}

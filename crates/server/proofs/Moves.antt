@@ -1,6 +1,14 @@
 -- What the calls of a server do to what a stop may leave.
-use Rattle.std.proofs.Common.{◌≡◌, ◌≤◌, ℕ, List, [], ◌∷◌, length, Bool, false, None, refl, sym, ap, ap₂, ◌∙◌, subst, inl, ⊎_elim, arith}
+use Rattle.std.proofs.Common.{◌≡◌, ◌≤◌, ◌+◌, ℕ, List, [], ◌∷◌, length, Bool, false, None, refl, sym, ap, ap₂, ◌∙◌, subst, inl, ⊎_elim, arith}
 use Rattle.std.specs.List.{IsAmong}
+use Rattle.std.proofs.Math.Logic.{∥∥₁_elim, ∥∥₁_map, ∥∥₁_prop}
+use Rattle.model.specs.declared.limits.Limits.{Limits}
+use Rattle.model.specs.Limits.{limits_of}
+use Rattle.model.specs.SoundRuns.{IsStart}
+use Rattle.model.specs.Stamp.{stamp, next_stamp}
+use Rattle.model.specs.WellFormed.{IsWellFormed, IsBefore}
+use Rattle.model.proofs.ChangeLaws.{was_before}
+use Rattle.volume.specs.Remounts.{IsFound}
 use Rattle.disk.specs.Moments as moments
 use Rattle.disk.specs.Moments.{Image, Moment, Left, LeftWithin, LeftSince, moment}
 use Rattle.compound.specs.States.{shared}
@@ -88,15 +96,30 @@ world_mounted fs table opens connections tables none_open none changes =
 
 -- a server that was just mounted
 pub mounted_by : (fs : FileSystem) (table : Table) (opens : Opens) (connections : Keyed Connection) → table ≡ empty_table fs.volume.run → opens ≡ no_opens → connections ≡ [] → fs.changes ≡ 0 → fs.volume.is_down ≡ false → Holds fs.volume
+    → ∥ IsStart fs.volume.limits fs.volume.run fs.volume.tree ∥₁ → fs.volume.limits.aces_set + 5 ≤ fs.volume.limits.aces
     → IsMounted fs.volume.run fs.volume.tree (record { serving = record { world = world_by (shared fs table opens) connections; recent = fs.volume.tree ∷ []; is_down = fs.volume.is_down }; volume = fs.volume })
-mounted_by fs table opens connections tables none_open none changes up holds = record {
+mounted_by fs table opens connections tables none_open none changes up holds starts room = record {
   serves =
       ap (λ (w : World). record { world = w; recent = fs.volume.tree ∷ []; is_down = fs.volume.is_down }) (world_mounted fs table opens connections tables none_open none changes)
       ∙ ap (λ (b : Bool). record { world = mounted_world (server_limits fs.volume.limits) fs.volume.run fs.volume.tree; recent = fs.volume.tree ∷ []; is_down = b }) up;
   counted = refl;
   begins = refl;
+  starts = starts;
+  room = room;
   ready = holds;
 }
+
+-- the tree that was found is one with which this run may begin
+pub found_start : (sectors : ℕ) (old : moments.History) (held : Held) → IsFound sectors old held → held.limits ≡ limits_of sectors held.limits.nodes
+    → ∥ IsStart held.limits held.run held.tree ∥₁
+found_start sectors old held found limits = ∥∥₁_elim found.stood ∥∥₁_prop (λ base. ∥∥₁_map base.stands.well_formed (λ well. record {
+  well_formed = subst (λ (l : Limits). IsWellFormed l held.tree) (sym limits) well;
+  before = was_before (stamp held.run 0) (next_stamp held.run 0) held.tree
+      (subst (λ (r : ℕ). IsBefore (stamp r 0) held.tree) (sym found.raised) base.stands.before) (omega arith);
+}))
+
+pub limits_room : (sectors : ℕ) (held : Held) → held.limits ≡ limits_of sectors held.limits.nodes → held.limits.aces_set + 5 ≤ held.limits.aces
+limits_room sectors held limits = subst (λ (l : Limits). l.aces_set + 5 ≤ l.aces) (sym limits) (omega arith)
 
 pub same_seen : (old new : World) (recent : List Tree) (old_held new_held : Held) → new ≡ old → new_held ≡ old_held
     → (let one : Seen = record { serving = record { world = old; recent = recent; is_down = old_held.is_down }; volume = old_held } in one)

@@ -1,16 +1,28 @@
 -- The calls of a server are a run of the machine, and what a stop within one leaves stands for what the machine may leave.
-use Rattle.std.proofs.Common.{◌≡◌, ◌<◌, ℕ, List, refl, sym, ap, ◌∙◌, subst, inl, ⊎_elim, arith}
-use Rattle.disk.specs.Moments.{Image, LeftSince, moment}
+use Rattle.std.proofs.Common.{◌≡◌, ◌<◌, ◌+◌, ◌^◌, ℕ, List, refl, sym, ap, ◌∙◌, subst, inl, ⊎_elim, arith}
+use Rattle.std.proofs.Math.Logic.{∥∥₁_elim, ∥∥₁_map}
+use Rattle.std.proofs.Props.{props}
+use Rattle.disk.specs.Moments.{Image, History, LeftSince, moment, seen}
+use Rattle.model.specs.Fresh.{fresh_tree}
+use Rattle.model.specs.Tree.{Tree}
+use Rattle.volume.specs.declared.fault.MountFault.TheVariants as mounts
+use Rattle.volume.specs.MountAnswers.{NoTree}
 use Rattle.volume.specs.Held.{Held, IsSameVolume}
-use Rattle.volume.specs.Stands.{StandsFor}
+use Rattle.volume.specs.Stands.{StandsFor, IsBase}
+use Rattle.volume.specs.Superblock.{last_run}
 use Rattle.volume.proofs.OneTree.{one_tree_stands}
 use Rattle.model.proofs.Headline.{every_run}
+use Rattle.model.proofs.GivenLaws.{every_stamp_is_given}
 use Rattle.model.proofs.StampLaws.{every_stamp}
+use Rattle.model.specs.StampRuns.{AreGiven}
 use Rattle.model.specs.Runs as runs
 use Rattle.model.specs.Runs.{Serving, Event, Takes, MayLeave, IsRun, AreStamped, history_after, history_failing, effect_of, mounted}
 use Rattle.model.specs.World.{World}
-use Rattle.volume.proofs.RemountLaws.{every_remount}
-use Rattle.server.specs.Headline.{IsGoodTree, EveryStop, EveryRun, EveryTrace, Stopped, executed_in, Follows, IsLater, Next, Then, EveryLife, EveryStamping}
+use Rattle.volume.proofs.RemountLaws.{seen_left, rests_left, lasting, served_good}
+use Rattle.volume.proofs.OneTree.{Tree-set}
+use Rattle.volume.specs.Formats.{IsFresh}
+use Rattle.volume.specs.Remounts.{StandsForGood, LeavesGood}
+use Rattle.server.specs.Headline.{IsGoodTree, EveryStop, EveryRun, EveryFirst, IsNewVolume, Formatted, Powers, NeverLost, IsNotLost, EveryTrace, Stopped, executed_in, Follows, IsLater, Next, Then, EveryLife, EveryStamping}
 use Rattle.volume.specs.Held.{StandsForOne}
 use Rattle.server.specs.Seen.{Seen, LeavesNow, Moves, Call, IsServed, Begins, Goes_on, Fails_at, Stays_down, world_after, history_of, AreTold, told}
 use Rattle.server.specs.Views.{server_limits}
@@ -79,36 +91,104 @@ joined first last calls leaves (Stays_down {calls = earlier} {old = old} {new = 
 -- The laws
 
 pub every_stop : EveryStop
-every_stop stopped =
+every_stop stopped image left =
     let first = stopped.first in
     let old = stopped.old in
     let history = history_of first.serving.world stopped.calls in
     let all = joined first old stopped.calls stopped.mounted.ready.leaves stopped.served in
-    let found = stopped_in old stopped.new stopped.event all.leaves stopped.moves stopped.image stopped.left in
-    let stands : StandsFor first.volume.sectors first.volume.limits.nodes stopped.run found.0 stopped.image =
-    subst (λ (s : ℕ). StandsFor s first.volume.limits.nodes stopped.run found.0 stopped.image) all.same.sectors
-    (subst (λ (n : ℕ). StandsFor old.volume.sectors n stopped.run found.0 stopped.image) (ap (λ l. l.nodes) all.same.limits)
-    (subst (λ (r : ℕ). StandsFor old.volume.sectors old.volume.limits.nodes r found.0 stopped.image) (all.same.run ∙ stopped.mounted.counted) found.2)) in
+    let found = stopped_in old stopped.new stopped.event all.leaves stopped.moves image left in
+    let stands : StandsFor first.volume.sectors first.volume.limits.nodes stopped.run found.0 image =
+    subst (λ (s : ℕ). StandsFor s first.volume.limits.nodes stopped.run found.0 image) all.same.sectors
+    (subst (λ (n : ℕ). StandsFor old.volume.sectors n stopped.run found.0 image) (ap (λ l. l.nodes) all.same.limits)
+    (subst (λ (r : ℕ). StandsFor old.volume.sectors old.volume.limits.nodes r found.0 image) (all.same.run ∙ stopped.mounted.counted) found.2)) in
     record {
       tree = found.0;
       good = every_run (server_limits first.volume.limits) stopped.run stopped.start old.serving history
           (subst (λ (s : Serving). IsRun s old.serving history) stopped.mounted.serves all.run) stopped.event found.0 found.1;
       stands = stands;
       no_other = λ nodes run other others.
-          let one = one_tree_stands _ _ _ _ _ other found.0 stopped.image others stands in
+          let one = one_tree_stands _ _ _ _ _ other found.0 image others stands in
           (one.tree_is, (one.nodes_are, one.run_is));
     }
 
-pub every_run_again : EveryRun
-every_run_again stopped device again remounts found =
-    let is = every_stop stopped in
-    let same = every_remount stopped.first.volume.sectors stopped.first.volume.limits.nodes stopped.run is.tree stopped.image device again is.stands remounts found in
-    record { good = subst (IsGoodTree stopped) (sym same.tree_is) is.good; nodes = same.nodes_are; counted = same.greater }
+-- under a count, or as many more
+stands_more : (sectors nodes run : ℕ) (good : Tree → Type 0) (tree : Tree) (image : Image) → good tree → StandsFor sectors nodes run tree image
+    → StandsForGood sectors nodes run good image
+stands_more sectors nodes run good tree image is stands =
+    ∣ (tree, is, 0, subst (λ (r : ℕ). StandsFor sectors nodes r tree image) (omega arith) stands) ∣₁
 
-follows_run : (old new : Stopped) → Follows old new → IsGoodTree old new.start × (old.run < new.run)
+leaves_good : (stopped : Stopped) → LeavesGood stopped.first.volume.sectors stopped.first.volume.limits.nodes stopped.run (IsGoodTree stopped)
+    stopped.new.volume.history (moment stopped.old.volume.history)
+leaves_good stopped = record {
+  within = stopped.moves.moments.later;
+  leaves = λ image left.
+      let is = every_stop stopped image left in
+      stands_more stopped.first.volume.sectors stopped.first.volume.limits.nodes stopped.run (IsGoodTree stopped) is.tree image is.good is.stands;
+}
+
+pub every_run_again : EveryRun
+every_run_again stopped device from again remounts found =
+    let same = served_good stopped.first.volume.sectors stopped.first.volume.limits.nodes stopped.run (IsGoodTree stopped)
+    stopped.new.volume.history (moment stopped.old.volume.history) device from again (leaves_good stopped) remounts found in
+    record { good = same.tree_is; nodes = same.nodes_are; counted = same.greater }
+
+-- Between runs
+
+new_leaves : (sectors nodes : ℕ) (new : History) (since : ℕ) → IsNewVolume sectors nodes new since → LeavesGood sectors nodes 0 (λ tree. tree ≡ fresh_tree) new since
+new_leaves sectors nodes new since (Formatted {device = device} fresh) = record {
+  within = omega arith;
+  leaves = λ image left. stands_more sectors nodes 0 (λ tree. tree ≡ fresh_tree) fresh_tree image refl (fresh image (left_now device image left));
+}
+new_leaves sectors nodes new since (Powers {image = was} fresh) = record {
+  within = omega arith;
+  leaves = λ image left. stands_more sectors nodes 0 (λ tree. tree ≡ fresh_tree) fresh_tree image refl
+      (subst (λ (i : Image). IsFresh sectors nodes i) (sym (rests_left was image left)) fresh);
+}
+
+pub every_first : EveryFirst
+every_first sectors nodes new since device from first is remounts found =
+    let same = served_good sectors nodes 0 (λ tree. tree ≡ fresh_tree) new since device from first (new_leaves sectors nodes new since is) remounts found in
+    record { empty = ∥∥₁_elim same.tree_is (Tree-set first.tree fresh_tree) (λ e. e); nodes_are = same.nodes_are; counted = same.greater }
+
+module _ (sectors nodes run : ℕ) (good : Tree → Type 0) (device : History) (from : ℕ) (leaves : LeavesGood sectors nodes run good device from) where
+  stands : StandsForGood sectors nodes run good (seen device.now)
+  stands = leaves.leaves (seen device.now) (inl (seen_left device.now))
+
+  there : NoTree sectors device → ⊥
+  there none = ∥∥₁_elim stands (Prim.hlevel props) (λ one.
+      ∥∥₁_elim one.3 (Prim.hlevel props) (λ base. none nodes (run + one.2) one.0 base))
+
+  full : ((other_nodes count : ℕ) (tree : Tree) → IsBase sectors other_nodes count tree (seen device.now) → count + 1 ≡ 2 ^ 32)
+      → ∥ ((tree : Tree) × good tree × StandsFor sectors nodes last_run tree (seen device.now)) ∥₁
+  full is = ∥∥₁_elim stands (Prim.hlevel props) (λ one.
+      ∥∥₁_map one.3 (λ base.
+      let at_last = is nodes (run + one.2) one.0 base in
+      (one.0, one.1, subst (λ (count : ℕ). StandsFor sectors nodes count one.0 (seen device.now)) (omega (arith, at_last)) one.3)))
+
+  not_lost : IsNotLost sectors nodes run good device from
+  not_lost = record {
+    leaves = leaves;
+    not_volume = λ new refused. there refused.reason.no_tree;
+    not_damaged = λ new refused. there refused.reason.no_tree;
+    worn = λ new refused. full refused.reason.full;
+  }
+
+pub never_lost : NeverLost
+never_lost = record {
+  first = λ sectors nodes new since device from is remounts.
+      not_lost sectors nodes 0 (λ tree. tree ≡ fresh_tree) device from
+      (lasting sectors nodes 0 (λ tree. tree ≡ fresh_tree) new since device from (new_leaves sectors nodes new since is) remounts);
+  later = λ stopped device from remounts.
+      let sectors = stopped.first.volume.sectors in
+      let nodes = stopped.first.volume.limits.nodes in
+      not_lost sectors nodes stopped.run (IsGoodTree stopped) device from
+      (lasting sectors nodes stopped.run (IsGoodTree stopped) stopped.new.volume.history (moment stopped.old.volume.history) device from (leaves_good stopped) remounts);
+}
+
+follows_run : (old new : Stopped) → Follows old new → ∥ IsGoodTree old new.start ∥₁ × (old.run < new.run)
 follows_run old new follows =
-    let again = every_run_again old follows.device new.first.volume follows.remounts follows.found in
-    (subst (IsGoodTree old) new.mounted.begins again.good, subst (λ (r : ℕ). old.run < r) new.mounted.counted again.counted)
+    let again = every_run_again old follows.device follows.from new.first.volume follows.remounts follows.found in
+    (subst (λ (tree : Tree). ∥ IsGoodTree old tree ∥₁) new.mounted.begins again.good, subst (λ (r : ℕ). old.run < r) new.mounted.counted again.counted)
 
 later_run : (old new : Stopped) → IsLater old new → old.run < new.run
 later_run old new (Next follows) = (follows_run old new follows).1
@@ -131,8 +211,19 @@ stamped_within stopped =
     every_stamp (server_limits first.volume.limits) stopped.run stopped.start old.serving history
     (subst (λ (s : Serving). IsRun s old.serving history) stopped.mounted.serves all.run) stopped.event
 
+given_within : (stopped : Stopped) → ∥ AreGiven stopped.run (executed_in stopped) ∥₁
+given_within stopped =
+    let first = stopped.first in
+    let old = stopped.old in
+    let history = history_of first.serving.world stopped.calls in
+    let all = joined first old stopped.calls stopped.mounted.ready.leaves stopped.served in
+    ∥∥₁_map stopped.mounted.starts (λ starts.
+    every_stamp_is_given (server_limits first.volume.limits) stopped.run stopped.start old.serving history stopped.mounted.room starts
+    (subst (λ (s : Serving). IsRun s old.serving history) stopped.mounted.serves all.run) stopped.event)
+
 pub every_stamping : EveryStamping
 every_stamping = record {
+  given = given_within;
   within = stamped_within;
   between = λ old new later i j one other first second differs changes.
       let less = later_run old new later in

@@ -1,22 +1,32 @@
 -- What users of the server can rely on, from the bytes that come to the sectors that a stop leaves.
-use Rattle.std.specs.Prelude.{ℕ, List, [], ◌∷◌, slice_get, Some, ◌≡◌, ◌≢◌, ◌<◌}
-use Rattle.disk.specs.Moments.{Image, History, LeftSince, moment}
+use Rattle.std.specs.Prelude.{ℕ, List, [], ◌∷◌, slice_get, Some, ◌≡◌, ◌≢◌, ◌<◌, ◌≤◌, ◌+◌}
+use Rattle.disk.specs.Moments.{Image, History, LeftSince, at_rest, moment, seen}
+use Rattle.model.specs.Fresh.{fresh_tree}
 use Rattle.model.specs.Runs.{Event, IsGoodPrefix, AreStamped, mounted, executed, done_with, before, stamp_in}
+use Rattle.model.specs.SoundRuns.{IsStart}
+use Rattle.model.specs.StampRuns.{AreGiven}
 use Rattle.model.specs.Tree.{Tree}
 use Rattle.model.specs.World.{Entry}
+use Rattle.volume.specs.Formats.{IsFresh, LeavesFresh}
 use Rattle.volume.specs.Held.{Held, IsRecent}
-use Rattle.volume.specs.Remounts.{Remounts, IsFound}
+use Rattle.volume.specs.MountAnswers.{IsMountRefused}
+use Rattle.volume.specs.Remounts.{Remounts, IsFound, LeavesGood}
 use Rattle.volume.specs.Stands.{StandsFor}
+use Rattle.volume.specs.Superblock.{last_run}
+use Rattle.volume.specs.declared.fault.MountFault.TheVariants as mounts
 use Rattle.server.specs.Seen.{Seen, Call, Moves, IsServed, world_after, history_of, AreTold}
 use Rattle.server.specs.Views.{server_limits, volume_of, seen_with}
 use Rattle.server.specs.declared.server.Server.{Server}
 use Rattle.disk.specs.declared.device.Device.{Ghosts}
 
--- a server that was just mounted, and begins a run with this tree: a stop now leaves it
+-- a server that was just mounted, and begins a run with this tree, which is well formed and from
+-- before its stamps: a stop now leaves it
 pub record IsMounted (run : ℕ) (start : Tree) (first : Seen) : Type 0 where
   pub serves : first.serving ≡ mounted (server_limits first.volume.limits) run start
   pub counted : first.volume.run ≡ run
   pub begins : first.volume.tree ≡ start
+  pub starts : ∥ IsStart first.volume.limits run start ∥₁
+  pub room : first.volume.limits.aces_set + 5 ≤ first.volume.limits.aces
   pub ready : IsRecent first.volume first.serving.recent
 
 -- so begins a server that a mount gives
@@ -25,8 +35,7 @@ Begins server =
     IsMounted (volume_of server).run (volume_of server).tree
     (seen_with server ((volume_of server).tree ∷ []))
 
--- A run that was stopped at some moment of a call, or since its start, and a map that the stop
--- left.
+-- A run that was stopped at some moment of a call, or since its start.
 pub record Stopped : Type 0 where
   pub run : ℕ
   pub start : Tree
@@ -35,11 +44,21 @@ pub record Stopped : Type 0 where
   pub old : Seen
   pub event : Event
   pub new : Seen
-  pub image : Image
   pub mounted : IsMounted run start first
   pub served : IsServed first calls old
   pub moves : Moves old event new
-  pub left : LeftSince new.volume.history (moment old.volume.history) image
+
+-- a map that the stop left
+abbrev pub LeftBy : Stopped → Image → Type 0
+LeftBy stopped image =
+    LeftSince stopped.new.volume.history (moment stopped.old.volume.history) image
+
+-- What may have become of its device, and from which moment of that on a stop counts: power came
+-- back to such a map, or stayed on, and mounts were begun.
+abbrev pub IsMountedAfter : Stopped → History → ℕ → Type 0
+IsMountedAfter stopped device from =
+    Remounts stopped.first.volume.sectors stopped.new.volume.history
+    (moment stopped.old.volume.history) device from
 
 -- the operations that it executed, the one under way too, and the numbers of those whose reply was
 -- handed out
@@ -58,37 +77,80 @@ IsGoodTree stopped tree =
     IsGoodPrefix stopped.start (executed_in stopped) (handed_out_in stopped) tree
 
 -- What a stop leaves holds exactly such a tree.
-pub record IsKept (stopped : Stopped) : Type 0 where
+pub record IsKept (stopped : Stopped) (image : Image) : Type 0 where
   pub tree : Tree
   pub good : IsGoodTree stopped tree
   pub stands : StandsFor stopped.first.volume.sectors stopped.first.volume.limits.nodes stopped.run
-      tree stopped.image
+      tree image
   pub no_other : (nodes run : ℕ) (other : Tree)
-      → StandsFor stopped.first.volume.sectors nodes run other stopped.image
+      → StandsFor stopped.first.volume.sectors nodes run other image
       → (other ≡ tree) × ((nodes ≡ stopped.first.volume.limits.nodes) × (run ≡ stopped.run))
 
 abbrev pub EveryStop : Type 0
-EveryStop = (stopped : Stopped) → IsKept stopped
+EveryStop = (stopped : Stopped) (image : Image) → LeftBy stopped image → IsKept stopped image
 
 -- a later mount has such a tree, on a volume of as many nodes, under a greater restart count
 pub record HasGoodTree (stopped : Stopped) (again : Held) : Type 0 where
-  pub good : IsGoodTree stopped again.tree
+  pub good : ∥ IsGoodTree stopped again.tree ∥₁
   pub nodes : again.limits.nodes ≡ stopped.first.volume.limits.nodes
   pub counted : stopped.run < again.run
 
--- The headline: however often the volume was mounted since, and those mounts stopped, the next one
--- that serves has such a tree.
+-- The headline: however often the volume was mounted since, in the same power cycle or after
+-- further stops, the next mount that serves has such a tree.
 abbrev pub EveryRun : Type 0
 EveryRun =
-    (stopped : Stopped) (device : History) (again : Held)
-    → Remounts stopped.first.volume.sectors stopped.image device
+    (stopped : Stopped) (device : History) (from : ℕ) (again : Held)
+    → IsMountedAfter stopped device from
     → IsFound stopped.first.volume.sectors device again → HasGoodTree stopped again
+
+-- A new volume, and from which moment of its device on a stop counts: what a format leaves that was
+-- answered Ok, or a map that a stop left of one.
+pub data IsNewVolume (sectors nodes : ℕ) : History → ℕ → Type 0 where
+  Formatted : {device : History} → LeavesFresh sectors nodes device
+      → IsNewVolume sectors nodes device (moment device)
+  Powers : {image : Image} → IsFresh sectors nodes image
+      → IsNewVolume sectors nodes (at_rest image) 0
+
+-- Before the first run: however often a new volume was mounted, and those mounts refused or stopped,
+-- the next one that serves has the empty root, under a count above 0.
+pub record BeginsFresh (nodes : ℕ) (first : Held) : Type 0 where
+  pub empty : first.tree ≡ fresh_tree
+  pub nodes_are : first.limits.nodes ≡ nodes
+  pub counted : 0 < first.run
+
+abbrev pub EveryFirst : Type 0
+EveryFirst =
+    (sectors nodes : ℕ) (new : History) (since : ℕ) (device : History) (from : ℕ) (first : Held)
+    → IsNewVolume sectors nodes new since → Remounts sectors new since device from
+    → IsFound sectors device first → BeginsFresh nodes first
+
+-- Each map that a stop leaves stands for one of these trees, under this count or a greater one. So a
+-- mount that is refused for what is there is refused as Worn, under the greatest count.
+pub record IsNotLost (sectors nodes run : ℕ) (good : Tree → Type 0) (device : History)
+    (from : ℕ) : Type 0 where
+  pub leaves : LeavesGood sectors nodes run good device from
+  pub not_volume : (new : History) → IsMountRefused sectors device new mounts.NotVolume → ⊥
+  pub not_damaged : (new : History) → IsMountRefused sectors device new mounts.Damaged → ⊥
+  pub worn : (new : History) → IsMountRefused sectors device new mounts.Worn
+      → ∥ ((tree : Tree) × good tree
+      × StandsFor sectors nodes last_run tree (seen device.now)) ∥₁
+
+-- so before the first run, and after each
+pub record NeverLost : Type 0 where
+  pub first : (sectors nodes : ℕ) (new : History) (since : ℕ) (device : History) (from : ℕ)
+      → IsNewVolume sectors nodes new since → Remounts sectors new since device from
+      → IsNotLost sectors nodes 0 (λ tree. tree ≡ fresh_tree) device from
+  pub later : (stopped : Stopped) (device : History) (from : ℕ)
+      → IsMountedAfter stopped device from
+      → IsNotLost stopped.first.volume.sectors stopped.first.volume.limits.nodes stopped.run
+      (IsGoodTree stopped) device from
 
 -- The runs of a volume: one follows after the stop of another, and however many mounts that did not
 -- serve.
 pub record Follows (old new : Stopped) : Type 0 where
   pub device : History
-  pub remounts : Remounts old.first.volume.sectors old.image device
+  pub from : ℕ
+  pub remounts : IsMountedAfter old device from
   pub found : IsFound old.first.volume.sectors device new.first.volume
 
 pub data IsLater (old : Stopped) : Stopped → Type 0 where
@@ -98,12 +160,13 @@ pub data IsLater (old : Stopped) : Stopped → Type 0 where
 -- Each begins with a good tree of the one before, and its restart count is above those of all
 -- before.
 pub record EveryLife : Type 0 where
-  pub begins : (old new : Stopped) → Follows old new → IsGoodTree old new.start
+  pub begins : (old new : Stopped) → Follows old new → ∥ IsGoodTree old new.start ∥₁
   pub rises : (old new : Stopped) → IsLater old new → old.run < new.run
 
--- The stamps of a run's changes rise, of those that a stop takes away and of the one under way too;
--- those of a later run are above.
+-- Each change gives the next stamp of its run to all that it makes or alters, one that a stop takes
+-- away and the one under way too. These stamps rise, and those of a later run are above.
 pub record EveryStamping : Type 0 where
+  pub given : (stopped : Stopped) → ∥ AreGiven stopped.run (executed_in stopped) ∥₁
   pub within : (stopped : Stopped) → AreStamped stopped.run (executed_in stopped)
   pub between : (old new : Stopped) → IsLater old new → (i j : ℕ) (one other : Entry)
       → slice_get (executed_in old) i ≡ Some one

@@ -1,5 +1,5 @@
 -- What a call of the server that is refused leaves.
-use Rattle.std.specs.Prelude.{ℕ, ⊤, true, false, Option, Some, None, ◌≡◌, ◌⊎◌}
+use Rattle.std.specs.Prelude.{ℕ, true, false, Option, Some, None, ◌≡◌, ◌⊎◌}
 use Rattle.disk.specs.Cause.{IsCounted}
 use Rattle.disk.specs.declared.device.Device.{Ghosts}
 use Rattle.model.specs.Keyed.{at}
@@ -24,8 +24,10 @@ view server = record {
   failures = failures_of server;
 }
 
+-- all is as it was, and the device has not failed
 abbrev pub IsUntouched : (old new : View) → Type 0
-IsUntouched old new = (new.world ≡ old.world) × (new.volume ≡ old.volume)
+IsUntouched old new =
+    (new.world ≡ old.world) × (new.volume ≡ old.volume) × (new.failures ≡ old.failures)
 
 abbrev pub connection_at : View → (number : ℕ) → Option Connection
 connection_at server number = at number server.world.connections
@@ -38,31 +40,44 @@ HasCause old new = (old.volume.is_down ≡ true) ⊎ IsCounted old.failures new.
 abbrev pub KeepsWorld : (old new : View) → Type 0
 KeepsWorld old new = new.world ≡ record old.world { tree = new.world.tree }
 
--- a turn, by why it is refused: it leaves the world in any case
+-- a turn, by why it is refused: it leaves the world in any case, and after a failure the server is
+-- down
 abbrev pub RefusesTurn : (old new : View) → (number : ℕ) → ServerFault → Type 0
 RefusesTurn old new number faults.NoConnection =
     (connection_at old number ≡ None) × IsUntouched old new
 RefusesTurn old new number faults.Closed =
     (connection_at old number ≡ Some Closed) × IsUntouched old new
 RefusesTurn old new number faults.Memory = IsUntouched old new
-RefusesTurn old new number faults.Device = KeepsWorld old new × HasCause old new
+RefusesTurn old new number faults.Device =
+    KeepsWorld old new × HasCause old new × (new.volume.is_down ≡ true)
 RefusesTurn old new number faults.Full = ⊥
 
--- a hang-up; for want of memory it leaves what was run
+-- after turns of a connection the server is up, on the same volume, the device has not failed, and
+-- the other connections are as they were
+pub record HasRunOn (old new : View) (number : ℕ) : Type 0 where
+  pub still_up : new.volume.is_down ≡ false
+  pub none_failed : new.failures ≡ old.failures
+  pub same : IsSameVolume old.volume new.volume
+  pub others : (other : ℕ) → (other ≡ number → ⊥)
+      → connection_at new other ≡ connection_at old other
+
+-- a hang-up; for want of memory it leaves what was run, and the connection stays
 abbrev pub RefusesHangUp : (old new : View) → (number : ℕ) → ServerFault → Type 0
 RefusesHangUp old new number faults.NoConnection =
     (connection_at old number ≡ None) × IsUntouched old new
-RefusesHangUp old new number faults.Memory = ⊤
-RefusesHangUp old new number faults.Device = HasCause old new
+RefusesHangUp old new number faults.Memory =
+    HasRunOn old new number × (connection_at new number ≡ None → ⊥)
+RefusesHangUp old new number faults.Device = HasCause old new × (new.volume.is_down ≡ true)
 RefusesHangUp old new number faults.Closed = ⊥
 RefusesHangUp old new number faults.Full = ⊥
 
--- A turn that was done. On any device the server was up and is so, on the same volume; the other
--- connections are as they were, and a request that has begun has gone on. Where the device keeps
--- its word the world is that of the definition.
+-- A turn that was done. On any device the server was up and is so, on the same volume, the device
+-- has not failed in it, the other connections are as they were, and a request that has begun has
+-- gone on. Where the device keeps its word the world is that of the definition.
 pub record HasTurned (keeps_word : Type 0) (old new : View) (number now : ℕ) : Type 0 where
   pub up : old.volume.is_down ≡ false
   pub still_up : new.volume.is_down ≡ false
+  pub none_failed : new.failures ≡ old.failures
   pub same : IsSameVolume old.volume new.volume
   pub others : (other : ℕ) → (other ≡ number → ⊥)
       → connection_at new other ≡ connection_at old other

@@ -83,6 +83,7 @@ impl<D: Device> Server<D> {
             (fault ≡ ServerFault.NoConnection → ⊥) × (fault ≡ ServerFault.Closed → ⊥)) }
         ensures err { OnErr result (world_of self.new ≡ world_of self.old) }
         ensures volume { files_of self.new ≡ files_of self.old }
+        ensures failures { failures_of self.new ≡ failures_of self.old }
     {
         if self.fs.is_down() {
             return Err(ServerFault::Device);
@@ -116,6 +117,7 @@ impl<D: Device> Server<D> {
         ensures err { IfErr result (λ fault.
             (fault ≡ ServerFault.Closed → ⊥) → world_of self.new ≡ world_of self.old) }
         ensures volume { files_of self.new ≡ files_of self.old }
+        ensures failures { failures_of self.new ≡ failures_of self.old }
     {
         if self.fs.is_down() {
             return Err(ServerFault::Device);
@@ -234,6 +236,7 @@ impl<D: Device> Server<D> {
         ensures only { IfErr result (λ fault. fault ≡ ServerFault.NoConnection) }
         ensures err { OnErr result (world_of self.new ≡ world_of self.old) }
         ensures volume { files_of self.new ≡ files_of self.old }
+        ensures failures { failures_of self.new ≡ failures_of self.old }
     {
         match self.connections.get_mut(conn) {
             Some(connection) => Ok(connection.take_output()),

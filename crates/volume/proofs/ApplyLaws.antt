@@ -151,10 +151,11 @@ module _ (keeps_word : Type 0) (limits : Limits) (run : ℕ) (cards is : List (O
     applied_tree k = moved_tree limits run is between new safe.size (goes k) (safe.settled k up) (middle k)
         ∙ pushed_tree limits run cards is old updates after (behind k) (serves k)
 
-    pub apply_done : Changes keeps_word given was now failed_before failed_after Done
-    apply_done = record {
+    pub apply_done : failed_after ≡ failed_before → Changes keeps_word given was now failed_before failed_after Done
+    apply_done told = record {
       same = record { sectors = safe.size; limits = refl; run = refl };
       later = later;
+      none = λ other. told;
       moments = moments;
       ends = record {
         still_up = up;
@@ -177,6 +178,7 @@ module _ (keeps_word : Type 0) (limits : Limits) (run : ℕ) (cards is : List (O
   apply_broken down counted = record {
     same = record { sectors = safe.size; limits = refl; run = refl };
     later = later;
+    none = λ other. absurd (other refl);
     moments = moments;
     ends = record { down = down; cause = counted };
   }

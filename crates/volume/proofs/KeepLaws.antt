@@ -67,6 +67,7 @@ module _ (keeps_word : Type 0) (was between now : Held) (after : Tree) (first mi
   keep_done flush = record {
     same = same_volume Done flush;
     later = omega (arith, change.later, flush.later);
+    none = λ other. flush.none other ∙ change.none other;
     moments = moments Done flush;
     ends = record {
       still_up = flush.ends.still_up;
@@ -91,6 +92,7 @@ module _ (keeps_word : Type 0) (was between now : Held) (after : Tree) (first mi
   keep_broken flush = record {
     same = same_volume Broken flush;
     later = omega (arith, change.later, flush.later);
+    none = λ other. absurd (other refl);
     moments = moments Broken flush;
     ends = record { down = flush.ends.down; cause = counted_later first middle last change.later flush.ends.cause };
   }
@@ -112,12 +114,14 @@ unchanged keeps_word was now after first last Done never change = absurd (never 
 unchanged keeps_word was now after first last Nothing never change = record {
   same = change.same;
   later = change.later;
+  none = change.none;
   moments = λ k tree lasts is. change.moments k tree false (is, refl);
   ends = change.ends;
 }
 unchanged keeps_word was now after first last Broken never change = record {
   same = change.same;
   later = change.later;
+  none = change.none;
   moments = λ k tree lasts is. change.moments k tree false (is, refl);
   ends = change.ends;
 }

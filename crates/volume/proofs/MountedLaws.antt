@@ -60,12 +60,13 @@ module _ (sectors : ℕ) (old new : History) (same : new ≡ old) where
   first_reason mounts.Device none worn damaged = tt
 
 -- the device comes back that was handed on, of the same size and of no fewer failures
-pub back_since : {D : Type 0} (size failed : D → ℕ) (was failures sectors between : ℕ) (unmounted : Unmounted D) → sectors ≡ was → failures ≤ between
+pub back_since : {D : Type 0} (size failed : D → ℕ) (was failures sectors between : ℕ) (unmounted : Unmounted D) → sectors ≡ was → between ≡ failures
     → ComesBack size failed sectors between unmounted → ComesBack size failed was failures unmounted
-back_since size failed was failures sectors between unmounted same later back = record {
+back_since size failed was failures sectors between unmounted same stays back = record {
   same_size = back.same_size ∙ same;
-  later = omega (arith, later, back.later);
-  cause = λ is. counted_later failures between (failed unmounted.device) later (back.cause is);
+  later = omega (arith, stays, back.later);
+  cause = λ is. counted_later failures between (failed unmounted.device) (omega (arith, stays)) (back.cause is);
+  none = λ other. back.none other ∙ stays;
 }
 
 -- refused by the gate

@@ -1,68 +1,87 @@
 -- A volume between two runs of a server.
-use Rattle.std.proofs.Common.{◌≡◌, ◌+◌, ◌⊎◌, ℕ, [], sym, subst, inl, ⊎_elim, arith}
+use Rattle.std.proofs.Common.{◌≡◌, ◌+◌, ◌≤◌, ◌⊎◌, ℕ, List, [], ◌∷◌, length, sym, subst, inl, inr, ⊎_elim, arith}
+use Rattle.std.specs.List.{IsAmong}
 use Rattle.std.proofs.Props.{props}
-use Rattle.std.proofs.Math.Logic.{∥∥₁_elim}
+use Rattle.std.proofs.Math.Logic.{∥∥₁_elim, ∥∥₁_map, ∥∥₁_prop}
 use Rattle.std.proofs.Math.Path.{fun_ext}
 use Rattle.journal.proofs.Moments.{seen-may_hold}
-use Rattle.disk.specs.Moments.{Image, Moment, History, Left, LeftSince, LeftWithin, at_rest, seen}
+use Rattle.disk.specs.Moments.{Image, Moment, History, Left, LeftSince, LeftWithin, at_rest, moment, seen}
 use Rattle.model.specs.Tree.{Tree}
 use Rattle.volume.specs.Stands.{StandsFor}
 use Rattle.volume.specs.Held.{Held}
-use Rattle.volume.specs.Remounts.{AddsMount, Remounts, Powers, Mounts, Stops, ServesSame, EveryRemount, StillStands}
+use Rattle.volume.specs.Remounts.{AddsMount, IsFound, IsFront, Now, Before, Remounts, Stays, Mounts, Ends, Stops, StandsForGood, LeavesGood, ServesGood, EveryRemount, StillStands}
 use Rattle.volume.proofs.OneTree.{one_tree_stands}
 
 pub seen_left : (m : Moment) → Left m (seen m)
 seen_left m n = seen-may_hold m.unsynced m.fixed n
 
 -- of a device at rest a stop leaves what it holds
-rests_left : (first image : Image) → LeftSince (at_rest first) 0 image → image ≡ first
+pub rests_left : (first image : Image) → LeftSince (at_rest first) 0 image → image ≡ first
 rests_left first image left = ⊎_elim
     (λ (now : Left (at_rest first).now image). fun_ext (λ n. ⊎_elim (λ (same : image n ≡ first n). same) (λ (never : ⊥). absurd never) (now n)))
     (λ (never : LeftWithin [] 0 image). absurd never)
     left
 
-module _ (sectors nodes run : ℕ) (tree : Tree) where
-  -- a map stands for the tree, with the restart count that it had or a greater one
-  abbrev Lasts : Image → Type 0
-  Lasts image = ∥ ((more : ℕ) × StandsFor sectors nodes (run + more) tree image) ∥₁
+-- what a stop of a device may leave that was let go, it may have left of the device before
+front_left : (device earlier : History) (t : ℕ) (image : Image) → IsFront device earlier → t ≤ moment earlier → LeftSince earlier t image → LeftSince device t image
+front_left device earlier t image Now late left = left
+front_left device earlier t image (Before {now = now} {before = before} {past = past} front) late left =
+    front_left device (record { now = now; past = before ∷ past }) t image front (omega (arith, late)) (⊎_elim
+    (λ (here : Left before image). inr (inl (late, here)))
+    (λ (was : LeftWithin past t image). inr (inr was))
+    left)
 
-  mounted_on : (old new : History) (image : Image) → ((earlier : Image) → LeftSince old 0 earlier → Lasts earlier) → AddsMount sectors old new
-      → LeftSince new 0 image → Lasts image
-  mounted_on old new image lasts adds left =
-      ∥∥₁_elim (lasts (seen old.now) (inl (seen_left old.now))) (Prim.hlevel props) (λ stood.
-      ∥∥₁_elim stood.1 (Prim.hlevel props) (λ base. ⊎_elim
-      (λ (before : LeftSince old 0 image). lasts image before)
-      (λ (either : StandsFor sectors nodes (run + stood.0) tree image ⊎ StandsFor sectors nodes (run + stood.0 + 1) tree image). ⊎_elim
-      (λ (same : StandsFor sectors nodes (run + stood.0) tree image). ∣ (stood.0, same) ∣₁)
-      (λ (more : StandsFor sectors nodes (run + stood.0 + 1) tree image).
-      ∣ (stood.0 + 1, subst (λ (r : ℕ). StandsFor sectors nodes r tree image) (omega arith) more) ∣₁)
-      either)
-      ((adds nodes (run + stood.0) tree base).added 0 image (omega arith) left)))
+module _ (sectors nodes run : ℕ) (good : Tree → Type 0) where
+  abbrev Good : Image → Type 0
+  Good image = StandsForGood sectors nodes run good image
 
-  lasting : (first : Image) (device : History) (image : Image) → StandsFor sectors nodes run tree first → Remounts sectors first device
-      → LeftSince device 0 image → Lasts image
-  lasting first device image stands Powers left =
-      ∣ (
-        0,
-        subst (λ (i : Image). StandsFor sectors nodes (run + 0) tree i) (sym (rests_left first image left))
-            (subst (λ (r : ℕ). StandsFor sectors nodes r tree first) (omega arith) stands),
-      ) ∣₁
-  lasting first device image stands (Mounts {old = old} {new = new} before adds) left =
-      mounted_on old new image (λ earlier was. lasting first old earlier stands before was) adds left
-  lasting first device image stands (Stops {old = old} {image = stopped} before was) left =
-      subst Lasts (sym (rests_left stopped image left)) (lasting first old stopped stands before was)
+  mounted_on : (old new : History) (from : ℕ) → LeavesGood sectors nodes run good old from → AddsMount sectors old new → LeavesGood sectors nodes run good new from
+  mounted_on old new from was adds =
+      let now : Good (seen old.now) = was.leaves (seen old.now) (inl (seen_left old.now)) in
+      record {
+        within = ∥∥₁_elim now (Prim.hlevel props) (λ stood. ∥∥₁_elim stood.3 (Prim.hlevel props) (λ base.
+            let only = adds nodes (run + stood.2) stood.0 base in
+            let before = was.within in
+            let later = only.later in
+            omega (arith, before, later)));
+        leaves = λ image left. ∥∥₁_elim now ∥∥₁_prop (λ stood. ∥∥₁_elim stood.3 ∥∥₁_prop (λ base. ⊎_elim
+            (λ (before : LeftSince old from image). was.leaves image before)
+            (λ (either : StandsFor sectors nodes (run + stood.2) stood.0 image ⊎ StandsFor sectors nodes (run + stood.2 + 1) stood.0 image). ⊎_elim
+            (λ (same : StandsFor sectors nodes (run + stood.2) stood.0 image). ∣ (stood.0, stood.1, stood.2, same) ∣₁)
+            (λ (more : StandsFor sectors nodes (run + stood.2 + 1) stood.0 image).
+            ∣ (stood.0, stood.1, stood.2 + 1, subst (λ (r : ℕ). StandsFor sectors nodes r stood.0 image) (omega arith) more) ∣₁)
+            either)
+            ((adds nodes (run + stood.2) stood.0 base).added from image was.within left)));
+      }
 
-Tree-set : IsSet Tree
-Tree-set = Prim.hlevel props
+  pub lasting : (first : History) (since : ℕ) (device : History) (from : ℕ) → LeavesGood sectors nodes run good first since → Remounts sectors first since device from
+      → LeavesGood sectors nodes run good device from
+  lasting first since device from good Stays = good
+  lasting first since device from good (Mounts {old = old} {new = new} {from = at} before adds) =
+      mounted_on old new at (lasting first since old at good before) adds
+  lasting first since device from good (Ends {old = old} {new = new} {from = at} before front late) =
+      record { within = late; leaves = λ image left. (lasting first since old at good before).leaves image (front_left old new at image front late left) }
+  lasting first since device from good (Stops {old = old} {image = stopped} {from = at} before was) =
+      record {
+        within = omega arith;
+        leaves = λ image left. subst Good (sym (rests_left stopped image left)) ((lasting first since old at good before).leaves stopped was);
+      }
 
-ServesSame-prop : (nodes run : ℕ) (tree : Tree) (held : Held) → IsProp (ServesSame nodes run tree held)
-ServesSame-prop nodes run tree held = Prim.hlevel (props, Tree-set)
-
-pub every_remount : EveryRemount
-every_remount sectors nodes run tree left device held stands remounts found =
-    ∥∥₁_elim (lasting sectors nodes run tree left device (seen device.now) stands remounts (inl (seen_left device.now))) (ServesSame-prop nodes run tree held) (λ stood.
-    let one = one_tree_stands sectors held.limits.nodes found.run nodes (run + stood.0) held.tree tree (seen device.now) found.stood stood.1 in
-    record { tree_is = one.tree_is; nodes_are = one.nodes_are; greater = omega (arith, one.run_is, found.raised) })
+  pub served_good : (first : History) (since : ℕ) (device : History) (from : ℕ) (held : Held) → LeavesGood sectors nodes run good first since
+      → Remounts sectors first since device from → IsFound sectors device held → ServesGood nodes run good held
+  served_good first since device from held leaves remounts found =
+      let now = (lasting first since device from leaves remounts).leaves (seen device.now) (inl (seen_left device.now)) in
+      ∥∥₁_elim now (Prim.hlevel (props, ∥∥₁_prop)) (λ stood.
+      let one = one_tree_stands sectors held.limits.nodes found.run nodes (run + stood.2) held.tree stood.0 (seen device.now) found.stood stood.3 in
+      record {
+        tree_is = ∣ subst good (sym one.tree_is) stood.1 ∣₁;
+        nodes_are = one.nodes_are;
+        greater = omega (arith, one.run_is, found.raised);
+      })
 
 pub still_stands : StillStands
-still_stands sectors nodes run tree left device stands remounts = lasting sectors nodes run tree left device (seen device.now) stands remounts (inl (seen_left device.now))
+still_stands sectors nodes run trees first since device from leaves remounts = lasting sectors nodes run (IsAmong trees) first since device from leaves remounts
+
+pub every_remount : EveryRemount
+every_remount sectors nodes run trees first since device from held leaves remounts found =
+    served_good sectors nodes run (IsAmong trees) first since device from held leaves remounts found

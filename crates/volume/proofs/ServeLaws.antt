@@ -117,10 +117,11 @@ module _ (keeps_word : Type 0) (limits : Limits) (run : ℕ) (cards : List (Opti
   IsUp = keeps_word → ∥ IsServing old limits.nodes run cards ∥₁
 
   module _ (safe : IsSafe keeps_word old new) (later : before ≤ after) where
-    pub flush_done : new.is_down ≡ false → HasFlushed keeps_word old new → IsUp → Changes keeps_word (IsTree was.tree) was is before after Done
-    flush_done false_from_ne_true flushed serves = record {
+    pub flush_done : after ≡ before → new.is_down ≡ false → HasFlushed keeps_word old new → IsUp → Changes keeps_word (IsTree was.tree) was is before after Done
+    flush_done told false_from_ne_true flushed serves = record {
       same = same_volume safe.size;
       later = later;
+      none = λ other. told;
       moments = λ k tree lasts given. flush_adds limits run cards old new tree (safe.moments k);
       ends = record {
         still_up = false_from_ne_true;
@@ -147,14 +148,16 @@ module _ (keeps_word : Type 0) (limits : Limits) (run : ℕ) (cards : List (Opti
     flush_broken down counted = record {
       same = same_volume safe.size;
       later = later;
+      none = λ other. absurd (other refl);
       moments = λ k tree lasts given. flush_adds limits run cards old new tree (safe.moments k);
       ends = record { down = down; cause = counted };
     }
 
-    pub flush_nothing : new ≡ old → Changes keeps_word (IsTree was.tree) was is before after Nothing
-    flush_nothing same = record {
+    pub flush_nothing : after ≡ before → new ≡ old → Changes keeps_word (IsTree was.tree) was is before after Nothing
+    flush_nothing told same = record {
       same = same_volume safe.size;
       later = later;
+      none = λ other. told;
       moments = λ k tree lasts given. flush_adds limits run cards old new tree (safe.moments k);
       ends = ap (held_by limits run cards) same;
     }
@@ -188,7 +191,7 @@ pub flush_refused : (keeps_word : Type 0) (limits : Limits) (run : ℕ) (cards :
 flush_refused keeps_word limits run cards old new before after faults.Fault safe answers refuses =
     flush_broken keeps_word limits run cards old new before after safe answers.later (answers.goes_down refl) (answers.counted refl)
 flush_refused keeps_word limits run cards old new before after faults.Down safe answers refuses =
-    flush_nothing keeps_word limits run cards old new before after safe answers.later (answers.untouched refl).0
+    flush_nothing keeps_word limits run cards old new before after safe answers.later (answers.untouched refl).1 (answers.untouched refl).0
 flush_refused keeps_word limits run cards old new before after faults.Memory safe answers refuses = absurd (⊎_elim (λ (is : faults.Memory ≡ faults.Fault). cc) (λ (is : faults.Memory ≡ faults.Down). cc) refuses)
 flush_refused keeps_word limits run cards old new before after faults.Damaged safe answers refuses = absurd (⊎_elim (λ (is : faults.Damaged ≡ faults.Fault). cc) (λ (is : faults.Damaged ≡ faults.Down). cc) refuses)
 flush_refused keeps_word limits run cards old new before after faults.TooMany safe answers refuses = absurd (⊎_elim (λ (is : faults.TooMany ≡ faults.Fault). cc) (λ (is : faults.TooMany ≡ faults.Down). cc) refuses)

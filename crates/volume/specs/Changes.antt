@@ -65,6 +65,8 @@ pub record Changes (keeps_word : Type 0) (given : Given) (old new : Held)
     (failed_before failed_after : ℕ) (ending : Ending) : Type 0 where
   pub same : IsSameVolume old new
   pub later : failed_before ≤ failed_after
+  -- whatever failed in it is told
+  pub none : (ending ≡ Broken → ⊥) → failed_after ≡ failed_before
   -- at each moment of it a stop leaves a tree from before, or the one after it
   pub moments : keeps_word → (after : Tree) (lasts : Bool) → given after lasts
       → AddsTrees old after new.history

@@ -71,20 +71,21 @@ pub record IsMountRefused (sectors : ℕ) (old new : History) (fault : MountFaul
   pub replays : (fault ≡ mounts.Device → ⊥) → OnlyReplays sectors old new
   pub reason : HasReason sectors old new fault
 
--- the device that comes back, of so many sectors and failures before: Device is answered only where
--- it counted one more
+-- the device that comes back, of so many sectors and failures before: Device is answered exactly
+-- where it counted one more
 pub record ComesBack {D : Type 0} (size failed : D → ℕ) (sectors failures : ℕ)
     (refused : Unmounted D) : Type 0 where
   pub same_size : size refused.device ≡ sectors
   pub later : failures ≤ failed refused.device
   pub cause : refused.fault ≡ mounts.Device → IsCounted failures (failed refused.device)
+  pub none : (refused.fault ≡ mounts.Device → ⊥) → failed refused.device ≡ failures
 
--- What a mount says after an `Ok`, and each layer above hands on: what it serves, and how often its
--- device has failed
+-- What a mount says after an `Ok`, and each layer above hands on: what it serves, and that its
+-- device has not failed
 pub record MountServes {D : Type 0} (keeps_word : Type 0) (size failed : D → ℕ)
     (history : D → History) (device : D) (held : Held) (failures : ℕ) : Type 0 where
   pub new : IsNew (size device) held
-  pub later : failed device ≤ failures
+  pub counted : failures ≡ failed device
   pub mounted : keeps_word → HasMounted (size device) (history device) held
 
 -- and after an `Err`: the device that comes back, and why

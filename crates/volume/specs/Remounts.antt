@@ -1,6 +1,7 @@
 -- A volume between two runs of a server.
-use Rattle.std.specs.Prelude.{ℕ, ◌≡◌, ◌<◌, ◌+◌, ◌⊎◌}
-use Rattle.disk.specs.Moments.{Image, History, LeftSince, AddsOnly, at_rest, seen}
+use Rattle.std.specs.Prelude.{ℕ, ◌∷◌, List, ◌≡◌, ◌<◌, ◌≤◌, ◌+◌, ◌⊎◌}
+use Rattle.std.specs.List.{IsAmong}
+use Rattle.disk.specs.Moments.{Image, Moment, History, LeftSince, AddsOnly, at_rest, moment, seen}
 use Rattle.model.specs.Tree.{Tree}
 use Rattle.volume.specs.Held.{Held}
 use Rattle.volume.specs.Stands.{IsBase, StandsFor}
@@ -19,32 +20,56 @@ pub record IsFound (sectors : ℕ) (old : History) (held : Held) : Type 0 where
   pub raised : held.run ≡ run + 1
   pub stood : StandsFor sectors held.limits.nodes run held.tree (seen old.now)
 
--- What may have become of a device after a stop that left this map: power came back to it, mounts
--- were begun, of which each served, was refused, or was stopped at any moment, and power came back
--- to what that stop left.
-pub data Remounts (sectors : ℕ) (left : Image) : History → Type 0 where
-  Powers : Remounts sectors left (at_rest left)
-  Mounts : {old new : History} → Remounts sectors left old → AddsMount sectors old new
-      → Remounts sectors left new
-  Stops : {old : History} {image : Image} → Remounts sectors left old → LeftSince old 0 image
-      → Remounts sectors left (at_rest image)
+-- a device as it was at one of its moments
+pub data IsFront (device : History) : History → Type 0 where
+  Now : IsFront device device
+  Before : {now before : Moment} {past : List Moment}
+      → IsFront device (record { now = now; past = before ∷ past })
+      → IsFront device (record { now = before; past = past })
 
--- However often it was mounted since, the next mount that serves has the tree that stood, under a
--- greater restart count.
-pub record ServesSame (nodes run : ℕ) (tree : Tree) (held : Held) : Type 0 where
-  pub tree_is : held.tree ≡ tree
+-- What may have become of a device since a moment of it, and from which of its moments on a stop of
+-- it counts. It stays on, with what is not synced, and mounts are begun on it, of which each serves
+-- or is refused; it is let go within that, as by a process that ends; or a stop leaves a map, and
+-- power comes back to that.
+pub data Remounts (sectors : ℕ) (first : History) (since : ℕ) : History → ℕ → Type 0 where
+  Stays : Remounts sectors first since first since
+  Mounts : {old new : History} {from : ℕ} → Remounts sectors first since old from
+      → AddsMount sectors old new → Remounts sectors first since new from
+  Ends : {old new : History} {from : ℕ} → Remounts sectors first since old from
+      → IsFront old new → from ≤ moment new → Remounts sectors first since new from
+  Stops : {old : History} {image : Image} {from : ℕ} → Remounts sectors first since old from
+      → LeftSince old from image → Remounts sectors first since (at_rest image) 0
+
+-- the map stands for one of these trees, under this count or a greater one
+abbrev pub StandsForGood : (sectors nodes run : ℕ) → (good : Tree → Type 0) → Image → Type 0
+StandsForGood sectors nodes run good image =
+    ∥ ((tree : Tree) × good tree × (more : ℕ) × StandsFor sectors nodes (run + more) tree image) ∥₁
+
+-- and so does each that a stop of a device leaves from a moment on
+pub record LeavesGood (sectors nodes run : ℕ) (good : Tree → Type 0) (device : History)
+    (from : ℕ) : Type 0 where
+  pub within : from ≤ moment device
+  pub leaves : (image : Image) → LeftSince device from image
+      → StandsForGood sectors nodes run good image
+
+-- Then it does so however often it is mounted since: so a tree stands for the next mount to find,
+-- and none of them is refused as Damaged or NotVolume.
+abbrev pub StillStands : Type 0
+StillStands =
+    (sectors nodes run : ℕ) (trees : List Tree) (first : History) (since : ℕ) (device : History)
+    (from : ℕ) → LeavesGood sectors nodes run (IsAmong trees) first since
+    → Remounts sectors first since device from
+    → LeavesGood sectors nodes run (IsAmong trees) device from
+
+-- And the next mount that serves has such a tree, under a greater restart count.
+pub record ServesGood (nodes run : ℕ) (good : Tree → Type 0) (held : Held) : Type 0 where
+  pub tree_is : ∥ good held.tree ∥₁
   pub nodes_are : held.limits.nodes ≡ nodes
   pub greater : run < held.run
 
 abbrev pub EveryRemount : Type 0
-EveryRemount = (sectors nodes run : ℕ) (tree : Tree) (left : Image) (device : History) (held : Held)
-    → StandsFor sectors nodes run tree left → Remounts sectors left device
-    → IsFound sectors device held
-    → ServesSame nodes run tree held
-
--- And a tree still stands for the next mount to find: so none of them is refused as Damaged or
--- NotVolume.
-abbrev pub StillStands : Type 0
-StillStands = (sectors nodes run : ℕ) (tree : Tree) (left : Image) (device : History)
-    → StandsFor sectors nodes run tree left → Remounts sectors left device
-    → ∥ ((more : ℕ) × StandsFor sectors nodes (run + more) tree (seen device.now)) ∥₁
+EveryRemount =
+    (sectors nodes run : ℕ) (trees : List Tree) (first : History) (since : ℕ) (device : History)
+    (from : ℕ) (held : Held) → LeavesGood sectors nodes run (IsAmong trees) first since
+    → Remounts sectors first since device from → IsFound sectors device held
+    → ServesGood nodes run (IsAmong trees) held

@@ -22,8 +22,9 @@ pub fn one_tree_stands()
     ensures { OneTreeStands }
 {}
 
-/// However often a volume is mounted after a stop, and wherever those mounts are stopped: the next
-/// one that serves has the tree that stood, under a greater restart count.
+/// However often a volume is mounted, with power on or after a stop, and wherever those mounts end
+/// or are stopped: a tree that a stop might have left still stands, and the next mount that serves
+/// has it, under a greater restart count.
 pub fn every_remount()
     ensures next { EveryRemount }
     ensures stands { StillStands }

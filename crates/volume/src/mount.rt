@@ -36,6 +36,8 @@ fn read_first<D: Device>(device: &mut D) -> Result<[u8; SECTOR], MountFault>
     ensures later { D.failed device.old ≤ D.failed device.new }
     ensures cause { IsErrOf result MountFault.Device
         → IsCounted (D.failed device.old) (D.failed device.new) }
+    ensures none { (IsErrOf result MountFault.Device → ⊥)
+        → D.failed device.new ≡ D.failed device.old }
 {
     if device.sectors() < MIN_SECTORS {
         return Err(MountFault::NotVolume);
@@ -60,6 +62,8 @@ pub(crate) fn find<D: Device>(device: &mut D) -> Result<Superblock, MountFault>
     ensures later { D.failed device.old ≤ D.failed device.new }
     ensures cause { IsErrOf result MountFault.Device
         → IsCounted (D.failed device.old) (D.failed device.new) }
+    ensures none { (IsErrOf result MountFault.Device → ⊥)
+        → D.failed device.new ≡ D.failed device.old }
     ensures no_memory { IsErrOf result MountFault.Memory → ⊥ }
 {
     let first = match read_first(device) {
@@ -92,6 +96,8 @@ pub(crate) fn look<D: Device>(device: &mut D) -> Result<Superblock, MountFault>
     ensures later { D.failed device.old ≤ D.failed device.new }
     ensures cause { IsErrOf result MountFault.Device
         → IsCounted (D.failed device.old) (D.failed device.new) }
+    ensures none { (IsErrOf result MountFault.Device → ⊥)
+        → D.failed device.new ≡ D.failed device.old }
     ensures no_memory { IsErrOf result MountFault.Memory → ⊥ }
     ensures never_worn { IsErrOf result MountFault.Worn → ⊥ }
 {
@@ -127,6 +133,7 @@ pub(crate) fn raise<D: Device>(
     ensures raised { OnOk result (IsRaised D.keeps_word found
         (log_of journal.old) (log_of journal.new)) }
     ensures cause { OnErr result (IsCounted (failures_of journal.old) (failures_of journal.new)) }
+    ensures none { OnOk result (failures_of journal.new ≡ failures_of journal.old) }
     // In any case
     ensures list { (log_of journal.new).list ≡ (log_of journal.old).list }
     ensures size { (log_of journal.new).size ≡ (log_of journal.old).size }

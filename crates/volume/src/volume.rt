@@ -110,7 +110,7 @@ impl<D: Device> Volume<D> {
         requires rests { IsAtRest (log_of journal) }
         requires base { D.keeps_word → HoldsBase found (log_of journal) }
         ensures new { IfOk result (λ volume. IsNew (log_of journal).size (held_of volume)) }
-        ensures later { IfOk result (λ volume. failures_of journal ≤ volume_failures volume) }
+        ensures counted { IfOk result (λ volume. volume_failures volume ≡ failures_of journal) }
         ensures begun { D.keeps_word → IfOk result (λ volume.
             HasBegun found (log_of journal).base (log_of journal).history (held_of volume)) }
         // Refused

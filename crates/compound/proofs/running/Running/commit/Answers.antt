@@ -36,7 +36,7 @@ returns-in-Err-clause-volume g c = λ arguments now table opens.
     let fs = fs_of c.args.fs.now in
     let request = in_progress_of c.args.self.now in
     let kind = Argument.Commit arguments in
-    refusal_changes g.D.Device.keeps_word fs fs table opens (fs_failures c.args.fs.now) (fs_failures c.args.fs.now) request now kind 5 c.in-Err.status refl (omega arith) c.requires.up
+    refusal_changes g.D.Device.keeps_word fs fs table opens (fs_failures c.args.fs.now) (fs_failures c.args.fs.now) request now kind 5 c.in-Err.status refl refl c.requires.up
     (subst (λ (reason : Status). GivesIn now (shared fs table opens) (shared fs table opens) request request kind (Refused 5 reason)) (sym c.in-Err.ensures.err.0)
     (gives_refusal now (shared fs table opens) (shared fs table opens) request kind 5 _ (wants now fs table opens request kind refl c.in-Err.ensures.err.1)))
 

@@ -110,7 +110,7 @@ returns-in-Err-clause-volume g c = λ table opens.
     let fs = fs_of c.args.fs.now in
     let request = in_progress_of c.args.self.now in
     let kind = new_directory c.args.name.now (attributes_view c.args.attributes.now) in
-    refusal_changes g.D.Device.keeps_word fs fs table opens (fs_failures c.args.fs.now) (fs_failures c.args.fs.now) request c.args.now kind 6 c.in-Err.status refl (omega arith) c.requires.up
+    refusal_changes g.D.Device.keeps_word fs fs table opens (fs_failures c.args.fs.now) (fs_failures c.args.fs.now) request c.args.now kind 6 c.in-Err.status refl refl c.requires.up
     (subst (λ (reason : Status). GivesIn c.args.now (shared fs table opens) (shared fs table opens) request request kind (Refused 6 reason)) (sym c.in-Err.ensures.err.0)
     (gives_refusal c.args.now (shared fs table opens) (shared fs table opens) request kind 6 _ (wants c.args.now fs table opens request kind refl c.in-Err.ensures.err.1)))
 
@@ -136,7 +136,7 @@ returns-in-Err-Status-clause-volume g c = λ table opens.
     let step = rw (c.in-Err-Status.field-0-is, c.as_slice.ensures.numbers) at c.in-Err-Status.ensures.step in
     let volume = rw c.in-Err-Status.field-0-is at c.in-Err-Status.ensures.volume in
     let same = left_all _ _ _ _ _ _ volume in
-    refusal_changes g.D.Device.keeps_word fs new table opens _ _ request c.args.now kind 6 c.in-Err-Status.status same volume.volume_changes.later c.requires.up
+    refusal_changes g.D.Device.keeps_word fs new table opens _ _ request c.args.now kind 6 c.in-Err-Status.status same (volume.volume_changes.none (λ broken. cc)) c.requires.up
     (gives_refusal c.args.now (shared fs table opens) (shared new table opens) request kind 6 c.in-Err-Status.status
     (subst (λ (after : FileSystem). RunsTo c.args.now (shared fs table opens) (shared after table opens) request request kind (Refused 6 c.in-Err-Status.status)) (sym same)
     (create_err c.args.now fs table opens request c.args.name.now given c.in-Err-Status.status
@@ -154,7 +154,7 @@ returns-in-Err-NoRoom-clause-volume g c = λ table opens.
     let volume = rw c.in-Err-NoRoom.field-0-is at c.in-Err-NoRoom.ensures.volume in
     let same = left_all _ _ _ _ _ _ volume in
     let no_room = rw c.in-Err-NoRoom.field-0-is at c.in-Err-NoRoom.ensures.no_room in
-    refusal_changes g.D.Device.keeps_word fs new table opens _ _ request c.args.now kind 6 status.RepTooBig same volume.volume_changes.later c.requires.up
+    refusal_changes g.D.Device.keeps_word fs new table opens _ _ request c.args.now kind 6 status.RepTooBig same (volume.volume_changes.none (λ broken. cc)) c.requires.up
     (subst (λ (after : FileSystem). GivesIn c.args.now (shared fs table opens) (shared after table opens) request request kind (Refused 6 status.RepTooBig)) (sym same)
     (full c.args.now fs table opens request c.args.name.now given (sym (no_room refl) ∙ c.has_created_room-has_room.ensures)
     (λ state there. step state (is_on fs request _ _ c.requires.run c.in-Ok.ensures.ok.0 c.in-Ok.ensures.ok.1 there))))
@@ -162,7 +162,7 @@ returns-in-Err-NoRoom-clause-volume g c = λ table opens.
 pub returns-in-Err-Memory-clause-volume : goal.returns-in-Err-Memory-clause-volume
 returns-in-Err-Memory-clause-volume g c = λ table opens.
     let volume = rw c.in-Err-Memory.field-0-is at c.in-Err-Memory.ensures.volume in
-    leaves_all g.D.Device.keeps_word _ _ _ _ _ (left_all _ _ _ _ _ _ volume) volume.volume_changes.later
+    leaves_all g.D.Device.keeps_word _ _ _ _ _ (left_all _ _ _ _ _ _ volume) (volume.volume_changes.none (λ broken. cc))
 
 pub returns-in-Err-Device-clause-volume : goal.returns-in-Err-Device-clause-volume
 unfolding in_progress_of

@@ -50,14 +50,14 @@ returns-in-Err-clause-volume g c = λ table.
     let request = in_progress_of c.args.self.now in
     let arguments = open_view c.args.arguments.now in
     let kind = Argument.Open arguments in
-    refusal_changes g.D.Device.keeps_word fs fs table opens (fs_failures c.args.fs.now) (fs_failures c.args.fs.now) request c.args.now kind 18 c.in-Err.status refl (omega arith) c.requires.up
+    refusal_changes g.D.Device.keeps_word fs fs table opens (fs_failures c.args.fs.now) (fs_failures c.args.fs.now) request c.args.now kind 18 c.in-Err.status refl refl c.requires.up
     (subst (λ (reason : Status). GivesIn c.args.now (shared fs table opens) (shared fs table opens) request request kind (Refused 18 reason)) (sym c.in-Err.ensures.err.0)
     (gives_refusal c.args.now (shared fs table opens) (shared fs table opens) request kind 18 _ (wants c.args.now fs table opens request kind refl c.in-Err.ensures.err.1)))
 
 -- Where there is no memory
 
 pub returns-in_default-clause-volume : goal.returns-in_default-clause-volume
-returns-in_default-clause-volume g c = λ table. leaves_all g.D.Device.keeps_word _ _ _ _ _ refl (omega arith)
+returns-in_default-clause-volume g c = λ table. leaves_all g.D.Device.keeps_word _ _ _ _ _ refl refl
 
 pub returns-in_err-asked-clause-volume : goal.returns-in_err-asked-clause-volume
 returns-in_err-asked-clause-volume g c = λ table.

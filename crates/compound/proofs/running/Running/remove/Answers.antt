@@ -39,7 +39,7 @@ returns-in-Err-clause-volume g c = λ table.
     let fs = fs_of c.args.fs.now in
     let request = in_progress_of c.args.self.now in
     let kind = Argument.Remove c.args.name.now in
-    refusal_changes g.D.Device.keeps_word fs fs table opens (fs_failures c.args.fs.now) (fs_failures c.args.fs.now) request c.args.now kind 28 c.in-Err.status refl (omega arith) c.requires.up
+    refusal_changes g.D.Device.keeps_word fs fs table opens (fs_failures c.args.fs.now) (fs_failures c.args.fs.now) request c.args.now kind 28 c.in-Err.status refl refl c.requires.up
     (subst (λ (reason : Status). GivesIn c.args.now (shared fs table opens) (shared fs table opens) request request kind (Refused 28 reason)) (sym c.in-Err.ensures.err.0)
     (gives_refusal c.args.now (shared fs table opens) (shared fs table opens) request kind 28 _ (wants c.args.now fs table opens request kind refl c.in-Err.ensures.err.1)))
 

@@ -38,7 +38,7 @@ returns-in-Err-clause-volume g c = λ table.
     let fs = fs_of c.args.fs.now in
     let request = in_progress_of c.args.self.now in
     let arguments = rename_view c.args.arguments.now in
-    refusal_changes g.D.Device.keeps_word fs fs table opens (fs_failures c.args.fs.now) (fs_failures c.args.fs.now) request c.args.now (Argument.Rename arguments) 29 c.in-Err.status refl (omega arith) c.requires.up
+    refusal_changes g.D.Device.keeps_word fs fs table opens (fs_failures c.args.fs.now) (fs_failures c.args.fs.now) request c.args.now (Argument.Rename arguments) 29 c.in-Err.status refl refl c.requires.up
     (refused_gives c.args.now fs request (Argument.Rename arguments) (on_tree c.args.now fs request arguments) table opens c.in-Err.status
     (λ state there known. c.in-Err.ensures.err state c.args.now arguments there))
 

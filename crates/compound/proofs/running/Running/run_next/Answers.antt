@@ -38,7 +38,7 @@ returns-in_err-operation-clause-volume g c =
     let reason = c.in_err-operation.field-0.0 in
     let told = told_err c.from_residual.result reason c.from_residual.ensures.1 in
     let memory : reason ≡ fault.Memory = rw c.in_err-operation.was at c.next_operation.ensures.err in
-    rw (told, memory) (leaves_all g.D.Device.keeps_word _ _ _ _ _ refl (omega arith))
+    rw (told, memory) (leaves_all g.D.Device.keeps_word _ _ _ _ _ refl refl)
 
 pub returns-in_err-done-in-Reads-clause-volume : goal.returns-in_err-done-in-Reads-clause-volume
 returns-in_err-done-in-Reads-clause-volume g c =
@@ -61,7 +61,7 @@ returns-in_ok-done-in-Reads-clause-volume g c =
 pub returns-in-Refuses-clause-volume : goal.returns-in-Refuses-clause-volume
 returns-in-Refuses-clause-volume g c =
     let next = rw c.in-Refuses.is at c.in_ok-operation.ensures.ok in
-    answers_quietly g.D.Device.keeps_word _ _ _ _ _ refl (omega arith) c.requires.up
+    answers_quietly g.D.Device.keeps_word _ _ _ _ _ refl refl c.requires.up
     (refused_turn (shared_of c.args.fs.now c.args.table.now c.args.opens.now) (in_progress_of c.args.self.now) c.args.now c.in-Refuses.operation c.in-Refuses.status next)
 
 pub returns-in-Refuses-clause-kept : goal.returns-in-Refuses-clause-kept

@@ -42,7 +42,7 @@ returns-in-Err-clause-volume g c = λ table.
     let request = in_progress_of c.args.self.now in
     let arguments = write_view c.args.arguments.now in
     let kind = Argument.Write arguments in
-    refusal_changes g.D.Device.keeps_word fs fs table opens (fs_failures c.args.fs.now) (fs_failures c.args.fs.now) request c.args.now kind 38 c.in-Err.status refl (omega arith) c.requires.up
+    refusal_changes g.D.Device.keeps_word fs fs table opens (fs_failures c.args.fs.now) (fs_failures c.args.fs.now) request c.args.now kind 38 c.in-Err.status refl refl c.requires.up
     (subst (λ (reason : Status). GivesIn c.args.now (shared fs table opens) (shared fs table opens) request request kind (Refused 38 reason)) (sym c.in-Err.ensures.err.0)
     (gives_refusal c.args.now (shared fs table opens) (shared fs table opens) request kind 38 _ (wants_file c.args.now fs table opens request arguments c.tell_bytes.ensures c.in-Err.ensures.err.1)))
 

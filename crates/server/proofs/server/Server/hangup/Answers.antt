@@ -7,8 +7,8 @@ use Rattle.server.specs.Connections.{connections_of}
 use Rattle.server.specs.declared.fault.ServerFault.TheVariants as faults
 use Rattle.server.specs.Refused.{view, IsUntouched, RefusesTurn}
 use Rattle.server.specs.Seen.{Stays}
-use Rattle.server.proofs.Refusals.{told_by, hang_up_refused}
-use Rattle.server.specs.Views.{world_of, volume_of, seen_with}
+use Rattle.server.proofs.Refusals.{told_by, begins_on, runs_on, hang_up_refused}
+use Rattle.server.specs.Views.{world_of, volume_of, failures_of, seen_with}
 use Rattle.server.proofs.HangUps.{turned_on, fewer_left}
 use Rattle.server.proofs.Moves.{does_quietly, same_seen}
 use Rattle.server.proofs.SlabLaws.{stands_none, without_slot, absent, present, removed_count}
@@ -17,12 +17,12 @@ use Rattle.server.proofs.server.Server.hangup.Goals as goal
 
 pub returns-then-is_down-clause-refused : goal.returns-then-is_down-clause-refused
 unfolding volume_of
-returns-then-is_down-clause-refused g c = inl (sym c.if-is_down.ensures)
+returns-then-is_down-clause-refused g c = (inl (sym c.if-is_down.ensures), sym c.if-is_down.ensures)
 
 pub returns-then-not-contains-clause-refused : goal.returns-then-not-contains-clause-refused
-unfolding world_of volume_of
+unfolding world_of volume_of failures_of
 returns-then-not-contains-clause-refused g c =
-    (absent c.args.self.now.connections c.args.conn c.contains.result c.contains.ensures.1 c.if-not-contains.true, (refl, refl))
+    (absent c.args.self.now.connections c.args.conn c.contains.result c.contains.ensures.1 c.if-not-contains.true, (refl, refl, refl))
 
 pub returns-in_err-turn-clause-refused : goal.returns-in_err-turn-clause-refused
 returns-in_err-turn-clause-refused g c =
@@ -30,12 +30,12 @@ returns-in_err-turn-clause-refused g c =
     let inv = c.loop-self.invariant in
     let fault = c.in_err-turn.field-0.0 in
     let told = told_by c.from_residual.result fault c.from_residual.ensures.1 in
-    rw told (hang_up_refused (view c.args.self.now) (view mid) (view c.turn.new.self) c.args.conn fault inv.is_up inv.later (sym c.is_busy.ensures ∙ c.loop-self-test.true)
+    rw told (hang_up_refused (view c.args.self.now) (view mid) (view c.turn.new.self) c.args.conn fault inv.on inv.later (sym c.is_busy.ensures ∙ c.loop-self-test.true)
     (rw c.in_err-turn.was at c.turn.ensures.refused))
 
 pub loop-self-init : goal.loop-self-init
 unfolding volume_of
-loop-self-init g c = record { is_up = sym c.if-is_down.ensures; turned = λ keeps recent ready. (recent, Stays, ready); later = omega arith }
+loop-self-init g c = record { is_up = sym c.if-is_down.ensures; on = begins_on (view c.args.self.now) c.args.conn (sym c.if-is_down.ensures); turned = λ keeps recent ready. (recent, Stays, ready); later = omega arith }
 
 pub loop-self-smaller : goal.loop-self-smaller
 unfolding world_of
@@ -54,6 +54,7 @@ loop-self-preserved g c =
     let made = rw c.in_ok-turn.was at c.turn.ensures.ok in
     record {
       is_up = still;
+      on = runs_on (view old) (view mid) (view new) c.args.conn c.args.now (rw c.in_ok-turn.was at c.turn.ensures.turned) inv.on;
       turned = λ keeps recent ready.
           let was = inv.turned keeps recent ready in
           let does = made keeps was.0 was.2 in

@@ -2,6 +2,7 @@ use Rattle.std.proofs.Common.{◌≡◌, ◌≤◌, List, false}
 use Rattle.volume.specs.Held.{IsRecent}
 use Rattle.model.specs.Keyed.{at}
 use Rattle.model.specs.Tree.{Tree}
+use Rattle.server.specs.Refused.{view, HasRunOn}
 use Rattle.server.specs.Seen.{IsTurned}
 use Rattle.server.specs.Views.{world_of, volume_of, failures_of, seen_with}
 use Rattle.server.proofs.HangUps.{turns_left}
@@ -10,6 +11,7 @@ use Rattle.server.proofs.server.Server.hangup.Given as goal
 abbrev pub invariant-loop-self : goal.invariant-loop-self
 invariant-loop-self g l = record {
   is_up : (volume_of l.self).is_down ≡ false;
+  on : HasRunOn (view l.fn.self) (view l.self) l.conn;
   turned : g.D.Device.keeps_word → (recent : List Tree) → IsRecent (volume_of l.fn.self) recent
       → (now : List Tree) × IsTurned l.conn l.now (seen_with l.fn.self recent) (seen_with l.self now) × IsRecent (volume_of l.self) now;
   later : failures_of l.fn.self ≤ failures_of l.self;

@@ -8,7 +8,7 @@ use Rattle.session.specs.Views.{table_of}
 use Rattle.server.specs.Connections.{connections_of}
 use Rattle.server.specs.Views.{world_of, volume_of, failures_of}
 use Rattle.opens.specs.Views.{opens_of}
-use Rattle.server.proofs.Moves.{mounted_by, world_mounted}
+use Rattle.server.proofs.Moves.{mounted_by, world_mounted, found_start, limits_room}
 use Rattle.server.proofs.server.Server.mount.Goals as goal
 
 pub returns-clause-begins : goal.returns-clause-begins
@@ -17,6 +17,8 @@ returns-clause-begins g c =
     let serves = c.in_ok-fs.ensures.serves in
     λ keeps. mounted_by (fs_of c.in_ok-fs.fs) (table_of c.new-table.result) (opens_of c.new-opens.result) (connections_of c.in-Ok.connections)
     (c.new-table.ensures ∙ ap empty_table c.restart_count.ensures) c.new-opens.ensures (rw c.in-Ok.ensures.empty refl) c.in_ok-fs.ensures.no_change serves.new.is_up (serves.mounted keeps).holds
+    (found_start (g.D.Device.size c.args.device) (g.D.Device.history c.args.device) (fs_of c.in_ok-fs.fs).volume (serves.mounted keeps).found serves.new.limits)
+    (limits_room (g.D.Device.size c.args.device) (fs_of c.in_ok-fs.fs).volume serves.new.limits)
 
 pub returns-clause-world : goal.returns-clause-world
 unfolding world_of volume_of connections_of
@@ -31,7 +33,7 @@ returns-clause-serves g c = c.in_ok-fs.ensures.serves
 -- no memory for the connections: the device was not asked
 pub returns-in-Err-clause-gives_back : goal.returns-in-Err-clause-gives_back
 returns-in-Err-clause-gives_back g c = record {
-  back = record { same_size = refl; later = omega arith; cause = λ is. let never : ⊥ = cc in absurd never };
+  back = record { same_size = refl; later = omega arith; cause = λ is. let never : ⊥ = cc in absurd never; none = λ other. refl };
   refused = λ keeps.
       refused_untouched (g.D.Device.size c.args.device) (g.D.Device.history c.args.device) (g.D.Device.history c.args.device) mounts.Memory refl tt;
 }

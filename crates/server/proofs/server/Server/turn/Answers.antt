@@ -22,12 +22,12 @@ use Rattle.server.proofs.Worlds.{AllOfRun, all_of_run_with, happened_leaving, fa
 use Rattle.server.proofs.server.Server.turn.Goals as goal
 
 pub returns-in_default-clause-refused : goal.returns-in_default-clause-refused
-unfolding world_of volume_of
-returns-in_default-clause-refused g c = (stands_none c.args.self.now.connections c.args.conn c.in_default.ensures.value, (refl, refl))
+unfolding world_of volume_of failures_of
+returns-in_default-clause-refused g c = (stands_none c.args.self.now.connections c.args.conn c.in_default.ensures.value, (refl, refl, refl))
 
 pub returns-then-is_down-clause-refused : goal.returns-then-is_down-clause-refused
 unfolding volume_of
-returns-then-is_down-clause-refused g c = (refl, inl (sym c.if-is_down.ensures))
+returns-then-is_down-clause-refused g c = (refl, inl (sym c.if-is_down.ensures), sym c.if-is_down.ensures)
 
 pub returns-in_default-clause-is_closed : goal.returns-in_default-clause-is_closed
 unfolding world_of
@@ -51,12 +51,12 @@ returns-then-is_closed-clause-is_none g c =
     λ up free. let never : ⊥ = cc in absurd never
 
 pub returns-then-is_closed-clause-refused : goal.returns-then-is_closed-clause-refused
-unfolding world_of volume_of
+unfolding world_of volume_of failures_of
 returns-then-is_closed-clause-refused g c =
     let s = c.args.self.now in
     let before = c.in-Some.connection.now in (
       stands s.connections c.args.conn before c.in-Some.ensures.value ∙ ap Some (c.is_closed.ensures.0 c.if-is_closed.true),
-      (ap (world_by (shared_of s.fs s.table s.opens)) (rewrote s.connections c.args.conn before before c.in-Some.ensures.value refl), refl),
+      (ap (world_by (shared_of s.fs s.table s.opens)) (rewrote s.connections c.args.conn before before c.in-Some.ensures.value refl), refl, refl),
     )
 
 pub turn-requires-clause-run : goal.turn-requires-clause-run
@@ -136,13 +136,15 @@ returns-in_err-turn-clause-refused g c =
     let stays = ap₂ (shared (fs_of c.turn.new.fs)) back.1 back.2 in
     rw told (turn_refused _ _ c.args.conn refusal
     (λ memory.
-    let files = left_all _ _ _ _ _ _ (rw (c.in_err-turn.was, memory) at c.turn.ensures.volume) in
-    (undone (shared_of s.fs s.table s.opens) (shared_of c.turn.new.fs c.turn.new.table c.turn.new.opens) (connections_of s.connections) _ files stays here, ap (λ (f : FileSystem). f.volume) files))
+    let nothing = rw (c.in_err-turn.was, memory) at c.turn.ensures.volume in
+    let files = left_all _ _ _ _ _ _ nothing in
+    (undone (shared_of s.fs s.table s.opens) (shared_of c.turn.new.fs c.turn.new.table c.turn.new.opens) (connections_of s.connections) _ files stays here, ap (λ (f : FileSystem). f.volume) files, nothing.volume_changes.none (λ broken. cc)))
     (λ device.
     let failed = rw (c.in_err-turn.was, device) at c.turn.ensures.volume in (
       broken (shared_of s.fs s.table s.opens) (shared_of c.turn.new.fs c.turn.new.table c.turn.new.opens) (connections_of s.connections) _ failed.volume_changes.same (failed.no_count broken≢done)
           stays here (fs_of c.turn.new.fs).volume.tree,
       inr failed.volume_changes.ends.cause,
+      failed.volume_changes.ends.down,
     )))
 
 pub returns-clause-ok : goal.returns-clause-ok
@@ -189,7 +191,7 @@ returns-clause-is_closed g c =
     let never : ⊥ = cc in absurd never
 
 pub returns-clause-turned : goal.returns-clause-turned
-unfolding world_of volume_of
+unfolding world_of volume_of failures_of
 returns-clause-turned g c =
     let s = c.args.self.now in
     let before = c.in-Some.connection.now in
@@ -200,6 +202,7 @@ returns-clause-turned g c =
     record {
       up = sym c.if-is_down.ensures;
       still_up = volume.ends.still_up;
+      none_failed = volume.none (λ broken. cc);
       same = volume.same;
       others = λ other apart. ap (at other) written ∙ at-with_other (connections_of s.connections) c.args.conn other (connection_view after) apart;
       further = gone_on_at (connections_of s.connections) _ c.args.conn (connection_view before) (connection_view after) there written

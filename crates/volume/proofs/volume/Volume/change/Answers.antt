@@ -161,7 +161,8 @@ returns-clause-volume g c =
     (failures_of volume.store.journal) (failures_of c.apply.new.self) safe (let later = c.in_ok-apply.ensures.answers.later in omega (arith, later, failed))
     (c.in_ok-apply.ensures.answers.stays_up (ap (λ (log : Log). log.is_down) same ∙ up) (λ fault. cc)) has (λ kept. volume.serves kept up)
     (λ kept. behind_serving word kept nodes volume.run old volume.table volume.places edits outcome volume.known.are_cards.count c.in_ok-outcome.ensures.done
-    (subst (λ l. IsFormed l (stamp (volume.run + 1) 0) (edited_by held edits)) volume.limited (c.requires.formed fit)) (volume.serves kept up)))
+    (subst (λ l. IsFormed l (stamp (volume.run + 1) 0) (edited_by held edits)) volume.limited (c.requires.formed fit)) (volume.serves kept up))
+    (c.in_ok-apply.ensures.answers.none (λ fault. cc) ∙ failed))
 
 pub returns-clause-shows : goal.returns-clause-shows
 unfolding held_of

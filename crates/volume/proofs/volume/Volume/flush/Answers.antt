@@ -50,7 +50,7 @@ returns-clause-volume g c =
     let new : Log = log_of c.flush.new.self in
     let answers = c.in_ok-flush.ensures.answers in
     let up = found_up old new _ _ c.in_ok-flush.field-0 answers in
-    flush_done g.D.Device.keeps_word volume.limits volume.run volume.table old new _ _ c.in_ok-flush.ensures.safe answers.later up.1 c.in_ok-flush.ensures.ok
+    flush_done g.D.Device.keeps_word volume.limits volume.run volume.table old new _ _ c.in_ok-flush.ensures.safe answers.later (answers.none (λ fault. cc)) up.1 c.in_ok-flush.ensures.ok
     (λ word. volume.serves word up.0)
 
 pub returns-clause-shows : goal.returns-clause-shows

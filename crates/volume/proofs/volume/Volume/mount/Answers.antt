@@ -5,6 +5,7 @@ use Rattle.journal.specs.MountAnswers as journal
 use Rattle.volume.specs.Held.{IsNew}
 use Rattle.volume.specs.Views.{held_of}
 use Rattle.volume.specs.MountAnswers.{IsMountRefused}
+use Rattle.volume.specs.Refusals.{gate_fault}
 use Rattle.journal.proofs.First.{first_kept}
 use Rattle.volume.proofs.FoundLaws.{if_ok_all, if_err_all}
 use Rattle.volume.proofs.MountedLaws.{refused_untouched, first_reason, back_since, gate_counted, gate_refused, begun_found, begin_refused}
@@ -17,6 +18,7 @@ returns-in-Err-clause-gives_back g c = record {
     same_size = c.find.ensures.same_size;
     later = c.find.ensures.later;
     cause = λ is. c.in-Err.ensures.cause (ap (λ x. Err x) is);
+    none = λ other. c.in-Err.ensures.none (λ is. other (cc));
   };
   refused = λ k.
       let D = g.D.Device in
@@ -46,11 +48,12 @@ returns-in-Err-mount-clause-gives_back g c =
     let fault = c.in-Err-mount.refused.fault in
     let back = c.in-Err-mount.ensures.back in
     record {
-      back = back_since D.size D.failed sectors (D.failed c.args.device) (D.size c.find.new.device) (D.failed c.find.new.device) _ c.find.ensures.same_size c.find.ensures.later
+      back = back_since D.size D.failed sectors (D.failed c.args.device) (D.size c.find.new.device) (D.failed c.find.new.device) _ c.find.ensures.same_size (c.in-Ok.ensures.none (λ is. absurd (cc)))
           (record {
             same_size = back.refused_size;
             later = back.later;
             cause = λ is. gate_counted (D.failed c.find.new.device) (D.failed device) fault back.reasons back.counted (sym c.into.ensures ∙ is);
+            none = λ other. back.none (λ is. other (c.into.ensures ∙ ap gate_fault is));
           });
       refused = λ k.
           let told : journal.IsMountRefused sectors old new fault = subst (λ (n : ℕ). journal.IsMountRefused n old new fault) c.find.ensures.same_size
@@ -71,13 +74,13 @@ returns-in-Ok-mount-clause-serves g c =
     let mounted : word → journal.HasMounted sectors old log = λ k. subst (λ (n : ℕ). journal.HasMounted n old log) c.find.ensures.same_size
     (subst (λ (h : History). journal.HasMounted (D.size c.find.new.device) h log) c.find.ensures.history (c.in-Ok-mount.ensures.mounted k)) in
     if_ok_all c.begin.result word _ _ _ _
-    (λ volume new later begun. record {
+    (λ volume new counted begun. record {
       new = subst (λ (n : ℕ). IsNew n (held_of volume)) (c.in-Ok-mount.ensures.new.size ∙ c.find.ensures.same_size) new;
-      later = omega (arith, c.find.ensures.later, c.in-Ok-mount.ensures.new.failures, later);
+      counted = counted ∙ (c.in-Ok-mount.ensures.new.failures ∙ c.in-Ok.ensures.none (λ is. absurd (cc)));
       mounted = λ k. begun_found sectors old log.history found log.base c.in-Ok.ensures.volume.size (omega (arith, parts.few)) (omega (arith, c.in-Ok.ensures.volume.counted))
           (c.in-Ok.ensures.told k).0 (c.in-Ok.ensures.told k).1 (mounted k).base (mounted k).moments (held_of volume) (mounted k).since_sync (begun k);
     })
-    c.begin.ensures.new c.begin.ensures.later c.begin.ensures.begun
+    c.begin.ensures.new c.begin.ensures.counted c.begin.ensures.begun
 
 pub returns-in-Ok-mount-clause-gives_back : goal.returns-in-Ok-mount-clause-gives_back
 returns-in-Ok-mount-clause-gives_back g c =
@@ -93,7 +96,7 @@ returns-in-Ok-mount-clause-gives_back g c =
     if_err_all c.begin.result word _ _ _
     (λ unmounted back begun. record {
       back = back_since D.size D.failed sectors (D.failed c.args.device) log.size (failures_of c.in-Ok-mount.journal) unmounted
-          (c.in-Ok-mount.ensures.new.size ∙ c.find.ensures.same_size) (omega (arith, c.find.ensures.later, c.in-Ok-mount.ensures.new.failures)) back;
+          (c.in-Ok-mount.ensures.new.size ∙ c.find.ensures.same_size) (c.in-Ok-mount.ensures.new.failures ∙ c.in-Ok.ensures.none (λ is. absurd (cc))) back;
       refused = λ k. begin_refused sectors old log.history found log.base c.in-Ok.ensures.volume.size (omega (arith, parts.few)) (omega (arith, c.in-Ok.ensures.volume.counted))
           (c.in-Ok.ensures.told k).0 (c.in-Ok.ensures.told k).1 (mounted k).base (mounted k).moments (D.history unmounted.device) unmounted.fault (begun k);
     })
