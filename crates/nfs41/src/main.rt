@@ -1,9 +1,6 @@
 //! The program `nfs41`: what `program` does, in a process.
 #![tactic(auto)]
 
-#[cfg(test)]
-mod tests;
-
 use program::command;
 use std::io::BufReader;
 use std::process::ExitCode;

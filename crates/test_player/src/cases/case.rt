@@ -1,0 +1,20 @@
+//! Cases, and their steps.
+
+use super::step::Step;
+use super::text::Texts;
+
+/// A case: steps that follow each other.
+#[derive(Drop)]
+pub struct Case<'a> {
+    pub name: &'a str,
+    /// What stands in front of what each of its commands is given and tells.
+    pub front: Texts,
+    pub steps: Vec<Placed<'a>>,
+}
+
+/// A step, and the line that it stands on.
+#[derive(Drop)]
+pub struct Placed<'a> {
+    pub line: u32,
+    pub step: Step<'a>,
+}

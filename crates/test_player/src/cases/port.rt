@@ -1,0 +1,41 @@
+//! A port on which another program listens.
+
+use std::alloc::AllocError;
+use std::io;
+use std::net::{Ipv4Addr, TcpListener};
+
+/// The word of a command that stands for such a port.
+const TAKEN: &str = "<taken>";
+
+/// A port that is taken, as long as this is kept.
+#[derive(Drop)]
+pub struct TakenPort {
+    digits: String,
+    listener: TcpListener,
+}
+
+/// Takes a port, where one of the words stands for one.
+pub fn take_port(rt: &HostRuntime, words: &[&str]) -> io::Result<Option<TakenPort>> {
+    if !words.iter().any(|word| *word == TAKEN) {
+        return Ok(None);
+    }
+    let listener = TcpListener::bind(rt, (Ipv4Addr::LOCALHOST, 0))?;
+    let digits = format!(in rt.alloc(); "{}", listener.local_addr()?.port())?;
+    Ok(Some(TakenPort { digits, listener }))
+}
+
+/// The words of a command, with the port that one of them stands for.
+pub fn fill<'a>(
+    rt: &HostRuntime,
+    words: &[&'a str],
+    port: &'a Option<TakenPort>,
+) -> Result<Vec<&'a str>, AllocError> {
+    let mut filled = Vec::new(rt.alloc());
+    for word in words {
+        filled.push(match port {
+            Some(port) if *word == TAKEN => port.digits.as_str(),
+            _ => *word,
+        })?;
+    }
+    Ok(filled)
+}

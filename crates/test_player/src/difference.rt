@@ -1,0 +1,154 @@
+//! How a server or the program does otherwise than a row or a case has it.
+
+use disk::DiskFault;
+use server::{FormatFault, MountFault, ServerFault, Turn};
+use std::alloc::AllocError;
+use std::{fmt, io};
+use thiserror::Error;
+
+/// The first difference of a row or a case, and the line of its step.
+#[derive(Debug, Drop, Error)]
+#[error("line {line}, {difference}")]
+pub struct Differs {
+    pub line: u32,
+    pub difference: Difference,
+}
+
+/// What goes otherwise than a step has it.
+#[derive(Debug, Drop, Error)]
+pub enum Difference {
+    /// Another reply is given.
+    #[error("reply\n  wanted{wanted}\n  got   {got}")]
+    Reply {
+        wanted: Words,
+        got: Words,
+    },
+    /// A call of a server is answered otherwise.
+    #[error("call\n  wanted {wanted:?}\n  got    {got:?}")]
+    Answer {
+        wanted: Answer,
+        got: Answer,
+    },
+    /// A command ends with another status.
+    #[error("status\n  wanted {wanted}\n  got    {got}")]
+    Status {
+        wanted: u8,
+        got: u8,
+    },
+    /// A command tells another text: the number of the first line of it that is another one.
+    #[error("{stream} {line}\n  wanted {wanted}\n  got    {got}")]
+    Text {
+        stream: Stream,
+        line: u32,
+        wanted: Text,
+        got: Text,
+    },
+    /// A command tells no port.
+    #[error("no port is told")]
+    Port,
+    /// A text or a file has another length.
+    #[error("length\n  wanted {wanted}\n  got    {got}")]
+    Length {
+        wanted: usize,
+        got: usize,
+    },
+    /// A file is not as another one.
+    #[error("other bytes")]
+    Bytes,
+    /// There is a file that was to be absent.
+    #[error("it is there")]
+    Present,
+    /// A file has fewer bytes than are to be changed.
+    #[error("a short file")]
+    Short,
+    /// There is no device to play the row on.
+    #[error("no device: {0}")]
+    Device(#[from] DiskFault),
+    /// The device is made no volume.
+    #[error("not formatted: {0}")]
+    Format(#[from] FormatFault),
+    /// The volume is not mounted.
+    #[error("not mounted: {0}")]
+    Mount(#[from] MountFault),
+    /// A file or a socket fails.
+    #[error("{0}")]
+    Io(#[from] io::Error),
+    /// There is no memory.
+    #[error("no memory")]
+    Memory(#[from(alloc)] AllocError),
+}
+
+/// What a call of a server answers.
+#[derive(Clone, Copy, Debug, PartialEq, Eq)]
+pub enum Answer {
+    /// A piece is taken up to here.
+    Took(usize),
+    /// A turn did this.
+    Turned(Turn),
+    /// There is a reply, or none.
+    Reply,
+    NoReply,
+    /// A connection of this number is made.
+    Connected(usize),
+    /// A connection is hung up.
+    HungUp,
+    /// The call is refused.
+    Refused(ServerFault),
+}
+
+/// The streams of a command.
+#[derive(Clone, Copy, Debug)]
+pub enum Stream {
+    Input,
+    Output,
+    Errors,
+}
+
+impl fmt::Display for Stream {
+    fn fmt<W: fmt::Write>(&self, f: &mut fmt::Formatter<W>) -> fmt::Result {
+        f.write_str(match self {
+            Stream::Input => "input",
+            Stream::Output => "output",
+            Stream::Errors => "errors",
+        })
+    }
+}
+
+/// Bytes, shown as words of four bytes in hex, each after a blank. Replies are whole words.
+#[derive(Debug, Drop)]
+pub struct Words(pub Vec<u8>);
+
+impl fmt::Display for Words {
+    fn fmt<W: fmt::Write>(&self, f: &mut fmt::Formatter<W>) -> fmt::Result {
+        for word in self.0.chunks(4) {
+            let number = number_of(word);
+            write!(f, " {number:x}")?;
+        }
+        Ok(())
+    }
+}
+
+fn number_of(word: &[u8]) -> u32 {
+    let mut number = 0_u32;
+    for byte in word {
+        number = number.wrapping_mul(256).wrapping_add(u32::from(*byte));
+    }
+    number
+}
+
+/// A line, shown with `\` and two hexadecimal digits for each byte that is no plain letter.
+#[derive(Debug, Drop)]
+pub struct Text(pub Vec<u8>);
+
+impl fmt::Display for Text {
+    fn fmt<W: fmt::Write>(&self, f: &mut fmt::Formatter<W>) -> fmt::Result {
+        for byte in self.0.iter() {
+            if (b' '..=b'~').contains(byte) && *byte != b'\\' {
+                write!(f, "{}", char::from(*byte))?;
+            } else {
+                write!(f, "\\{byte:02x}")?;
+            }
+        }
+        Ok(())
+    }
+}

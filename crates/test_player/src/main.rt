@@ -1,0 +1,37 @@
+//! The program `test_player`: rows of records, each played on a new server in memory, and cases of
+//! the program `nfs41`.
+#![tactic(auto)]
+
+mod cases;
+mod difference;
+mod fault;
+mod number;
+mod rows;
+mod run;
+
+use run::run;
+use std::env;
+use std::process::ExitCode;
+
+/// The exit status where a file cannot be read or has no form.
+const REFUSED: u8 = 2;
+
+fn main(rt: HostRuntime) -> ExitCode {
+    match play_words(&rt) {
+        Ok(true) => ExitCode::SUCCESS,
+        Ok(false) => ExitCode::FAILURE,
+        Err(error) => {
+            let _ = eprintln!(rt; "refused: {error}");
+            ExitCode::from(REFUSED)
+        }
+    }
+}
+
+/// Plays the files that the words of the command line name. Whether all went as written.
+fn play_words(rt: &HostRuntime) -> anyhow::Result<bool> {
+    let words: Vec<String> = env::args(rt)?.skip(1).collect(rt.alloc())?;
+    match words.as_slice() {
+        [records, files @ ..] => run(rt, records, files),
+        [] => anyhow::bail!("usage: test_player RECORDS FILE .."),
+    }
+}

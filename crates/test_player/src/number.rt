@@ -1,0 +1,17 @@
+//! Numbers in the words of a file.
+
+/// A number of decimal digits alone.
+pub fn decimal(text: &str) -> Option<u32> {
+    if text.starts_with('+') {
+        return None;
+    }
+    u32::from_str_radix(text, 10).ok()
+}
+
+/// A number of hexadecimal digits alone.
+pub fn hexadecimal(text: &str) -> Option<u32> {
+    if text.starts_with('+') {
+        return None;
+    }
+    u32::from_str_radix(text, 16).ok()
+}

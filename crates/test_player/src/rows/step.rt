@@ -1,0 +1,240 @@
+//! The steps of a row.
+
+use super::cuts::add_cuts;
+use super::records::{Filling, Records, read_words};
+use super::row::Row;
+use crate::fault::Fault;
+use crate::number::{decimal, hexadecimal};
+use std::alloc::Global;
+
+/// What a row does on the connection of this number.
+#[derive(Drop)]
+pub enum Step {
+    /// Hands in a record, which is taken whole.
+    Feeds {
+        connection: usize,
+        record: Vec<u8>,
+    },
+    /// Hands in a record byte by byte, each after a turn that is idle.
+    Drips {
+        connection: usize,
+        record: Vec<u8>,
+    },
+    /// Hands in a record, which is answered, whatever the reply, or closes the connection.
+    Sends {
+        connection: usize,
+        record: Vec<u8>,
+    },
+    /// Runs one operation, after which more remain.
+    Runs {
+        connection: usize,
+    },
+    /// Runs so many operations, of which the last one gives the reply; then takes this reply.
+    Ends {
+        connection: usize,
+        turns: u32,
+        reply: Vec<u8>,
+    },
+    /// Hands in a record, runs so many operations, of which the last one gives the reply, and takes
+    /// this reply.
+    Asks {
+        connection: usize,
+        record: Vec<u8>,
+        turns: u32,
+        reply: Vec<u8>,
+    },
+    /// Hands in bytes that close the connection, which stays so: each later piece and turn is
+    /// answered Closed.
+    Closes {
+        connection: usize,
+        record: Vec<u8>,
+    },
+    /// Connects, and gets this number.
+    Connects {
+        connection: usize,
+    },
+    /// There is no further connection.
+    IsFull,
+    /// Hangs up.
+    HangsUp {
+        connection: usize,
+    },
+    /// There is no such connection.
+    Lacks {
+        connection: usize,
+    },
+    /// Mounts the volume again, and connects again.
+    Restarts,
+}
+
+/// Puts what the words of a line say after the steps of a row.
+pub fn add_steps(
+    alloc: Global,
+    records: &Records<'_>,
+    line: u32,
+    words: &[&str],
+    row: &mut Row<'_>,
+) -> Result<(), Fault> {
+    let [verb, words @ ..] = words else {
+        return Err(Fault::Step);
+    };
+    match *verb {
+        "tries" => add_try(alloc, records, line, words, row),
+        "repeats" => add_repeats(alloc, records, line, words, row),
+        "cuts" => add_cuts(alloc, records, line, words, row),
+        _ => row.add(line, read_step(alloc, records, *verb, words)?),
+    }
+}
+
+fn read_step(
+    alloc: Global,
+    records: &Records<'_>,
+    verb: &str,
+    words: &[&str],
+) -> Result<Step, Fault> {
+    match verb {
+        "feeds" => feeds(alloc, records, words),
+        "drips" => drips(alloc, records, words),
+        "ends" => ends(alloc, records, words),
+        "asks" => asks(alloc, records, words),
+        "closes" => closes(alloc, records, words),
+        _ => read_plain(verb, words),
+    }
+}
+
+/// Reads a step without records.
+fn read_plain(verb: &str, words: &[&str]) -> Result<Step, Fault> {
+    match (verb, words) {
+        ("runs", [word]) => Ok(Step::Runs {
+            connection: connection_of(*word)?,
+        }),
+        ("connects", [word]) if *word == "none" => Ok(Step::IsFull),
+        ("connects", [word]) => Ok(Step::Connects {
+            connection: connection_of(*word)?,
+        }),
+        ("lacks", [word]) => Ok(Step::Lacks {
+            connection: connection_of(*word)?,
+        }),
+        ("hangs", [up, word]) if *up == "up" => Ok(Step::HangsUp {
+            connection: connection_of(*word)?,
+        }),
+        ("restarts", []) => Ok(Step::Restarts),
+        _ => Err(Fault::Step),
+    }
+}
+
+fn feeds(alloc: Global, records: &Records<'_>, words: &[&str]) -> Result<Step, Fault> {
+    let (connection, record) = record_of(alloc, records, words)?;
+    Ok(Step::Feeds { connection, record })
+}
+
+fn drips(alloc: Global, records: &Records<'_>, words: &[&str]) -> Result<Step, Fault> {
+    let (connection, record) = record_of(alloc, records, words)?;
+    Ok(Step::Drips { connection, record })
+}
+
+fn closes(alloc: Global, records: &Records<'_>, words: &[&str]) -> Result<Step, Fault> {
+    let (connection, record) = record_of(alloc, records, words)?;
+    Ok(Step::Closes { connection, record })
+}
+
+/// Reads `CONNECTION RECORD`.
+fn record_of(
+    alloc: Global,
+    records: &Records<'_>,
+    words: &[&str],
+) -> Result<(usize, Vec<u8>), Fault> {
+    let [connection, record] = words else {
+        return Err(Fault::Step);
+    };
+    Ok((
+        connection_of(*connection)?,
+        records.spell(alloc, *record, None)?,
+    ))
+}
+
+fn ends(alloc: Global, records: &Records<'_>, words: &[&str]) -> Result<Step, Fault> {
+    let [connection, turns, reply] = words else {
+        return Err(Fault::Step);
+    };
+    Ok(Step::Ends {
+        connection: connection_of(*connection)?,
+        turns: count_of(*turns)?,
+        reply: records.spell(alloc, *reply, None)?,
+    })
+}
+
+fn asks(alloc: Global, records: &Records<'_>, words: &[&str]) -> Result<Step, Fault> {
+    let [connection, record, turns, reply] = words else {
+        return Err(Fault::Step);
+    };
+    Ok(Step::Asks {
+        connection: connection_of(*connection)?,
+        record: records.spell(alloc, *record, None)?,
+        turns: count_of(*turns)?,
+        reply: records.spell(alloc, *reply, None)?,
+    })
+}
+
+/// Adds what `tries` says so many times.
+fn add_repeats(
+    alloc: Global,
+    records: &Records<'_>,
+    line: u32,
+    words: &[&str],
+    row: &mut Row<'_>,
+) -> Result<(), Fault> {
+    let [times, words @ ..] = words else {
+        return Err(Fault::Step);
+    };
+    for _ in 0..count_of(*times)? {
+        add_try(alloc, records, line, words, row)?;
+    }
+    Ok(())
+}
+
+/// Adds `asks` of records with gaps, which are filled.
+fn add_try(
+    alloc: Global,
+    records: &Records<'_>,
+    line: u32,
+    words: &[&str],
+    row: &mut Row<'_>,
+) -> Result<(), Fault> {
+    row.tried = row.tried.saturating_add(1);
+    let step = tries(alloc, records, row.tried, words)?;
+    row.add(line, step)
+}
+
+fn tries(alloc: Global, records: &Records<'_>, number: u32, words: &[&str]) -> Result<Step, Fault> {
+    let [connection, record, turns, reply, status, words @ ..] = words else {
+        return Err(Fault::Step);
+    };
+    let words = read_words(alloc, words)?;
+    let filling = Filling {
+        number,
+        status: hexadecimal(*status).ok_or(Fault::Step)?,
+        words: words.as_slice(),
+    };
+    Ok(Step::Asks {
+        connection: connection_of(*connection)?,
+        record: records.spell(alloc, *record, Some(filling))?,
+        turns: count_of(*turns)?,
+        reply: records.spell(alloc, *reply, Some(filling))?,
+    })
+}
+
+pub fn connection_of(word: &str) -> Result<usize, Fault> {
+    match decimal(word) {
+        Some(number) => Ok(number as usize),
+        None => Err(Fault::Step),
+    }
+}
+
+/// How many: one at least.
+fn count_of(word: &str) -> Result<u32, Fault> {
+    match decimal(word) {
+        Some(0) | None => Err(Fault::Step),
+        Some(count) => Ok(count),
+    }
+}

@@ -1,0 +1,104 @@
+//! A run of the program: the files, one after the other, and a line for each row and case.
+
+use crate::cases::{self, Case};
+use crate::difference::Differs;
+use crate::rows::{self, Row, Sheet};
+use anyhow::{Result, anyhow, ensure};
+use std::fs;
+use std::rt::Files;
+
+/// How the name of a file of cases ends. Every other file has rows.
+const CASES: &str = ".cases";
+
+/// Plays the files, whose rows may name the records of the file `shared`, and tells each row and
+/// case. Whether all went as written.
+pub fn run(rt: &HostRuntime, shared: &str, files: &[String]) -> Result<bool> {
+    let records = read_text(rt, shared)?;
+    let mut as_written = true;
+    for file in files {
+        let text = read_text(rt, file)?;
+        let went = if file.ends_with(CASES) {
+            run_cases(rt, file, &text)?
+        } else {
+            run_rows(rt, (shared, &records), (file, &text))?
+        };
+        if !went {
+            as_written = false;
+        }
+    }
+    Ok(as_written)
+}
+
+fn read_text<R: Files + AllocGlobal>(rt: &R, file: &str) -> Result<String> {
+    match fs::read_to_string(rt, file) {
+        Ok(text) => Ok(text),
+        Err(error) => Err(anyhow!("{file}: {error}")),
+    }
+}
+
+/// Plays the rows of a file once the whole file has a form. Each file is its name and its text.
+fn run_rows<R: Print + AllocGlobal>(
+    rt: &R,
+    (shared, records): (&str, &str),
+    (file, text): (&str, &str),
+) -> Result<bool> {
+    let mut sheet = Sheet::new(rt.alloc());
+    if let Err(misread) = sheet.read(rt.alloc(), records) {
+        return Err(anyhow!("{shared}:{misread}"));
+    }
+    ensure!(
+        sheet.rows().is_empty(),
+        "{shared}: a row among the shared records"
+    );
+    match sheet.read(rt.alloc(), text) {
+        Ok(()) => play_rows(rt, file, sheet.rows()),
+        Err(misread) => Err(anyhow!("{file}:{misread}")),
+    }
+}
+
+fn play_rows<R: Print + AllocGlobal>(rt: &R, file: &str, rows: &[Row<'_>]) -> Result<bool> {
+    let mut as_written = true;
+    for row in rows {
+        if !tell(rt, file, row.name, rows::play(rt.alloc(), row))? {
+            as_written = false;
+        }
+    }
+    Ok(as_written)
+}
+
+/// Plays the cases of a file once the whole file has a form.
+fn run_cases(rt: &HostRuntime, file: &str, text: &str) -> Result<bool> {
+    match cases::read_sheet(rt.alloc(), text) {
+        Ok(cases) => play_cases(rt, file, &cases),
+        Err(misread) => Err(anyhow!("{file}:{misread}")),
+    }
+}
+
+fn play_cases(rt: &HostRuntime, file: &str, cases: &[Case<'_>]) -> Result<bool> {
+    let mut as_written = true;
+    for case in cases {
+        if !tell(rt, file, case.name, cases::play(rt, case))? {
+            as_written = false;
+        }
+    }
+    Ok(as_written)
+}
+
+/// Tells how a row or a case went. Whether it went as written.
+fn tell<R: Print>(
+    rt: &R,
+    file: &str,
+    name: &str,
+    outcome: std::result::Result<(), Differs>,
+) -> Result<bool> {
+    match outcome {
+        Ok(()) => {
+            println!(rt; "{file}: {name}: ok")?;
+            Ok(true)
+        }
+        Err(differs) => {
+            println!(rt; "{file}: {name}: {differs}")?;
+            Ok(false)
+        }
+    }
+}
