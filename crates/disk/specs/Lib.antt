@@ -7,3 +7,4 @@ pub mod File
 pub mod Landing
 pub mod Crash
 pub mod Trial
+pub mod Faulty
