@@ -14,6 +14,9 @@ file_failures device = device.failures
 abbrev pub file_is_whole : FileDevice → Bool
 file_is_whole device = device.is_whole
 
+abbrev pub file_may_write : FileDevice → Bool
+file_may_write device = device.may_write
+
 -- the content of sector n that was written and not yet handed to the file, if there is one
 abbrev pub gathered : FileDevice → ℕ → Option (List ℕ)
 gathered device n = newest_in device.run n

@@ -1,6 +1,6 @@
 //! A device over a file.
 
-ghost use Rattle.std.specs.Prelude.{◌≡◌, ◌≢◌, ◌≤◌, ◌<◌, ◌*◌, ◌↔◌, ℕ, [], Some, None, IsTrue, IfOk, IfSome, OnOk, OnErr, IsErrOf};
+ghost use Rattle.std.specs.Prelude.{◌≡◌, ◌≢◌, ◌≤◌, ◌<◌, ◌*◌, ◌⊎◌, ◌↔◌, ℕ, [], Some, None, false, IsTrue, IfOk, IfSome, OnOk, OnErr, IsErrOf};
 ghost use Rattle.disk.specs.Moments.{at_rest};
 ghost use Rattle.std.specs.IoError.{error_kind};
 ghost use Rattle.disk.specs.Cause.{IsCounted, HasCause};
@@ -8,7 +8,7 @@ ghost use Rattle.disk.specs.Cause.{IsCounted, HasCause};
 use crate::run::Run;
 use crate::{Device, DiskFault, SECTOR};
 use std::alloc::Global;
-use std::fs::{File, OpenOptions};
+use std::fs::{File, OpenOptions, TryLockError};
 use std::io;
 use std::io::ErrorKind;
 use std::os::unix::fs::FileExt;
@@ -26,24 +26,31 @@ use std::rt::Files;
 /// gives what was gathered. Where the file fails to take it, it stays gathered: the call that
 /// failed did nothing, what was written before is read as before, and the next hand-over offers it
 /// again.
+///
+/// It holds a lock on the file from before it changes anything of it until it is dropped: one that
+/// no other shares where it may write, and else one that only others that do not write share. The
+/// lock is advisory: it keeps out those that ask for one.
 #[derive(Drop)]
 pub struct FileDevice {
     file: File,
     sectors: u32,
     is_whole: bool,
+    may_write: bool,
     failures: u64,
     run: Run,
 }
 
 impl FileDevice {
-    ghost use Rattle.disk.specs.File.{file_size, file_failures, file_is_whole, gathered, BeginsAnew, IsUnopened};
+    ghost use Rattle.disk.specs.File.{file_size, file_failures, file_is_whole, file_may_write, gathered, BeginsAnew, IsUnopened};
+    ghost use Rattle.disk.specs.Run.{newest_in};
 
     /// Opens a file that is there, for reading and writing.
     ///
     /// Its sectors are the whole ones of its length; [`FileDevice::is_whole`] tells whether bytes
     /// are left over. Of a file with more than 2^32 - 1 sectors the first 2^32 - 1 are taken.
     ///
-    /// Refuses `Memory` for want of memory, and else `Open`.
+    /// Refuses `Memory` for want of memory, and else `Open`: also where another has a lock on the
+    /// file.
     pub fn open<R: Files<File = File>, P: AsPath>(
         rt: &R,
         alloc: Global,
@@ -51,6 +58,7 @@ impl FileDevice {
     ) -> Result<FileDevice, DiskFault>
         ensures failures { IfOk result (λ device. file_failures device ≡ 0) }
         ensures gathered { IfOk result (λ device. (n : ℕ) → gathered device n ≡ None) }
+        ensures may_write { IfOk result (λ device. IsTrue (file_may_write device)) }
         ensures err { OnErr result (IsUnopened result) }
     {
         let run = Run::new(alloc)?;
@@ -59,21 +67,36 @@ impl FileDevice {
             .write(true)
             .open(rt, path)
             .map_err(refusal)?;
-        let len = file.metadata().map_err(refusal)?.len();
-        let sector = SECTOR as u64;
-        Ok(FileDevice {
-            file,
-            sectors: u32::try_from(len / sector).unwrap_or(u32::MAX),
-            is_whole: len % sector == 0,
-            failures: 0,
-            run,
-        })
+        file.try_lock().map_err(lock_refusal)?;
+        FileDevice::over(file, run, true)
+    }
+
+    /// Opens a file that is there for reading alone, so that it need not be one that may be
+    /// written. Else it is opened as by [`FileDevice::open`]. Every write fails.
+    ///
+    /// Refuses `Memory` for want of memory, and else `Open`: also where another that may write has
+    /// a lock on the file.
+    pub fn open_to_read<R: Files<File = File>, P: AsPath>(
+        rt: &R,
+        alloc: Global,
+        path: P,
+    ) -> Result<FileDevice, DiskFault>
+        ensures failures { IfOk result (λ device. file_failures device ≡ 0) }
+        ensures gathered { IfOk result (λ device. (n : ℕ) → gathered device n ≡ None) }
+        ensures may_write { IfOk result (λ device. file_may_write device ≡ false) }
+        ensures err { OnErr result (IsUnopened result) }
+    {
+        let run = Run::new(alloc)?;
+        let file = File::open(rt, path).map_err(refusal)?;
+        file.try_lock_shared().map_err(lock_refusal)?;
+        FileDevice::over(file, run, false)
     }
 
     /// Opens a file for reading and writing, makes it where it is not there, and sets its length to
     /// `sectors` sectors. What it held up to there stays, and what is new is zero.
     ///
-    /// Refuses `Memory` for want of memory, and else `Open`: also where the length cannot be set.
+    /// Refuses `Memory` for want of memory, and else `Open`: also where the length cannot be set,
+    /// and where another has a lock on the file, which is then as it was.
     pub fn create<R: Files<File = File>, P: AsPath>(
         rt: &R,
         alloc: Global,
@@ -84,6 +107,7 @@ impl FileDevice {
         ensures whole { IfOk result (λ device. IsTrue (file_is_whole device)) }
         ensures failures { IfOk result (λ device. file_failures device ≡ 0) }
         ensures gathered { IfOk result (λ device. (n : ℕ) → gathered device n ≡ None) }
+        ensures may_write { IfOk result (λ device. IsTrue (file_may_write device)) }
         // Refused
         ensures err { OnErr result (IsUnopened result) }
     {
@@ -94,12 +118,33 @@ impl FileDevice {
             .create(true)
             .open(rt, path)
             .map_err(refusal)?;
+        file.try_lock().map_err(lock_refusal)?;
         file.set_len(u64::from(sectors) * SECTOR as u64)
             .map_err(refusal)?;
         Ok(FileDevice {
             file,
             sectors,
             is_whole: true,
+            may_write: true,
+            failures: 0,
+            run,
+        })
+    }
+
+    /// The device over an open file, of the sectors that it has.
+    fn over(file: File, run: Run, may_write: bool) -> Result<FileDevice, DiskFault>
+        ensures failures { IfOk result (λ device. file_failures device ≡ 0) }
+        ensures gathered { IfOk result (λ device. (n : ℕ) → gathered device n ≡ newest_in run n) }
+        ensures may_write { IfOk result (λ device. file_may_write device ≡ may_write) }
+        ensures err { OnErr result (IsUnopened result) }
+    {
+        let len = file.metadata().map_err(refusal)?.len();
+        let sector = SECTOR as u64;
+        Ok(FileDevice {
+            file,
+            sectors: u32::try_from(len / sector).unwrap_or(u32::MAX),
+            is_whole: len % sector == 0,
+            may_write,
             failures: 0,
             run,
         })
@@ -117,6 +162,7 @@ impl FileDevice {
         ensures counted { IsCounted (file_failures self.old) (file_failures self.new) }
         // What stays
         ensures size { file_size self.new ≡ file_size self.old }
+        ensures may_write { file_may_write self.new ≡ file_may_write self.old }
         ensures gathered { (n : ℕ) → gathered self.new n ≡ gathered self.old n }
     {
         self.failures = self.failures.saturating_add(1);
@@ -132,6 +178,7 @@ impl FileDevice {
         ensures not_range { IsErrOf result DiskFault.Range → ⊥ }
         // In any case
         ensures size { file_size self.new ≡ file_size self.old }
+        ensures may_write { file_may_write self.new ≡ file_may_write self.old }
         ensures cause { HasCause (file_failures self.old) (file_failures self.new) result }
     {
         match self
@@ -148,7 +195,7 @@ impl FileDevice {
 }
 
 impl Device for FileDevice {
-    ghost use Rattle.disk.specs.File.{file_size, file_failures, gathered, KeepsOrHandsOver};
+    ghost use Rattle.disk.specs.File.{file_size, file_failures, file_may_write, gathered, KeepsOrHandsOver};
 
     ghost keeps_word = { ⊥ };
 
@@ -177,6 +224,7 @@ impl Device for FileDevice {
         ensures untouched { IsErrOf result DiskFault.Range → content.new ≡ content.old }
         // In any case
         ensures size { file_size self.new ≡ file_size self.old }
+        ensures may_write { file_may_write self.new ≡ file_may_write self.old }
         ensures cause { HasCause (file_failures self.old) (file_failures self.new) result }
     {
         if n >= self.sectors {
@@ -196,19 +244,25 @@ impl Device for FileDevice {
     }
 
     /// A sector that is written is gathered, and the others stay so, or were handed to the file.
-    /// Where that failed the sector is not written.
+    /// Where that failed the sector is not written, and none is where the file may not be.
     fn write(&mut self, n: u32, content: &[u8; SECTOR]) -> Result<(), DiskFault>
         ensures newest { OnOk result (gathered self.new n ≡ Some content.now) }
         ensures others { (m : ℕ) → m ≢ n → KeepsOrHandsOver self.old self.new m }
         // Refused
         ensures err { OnErr result ((m : ℕ) → gathered self.new m ≡ gathered self.old m) }
         ensures range { IsErrOf result DiskFault.Range ↔ (file_size self.old ≤ n) }
+        ensures may_not { n < file_size self.old → file_may_write self.old ≡ false
+            → result ≡ Err DiskFault.Fault }
         // In any case
         ensures size { file_size self.new ≡ file_size self.old }
+        ensures may_write { file_may_write self.new ≡ file_may_write self.old }
         ensures cause { HasCause (file_failures self.old) (file_failures self.new) result }
     {
         if n >= self.sectors {
             return Err(DiskFault::Range);
+        }
+        if !self.may_write {
+            return Err(self.fail());
         }
         if !self.run.takes(n) {
             self.hand_over()?;
@@ -225,6 +279,7 @@ impl Device for FileDevice {
         ensures not_range { IsErrOf result DiskFault.Range → ⊥ }
         // In any case
         ensures size { file_size self.new ≡ file_size self.old }
+        ensures may_write { file_may_write self.new ≡ file_may_write self.old }
         ensures cause { HasCause (file_failures self.old) (file_failures self.new) result }
     {
         self.hand_over()?;
@@ -252,4 +307,10 @@ fn refusal(error: io::Error) -> DiskFault
         ErrorKind::OutOfMemory => DiskFault::Memory,
         _ => DiskFault::Open,
     }
+}
+
+fn lock_refusal(error: TryLockError) -> DiskFault
+    ensures { (result ≡ DiskFault.Memory) ⊎ (result ≡ DiskFault.Open) }
+{
+    refusal(io::Error::from(error))
 }
