@@ -1,27 +1,54 @@
 #!/usr/bin/env bash
 # Mounts a served volume from a stock Linux kernel: Debian's own, in an emulated machine, so that
-# the machine at hand needs no NFS client of its own. The kernel's users work on the mount, the
-# server is killed and started again beneath them, and what they saw is compared with
-# linux_mount/expected.txt.
+# the machine at hand needs no NFS client of its own. Users work on the mount with busybox and with
+# GNU's tools, the server is killed and started again beneath them, and what they saw is compared
+# with linux_mount/expected.txt.
 #
 # scripts/linux_mount.sh [PROGRAM]: by default what 'rt run' in crates/nfs41 has built.
-# It wants Debian's qemu-system-x86, busybox-static, nfs-common, kmod and cpio, and fetches the
-# kernel by 'apt-get download'. The emulated machine asks the loopback interface alone.
+# PORT is the port that it serves (20490), LIMIT for how many seconds the emulated machine may tell
+# nothing (900). It wants the Debian packages that are named below, and fetches Debian's kernel by
+# 'apt-get download'. The emulated machine asks the loopback interface alone.
 set -eu
 program=$(realpath "${1:-$(dirname "$0")/../crates/nfs41/out/nfs41}")
 guest=$(realpath "$(dirname "$0")/linux_mount")
 port=${PORT:-20490}
+limit=${LIMIT:-900}
+packages='qemu-system-x86 busybox-static nfs-common kmod cpio coreutils tar sed util-linux rsync git
+    sqlite3 nfs4-acl-tools'
+gnu='cp mv install mktemp touch du tar sed flock rsync git sqlite3 nfs4_getfacl nfs4_setfacl'
+PATH=$PATH:/usr/sbin:/sbin
+server= emulator=
 folder=$(mktemp -d)
 cd "$folder"
 
-# Ends the server, and leaves nothing behind.
+# Ends what was started here, and leaves nothing behind.
 end() {
-    touch ended
-    pkill -9 -f "serve $folder/volume.img" || true
-    sleep 0.2
+    kill_one "$emulator"
+    kill_one "$server"
     rm -r "$folder"
 }
 trap end EXIT
+
+# Kills a process of this script, where it still runs, and waits until it is gone.
+kill_one() {
+    if jobs -pr | grep -qx "$1"; then
+        kill -9 "$1"
+        wait "$1" 2> /dev/null || true
+    fi
+}
+
+fail() {
+    echo "$1" >&2
+    exit 1
+}
+
+wants() {
+    local command
+    for command in qemu-system-x86_64 busybox mount.nfs depmod cpio $gnu; do
+        command -v "$command" > /dev/null || fail "no $command: apt-get install" $packages
+    done
+    [ -x "$program" ] || fail "no program $program: 'rt run' in crates/nfs41 builds it"
+}
 
 # Debian's kernel, and its modules from NFS down to the network card.
 kernel() {
@@ -36,17 +63,30 @@ kernel() {
     done | awk '/^insmod/ && !seen[$2]++ { print $2 }' > modules.txt
 }
 
-# A root file system of busybox, Debian's mount.nfs and what it needs, and the guest's scripts.
+# Copies a program into the root file system, with the libraries that it is linked to.
+copy_program() {
+    local library
+    cp -L "$(command -v "$1")" "root/$2"
+    { ldd "root/$2" || true; } | grep -o '/[^ ]*' | while read -r library; do
+        mkdir -p "root$(dirname "$library")"
+        cp -Lu "$library" "root$library"
+    done
+}
+
+# A root file system of busybox, GNU's tools in a folder of their own, Debian's mount.nfs, and the
+# guest's scripts.
 root_file_system() {
-    mkdir -p root/bin root/sbin root/etc root/modules root/proc root/dev root/tmp root/mnt
+    local tool file
+    mkdir -p root/bin root/sbin root/etc root/modules root/proc root/dev root/tmp root/mnt root/gnu
     cp "$(command -v busybox)" root/bin/
     root/bin/busybox --install -s root/bin
     find root/bin -type l -exec ln -sf busybox {} \;
-    cp "$(command -v mount.nfs || echo /sbin/mount.nfs)" root/sbin/mount.nfs4
-    ldd root/sbin/mount.nfs4 | grep -o '/[^ ]*' | while read -r library; do
-        mkdir -p "root$(dirname "$library")"
-        cp -L "$library" "root$library"
+    copy_program mount.nfs sbin/mount.nfs4
+    for tool in $gnu; do
+        copy_program "$tool" "gnu/$tool"
     done
+    mkdir -p root/usr/share/git-core/templates
+    echo 'A repository.' > root/usr/share/git-core/templates/description
     cp /etc/netconfig root/etc/
     printf 'passwd: files\ngroup: files\nprotocols: files\nhosts: files\n' > root/etc/nsswitch.conf
     printf 'tcp 6 TCP\nudp 17 UDP\n' > root/etc/protocols
@@ -62,32 +102,48 @@ root_file_system() {
     (cd root && find . | cpio -o -H newc --quiet | gzip -1) > initrd.gz
 }
 
-# Serves the volume, again each time that the server was killed.
+# Starts the server, and waits until it listens.
 serve() {
-    while [ ! -e ended ]; do
-        "$program" serve "$folder/volume.img" "$port" 1000 > served.txt 2>&1 || true
+    : > served.txt
+    "$program" serve volume.img "$port" 1000 < /dev/null >> served.txt 2>&1 &
+    server=$!
+    until grep -q '^serving' served.txt; do
+        jobs -pr | grep -qx "$server" || fail "the server ended: $(cat served.txt)"
+        sleep 0.1
     done
 }
 
-# What the guest tells between its first line and its last; it asks for a kill by a line of its own.
+# What the guest tells between its first line and its last, without the port and the names that are
+# picked at random. It asks for a kill by a line of its own.
 boot() {
-    timeout 300 qemu-system-x86_64 -machine accel=tcg -m 512 -nographic -no-reboot \
+    local line status=0
+    mkfifo console
+    qemu-system-x86_64 -machine accel=tcg -m 512 -nographic -no-reboot \
         -kernel kernel/boot/vmlinuz-* -initrd initrd.gz -append 'console=ttyS0 quiet loglevel=0' \
-        -netdev user,id=net,ipv6=off -device virtio-net-pci,netdev=net < /dev/null 2>&1 |
-        sed -u 's/\r*$//; 1,/== begins$/d; /^== ends$/,$d' |
-        while IFS= read -r line; do
-            echo "$line"
-            if [ "$line" = '== kill the server' ]; then
-                pkill -9 -f "serve $folder/volume.img"
-            fi
-        done
+        -netdev user,id=net,ipv6=off -device virtio-net-pci,netdev=net \
+        < /dev/null > console 2>&1 &
+    emulator=$!
+    while IFS= read -r -t "$limit" line || { status=$?; false; }; do
+        echo "$line"
+        if [ "$line" = '== kill the server' ]; then
+            kill_one "$server"
+            serve
+        fi
+    done < <(sed -uE 's/\r*$//; 1,/== begins$/d; /^== ends$/,$d
+        s/port=[0-9]+$/port=PORT/
+        s/(sed|\.[a-z]+\.)[A-Za-z0-9]{6}([":]| )/\1XXXXXX\2/
+        s/ at main\.c.*//' < console)
+    [ "$status" -le 128 ] || echo "nothing told in $limit seconds"
 }
 
+wants
 kernel
 root_file_system
 "$program" format volume.img 16384 4000
-serve 2> /dev/null &
+serve
 boot > told.txt
 cat told.txt
+kill_one "$server"
+server=
 "$program" check volume.img
 diff "$guest/expected.txt" told.txt && echo "as expected, by Linux $version"
