@@ -1,5 +1,4 @@
-//! Tests of the grammars: numbers and opaque data, the operations, a client's half of them,
-//! attributes, calls and their records.
+//! Tests of the client and of what only a client reads and writes.
 #![tactic(auto)]
 
 #[cfg(test)]

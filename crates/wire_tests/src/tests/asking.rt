@@ -49,7 +49,7 @@ pub(super) enum Ask {
 }
 
 /// What a call of the client answered.
-#[derive(Clone, Copy, PartialEq, Eq)]
+#[derive(Clone, Copy, PartialEq)]
 pub(super) enum Told {
     /// A record was made.
     Made,
@@ -87,7 +87,7 @@ pub(super) fn new_client(alloc: Global) -> Result<Client, Fail> {
 }
 
 /// EXCHANGE_ID of the owner id `cl`.
-pub(super) fn exchange_id() -> Argument<'static>
+fn exchange_id() -> Argument<'static>
     ensures { ArgumentFits result }
 {
     Argument::ExchangeId(ExchangeIdArguments {
@@ -123,7 +123,7 @@ fn create_session(alloc: Global) -> Result<Argument<'static>, AllocError>
 }
 
 /// CREATE of the directory `a`.
-pub(super) fn create_a() -> Argument<'static>
+fn create_a() -> Argument<'static>
     ensures { ArgumentFits result }
 {
     let mut bitmap: Bitmap = Words::new();
