@@ -1,4 +1,4 @@
-//! Tests of devices, of the journal, and of each part of a volume's layout.
+//! Tests of devices, of the journal, and of what a volume's mount finds.
 #![tactic(auto)]
 
 #[cfg(test)]
