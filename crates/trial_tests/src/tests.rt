@@ -6,6 +6,7 @@ mod choices;
 mod left;
 mod line;
 mod operation;
+mod rounds;
 mod script;
 mod seed;
 mod simple;

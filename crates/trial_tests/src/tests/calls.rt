@@ -25,7 +25,7 @@ const CHANNEL: Channel = Channel {
 };
 
 /// Who calls, under which number.
-#[derive(Clone, Copy, Debug)]
+#[derive(Clone, Copy)]
 pub(super) struct Caller {
     pub(super) xid: u32,
     pub(super) uid: u32,

@@ -1,12 +1,14 @@
 //! Which operations a client asks for, as a seed chooses.
 
-use super::left::NAMES;
 use super::operation::{
     Data, How, OpenState, Opening, Operation, Reading, Share, Stable, Stateid, Writing,
 };
 use super::seed::Seed;
 use super::simple::stateids::Open;
 use super::simple::{MAX_OPERATIONS, World};
+
+/// The names of the long runs.
+const NAMES: [u8; 7] = [b'a', b'b', b'c', b'd', b'e', b'f', b'g'];
 
 type Operations = [Operation; MAX_OPERATIONS];
 

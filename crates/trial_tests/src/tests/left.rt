@@ -12,7 +12,7 @@ use std::cmp::Ordering;
 use std::test::Fail;
 
 /// Each name that the trials use.
-pub(super) const NAMES: [u8; 7] = [b'a', b'b', b'c', b'd', b'e', b'f', b'g'];
+const NAMES: [u8; 9] = [b'a', b'b', b'c', b'd', b'e', b'f', b'g', b'x', b'y'];
 
 /// The most bytes that a READ gives.
 const PIECE: u64 = 8192;
@@ -41,6 +41,14 @@ impl Left {
         let answered = past.answered();
         let mut trees = past.into_trees();
         trees.push(tree)?;
+        Ok(Left {
+            answered,
+            ..Left::of_trees(alloc, trees)?
+        })
+    }
+
+    /// These, of which the first one was answered last.
+    pub(super) fn of_trees(alloc: Global, trees: Vec<Tree>) -> Result<Left, AllocError> {
         let mut numbers = Vec::new(alloc);
         for tree in &trees {
             push_numbers(&mut numbers, tree)?;
@@ -49,7 +57,7 @@ impl Left {
             alloc,
             trees,
             numbers,
-            answered,
+            answered: 0,
         })
     }
 

@@ -35,7 +35,7 @@ pub(super) const CHANGE_AND_SIZE: u32 = 0x18;
 const MAX_BYTES: usize = 65_536;
 
 /// A stateid that an OPEN gave.
-#[derive(Clone, Copy, Debug, PartialEq, Eq)]
+#[derive(Clone, Copy)]
 pub(super) struct OpenState {
     pub(super) seqid: u32,
     pub(super) run: u32,
@@ -52,7 +52,7 @@ impl OpenState {
 }
 
 /// A stateid as a client sends it (RFC 8881, section 8.2.3).
-#[derive(Clone, Copy, Debug, PartialEq, Eq)]
+#[derive(Clone, Copy)]
 pub(super) enum Stateid {
     Anonymous,
     /// That of the last OPEN in the same COMPOUND.
@@ -80,7 +80,7 @@ impl Stateid {
 }
 
 /// What an open is for.
-#[derive(Clone, Copy, Debug, PartialEq, Eq)]
+#[derive(Clone, Copy, PartialEq)]
 pub(super) enum Share {
     Read,
     Write,
@@ -107,7 +107,7 @@ impl Share {
 }
 
 /// How a file is opened.
-#[derive(Clone, Copy, Debug, PartialEq, Eq)]
+#[derive(Clone, Copy, PartialEq)]
 pub(super) enum How {
     /// It has to be there.
     Known,
@@ -120,7 +120,7 @@ pub(super) enum How {
 }
 
 /// An OPEN by a name.
-#[derive(Clone, Copy, Debug, PartialEq, Eq)]
+#[derive(Clone, Copy)]
 pub(super) struct Opening {
     pub(super) owner: u8,
     pub(super) name: u8,
@@ -129,7 +129,7 @@ pub(super) struct Opening {
 }
 
 /// How stable a WRITE is to be.
-#[derive(Clone, Copy, Debug, PartialEq, Eq)]
+#[derive(Clone, Copy, PartialEq)]
 pub(super) enum Stable {
     Unstable,
     FileSync,
@@ -153,7 +153,7 @@ impl Stable {
 }
 
 /// So many bytes, each one more than the one before it.
-#[derive(Clone, Copy, Debug, PartialEq, Eq)]
+#[derive(Clone, Copy)]
 pub(super) struct Data {
     pub(super) first: u8,
     pub(super) len: usize,
@@ -172,7 +172,7 @@ impl Data {
 }
 
 /// A WRITE.
-#[derive(Clone, Copy, Debug, PartialEq, Eq)]
+#[derive(Clone, Copy)]
 pub(super) struct Writing {
     pub(super) state: Stateid,
     pub(super) offset: u64,
@@ -181,7 +181,7 @@ pub(super) struct Writing {
 }
 
 /// A READ.
-#[derive(Clone, Copy, Debug, PartialEq, Eq)]
+#[derive(Clone, Copy)]
 pub(super) struct Reading {
     pub(super) state: Stateid,
     pub(super) offset: u64,
@@ -189,7 +189,7 @@ pub(super) struct Reading {
 }
 
 /// An operation after SEQUENCE.
-#[derive(Clone, Copy, Debug, PartialEq, Eq)]
+#[derive(Clone, Copy)]
 pub(super) enum Operation {
     /// PUTROOTFH.
     Root,

@@ -21,7 +21,7 @@ use tree::Tree;
 pub(super) const MAX_OPERATIONS: usize = 6;
 
 /// A COMPOUND that a client sends.
-#[derive(Clone, Copy, Debug)]
+#[derive(Clone, Copy)]
 pub(super) struct Request {
     pub(super) xid: u32,
     pub(super) client: usize,
@@ -130,6 +130,12 @@ impl World {
             clients,
             past: Past::new(alloc, may_stop),
         }
+    }
+
+    /// The newest tree.
+    pub(super) fn into_tree(self) -> Tree {
+        let World { tree, .. } = self;
+        tree
     }
 
     pub(super) fn client(&self, client: usize) -> Option<&Client> {

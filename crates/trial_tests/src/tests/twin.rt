@@ -263,4 +263,10 @@ impl<D: Device> Twin<D> {
         let Twin { world, .. } = self;
         world
     }
+
+    /// The world, and the device.
+    pub(super) fn into_parts(self) -> (World, D) {
+        let Twin { world, server, .. } = self;
+        (world, drivers::into_device(server))
+    }
 }

@@ -4,7 +4,7 @@ use super::tree::Tree;
 use std::alloc::{AllocError, Global};
 
 /// The trees before the newest one, from the last one on that is on the device.
-#[derive(Drop, Debug)]
+#[derive(Drop)]
 pub(crate) struct Past {
     alloc: Global,
     /// Whether they are kept at all.

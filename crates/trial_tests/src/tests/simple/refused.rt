@@ -38,7 +38,7 @@ pub(crate) const OPENMODE: u32 = 10038;
 pub(crate) const SEQ_MISORDERED: u32 = 10063;
 
 /// A status other than OK, or want of memory in the model itself.
-#[derive(Drop, Debug)]
+#[derive(Drop)]
 pub(crate) enum Refused {
     Status(u32),
     Memory,

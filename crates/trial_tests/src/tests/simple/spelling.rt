@@ -59,14 +59,14 @@ pub(crate) fn number_of(operation: Operation) -> u32 {
 }
 
 /// A directory's change before and after.
-#[derive(Clone, Copy, Debug)]
+#[derive(Clone, Copy)]
 pub(crate) struct Changed {
     pub(crate) before: u64,
     pub(crate) after: u64,
 }
 
 /// Results, one after the other.
-#[derive(Drop, Debug)]
+#[derive(Drop)]
 pub(crate) struct Results {
     bytes: Vec<u8>,
 }

@@ -8,28 +8,28 @@ use std::alloc::{AllocError, Global};
 const MAX_OPENS: usize = 256;
 
 /// What an operation needs an open for.
-#[derive(Clone, Copy, Debug, PartialEq, Eq)]
+#[derive(Clone, Copy)]
 pub(crate) enum Need {
     Reads,
     Writes,
 }
 
 /// A filehandle, and the stateid that goes with it.
-#[derive(Clone, Copy, Debug)]
+#[derive(Clone, Copy)]
 pub(crate) struct Place {
     pub(crate) number: u64,
     pub(crate) state: Option<OpenState>,
 }
 
 /// Who opens which file.
-#[derive(Clone, Copy, Debug, PartialEq, Eq)]
+#[derive(Clone, Copy, PartialEq)]
 pub(crate) struct Opener {
     pub(crate) client: usize,
     pub(crate) owner: u8,
     pub(crate) number: u64,
 }
 
-#[derive(Clone, Copy, Debug)]
+#[derive(Clone, Copy)]
 pub(crate) struct Open {
     pub(crate) opener: Opener,
     share: Share,
@@ -61,7 +61,7 @@ impl Open {
 }
 
 /// How many serials this run gave, and the opens that stand.
-#[derive(Drop, Debug)]
+#[derive(Drop)]
 pub(crate) struct Opens {
     given: u64,
     pub(crate) known: Vec<Open>,

@@ -16,7 +16,7 @@ const BLOCK_NAMES: u64 = 15;
 const RUN_BLOCKS: u64 = 500;
 
 /// What a volume has room for.
-#[derive(Clone, Copy, Debug)]
+#[derive(Clone, Copy)]
 pub(crate) struct Room {
     pub(crate) nodes: usize,
     /// Sectors for bytes and names.
@@ -24,19 +24,19 @@ pub(crate) struct Room {
 }
 
 /// A name in a directory.
-#[derive(Clone, Copy, Debug, PartialEq, Eq)]
+#[derive(Clone, Copy, PartialEq)]
 pub(crate) struct Entry {
     pub(crate) directory: u64,
     pub(crate) name: u8,
 }
 
-#[derive(Drop, Debug)]
+#[derive(Drop)]
 pub(crate) enum Content {
     Directory,
     File(Vec<u8>),
 }
 
-#[derive(Drop, Debug)]
+#[derive(Drop)]
 pub(crate) struct Node {
     pub(crate) number: u64,
     pub(crate) at: Entry,
@@ -89,7 +89,7 @@ fn parts_of(count: u64, part: u64) -> u64 {
 }
 
 /// The root, and the other nodes in the order in which they were made.
-#[derive(Drop, Debug)]
+#[derive(Drop)]
 pub(crate) struct Tree {
     pub(crate) run: u32,
     /// How many changes this run had.
