@@ -1,4 +1,5 @@
-//! Tests of a file system over memory: its operations, and long lists of them beside the oracle.
+//! Tests of a file system over memory: its operations, and what stands on the sectors of its
+//! volume.
 #![tactic(auto)]
 
 #[cfg(test)]

@@ -1,14 +1,10 @@
-//! What no contract says: that calls succeed, what stands after mounts, and that the oracle answers
-//! the same.
+//! What no contract says: that calls succeed, what stands after mounts and stops, and that another
+//! reading of the layout finds what the checked one finds.
 
-mod choices;
+mod drivers;
 mod files;
-mod naming;
+mod images;
+mod independent;
 mod pages;
-mod reference;
 mod rows;
-mod seed;
-mod setting;
-mod telling;
-mod trials;
 mod volumes;

@@ -1,11 +1,11 @@
 //! Files: OPEN by a name, and what is written and read after it.
 
+use super::drivers::{Answer, Call, Given, Make, mounted};
 use super::rows::{
-    EXISTS, FIRST, INVALID, IS_DIRECTORY, MAKES_A, MODE_755, NO_ACCESS, NO_ENTRY, NO_SPACE, OTHER,
-    OWNER, ROOT, Row, SECOND, THIRD, try_both, try_rows, try_sized,
+    EXISTS, FIRST, FOURTH, INVALID, IS_DIRECTORY, MAKES_A, MODE_755, NO_ACCESS, NO_ENTRY, NO_SPACE,
+    OTHER, OWNER, ROOT, Row, SECOND, THIRD, play, try_both, try_rows, try_sized,
 };
 use fs::{FsFault, OpenEffect};
-use fs_drivers::{Answer, Call, Given, Make};
 use model::status::Status;
 use std::test::Fail;
 
@@ -265,6 +265,48 @@ const FILLED: [Row; 5] = [
 #[test]
 fn a_file_fills_a_volume(rt: HostRuntime) -> Result<(), Fail> {
     try_rows(&rt, rt.alloc(), &FILLED)
+}
+
+/// 36,864 bytes, nine blocks, which with their run sector are charged 10; and one byte more.
+const OF_36864: Make<'static> = Make::Unchecked(Given {
+    bitmap: &SIZE_AND_MODE,
+    values: b"\0\0\0\0\0\0\x90\0\0\0\x01\xED",
+});
+
+const SIZE_36865: Given<'static> = Given {
+    bitmap: &SIZE,
+    values: b"\0\0\0\0\0\0\x90\x01",
+};
+
+/// In a data region of 16 sectors: the root is charged 2, `f` with its hole 4, and nothing an empty
+/// file.
+const CHARGED: [Row; 5] = [
+    MAKES_F,
+    (
+        OWNER,
+        Call::Write(FIRST, 8_190, b"AAAAAAAAAA", true),
+        Ok(Answer::Taken(10)),
+        b"",
+    ),
+    (
+        OWNER,
+        Call::Open(ROOT, b"g", WRITES, OF_36864),
+        Ok(Answer::Opened(THIRD, OpenEffect::Made, (FIRST, THIRD))),
+        b"",
+    ),
+    (OWNER, Call::Set(THIRD, SIZE_36865), NO_SPACE, b""),
+    (
+        OWNER,
+        Call::Open(ROOT, b"h", WRITES, EMPTY),
+        Ok(Answer::Opened(FOURTH, OpenEffect::Made, (THIRD, FOURTH))),
+        b"",
+    ),
+];
+
+#[test]
+fn a_file_of_8200_bytes_takes_4_sectors(rt: HostRuntime) -> Result<(), Fail> {
+    let mut fs = mounted(rt.alloc(), 256, 92)?;
+    play(&rt, rt.alloc(), &mut fs, &CHARGED)
 }
 
 const ONE_SECTOR_LESS: [Row; 3] = [

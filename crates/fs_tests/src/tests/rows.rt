@@ -1,7 +1,7 @@
 //! Calls with what they are to answer, as rows of tables.
 
+use super::drivers::{Answer, Call, Caller, Given, Tree, ask, mounted, remount};
 use fs::FsFault;
-use fs_drivers::{Answer, Call, Caller, Given, Tree, ask, mounted, remount};
 use model::status::Status;
 use std::alloc::Global;
 use std::process::Abort;
@@ -29,17 +29,9 @@ pub(super) const FOURTH: u64 = 0x1_0000_0004;
 pub(super) const FIFTH: u64 = 0x1_0000_0005;
 
 /// Who makes the nodes.
-pub(super) const OWNER: Caller = Caller {
-    uid: 7,
-    now: 5,
-    verdict: Ok(()),
-};
+pub(super) const OWNER: Caller = Caller { uid: 7, now: 5 };
 
-pub(super) const OTHER: Caller = Caller {
-    uid: 8,
-    now: 5,
-    verdict: Ok(()),
-};
+pub(super) const OTHER: Caller = Caller { uid: 8, now: 5 };
 
 /// The attribute mode.
 pub(super) const MODE: [u32; 2] = [0, 2];
@@ -86,11 +78,11 @@ pub(super) fn play(
     fs: &mut Tree,
     rows: &[Row],
 ) -> Result<(), Fail> {
-    for (caller, call, want, bytes) in rows.iter().copied() {
+    for (place, (caller, call, want, bytes)) in rows.iter().copied().enumerate() {
         let mut out = Vec::new(alloc);
         let found = ask(alloc, fs, caller, call, &mut out);
-        assert!(rt; found == want, "{call:?}: {found:?}");
-        assert!(rt; out.as_slice() == bytes, "{call:?}: {out:?}");
+        assert!(rt; found == want, "row {place}: {found:?}");
+        assert!(rt; out.as_slice() == bytes, "row {place}: {out:?}");
     }
     Ok(())
 }

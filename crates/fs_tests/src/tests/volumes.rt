@@ -1,12 +1,14 @@
 //! Directories: what a mount finds, how much there is room for, and stops.
 
+use super::drivers::{
+    Answer, Call, Tree, ask, format, make_dir, mount, mount_on, mounted, refused,
+};
 use super::rows::{
     EXISTS, FIRST, MAKES_A, MODE_755, NO_ENTRY, NO_SPACE, OWNER, ROOT, Row, SECOND, STALE, begin,
     go_on, play, try_rows,
 };
 use disk::{CrashDevice, MemDevice, Stop, landings};
 use fs::{FsFault, MountFault};
-use fs_drivers::{Answer, Call, Tree, ask, format, make_dir, mount, mount_on, mounted, refused};
 use model::status::Status;
 use std::alloc::Global;
 use std::process::Abort;

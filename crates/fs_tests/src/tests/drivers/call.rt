@@ -2,17 +2,14 @@
 
 use acl_eval::{Cred, Gids};
 use fs::OpenEffect;
-use model::status::Status;
 
 /// Who calls, and when.
-#[derive(Clone, Copy, Debug)]
-pub struct Caller {
+#[derive(Clone, Copy)]
+pub(crate) struct Caller {
     /// The number of the user, and of his group.
-    pub uid: u32,
+    pub(crate) uid: u32,
     /// In nanoseconds since 1970.
-    pub now: u64,
-    /// On the stateid of a READ, a WRITE or a SETATTR.
-    pub verdict: Result<(), Status>,
+    pub(crate) now: u64,
 }
 
 impl Caller {
@@ -26,15 +23,15 @@ impl Caller {
 }
 
 /// Attributes that are given: the two words of their bitmap, and their values.
-#[derive(Clone, Copy, Debug)]
-pub struct Given<'a> {
-    pub bitmap: &'a [u32; 2],
-    pub values: &'a [u8],
+#[derive(Clone, Copy)]
+pub(crate) struct Given<'a> {
+    pub(crate) bitmap: &'a [u32; 2],
+    pub(crate) values: &'a [u8],
 }
 
 /// Whether an OPEN by a name makes a file.
-#[derive(Clone, Copy, Debug)]
-pub enum Make<'a> {
+#[derive(Clone, Copy)]
+pub(crate) enum Make<'a> {
     /// It has to be there.
     No,
     Unchecked(Given<'a>),
@@ -42,22 +39,14 @@ pub enum Make<'a> {
 }
 
 /// What is asked. The first number is that of the node, or of the directory that has the name.
-#[derive(Clone, Copy, Debug)]
-pub enum Call<'a> {
+#[derive(Clone, Copy)]
+pub(crate) enum Call<'a> {
     LookUp(u64, &'a [u8]),
-    Parent(u64),
-    /// ACCESS of these bits.
-    Access(u64, u32),
-    /// GETATTR by this bitmap.
-    Attributes(u64, &'a [u32]),
-    /// READDIR after a cookie with its verifier, of so many bytes, with the attributes of this
-    /// bitmap.
-    List(u64, (u64, [u8; 8]), u32, &'a [u32]),
+    /// READDIR after a cookie with its verifier, of so many bytes, without attributes.
+    List(u64, (u64, [u8; 8]), u32),
     MakeDir(u64, &'a [u8], Given<'a>),
     /// OPEN of a name to do this, and to deny that.
     Open(u64, &'a [u8], (u32, u32), Make<'a>),
-    /// OPEN of a file by its filehandle, and whether it may create one.
-    OpenCurrent(u64, (u32, u32), bool),
     Remove(u64, &'a [u8]),
     /// RENAME from a directory and name to another directory and name.
     Rename(u64, &'a [u8], u64, &'a [u8]),
@@ -76,21 +65,16 @@ pub enum Call<'a> {
 }
 
 /// What is answered, beside bytes.
-#[derive(Clone, Copy, Debug, PartialEq, Eq)]
-pub enum Answer {
+#[derive(Clone, Copy, Debug, PartialEq)]
+pub(crate) enum Answer {
     Done,
     /// The number of a node.
     Number(u64),
-    /// The bits that the node's kind has, and those that are granted.
-    Access(u32, u32),
-    /// Attributes that are to take so many bytes.
-    Attributes(usize),
     /// A page, and whether it is the last one.
     Page(bool),
     /// The number of a new directory, and the change of the one that holds it, before.
     Created(u64, u64),
-    /// The number of a file, what was done to it, and the change of its directory before and after,
-    /// 0 without a name.
+    /// The number of a file, what was done to it, and the change of its directory before and after.
     Opened(u64, OpenEffect, (u64, u64)),
     /// The number of what is gone, and the change of its directory before and after.
     Removed(u64, (u64, u64)),

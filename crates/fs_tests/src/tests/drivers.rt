@@ -1,0 +1,14 @@
+//! The calls of a file system over memory. Each stands here once, with no contract: a call brings
+//! all that it promises into the proof of its caller.
+
+mod asking;
+mod call;
+mod calls;
+mod changes;
+mod pages;
+mod volumes;
+
+pub(super) use asking::ask;
+pub(super) use call::{Answer, Call, Caller, Given, Make};
+pub(super) use changes::make_dir;
+pub(super) use volumes::{Tree, check, format, mount, mount_on, mounted, refused, remount};
