@@ -1,4 +1,0 @@
-pub mod Answers
-pub mod Opening
-pub mod Ready
-pub mod Steps

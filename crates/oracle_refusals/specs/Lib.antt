@@ -1,3 +1,0 @@
-pub mod Computed
-pub mod Listed
-pub mod States
