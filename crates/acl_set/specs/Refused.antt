@@ -4,6 +4,10 @@ use Rattle.model.specs.Inherit.{first_refused}
 use Rattle.model.specs.declared.acl.Ace.{Ace}
 use Rattle.model.specs.declared.node.NodeKind.{NodeKind}
 
+-- how many entries a client may set
+abbrev pub most_set : ℕ
+most_set = 32
+
 abbrev pub refused_of : ℕ → NodeKind → Option (List Ace) → Option ℕ
 refused_of most of None = None
 refused_of most of (Some acl) = first_refused most of acl

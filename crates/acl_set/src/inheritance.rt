@@ -4,7 +4,7 @@ ghost use Rattle.std.specs.Prelude.{◌≡◌, ◌≤◌, true, not, position, M
 ghost use Rattle.std.specs.Option.{ForSome, option_copied};
 ghost use Rattle.model.specs.Acl.{are_flags_for, has_width, inheritance, is_entry_for};
 ghost use Rattle.model.specs.Inherit.{is_inherited_by, inherited_flags, inherited, created_list, first_refused};
-ghost use Rattle.acl_set.specs.Refused.{refused_of};
+ghost use Rattle.acl_set.specs.Refused.{most_set, refused_of};
 
 use crate::fault::AclFault;
 use crate::modes::{MAX_MODE, with_mode};
@@ -133,7 +133,7 @@ fn first_unfit(kind: NodeKind, acl: &[Ace]) -> Option<usize>
 /// FILE_INHERIT or DIRECTORY_INHERIT, and no other flag than these four: that a number is a group's
 /// stands in the name.
 pub fn first_refused(kind: NodeKind, acl: &[Ace]) -> Option<usize>
-    ensures { result ≡ first_refused Acl.MAX_SET kind acl.now }
+    ensures { result ≡ first_refused most_set kind acl.now }
 {
     let place = first_unfit(kind, acl)
         .unwrap_or(acl.len())
@@ -156,7 +156,7 @@ pub fn at_creation(
     ensures list { IfOk result (λ list. list
         ≡ created_list parent.now kind given.now.empty given.now.mode
         (option_copied given.now.acl)) }
-    ensures refused { MatchOption (refused_of Acl.MAX_SET kind (option_copied given.now.acl))
+    ensures refused { MatchOption (refused_of most_set kind (option_copied given.now.acl))
         (IsOkUnless result AclFault.Memory)
         (λ place. result ≡ Err (AclFault.Ace place)) }
 {

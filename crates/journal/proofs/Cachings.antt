@@ -16,6 +16,7 @@ use Rattle.journal.specs.Layout.{targets, through}
 use Rattle.journal.specs.Settled.{AreSame}
 use Rattle.journal.specs.Transactions.{has}
 use Rattle.journal.proofs.Images.{Out-join, applied_out, put_other}
+use Rattle.journal.proofs.Fronts.{applied_keeps}
 use Rattle.journal.proofs.Journals.{targets_more}
 use Rattle.journal.proofs.Lists.{no_update, applied_at, not_has-out, out-not_has}
 
@@ -67,6 +68,18 @@ copies_flushed size size1 us next a b es at none same copies = record {
         was.0,
         omega (arith, was.1, at),
         was.2 ∙ same n (inr was.0, was.1) ∙ ap (λ (xs : List Update). applied xs b n) (sym none),
+      );
+}
+
+-- where the base was brought home
+pub copies_home : (size size1 : ℕ) (us : List Update) (a b : Image) (es : List (ℕ × List ℕ)) → size1 ≡ size
+    → AreSame size a b → AreCopies size (applied us a) es → AreCopies size1 (applied us b) es
+copies_home size size1 us a b es at same copies = record {
+  each = λ n content there.
+      let was = copies.each n content there in (
+        was.0,
+        omega (arith, was.1, at),
+        was.2 ∙ applied_keeps size us a b same n (inr was.0, was.1),
       );
 }
 

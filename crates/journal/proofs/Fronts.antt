@@ -9,7 +9,7 @@ use Rattle.journal.specs.Layout.{AreTargets, through, targets}
 use Rattle.journal.specs.Settled.{AreSame, Settles}
 use Rattle.journal.specs.Phase.{IsGated}
 use Rattle.journal.specs.Behind.{way_cost}
-use Rattle.journal.specs.Calls.{flush_cost}
+use Rattle.journal.specs.Calls.{checkpoint_cost, flush_cost}
 use Rattle.journal.specs.Commit.{AddsEither}
 use Rattle.journal.specs.Log.{Log, applied_all, contents, DoesAs, IsJoined, StandsForFront, Moved, Takes}
 use Rattle.journal.specs.Journal.{listed}
@@ -87,6 +87,21 @@ drop_push (vs ∷ list) us = drop_push list us
 
 none_joined : (list : List (List Update)) → list ≡ [] → IsJoined list []
 none_joined list e image n = ap (λ (xs : List (List Update)). applied_all xs image n) (sym e)
+
+-- where the base alone is left, none of the list is
+pub fronts_base : (size : ℕ) (list : List (List Update)) (base : Image) (h h1 : History) → AddsOnly (λ image. Settles size image base) h h1
+    → AddsOnly (StandsForFront size base list) h h1
+fronts_base size list base h h1 adds = AddsOnly-weaken (λ image. Settles size image base) (StandsForFront size base list) h h1
+    (λ image settles. record { count = 0; within = omega arith; settles = settles }) adds
+
+-- what it costs to copy them home
+pub checkpoint_cost_is : (shown : List ℕ) → (length shown ≡ 0 → ⊥) → checkpoint_cost shown ≡ length shown + 3
+checkpoint_cost_is [] filled = absurd (filled refl)
+checkpoint_cost_is (sector ∷ sectors) filled = refl
+
+pub all_keep : (size : ℕ) (list : List (List Update)) (a b : Image) → AreSame size a b → AreSame size (applied_all list a) (applied_all list b)
+all_keep size [] a b e = e
+all_keep size (us ∷ list) a b e = all_keep size list (applied us a) (applied us b) (applied_keeps size us a b e)
 
 -- one transaction in the place of all of a list
 pub joined_as_one : (list : List (List Update)) (us : List Update) → DoesAs us list → IsJoined list (listed us)

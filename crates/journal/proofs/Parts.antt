@@ -12,7 +12,7 @@ use Rattle.journal.proofs.Fronts.{settled_of}
 use Rattle.journal.proofs.Journals.{gated_of}
 
 -- what a crash leaves of a journal that is up
-settled_up : {D : _} {g : _} (journal : Journal D g) → g.keeps_word → journal.is_down ≡ false → IsSettled (log_of journal)
+pub settled_up : {D : _} {g : _} (journal : Journal D g) → g.keeps_word → journal.is_down ≡ false → IsSettled (log_of journal)
 unfolding log_of
 settled_up {D} {g} journal k up =
     settled_of (g.size journal.device) journal.shown.items (g.history journal.device) journal.shown_fits.few journal.shown_fits.fit

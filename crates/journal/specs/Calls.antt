@@ -53,6 +53,18 @@ pub record GoesThroughFirst (keeps_word : Type 0) (updates : List Update) (was n
   pub kept : FitTogether (list_with old updates) → now ≡ was
   pub flushed : (FitTogether (list_with old updates) → ⊥) → GoesThrough keeps_word was now old new
 
+-- What it costs to copy home what the gate names: each of its sectors, a sync, the closed gate, and a
+-- sync. A closed gate costs nothing.
+abbrev pub checkpoint_cost : List ℕ → ℕ
+checkpoint_cost [] = 0
+checkpoint_cost (sector ∷ sectors) = length (sector ∷ sectors) + 3
+
+-- What the gate named is at home. The base is as it was, and what waits still waits.
+pub record HasCheckpointed (keeps_word : Type 0) (shown : List ℕ) (old new : Log) : Type 0 where
+  pub base : keeps_word → AreSame old.size old.base new.base
+  pub contents : keeps_word → AreSame old.size (contents old) (contents new)
+  pub cost : keeps_word → Costs (checkpoint_cost shown) old new
+
 -- sector 0 with this content
 abbrev pub first_sector : List ℕ → Update
 first_sector content = record { target = 0; content = content }

@@ -19,6 +19,10 @@ payload_sectors = 96
 abbrev pub first_target : ℕ
 first_target = 98
 
+-- how many sectors one transaction may write
+abbrev pub max_updates : ℕ
+max_updates = 48
+
 -- sectors that a transaction may write: from the first one after the payload on, on the device, and
 -- all different
 pub record AreTargets (size : ℕ) (to : List ℕ) : Type 0 where

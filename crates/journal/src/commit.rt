@@ -67,6 +67,27 @@ pub(crate) fn make_way<D: Device>(
     if gate::goes_behind(shown, to) {
         return Ok(());
     }
+    close(device, shown)?;
+    Ok(())
+}
+
+/// Copies home what the gate shows, and closes it.
+pub(crate) fn close<D: Device>(device: &mut D, shown: &mut Vec<u32>) -> Result<(), DiskFault>
+    requires fits { FitsGate (D.size device.old) shown.old.items }
+    requires large { FIRST_TARGET ≤ D.size device.old }
+    // On a device that keeps its word
+    ensures moments { D.keeps_word → IsGated shown.old.items (D.history device.old)
+        → KeepsShown (D.size device.old) shown.old.items
+        (D.history device.old) (D.history device.new) }
+    ensures ok { D.keeps_word → IsGated shown.old.items (D.history device.old)
+        → OnOk result (IsCopiedHome (D.size device.old) shown.old.items
+        (D.history device.old) (D.history device.new)) }
+    // On any device
+    ensures shown { OnOk result (shown.new.items ≡ []) }
+    ensures kept { KeepsRoom (D.size device.old) shown.old shown.new }
+    ensures size { D.size device.new ≡ D.size device.old }
+    ensures failures { FailsCounted (D.failed device.old) (D.failed device.new) result }
+{
     replay(device, shown)?;
     shown.clear();
     Ok(())

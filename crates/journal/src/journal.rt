@@ -4,10 +4,10 @@ ghost use Rattle.std.specs.Prelude.{◌≡◌, ◌≤◌, ◌<◌, ◌⊎◌, �
 ghost use Rattle.disk.specs.Moments.{applied, seen, moment};
 ghost use Rattle.journal.specs.declared.layout.TheConstants.{MIN_SECTORS, PAYLOAD_SECTORS};
 ghost use Rattle.journal.specs.Behind.{FitsGate};
-ghost use Rattle.journal.specs.Calls.{AddsFirst, GoesThrough, GoesThroughFirst, HasApplied, HasFlushed, HasWritten, IsPart, IsSafe, list_with};
+ghost use Rattle.journal.specs.Calls.{AddsFirst, GoesThrough, GoesThroughFirst, HasApplied, HasCheckpointed, HasFlushed, HasWritten, IsPart, IsSafe, list_with};
 ghost use Rattle.journal.specs.Format.{AddsFormats, IsFormatted};
 ghost use Rattle.journal.specs.Cached.{AreCopies};
-ghost use Rattle.journal.specs.Layout.{AreTargets, gate, targets, through};
+ghost use Rattle.journal.specs.Layout.{AreTargets, gate, max_updates, targets, through};
 ghost use Rattle.journal.specs.Log.{Answers, Moved, contents};
 ghost use Rattle.journal.specs.MountAnswers.{ComesBack, HasMounted, IsNew, IsMountRefused};
 ghost use Rattle.journal.specs.Phase.{FailsCounted};
@@ -20,8 +20,8 @@ use disk::{Device, DiskFault, SECTOR, Update};
 use std::alloc::{AllocError, Global};
 use std::num::NonZeroUsize;
 
-/// How many sectors a mount keeps in memory.
-const CACHED_SECTORS: usize = 64;
+/// How many sectors a mount keeps in memory where its caller names no number.
+pub const CACHED_SECTORS: usize = 64;
 
 /// A journal over a device.
 ///
@@ -307,6 +307,39 @@ impl<D: Device> Journal<D> {
         Ok(())
     }
 
+    /// Copies home what the open gate names, and closes it, so that the next flush finds it closed.
+    /// The base and the list stay. Where the gate is closed, nothing is done. Takes no memory.
+    ///
+    /// # Errors
+    ///
+    /// [`JournalFault::Fault`] where the device failed, and [`JournalFault::Down`] from then on.
+    pub fn checkpoint(&mut self) -> Result<(), JournalFault>
+        ensures safe { IsSafe D.keeps_word (log_of self.old) (log_of self.new) }
+        ensures list { (log_of self.new).list ≡ (log_of self.old).list }
+        ensures ok { OnOk result (HasCheckpointed D.keeps_word (shown_of self.old)
+            (log_of self.old) (log_of self.new)) }
+        ensures closed { OnOk result (shown_of self.new ≡ []) }
+        ensures nothing { shown_of self.old ≡ [] → log_of self.new ≡ log_of self.old }
+        // Refused
+        ensures answers { Answers (log_of self.old) (log_of self.new)
+            (failures_of self.old) (failures_of self.new) result }
+        ensures refuses { IfErr result
+            (λ fault. (fault ≡ JournalFault.Fault) ⊎ (fault ≡ JournalFault.Down)) }
+    {
+        if self.is_down {
+            return Err(JournalFault::Down);
+        }
+        if self.shown.is_empty() {
+            return Ok(());
+        }
+        self.is_down = true;
+        if commit::close(&mut self.device, &mut self.shown).is_err() {
+            return Err(JournalFault::Fault);
+        }
+        self.is_down = false;
+        Ok(())
+    }
+
     /// Takes the list into the base, if there is one.
     fn take_all(&mut self) -> Result<(), DiskFault>
         requires { (log_of self.old).is_down ≡ false }
@@ -380,7 +413,7 @@ impl<D: Device> Journal<D> {
             (shown_of self.old) (shown_of self.new) (log_of self.old) (log_of self.new)) }
         // Refused
         ensures too_many { (log_of self.old).is_down ≡ false
-            → IsErrOf result JournalFault.TooMany ↔ (MAX_UPDATES < length updates.items) }
+            → IsErrOf result JournalFault.TooMany ↔ (max_updates < length updates.items) }
         ensures unchanged { IsErrOf result JournalFault.TooMany
             → log_of self.new ≡ log_of self.old }
         ensures answers { Answers (log_of self.old) (log_of self.new)

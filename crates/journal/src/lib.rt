@@ -14,7 +14,7 @@ mod recover;
 mod view;
 
 pub use fault::{JournalFault, Unmounted};
-pub use journal::Journal;
+pub use journal::{CACHED_SECTORS, Journal};
 pub use laws::every_end;
 pub use layout::{FIRST_TARGET, MAX_UPDATES, MIN_SECTORS, PAYLOAD_SECTORS};
 pub use view::View;
