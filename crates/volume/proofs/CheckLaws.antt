@@ -1,5 +1,5 @@
 -- How a check answers, by what its parts find.
-use Rattle.std.proofs.Common.{◌≡◌, ◌≢◌, ◌<◌, ◌≤◌, ◌⊎◌, ◌^◌, ℕ, Bool, List, Option, Err, ⊎_elim, refl, sym, ◌∙◌, subst}
+use Rattle.std.proofs.Common.{◌≡◌, ◌≢◌, ◌<◌, ◌≤◌, ◌⊎◌, ◌^◌, ℕ, Bool, List, Option, Err, ⊎_elim, ap, refl, sym, ◌∙◌, subst}
 use Rattle.std.proofs.Math.Logic.{∥∥₁_map}
 use Rattle.disk.specs.Cause.{IsCounted}
 use Rattle.disk.specs.Moments.{Image, History, seen}
@@ -29,12 +29,13 @@ use Rattle.volume.proofs.FoundLaws.{found_stands, is_volume_there, spelled}
 -- what a check that is refused says by its fault
 pub check_refused : {D : Type 0} (keeps_word : Type 0) (size failed : D → ℕ) (history : D → History) (old new : D) (fault : MountFault)
     → (keeps_word → FailsCheck (size old) (history old) fault) → (fault ≡ mounts.Worn → ⊥) → (fault ≡ mounts.Device → IsCounted (failed old) (failed new))
-    → history new ≡ history old → failed old ≤ failed new → size new ≡ size old → Checks keeps_word size failed history old new (Err fault)
-check_refused keeps_word size failed history old new fault err never_worn cause untouched later same_size = record {
+    → ((fault ≡ mounts.Device → ⊥) → failed new ≡ failed old) → history new ≡ history old → failed old ≤ failed new → size new ≡ size old → Checks keeps_word size failed history old new (Err fault)
+check_refused keeps_word size failed history old new fault err never_worn cause none untouched later same_size = record {
   ok = λ k. tt;
   err = err;
   never_worn = λ is. never_worn (cc);
   cause = λ is. cause (cc);
+  none = λ other. none (λ is. other (ap (λ x. Err x) is));
   untouched = untouched;
   later = later;
   same_size = same_size;

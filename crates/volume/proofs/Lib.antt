@@ -2,6 +2,7 @@ pub mod ApplyLaws
 pub mod BeginLaws
 pub mod ChangeLaws
 pub mod CheckLaws
+pub mod CheckpointLaws
 pub mod EditLaws
 pub mod FirstLaws
 pub mod FormatLaws

@@ -19,7 +19,7 @@ use Rattle.model.specs.declared.limits.Limits.{Limits}
 use Rattle.model.specs.Tree.{Tree}
 use Rattle.journal.specs.declared.fault.JournalFault.{JournalFault}
 use Rattle.journal.specs.declared.fault.JournalFault.TheVariants as faults
-use Rattle.volume.specs.Changes.{Done, Nothing, Broken, IsTree, Changes, ending_of}
+use Rattle.volume.specs.Changes.{Given, Done, Nothing, Broken, IsTree, Changes, ending_of}
 use Rattle.volume.specs.Refusals.{fault_of}
 use Rattle.volume.specs.Held.{Held, IsSameVolume, Holds, MayAdd, StandsForOne, AddsTrees, fronts_from}
 use Rattle.volume.specs.Known.{IsServing}
@@ -69,7 +69,7 @@ flush_adds limits run cards old new after adds recent is = AddsOnly-weaken
     ))
     adds
 
-among_one : {A : Type 0} (only other : A) → IsAmong (only ∷ []) other → other ≡ only
+pub among_one : {A : Type 0} (only other : A) → IsAmong (only ∷ []) other → other ≡ only
 among_one only other among = by_place among.0 among.1.0 among.1.1
   where
     by_place : (place : ℕ) → place < length (only ∷ []) → other ≡ get_or (only ∷ []) place other → other ≡ only
@@ -144,21 +144,21 @@ module _ (keeps_word : Type 0) (limits : Limits) (run : ℕ) (cards : List (Opti
             (∥∥₁_elim (serves k) ∥∥₁_prop (λ serving. ∥∥₁_elim (still_serving limits.nodes run cards old new (flushed.contents k) safe.size (safe.settled k false_from_ne_true) serving) ∥∥₁_prop (λ now. now.stands)))
             (safe.settled k false_from_ne_true)
 
-    pub flush_broken : new.is_down ≡ true → IsCounted before after → Changes keeps_word (IsTree was.tree) was is before after Broken
-    flush_broken down counted = record {
+    pub flush_broken : (given : Given) → new.is_down ≡ true → IsCounted before after → Changes keeps_word given was is before after Broken
+    flush_broken given down counted = record {
       same = same_volume safe.size;
       later = later;
       none = λ other. absurd (other refl);
-      moments = λ k tree lasts given. flush_adds limits run cards old new tree (safe.moments k);
+      moments = λ k tree lasts of. flush_adds limits run cards old new tree (safe.moments k);
       ends = record { down = down; cause = counted };
     }
 
-    pub flush_nothing : after ≡ before → new ≡ old → Changes keeps_word (IsTree was.tree) was is before after Nothing
-    flush_nothing told same = record {
+    pub flush_nothing : (given : Given) → after ≡ before → new ≡ old → Changes keeps_word given was is before after Nothing
+    flush_nothing given told same = record {
       same = same_volume safe.size;
       later = later;
       none = λ other. told;
-      moments = λ k tree lasts given. flush_adds limits run cards old new tree (safe.moments k);
+      moments = λ k tree lasts of. flush_adds limits run cards old new tree (safe.moments k);
       ends = ap (held_by limits run cards) same;
     }
 
@@ -175,26 +175,26 @@ found_up old new before after done answers =
     let found : old.is_down ≡ false = false_from_ne_true old.is_down (λ down. let told = answers.down.1 down in cc) in
     (found, answers.stays_up found (λ fault. cc))
 
--- a flush that leaves it up has flushed
-pub up_flushed : (keeps_word : Type 0) (old new : Log) (before after : ℕ) (result : Result (Unit {0}) JournalFault) → OnOk result (HasFlushed keeps_word old new)
+-- a call that leaves it up has answered
+pub up_answered : (keeps_word : Type 0) (old new : Log) (before after : ℕ) (P : Type 0) (result : Result (Unit {0}) JournalFault) → OnOk result P
     → Answers old new before after result → IfErr result (λ fault. (fault ≡ faults.Fault) ⊎ (fault ≡ faults.Down)) → new.is_down ≡ false
-    → HasFlushed keeps_word old new × (old.is_down ≡ false)
-up_flushed keeps_word old new before after (Ok done) flushed answers refuses is_up = (flushed, (found_up old new before after done answers).0)
-up_flushed keeps_word old new before after (Err fault) flushed answers refuses is_up = ⊎_elim
+    → P × (old.is_down ≡ false)
+up_answered keeps_word old new before after P (Ok done) answered answers refuses is_up = (answered, (found_up old new before after done answers).0)
+up_answered keeps_word old new before after P (Err fault) answered answers refuses is_up = ⊎_elim
     (λ (broken : fault ≡ faults.Fault). absurd (down_up new.is_down (answers.goes_down (ap Err broken)) is_up))
     (λ (down : fault ≡ faults.Down). absurd (down_up new.is_down (ap (λ (log : Log). log.is_down) (answers.untouched (ap Err down)).0 ∙ answers.down.0 (ap Err down)) is_up))
     refuses
 
-pub flush_refused : (keeps_word : Type 0) (limits : Limits) (run : ℕ) (cards : List (Option Card)) (old new : Log) (before after : ℕ) (fault : JournalFault)
+pub flush_refused : (keeps_word : Type 0) (given : Given) (limits : Limits) (run : ℕ) (cards : List (Option Card)) (old new : Log) (before after : ℕ) (fault : JournalFault)
     → IsSafe keeps_word old new → Answers {T = Unit {0}} old new before after (Err fault) → (fault ≡ faults.Fault) ⊎ (fault ≡ faults.Down)
-    → Changes keeps_word (IsTree (tree_of (contents old) cards)) (held_by limits run cards old) (held_by limits run cards new) before after (ending_of {T = Unit {0}} (Err (fault_of fault)))
-flush_refused keeps_word limits run cards old new before after faults.Fault safe answers refuses =
-    flush_broken keeps_word limits run cards old new before after safe answers.later (answers.goes_down refl) (answers.counted refl)
-flush_refused keeps_word limits run cards old new before after faults.Down safe answers refuses =
-    flush_nothing keeps_word limits run cards old new before after safe answers.later (answers.untouched refl).1 (answers.untouched refl).0
-flush_refused keeps_word limits run cards old new before after faults.Memory safe answers refuses = absurd (⊎_elim (λ (is : faults.Memory ≡ faults.Fault). cc) (λ (is : faults.Memory ≡ faults.Down). cc) refuses)
-flush_refused keeps_word limits run cards old new before after faults.Damaged safe answers refuses = absurd (⊎_elim (λ (is : faults.Damaged ≡ faults.Fault). cc) (λ (is : faults.Damaged ≡ faults.Down). cc) refuses)
-flush_refused keeps_word limits run cards old new before after faults.TooMany safe answers refuses = absurd (⊎_elim (λ (is : faults.TooMany ≡ faults.Fault). cc) (λ (is : faults.TooMany ≡ faults.Down). cc) refuses)
+    → Changes keeps_word given (held_by limits run cards old) (held_by limits run cards new) before after (ending_of {T = Unit {0}} (Err (fault_of fault)))
+flush_refused keeps_word given limits run cards old new before after faults.Fault safe answers refuses =
+    flush_broken keeps_word limits run cards old new before after safe answers.later given (answers.goes_down refl) (answers.counted refl)
+flush_refused keeps_word given limits run cards old new before after faults.Down safe answers refuses =
+    flush_nothing keeps_word limits run cards old new before after safe answers.later given (answers.untouched refl).1 (answers.untouched refl).0
+flush_refused keeps_word given limits run cards old new before after faults.Memory safe answers refuses = absurd (⊎_elim (λ (is : faults.Memory ≡ faults.Fault). cc) (λ (is : faults.Memory ≡ faults.Down). cc) refuses)
+flush_refused keeps_word given limits run cards old new before after faults.Damaged safe answers refuses = absurd (⊎_elim (λ (is : faults.Damaged ≡ faults.Fault). cc) (λ (is : faults.Damaged ≡ faults.Down). cc) refuses)
+flush_refused keeps_word given limits run cards old new before after faults.TooMany safe answers refuses = absurd (⊎_elim (λ (is : faults.TooMany ≡ faults.Fault). cc) (λ (is : faults.TooMany ≡ faults.Down). cc) refuses)
 
 -- what a `?` hands on
 pub told_err : {T E : Type 0} (result : Result T E) (reason : E) → IsErrAnd result (λ told. told ≡ reason) → result ≡ Err reason

@@ -31,6 +31,10 @@ Given = (after : Tree) → (lasts : Bool) → Type 0
 abbrev pub IsTree : Tree → Given
 IsTree tree after lasts = after ≡ tree
 
+-- that it is this tree, and that nothing has to last that did not before
+abbrev pub Stays : Tree → Given
+Stays tree after lasts = (after ≡ tree) × (lasts ≡ false)
+
 -- a stop after the call leaves these trees: of those before and the one after it, and of what has
 -- to last that one alone
 pub record Leaves (new : Held) (after : Tree) (lasts : Bool) (recent left : List Tree)

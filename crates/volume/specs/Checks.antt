@@ -44,14 +44,15 @@ FailsCheck sectors old mounts.Worn = ⊥
 FailsCheck sectors old mounts.Memory = ⊤
 FailsCheck sectors old mounts.Device = ⊤
 
--- A check writes nothing, on any device. It never answers Worn, and Device only where a failure was
--- counted.
+-- A check writes nothing, on any device. It never answers Worn, and Device exactly where a failure
+-- was counted.
 pub record Checks {D : Type 0} (keeps_word : Type 0) (size failed : D → ℕ) (history : D → History)
     (old new : D) (result : Result Checked MountFault) : Type 0 where
   pub ok : keeps_word → IfOk result (HasChecked (size old) (history old))
   pub err : keeps_word → IfErr result (FailsCheck (size old) (history old))
   pub never_worn : IsErrOf result mounts.Worn → ⊥
   pub cause : IsErrOf result mounts.Device → IsCounted (failed old) (failed new)
+  pub none : (IsErrOf result mounts.Device → ⊥) → failed new ≡ failed old
   pub untouched : history new ≡ history old
   pub later : failed old ≤ failed new
   pub same_size : size new ≡ size old

@@ -57,6 +57,10 @@ pub record IsRecent (held : Held) (recent : List Tree) : Type 0 where
       × ∥ Stands held.sectors held.limits.nodes front held.run tree ∥₁
   pub newest : IsAmong recent held.tree
 
+-- whichever trees a stop might leave before, it may leave now, and no others
+abbrev pub KeepsRecent : (old new : Held) → Type 0
+KeepsRecent old new = (recent : List Tree) → IsRecent old recent → IsRecent new recent
+
 -- a stop leaves the tree in memory
 abbrev pub Holds : Held → Type 0
 Holds held = IsRecent held (held.tree ∷ [])

@@ -19,10 +19,11 @@ use crate::store::Store;
 use cards::{Card, Table};
 use disk::Device;
 use freemap::Bitmap;
-use journal::Journal;
+use journal::{CACHED_SECTORS, Journal};
 use model::limits::Limits;
 use parents::Parents;
 use std::alloc::Global;
+use std::num::NonZeroUsize;
 
 /// A mounted volume.
 ///
@@ -62,9 +63,9 @@ impl<D: Device> Volume<D> {
     ghost use Rattle.journal.specs.Journal.{log_of, failures_of};
     ghost use Rattle.layout.specs.Known.{IsCard};
     ghost use Rattle.model.specs.Keyed.{at};
-    ghost use Rattle.volume.specs.Changes.{IsTree, ending_of};
+    ghost use Rattle.volume.specs.Changes.{IsTree, Stays, ending_of};
     ghost use Rattle.volume.specs.Formed.{Shows};
-    ghost use Rattle.volume.specs.Held.{IsNew};
+    ghost use Rattle.volume.specs.Held.{IsNew, KeepsRecent};
     ghost use Rattle.volume.specs.Loads.{HoldsBase};
     ghost use Rattle.volume.specs.MountAnswers.{MountServes, MountGivesBack, ComesBack};
     ghost use Rattle.volume.specs.Mounts.{IsVolumeOf, IsAtRest, HasBegun, IsNotBegun};
@@ -73,14 +74,33 @@ impl<D: Device> Volume<D> {
 
     /// Mounts the volume: finds it by its first sector, copies home what an open gate shows, reads
     /// its nodes, and raises the restart count. Every map that a stop leaves from then on has the
-    /// new count, which is this mount's run.
+    /// new count, which is this mount's run. Its journal keeps 64 sectors in memory.
+    ///
+    /// # Errors
+    ///
+    /// As [`Volume::mount_cached`].
+    pub fn mount(alloc: Global, device: D) -> Result<Volume<D>, Unmounted<D>>
+        ensures serves { IfOk result (λ volume. MountServes D.keeps_word D.size D.failed D.history
+            device (held_of volume) (volume_failures volume)) }
+        ensures gives_back { IfErr result (MountGivesBack D.keeps_word D.size D.failed D.history
+            device) }
+    {
+        let cached = NonZeroUsize::new(CACHED_SECTORS).unwrap_or(NonZeroUsize::MIN);
+        Volume::mount_cached(alloc, device, cached)
+    }
+
+    /// The same, with a journal that keeps so many sectors in memory.
     ///
     /// # Errors
     ///
     /// The device comes back with the reason. NotVolume, then Worn, by the first sector, and then
     /// nothing was written; then Damaged exactly where no tree stands; Device where the device
     /// failed, and Memory.
-    pub fn mount(alloc: Global, device: D) -> Result<Volume<D>, Unmounted<D>>
+    pub fn mount_cached(
+        alloc: Global,
+        device: D,
+        cached: NonZeroUsize,
+    ) -> Result<Volume<D>, Unmounted<D>>
         ensures serves { IfOk result (λ volume. MountServes D.keeps_word D.size D.failed D.history
             device (held_of volume) (volume_failures volume)) }
         ensures gives_back { IfErr result (MountGivesBack D.keeps_word D.size D.failed D.history
@@ -91,7 +111,7 @@ impl<D: Device> Volume<D> {
             Ok(found) => found,
             Err(fault) => return Err(Unmounted { fault, device }),
         };
-        match Journal::mount(alloc, device) {
+        match Journal::mount_cached(alloc, device, cached) {
             Ok(journal) => Volume::begin(alloc, journal, found),
             Err(refused) => Err(Unmounted {
                 fault: refused.fault.into(),
@@ -206,6 +226,28 @@ impl<D: Device> Volume<D> {
             (fault ≡ VolumeFault.Device) ⊎ (fault ≡ VolumeFault.Down)) }
     {
         self.store.journal.flush()?;
+        Ok(())
+    }
+
+    /// Copies home what the journal's open gate names, and closes it: the next change that is kept
+    /// waits for two syncs, and not for four. The tree stays, and so does what a stop may leave.
+    ///
+    /// # Errors
+    ///
+    /// Those of [`Volume::flush`].
+    pub fn checkpoint(&mut self) -> Result<(), VolumeFault>
+        ensures volume { Alters self.old self.new
+            (Stays (held_of self.old).tree) (ending_of result) }
+        ensures shows { OnOk result (Shows D.keeps_word (held_of self.old).tree
+            (held_of self.new).tree) }
+        ensures recent { D.keeps_word → OnOk result
+            (KeepsRecent (held_of self.old) (held_of self.new)) }
+        // Refused
+        ensures down { IsErrOf result VolumeFault.Down ↔ ((held_of self.old).is_down ≡ true) }
+        ensures refuses { IfErr result (λ fault.
+            (fault ≡ VolumeFault.Device) ⊎ (fault ≡ VolumeFault.Down)) }
+    {
+        self.store.journal.checkpoint()?;
         Ok(())
     }
 }

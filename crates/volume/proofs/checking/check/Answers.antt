@@ -15,6 +15,7 @@ returns-in-Err g c =
     (λ k. look_fails (D.size c.args.device.now) (D.history c.args.device.now) c.in-Err.fault (c.in-Err.ensures.seen k))
     (λ is. c.in-Err.ensures.never_worn (ap (λ x. Err x) is))
     (λ is. c.in-Err.ensures.cause (ap (λ x. Err x) is))
+    (λ other. c.in-Err.ensures.none (λ is. other (cc)))
     c.look.ensures.history c.look.ensures.later c.look.ensures.same_size
 
 pub returns-in-Err-view : goal.returns-in-Err-view
@@ -29,6 +30,7 @@ returns-in-Err-view g c =
     (subst (λ (h : History). HasNoForm (D.size c.look.new.device) h) c.look.ensures.history (c.in-Err-view.ensures.damaged k is)))))
     (λ is. search rules)
     (λ is. search rules)
+    (λ other. search rules)
     (search rules) (search rules) (search rules)
 
 pub read_nodes-requires-clause-base : goal.read_nodes-requires-clause-base
@@ -60,6 +62,7 @@ returns-in-Err-read_nodes g c =
     (λ is. c.in-Err-read_nodes.ensures.damaged k (ap (λ x. Err x) is)) c.in-Err-read_nodes.ensures.only)
     (λ is. search rules)
     (λ is. let failed = (c.in-Err-read_nodes.ensures.health.fails (ap (λ x. Err x) is)).cause in search (rules, failed))
+    (λ other. search rules)
     (search rules) (search rules) (search rules)
 
 pub returns : goal.returns
@@ -81,6 +84,7 @@ returns g c =
       err = λ k. tt;
       never_worn = λ is. let never : ⊥ = cc in never;
       cause = λ is. let never : ⊥ = cc in absurd never;
+      none = λ other. search rules;
       untouched = search rules;
       later = search rules;
       same_size = search rules;

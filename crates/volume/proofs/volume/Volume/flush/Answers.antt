@@ -2,13 +2,15 @@ use Rattle.std.proofs.Common.{◌∙◌, ℕ, sym, ap, subst, arith}
 use Rattle.std.specs.Prelude.{IsTrue}
 use Rattle.journal.specs.Journal.{log_of}
 use Rattle.journal.specs.Log.{Log, contents}
+use Rattle.layout.specs.Cards.{tree_of}
 use Rattle.layout.specs.Superblock.{is_size}
 use Rattle.model.specs.Limits.{limits_of}
+use Rattle.volume.specs.Changes.{IsTree}
 use Rattle.volume.specs.Known.{IsKnown}
 use Rattle.volume.specs.Refusals.{fault_of}
 use Rattle.volume.specs.Views.{held_of, volume_failures}
 use Rattle.volume.proofs.FormedLaws.{shows_same}
-use Rattle.volume.proofs.ServeLaws.{flush_done, flush_keeps, flush_serves, flush_refused, found_up, up_flushed, told_err}
+use Rattle.volume.proofs.ServeLaws.{flush_done, flush_keeps, flush_serves, flush_refused, found_up, up_answered, told_err}
 use Rattle.volume.proofs.volume.Volume.flush.Goals as goal
 
 pub invariant_of-self : goal.invariant_of-self
@@ -26,7 +28,7 @@ invariant_of-self g c =
       known = subst (λ (n : ℕ). IsKnown n nodes volume.table volume.places) size volume.known;
       named = c.args.self.now.named;
       serves = λ k up.
-          let flushed = up_flushed g.D.Device.keeps_word old new _ _ c.flush.result c.flush.ensures.ok c.flush.ensures.answers c.flush.ensures.refuses up in
+          let flushed = up_answered g.D.Device.keeps_word old new _ _ _ c.flush.result c.flush.ensures.ok c.flush.ensures.answers c.flush.ensures.refuses up in
           flush_serves g.D.Device.keeps_word volume.limits volume.run volume.table old new 0 0 c.flush.ensures.safe (omega arith) k up (flushed.0.contents k)
           (λ word. volume.serves word flushed.1);
     }
@@ -39,7 +41,7 @@ returns-in_err-flush-clause-volume g c =
     let new : Log = log_of c.flush.new.self in
     let fault = c.in_err-flush.field-0.0 in
     let told = told_err c.from_residual.result (fault_of fault) c.from_residual.ensures.1 in
-    rw told (flush_refused g.D.Device.keeps_word volume.limits volume.run volume.table old new _ _ fault c.in_err-flush.ensures.safe
+    rw told (flush_refused g.D.Device.keeps_word (IsTree (tree_of (contents old) volume.table)) volume.limits volume.run volume.table old new _ _ fault c.in_err-flush.ensures.safe
     c.in_err-flush.ensures.answers c.in_err-flush.ensures.refuses)
 
 pub returns-clause-volume : goal.returns-clause-volume

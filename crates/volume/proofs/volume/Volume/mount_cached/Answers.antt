@@ -10,7 +10,7 @@ use Rattle.journal.proofs.First.{first_kept}
 use Rattle.volume.proofs.FoundLaws.{if_ok_all, if_err_all}
 use Rattle.volume.proofs.MountedLaws.{refused_untouched, first_reason, back_since, gate_counted, gate_refused, begun_found, begin_refused}
 use Rattle.volume.proofs.StandLaws.{sized, large}
-use Rattle.volume.proofs.volume.Volume.mount.Goals as goal
+use Rattle.volume.proofs.volume.Volume.mount_cached.Goals as goal
 
 pub returns-in-Err-clause-gives_back : goal.returns-in-Err-clause-gives_back
 returns-in-Err-clause-gives_back g c = record {
@@ -32,21 +32,21 @@ begin-requires-clause-base g c = λ k.
     let D = g.D.Device in
     let enough = large c.in-Ok.found.sectors c.in-Ok.found.nodes c.in-Ok.ensures.volume.sized in
     record {
-      first = first_kept (D.size c.find.new.device) (seen (D.history c.find.new.device).now) (log_of c.in-Ok-mount.journal).base
-          (omega (arith, enough, c.in-Ok.ensures.volume.size, c.find.ensures.same_size)) ((c.in-Ok-mount.ensures.mounted k).base)
+      first = first_kept (D.size c.find.new.device) (seen (D.history c.find.new.device).now) (log_of c.in-Ok-mount_cached.journal).base
+          (omega (arith, enough, c.in-Ok.ensures.volume.size, c.find.ensures.same_size)) ((c.in-Ok-mount_cached.ensures.mounted k).base)
           ∙ (ap (λ (h : History). seen h.now 0) c.find.ensures.history ∙ (c.in-Ok.ensures.told k).1);
-      sectors = λ n within. (c.in-Ok-mount.ensures.mounted k).sectors n (subst (λ (s : ℕ). n < s) c.in-Ok-mount.ensures.new.size within);
+      sectors = λ n within. (c.in-Ok-mount_cached.ensures.mounted k).sectors n (subst (λ (s : ℕ). n < s) c.in-Ok-mount_cached.ensures.new.size within);
     }
 
-pub returns-in-Err-mount-clause-gives_back : goal.returns-in-Err-mount-clause-gives_back
-returns-in-Err-mount-clause-gives_back g c =
+pub returns-in-Err-mount_cached-clause-gives_back : goal.returns-in-Err-mount_cached-clause-gives_back
+returns-in-Err-mount_cached-clause-gives_back g c =
     let D = g.D.Device in
     let sectors : ℕ = D.size c.args.device in
     let old : History = D.history c.args.device in
-    let device = c.in-Err-mount.refused.device in
+    let device = c.in-Err-mount_cached.refused.device in
     let new : History = D.history device in
-    let fault = c.in-Err-mount.refused.fault in
-    let back = c.in-Err-mount.ensures.back in
+    let fault = c.in-Err-mount_cached.refused.fault in
+    let back = c.in-Err-mount_cached.ensures.back in
     record {
       back = back_since D.size D.failed sectors (D.failed c.args.device) (D.size c.find.new.device) (D.failed c.find.new.device) _ c.find.ensures.same_size (c.in-Ok.ensures.none (λ is. absurd (cc)))
           (record {
@@ -57,46 +57,46 @@ returns-in-Err-mount-clause-gives_back g c =
           });
       refused = λ k.
           let told : journal.IsMountRefused sectors old new fault = subst (λ (n : ℕ). journal.IsMountRefused n old new fault) c.find.ensures.same_size
-          (subst (λ (h : History). journal.IsMountRefused (D.size c.find.new.device) h new fault) c.find.ensures.history (c.in-Err-mount.ensures.refused k)) in
+          (subst (λ (h : History). journal.IsMountRefused (D.size c.find.new.device) h new fault) c.find.ensures.history (c.in-Err-mount_cached.ensures.refused k)) in
           subst (IsMountRefused sectors old new) (sym c.into.ensures)
           (gate_refused sectors old new (c.in-Ok.ensures.told k).0 told.refused fault told.damaged (λ is. ap D.history (back.memory is) ∙ c.find.ensures.history));
     }
 
-pub returns-in-Ok-mount-clause-serves : goal.returns-in-Ok-mount-clause-serves
-returns-in-Ok-mount-clause-serves g c =
+pub returns-in-Ok-mount_cached-clause-serves : goal.returns-in-Ok-mount_cached-clause-serves
+returns-in-Ok-mount_cached-clause-serves g c =
     let D = g.D.Device in
     let sectors : ℕ = D.size c.args.device in
     let old : History = D.history c.args.device in
     let found = c.in-Ok.found in
-    let log = log_of c.in-Ok-mount.journal in
+    let log = log_of c.in-Ok-mount_cached.journal in
     let parts = sized found.sectors found.nodes c.in-Ok.ensures.volume.sized in
     let word = D.keeps_word in
     let mounted : word → journal.HasMounted sectors old log = λ k. subst (λ (n : ℕ). journal.HasMounted n old log) c.find.ensures.same_size
-    (subst (λ (h : History). journal.HasMounted (D.size c.find.new.device) h log) c.find.ensures.history (c.in-Ok-mount.ensures.mounted k)) in
+    (subst (λ (h : History). journal.HasMounted (D.size c.find.new.device) h log) c.find.ensures.history (c.in-Ok-mount_cached.ensures.mounted k)) in
     if_ok_all c.begin.result word _ _ _ _
     (λ volume new counted begun. record {
-      new = subst (λ (n : ℕ). IsNew n (held_of volume)) (c.in-Ok-mount.ensures.new.size ∙ c.find.ensures.same_size) new;
-      counted = counted ∙ (c.in-Ok-mount.ensures.new.failures ∙ c.in-Ok.ensures.none (λ is. absurd (cc)));
+      new = subst (λ (n : ℕ). IsNew n (held_of volume)) (c.in-Ok-mount_cached.ensures.new.size ∙ c.find.ensures.same_size) new;
+      counted = counted ∙ (c.in-Ok-mount_cached.ensures.new.failures ∙ c.in-Ok.ensures.none (λ is. absurd (cc)));
       mounted = λ k. begun_found sectors old log.history found log.base c.in-Ok.ensures.volume.size (omega (arith, parts.few)) (omega (arith, c.in-Ok.ensures.volume.counted))
           (c.in-Ok.ensures.told k).0 (c.in-Ok.ensures.told k).1 (mounted k).base (mounted k).moments (held_of volume) (mounted k).since_sync (begun k);
     })
     c.begin.ensures.new c.begin.ensures.counted c.begin.ensures.begun
 
-pub returns-in-Ok-mount-clause-gives_back : goal.returns-in-Ok-mount-clause-gives_back
-returns-in-Ok-mount-clause-gives_back g c =
+pub returns-in-Ok-mount_cached-clause-gives_back : goal.returns-in-Ok-mount_cached-clause-gives_back
+returns-in-Ok-mount_cached-clause-gives_back g c =
     let D = g.D.Device in
     let sectors : ℕ = D.size c.args.device in
     let old : History = D.history c.args.device in
     let found = c.in-Ok.found in
-    let log = log_of c.in-Ok-mount.journal in
+    let log = log_of c.in-Ok-mount_cached.journal in
     let parts = sized found.sectors found.nodes c.in-Ok.ensures.volume.sized in
     let word = D.keeps_word in
     let mounted : word → journal.HasMounted sectors old log = λ k. subst (λ (n : ℕ). journal.HasMounted n old log) c.find.ensures.same_size
-    (subst (λ (h : History). journal.HasMounted (D.size c.find.new.device) h log) c.find.ensures.history (c.in-Ok-mount.ensures.mounted k)) in
+    (subst (λ (h : History). journal.HasMounted (D.size c.find.new.device) h log) c.find.ensures.history (c.in-Ok-mount_cached.ensures.mounted k)) in
     if_err_all c.begin.result word _ _ _
     (λ unmounted back begun. record {
-      back = back_since D.size D.failed sectors (D.failed c.args.device) log.size (failures_of c.in-Ok-mount.journal) unmounted
-          (c.in-Ok-mount.ensures.new.size ∙ c.find.ensures.same_size) (c.in-Ok-mount.ensures.new.failures ∙ c.in-Ok.ensures.none (λ is. absurd (cc))) back;
+      back = back_since D.size D.failed sectors (D.failed c.args.device) log.size (failures_of c.in-Ok-mount_cached.journal) unmounted
+          (c.in-Ok-mount_cached.ensures.new.size ∙ c.find.ensures.same_size) (c.in-Ok-mount_cached.ensures.new.failures ∙ c.in-Ok.ensures.none (λ is. absurd (cc))) back;
       refused = λ k. begin_refused sectors old log.history found log.base c.in-Ok.ensures.volume.size (omega (arith, parts.few)) (omega (arith, c.in-Ok.ensures.volume.counted))
           (c.in-Ok.ensures.told k).0 (c.in-Ok.ensures.told k).1 (mounted k).base (mounted k).moments (D.history unmounted.device) unmounted.fault (begun k);
     })

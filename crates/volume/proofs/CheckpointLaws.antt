@@ -1,0 +1,91 @@
+-- A volume that serves, over a checkpoint of its journal: the base has the same sectors, and what waits still waits.
+use Rattle.std.proofs.Common.{◌≡◌, ◌≤◌, ◌⊎◌, ℕ, true, false, List, [], ◌∷◌, Option, inl, ⊎_elim, refl, sym, ap, ◌∙◌, subst, arith, true≢false}
+use Rattle.std.proofs.Math.Logic.{∥∥₁_map, ∥∥₁_elim}
+use Rattle.std.specs.List.{IsAmong}
+use Rattle.disk.specs.declared.update.Update.{Update}
+use Rattle.disk.specs.Moments.{Image, applied}
+use Rattle.journal.specs.Calls.{IsSafe, HasCheckpointed}
+use Rattle.journal.specs.Log.{Log, contents, applied_all}
+use Rattle.journal.specs.Settled.{AreSame}
+use Rattle.journal.proofs.Fronts.{applied_keeps}
+use Rattle.layout.specs.Cards.{Card, tree_of}
+use Rattle.model.specs.declared.limits.Limits.{Limits}
+use Rattle.model.specs.Tree.{Tree}
+use Rattle.volume.specs.Changes.{Done, Stays, Changes}
+use Rattle.volume.specs.Held.{Held, KeepsRecent, StandsForOne, fronts_from}
+use Rattle.volume.specs.Known.{IsServing}
+use Rattle.volume.specs.Stands.{Stands}
+use Rattle.volume.specs.Views.{held_by}
+use Rattle.volume.proofs.FrontLaws.{among_more, among_rest, front_among}
+use Rattle.volume.proofs.OneTree.{Tree-set}
+use Rattle.volume.proofs.ServeLaws.{among_one, flush_adds, tree_same}
+use Rattle.volume.proofs.StandLaws.{stands_same}
+
+-- each front of the one has the sectors of a front of the other
+front_same : (size : ℕ) (base moved : Image) (list : List (List Update)) (front : Image) → AreSame size base moved → IsAmong (fronts_from moved list) front
+    → (other : Image) × IsAmong (fronts_from base list) other × AreSame size other front
+front_same size base moved [] front same among =
+    (base, (0, (omega arith, refl)), λ n kept. same n kept ∙ ap (λ (image : Image). image n) (sym (among_one moved front among)))
+front_same size base moved (updates ∷ list) front same among = ⊎_elim
+    (λ (first : front ≡ moved). (base, (0, (omega arith, refl)), λ n kept. same n kept ∙ ap (λ (image : Image). image n) (sym first)))
+    (λ (rest : IsAmong (fronts_from (applied updates moved) list) front).
+    let there = front_same size (applied updates base) (applied updates moved) list front (applied_keeps size updates base moved same) rest in
+    (there.0, among_rest base (fronts_from (applied updates base) list) there.0 there.1, there.2))
+    (among_more moved (fronts_from (applied updates moved) list) front among)
+
+module _ (keeps_word : Type 0) (limits : Limits) (run : ℕ) (cards : List (Option Card)) (shown : List ℕ) (old new : Log)
+    (safe : IsSafe keeps_word old new) (listed : new.list ≡ old.list) (up : new.is_down ≡ false) (done : HasCheckpointed keeps_word shown old new)
+    (serves : keeps_word → ∥ IsServing old limits.nodes run cards ∥₁) where
+  abbrev was : Held
+  was = held_by limits run cards old
+
+  abbrev is : Held
+  is = held_by limits run cards new
+
+  pub checkpoint_keeps : keeps_word → is.tree ≡ was.tree
+  checkpoint_keeps k = ∥∥₁_elim (serves k) (Tree-set is.tree was.tree) (tree_same limits.nodes run cards old new (done.contents k))
+
+  -- where the old base stands for a tree, so does the new one
+  stands_on : (a b : Image) (tree : Tree) → AreSame old.size a b → Stands old.size limits.nodes a run tree → Stands new.size limits.nodes b run tree
+  stands_on a b tree same stands =
+      subst (λ (size : ℕ). Stands size limits.nodes b run tree) (sym safe.size) (stands_same old.size limits.nodes a b run tree same stands)
+
+  pub checkpoint_recent : keeps_word → KeepsRecent was is
+  checkpoint_recent k recent ready =
+      let first = ready.covers old.base (front_among old.base old.list 0 (omega arith)) in
+      record {
+        leaves = λ image left. (
+          first.0,
+          first.1,
+          ∥∥₁_map first.2 (λ stands. record {
+            base = new.base;
+            settles = safe.settled k up image left;
+            stands = stands_on old.base new.base first.0 (done.base k) stands;
+          }),
+        );
+        covers = λ front among.
+            let there = front_same old.size old.base new.base old.list front (done.base k)
+            (subst (λ (list : List (List Update)). IsAmong (fronts_from new.base list) front) listed among) in
+            let covered = ready.covers there.0 there.1 in
+            (covered.0, covered.1, ∥∥₁_map covered.2 (stands_on there.0 front covered.0 there.2));
+        newest = subst (λ (tree : Tree). IsAmong recent tree) (sym (checkpoint_keeps k)) ready.newest;
+      }
+
+  pub checkpoint_done : (before after : ℕ) → before ≤ after → after ≡ before → Changes keeps_word (Stays was.tree) was is before after Done
+  checkpoint_done before after later told = record {
+    same = record { sectors = safe.size; limits = refl; run = refl };
+    later = later;
+    none = λ other. told;
+    moments = λ k tree lasts given. flush_adds limits run cards old new tree (safe.moments k);
+    ends = record {
+      still_up = up;
+      leaves = λ k tree lasts given recent ready. (
+        recent,
+        record {
+          ready = checkpoint_recent k recent ready;
+          no_others = λ one among. inl among;
+          durable = λ durable. absurd (true≢false (sym durable ∙ given.1));
+        },
+      );
+    };
+  }
