@@ -9,7 +9,7 @@ use Rattle.volume.specs.declared.fault.FormatFault.TheVariants as faults
 
 -- A stop within it leaves what was there, no volume, or the new one, and after Ok the new one
 -- alone. Size comes exactly where no volume has such numbers; after it, as without memory, nothing
--- was written. Device comes only where a failure was counted.
+-- was written. Device comes exactly where a failure was counted.
 pub record Formats {D : Type 0} (keeps_word : Type 0) (sectors failed : D → ℕ)
     (history : D → History) (nodes : ℕ) (old new : D) (result : Result (Unit {0}) FormatFault)
     : Type 0 where
@@ -19,5 +19,6 @@ pub record Formats {D : Type 0} (keeps_word : Type 0) (sectors failed : D → �
   pub untouched : IsErrOf result faults.Size ⊎ IsErrOf result faults.Memory
       → history new ≡ history old
   pub cause : IsErrOf result faults.Device → IsCounted (failed old) (failed new)
+  pub none : (IsErrOf result faults.Device → ⊥) → failed new ≡ failed old
   pub later : failed old ≤ failed new
   pub same_size : sectors new ≡ sectors old

@@ -4,9 +4,11 @@ ghost use Rattle.std.specs.Prelude.{◌<◌, ◌^◌};
 ghost use Rattle.fs.specs.Ready.{IsReady, IsReady-prop};
 ghost use Rattle.volume.specs.Views.{held_of};
 
+use crate::fault::FsFault;
 use disk::Device;
 use model::limits::Limits;
 use std::alloc::Global;
+use std::num::NonZeroUsize;
 use volume::{Checked, FormatFault, MountFault, Unmounted, Volume};
 
 /// A mounted file system.
@@ -21,10 +23,14 @@ pub struct Fs<D: Device> {
 
 #[tactic(auto, unfolding(crate::specs::Views::fs_of, crate::specs::Views::fs_failures))]
 impl<D: Device> Fs<D> {
-    ghost use Rattle.std.specs.Prelude.{◌≡◌, IfOk, IfErr};
-    ghost use Rattle.fs.specs.Views.{fs_of, fs_failures};
+    ghost use Rattle.std.specs.Prelude.{◌≡◌, ◌⊎◌, ◌↔◌, true, IfOk, IfErr, OnOk, IsErrOf};
+    ghost use Rattle.fs.specs.Changes.{fs_ending};
+    ghost use Rattle.fs.specs.Views.{fs_of, fs_failures, Alters};
     ghost use Rattle.fs.specs.Formatting.{Formats};
     ghost use Rattle.volume.specs.Checks.{Checks};
+    ghost use Rattle.volume.specs.Changes.{Stays};
+    ghost use Rattle.volume.specs.Formed.{Shows};
+    ghost use Rattle.volume.specs.Held.{KeepsRecent};
     ghost use Rattle.volume.specs.MountAnswers.{MountServes, MountGivesBack};
 
     /// Makes the device a new volume of this many nodes, with an empty root: `volume::format`.
@@ -41,13 +47,11 @@ impl<D: Device> Fs<D> {
     }
 
     /// Mounts the volume: `Volume::mount`. Every map that a stop leaves from then on has the new
-    /// restart count, which is this file system's run.
+    /// restart count, which is this file system's run. Its journal keeps 64 sectors in memory.
     ///
     /// # Errors
     ///
-    /// The device comes back with the reason. NotVolume, then Worn, by the first sector, and then
-    /// nothing was written; then Damaged exactly where no tree stands; Device where the device
-    /// failed, and Memory.
+    /// As [`Fs::mount_cached`].
     pub fn mount(alloc: Global, device: D) -> Result<Fs<D>, Unmounted<D>>
         ensures serves { IfOk result (λ fs. MountServes D.keeps_word D.size D.failed D.history
             device (fs_of fs).volume (fs_failures fs)) }
@@ -56,6 +60,32 @@ impl<D: Device> Fs<D> {
             device) }
     {
         let volume = Volume::mount(alloc, device)?;
+        Ok(Fs {
+            alloc,
+            volume,
+            changes: 0,
+        })
+    }
+
+    /// The same, with a journal that keeps so many sectors in memory: `Volume::mount_cached`.
+    ///
+    /// # Errors
+    ///
+    /// The device comes back with the reason. NotVolume, then Worn, by the first sector, and then
+    /// nothing was written; then Damaged exactly where no tree stands; Device where the device
+    /// failed, and Memory.
+    pub fn mount_cached(
+        alloc: Global,
+        device: D,
+        cached: NonZeroUsize,
+    ) -> Result<Fs<D>, Unmounted<D>>
+        ensures serves { IfOk result (λ fs. MountServes D.keeps_word D.size D.failed D.history
+            device (fs_of fs).volume (fs_failures fs)) }
+        ensures no_change { IfOk result (λ fs. (fs_of fs).changes ≡ 0) }
+        ensures gives_back { IfErr result (MountGivesBack D.keeps_word D.size D.failed D.history
+            device) }
+    {
+        let volume = Volume::mount_cached(alloc, device, cached)?;
         Ok(Fs {
             alloc,
             volume,
@@ -105,5 +135,28 @@ impl<D: Device> Fs<D> {
         ensures { result ≡ (fs_of self.now).volume.is_down }
     {
         self.volume.is_down()
+    }
+
+    /// Copies home what the journal's open gate names, and closes it: `Volume::checkpoint`. It is
+    /// no change, and keeps none.
+    ///
+    /// # Errors
+    ///
+    /// Device where the device failed, and Down from then on.
+    pub fn checkpoint(&mut self) -> Result<(), FsFault>
+        ensures volume { Alters self.old self.new
+            (Stays (fs_of self.old).volume.tree) (fs_ending result) }
+        ensures shows { OnOk result (Shows D.keeps_word (fs_of self.old).volume.tree
+            (fs_of self.new).volume.tree) }
+        ensures recent { D.keeps_word → OnOk result
+            (KeepsRecent (fs_of self.old).volume (fs_of self.new).volume) }
+        ensures changes { (fs_of self.new).changes ≡ (fs_of self.old).changes }
+        // Refused
+        ensures down { IsErrOf result FsFault.Down ↔ ((fs_of self.old).volume.is_down ≡ true) }
+        ensures refuses { IfErr result (λ fault.
+            (fault ≡ FsFault.Device) ⊎ (fault ≡ FsFault.Down)) }
+    {
+        self.volume.checkpoint()?;
+        Ok(())
     }
 }

@@ -7,6 +7,7 @@ returns g c = record {
   size = c.format.ensures.size;
   untouched = c.format.ensures.untouched;
   cause = c.format.ensures.cause;
+  none = c.format.ensures.none;
   later = c.format.ensures.later;
   same_size = c.format.ensures.same_size;
 }
