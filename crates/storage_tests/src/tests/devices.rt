@@ -1,9 +1,11 @@
 use super::drivers::{byte_of, fill, filled, landed, memory, stopping, sync};
 use disk::{
-    Call, CrashDevice, Device, DiskFault, FileDevice, Landed, MemDevice, Stop, Unsynced, landings,
+    Call, CallKind, CrashDevice, Device, DiskFault, FaultDevice, FileDevice, Landed, MemDevice,
+    Stop, Unsynced, landings,
 };
 use std::alloc::{AllocError, AllocGlobal, Global};
 use std::fs;
+use std::fs::OpenOptions;
 use std::process::Abort;
 use std::test::Fail;
 
@@ -229,12 +231,93 @@ fn many_sectors_land_alone_or_all_but_one(rt: HostRuntime) -> Result<(), Fail> {
     Ok(())
 }
 
+const ASKED: [Ask; 10] = [
+    Ask::Fill(0, 1),
+    Ask::Byte(0),
+    Ask::Sync,
+    Ask::Fill(1, 2),
+    Ask::Byte(1),
+    Ask::Sync,
+    Ask::Fill(2, 3),
+    Ask::Byte(2),
+    Ask::Sync,
+    Ask::Failures,
+];
+
+const FAULT: Answer = Err(DiskFault::Fault);
+
+/// What they are answered where the second call of this kind fails.
+const FAILED: [(CallKind, [Answer; 10]); 3] = [
+    (
+        CallKind::Read,
+        [
+            Ok(0),
+            Ok(1),
+            Ok(0),
+            Ok(0),
+            FAULT,
+            Ok(0),
+            Ok(0),
+            Ok(3),
+            Ok(0),
+            Ok(1),
+        ],
+    ),
+    (
+        CallKind::Write,
+        [
+            Ok(0),
+            Ok(1),
+            Ok(0),
+            FAULT,
+            Ok(0),
+            Ok(0),
+            Ok(0),
+            Ok(3),
+            Ok(0),
+            Ok(1),
+        ],
+    ),
+    (
+        CallKind::Sync,
+        [
+            Ok(0),
+            Ok(1),
+            Ok(0),
+            Ok(0),
+            Ok(2),
+            FAULT,
+            Ok(0),
+            Ok(3),
+            Ok(0),
+            Ok(1),
+        ],
+    ),
+];
+
+#[test]
+fn one_call_of_a_device_fails(rt: HostRuntime) -> Result<(), Fail> {
+    for (kind, answers) in FAILED {
+        let mut device = FaultDevice::new(memory(rt.alloc(), 3)?, kind, 1);
+        for (i, (ask, wanted)) in ASKED.iter().zip(answers).enumerate() {
+            let found = answer(&mut device, *ask);
+            assert!(rt; found == wanted, "{kind:?} row {i}: {found:?}");
+        }
+        assert_eq!(rt; device.into_inner().failures(), 0);
+    }
+    Ok(())
+}
+
 fn created(rt: &HostRuntime, path: &str, sectors: u32) -> Result<FileDevice, DiskFault> {
     FileDevice::create(rt, rt.alloc(), path, sectors)
 }
 
 fn opened(rt: &HostRuntime, path: &str) -> Result<FileDevice, DiskFault> {
     FileDevice::open(rt, rt.alloc(), path)
+}
+
+fn opened_to_read(rt: &HostRuntime, path: &str) -> Result<FileDevice, DiskFault> {
+    FileDevice::open_to_read(rt, rt.alloc(), path)
 }
 
 // a file of 5,000 bytes, each 1
@@ -350,12 +433,14 @@ fn read_numbers(device: &mut FileDevice) -> Result<(), Fail> {
 #[test]
 fn a_file_takes_any_number_of_neighbours(rt: HostRuntime) -> Result<(), Fail> {
     let path = "disk-file-neighbours.img";
-    let mut device = created(&rt, path, 200)?;
-    for n in 0..200_u8 {
-        fill(&mut device, u32::from(n), n)?;
+    {
+        let mut device = created(&rt, path, 200)?;
+        for n in 0..200_u8 {
+            fill(&mut device, u32::from(n), n)?;
+        }
+        read_numbers(&mut device)?;
+        sync(&mut device)?;
     }
-    read_numbers(&mut device)?;
-    sync(&mut device)?;
     read_numbers(&mut opened(&rt, path)?)?;
     remove(&rt, path)?;
     Ok(())
@@ -365,7 +450,10 @@ fn a_file_takes_any_number_of_neighbours(rt: HostRuntime) -> Result<(), Fail> {
 fn a_file_that_shrank_fails_and_counts(rt: HostRuntime) -> Result<(), Fail> {
     let path = "disk-file-shrank.img";
     let mut device = created(&rt, path, 2)?;
-    let _ = created(&rt, path, 1)?;
+    OpenOptions::new()
+        .write(true)
+        .open(&rt, path)?
+        .set_len(4096)?;
     play(
         &rt,
         &mut device,
@@ -375,6 +463,25 @@ fn a_file_that_shrank_fails_and_counts(rt: HostRuntime) -> Result<(), Fail> {
             (Ask::Failures, Ok(1)),
         ],
     );
+    remove(&rt, path)?;
+    Ok(())
+}
+
+#[test]
+fn a_file_has_one_device_that_writes_or_some_that_read(rt: HostRuntime) -> Result<(), Fail> {
+    let path = "disk-file-locked.img";
+    {
+        let mut writer = created(&rt, path, 3)?;
+        assert!(rt; matches!(created(&rt, path, 1), Err(DiskFault::Open)));
+        assert!(rt; matches!(opened(&rt, path), Err(DiskFault::Open)));
+        assert!(rt; matches!(opened_to_read(&rt, path), Err(DiskFault::Open)));
+        play(&rt, &mut writer, &WRITTEN);
+    }
+    let mut reader = opened_to_read(&rt, path)?;
+    let _other = opened_to_read(&rt, path)?;
+    assert!(rt; matches!(opened(&rt, path), Err(DiskFault::Open)));
+    play(&rt, &mut reader, &OPENED);
+    assert_eq!(rt; fill(&mut reader, 0, 1), Err(DiskFault::Fault));
     remove(&rt, path)?;
     Ok(())
 }
