@@ -54,6 +54,10 @@ fn ends<R: Net>(rt: &R) -> Result<(R::Stream, R::Stream), Refused> {
     let listener = TcpListener::bind(rt, (Ipv4Addr::LOCALHOST, 0))?;
     let callers = TcpStream::connect(rt, listener.local_addr()?)?;
     let (servers, _) = listener.accept()?;
+    // Without this a piece waits in the system until the other end acknowledges the one before. It
+    // is sent all the same.
+    let _ = callers.set_nodelay(true);
+    let _ = servers.set_nodelay(true);
     Ok((callers, servers))
 }
 
