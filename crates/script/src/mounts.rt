@@ -7,7 +7,7 @@ use callers::{Caller, Refused, connect, link};
 use disk::Device;
 use server::Server;
 use std::alloc::Global;
-use std::io::{BufRead, ErrorKind, Read, Write};
+use std::io::{BufRead, BufWriter, ErrorKind, Read, Write};
 use std::net::Net;
 
 /// Why the lines of one mount end.
@@ -20,7 +20,8 @@ enum End {
 }
 
 /// Mounts the volume on the device, and runs the script's lines on it. Users reach the server over
-/// the loopback interface.
+/// the loopback interface. What the lines tell is written at the script's end, before a mount that
+/// one of them asks for, and before a refusal is answered.
 ///
 /// # Errors
 /// Script where a line has no form, or lacks what it speaks of; Io where input, output or a socket
@@ -37,6 +38,20 @@ where
     I: BufRead,
     O: Write,
 {
+    let mut told = BufWriter::new(rt.alloc(), out)?;
+    let outcome = run_mounts(rt, device, input, &mut told);
+    told.flush()?;
+    outcome
+}
+
+/// Runs the lines, mount by mount.
+fn run_mounts<R, D, I, O>(rt: &R, device: &mut D, input: &mut I, out: &mut O) -> Result<(), Refused>
+where
+    R: Net + AllocGlobal,
+    D: Device,
+    I: BufRead,
+    O: Write,
+{
     let mut users = Vec::new(rt.alloc());
     let mut restarted = false;
     for _ in 0..u64::MAX {
@@ -44,6 +59,7 @@ where
             End::Script => break,
             End::Restart => disconnect(&mut users),
         }
+        out.flush()?;
         restarted = true;
     }
     Ok(())
