@@ -5,9 +5,11 @@
 mod host;
 mod machine;
 mod moment;
+mod process;
 mod run;
 mod serve;
 mod words;
 
 pub use machine::Machine;
+pub use process::run_process;
 pub use run::command;

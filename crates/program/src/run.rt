@@ -9,7 +9,7 @@ use fs::Checked;
 use script::run_script;
 use server::is_volume_size;
 use std::convert::AsStr;
-use std::fs::{File, read_to_string};
+use std::fs::{File, metadata, read_to_string};
 use std::io::{BufRead, ErrorKind, Write};
 use std::rt::Files;
 
@@ -41,7 +41,7 @@ where
     }
 }
 
-fn tell_usage<E: Write>(err: &mut E) -> u8 {
+pub(crate) fn tell_usage<E: Write>(err: &mut E) -> u8 {
     let _ = writeln!(
         err,
         "usage: nfs41 [format FILE SECTORS NODES | run FILE SCRIPT | check FILE | serve FILE PORT COUNT]"
@@ -49,7 +49,7 @@ fn tell_usage<E: Write>(err: &mut E) -> u8 {
     USAGE
 }
 
-fn tell_outcome<E: Write>(err: &mut E, outcome: Result<(), Refused>) -> u8 {
+pub(crate) fn tell_outcome<E: Write>(err: &mut E, outcome: Result<(), Refused>) -> u8 {
     match outcome {
         Ok(()) => DONE,
         Err(refused) => {
@@ -163,26 +163,48 @@ fn check_volume<R>(rt: &R, file: &str) -> Result<Checked, Refused>
 where
     R: Files<File = File> + AllocGlobal,
 {
-    let mut device = open_volume(rt, file)?;
+    // To open a pipe for reading waits for its writer.
+    if !is_file(rt, file)? {
+        return Err(Refused::Open);
+    }
+    let mut device = whole(FileDevice::open_to_read(rt, rt.alloc(), file)?)?;
     link::check(rt.alloc(), &mut device)
 }
 
-/// The device over a file of whole sectors.
+fn is_file<R: Files>(rt: &R, file: &str) -> Result<bool, Refused> {
+    match metadata(rt, file) {
+        Ok(found) => Ok(found.is_file()),
+        Err(error) => Err(open_refusal(error.kind())),
+    }
+}
+
 fn open_volume<R>(rt: &R, file: &str) -> Result<FileDevice, Refused>
 where
     R: Files<File = File> + AllocGlobal,
 {
-    let device = FileDevice::open(rt, rt.alloc(), file)?;
-    if !device.is_whole() {
-        return Err(Refused::NotVolume);
+    whole(FileDevice::open(rt, rt.alloc(), file)?)
+}
+
+/// The device, if its file is one of whole sectors.
+fn whole(device: FileDevice) -> Result<FileDevice, Refused> {
+    if device.is_whole() {
+        Ok(device)
+    } else {
+        Err(Refused::NotVolume)
     }
-    Ok(device)
 }
 
 /// Why a script is not read.
 fn read_refusal(kind: ErrorKind) -> Refused {
     match kind {
         ErrorKind::InvalidData => Refused::Script,
+        _ => open_refusal(kind),
+    }
+}
+
+/// Why a file is not opened.
+pub(crate) fn open_refusal(kind: ErrorKind) -> Refused {
+    match kind {
         ErrorKind::OutOfMemory => Refused::Memory,
         _ => Refused::Open,
     }

@@ -3,19 +3,21 @@
 use super::case::Case;
 use super::output::{Output, port_of};
 use super::port::{fill, take_port};
-use super::step::{Peer, Step, Way};
+use super::step::{Hold, Peer, Step, Way};
 use super::text::Texts;
 use crate::difference::{Difference, Differs, Stream, Text, Words};
 use program::command;
 use std::alloc::Global;
-use std::fs;
+use std::fs::File;
 use std::io::Read;
 use std::net::TcpStream;
+use std::{fs, io};
 
 /// Does the steps of a case, up to the first that differs.
 pub fn play(rt: &HostRuntime, case: &Case<'_>) -> Result<(), Differs> {
+    let mut lock = None;
     for placed in case.steps.iter() {
-        if let Err(difference) = take(rt, &placed.step) {
+        if let Err(difference) = take(rt, &placed.step, &mut lock) {
             return Err(Differs {
                 line: placed.line,
                 difference,
@@ -25,7 +27,7 @@ pub fn play(rt: &HostRuntime, case: &Case<'_>) -> Result<(), Differs> {
     Ok(())
 }
 
-fn take(rt: &HostRuntime, step: &Step<'_>) -> Result<(), Difference> {
+fn take(rt: &HostRuntime, step: &Step<'_>, lock: &mut Option<File>) -> Result<(), Difference> {
     match step {
         Step::Runs {
             status,
@@ -41,6 +43,12 @@ fn take(rt: &HostRuntime, step: &Step<'_>) -> Result<(), Difference> {
         Step::Length { file, length } => expect_length(rt, *file, *length),
         Step::Absent { file } => expect_absent(rt, *file),
         Step::Removes { file } => Ok(fs::remove_file(rt, *file)?),
+        Step::Protects { file } => protect(rt, *file),
+        Step::Locks { file, hold } => {
+            *lock = None;
+            *lock = Some(locked(rt, *file, *hold)?);
+            Ok(())
+        }
     }
 }
 
@@ -148,6 +156,22 @@ fn put(rt: &HostRuntime, file: &str, place: usize, bytes: &[u8]) -> Result<(), D
 fn copy(rt: &HostRuntime, file: &str, copy: &str) -> Result<(), Difference> {
     let bytes = fs::read(rt, file)?;
     Ok(fs::write(rt, copy, bytes.as_slice())?)
+}
+
+fn protect(rt: &HostRuntime, file: &str) -> Result<(), Difference> {
+    let mut rights = fs::metadata(rt, file)?.permissions();
+    rights.set_readonly(true);
+    Ok(fs::set_permissions(rt, file, rights)?)
+}
+
+/// The file, locked as by a program that has it.
+fn locked(rt: &HostRuntime, file: &str, hold: Hold) -> io::Result<File> {
+    let file = File::open(rt, file)?;
+    match hold {
+        Hold::Writes => file.try_lock()?,
+        Hold::Reads => file.try_lock_shared()?,
+    }
+    Ok(file)
 }
 
 fn expect_same(rt: &HostRuntime, file: &str, other: &str) -> Result<(), Difference> {

@@ -55,6 +55,24 @@ pub enum Step<'a> {
     Removes {
         file: &'a str,
     },
+    /// Takes away the right to write a file.
+    Protects {
+        file: &'a str,
+    },
+    /// Locks a file as another program does, up to the case's next lock or its end.
+    Locks {
+        file: &'a str,
+        hold: Hold,
+    },
+}
+
+/// How another program has a file.
+#[derive(Clone, Copy)]
+pub enum Hold {
+    /// It writes it.
+    Writes,
+    /// It reads it.
+    Reads,
 }
 
 /// What a command's standard output is.
@@ -211,8 +229,15 @@ fn step_on<'a>(verb: &str, file: &'a str) -> Result<Step<'a>, Fault> {
     match verb {
         "absent" => Ok(Step::Absent { file }),
         "removes" => Ok(Step::Removes { file }),
+        "protects" => Ok(Step::Protects { file }),
+        "locks" => Ok(locks(file, Hold::Writes)),
+        "shares" => Ok(locks(file, Hold::Reads)),
         _ => Err(Fault::Step),
     }
+}
+
+fn locks<'a>(file: &'a str, hold: Hold) -> Step<'a> {
+    Step::Locks { file, hold }
 }
 
 fn step_with<'a>(verb: &str, file: &'a str, word: &'a str) -> Result<Step<'a>, Fault> {
