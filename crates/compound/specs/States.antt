@@ -1,6 +1,6 @@
 -- What all COMPOUNDs of a server work on: the file system, the clients and sessions, and what these
 -- have open.
-use Rattle.std.specs.Prelude.{◌≡◌}
+use Rattle.std.specs.Prelude.{ℕ, ◌≡◌}
 use Rattle.fs.specs.FileSystem.{FileSystem}
 use Rattle.fs.specs.Views.{fs_of}
 use Rattle.fs.specs.declared.fs.Fs.{Fs}
@@ -12,7 +12,6 @@ use Rattle.session.specs.Views.{table_of}
 use Rattle.session.specs.declared.table.Table as code
 use Rattle.opens.specs.Views.{opens_of}
 use Rattle.opens.specs.declared.opens.Opens as known
-use Rattle.compound.specs.declared.results.TheConstants.{MAX_REPLY_BYTES}
 
 pub record SharedState : Type 0 where
   pub files : FileSystem
@@ -26,11 +25,15 @@ shared files table opens = record { files = files; table = table; opens = opens 
 abbrev pub shared_of : {D : _} {g : _} → Fs D g → code.Table → known.Opens → SharedState
 shared_of fs table opens = shared (fs_of fs) (table_of table) (opens_of opens)
 
+-- within how many bytes of its reply an OK result ends
+abbrev pub most_reply_bytes : ℕ
+most_reply_bytes = 16368
+
 -- a world that has it
 pub record HasState (world : World) (state : SharedState) : Type 0 where
   pub volume : world.limits.volume ≡ state.files.volume.limits
   pub sessions : world.limits.sessions ≡ served
-  pub reply_bytes : world.limits.reply_bytes ≡ MAX_REPLY_BYTES
+  pub reply_bytes : world.limits.reply_bytes ≡ most_reply_bytes
   pub run : world.run ≡ state.files.volume.run
   pub tree : world.tree ≡ state.files.volume.tree
   pub changes : world.changes ≡ state.files.changes
