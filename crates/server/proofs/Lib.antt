@@ -1,3 +1,4 @@
+pub mod Checkpoints
 pub mod HangUps
 pub mod Moves
 pub mod Openings

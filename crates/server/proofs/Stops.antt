@@ -24,7 +24,7 @@ use Rattle.volume.specs.Formats.{IsFresh}
 use Rattle.volume.specs.Remounts.{StandsForGood, LeavesGood}
 use Rattle.server.specs.Headline.{IsGoodTree, EveryStop, EveryRun, EveryFirst, IsNewVolume, Formatted, Powers, NeverLost, IsNotLost, EveryTrace, Stopped, executed_in, Follows, IsLater, Next, Then, EveryLife, EveryStamping}
 use Rattle.volume.specs.Held.{StandsForOne}
-use Rattle.server.specs.Seen.{Seen, LeavesNow, Moves, Call, IsServed, Begins, Goes_on, Fails_at, Stays_down, world_after, history_of, AreTold, told}
+use Rattle.server.specs.Seen.{Seen, LeavesNow, Moves, Call, IsServed, Begins, Goes_on, Fails_at, Stays_down, Keeps_on, world_after, history_of, AreTold, told}
 use Rattle.server.specs.Views.{server_limits}
 use Rattle.server.proofs.Moves.{left_now}
 
@@ -86,6 +86,15 @@ joined first last calls leaves (Stays_down {calls = earlier} {old = old} {new = 
       run = subst (λ (w : World). IsRun first.serving new.serving (history_after history w (Takes connection))) was.world (runs.Stays_down connection was.run gives.stays);
       leaves = gives.moves.leaves;
       same = same_on first.volume old.volume new.volume was.same gives.moves.same;
+    }
+joined first last calls leaves (Keeps_on {old = old} {new = new} before keeps) =
+    let was = joined first old calls leaves before in
+    let moves = keeps.moves (Takes 0) in
+    record {
+      world = ap (λ (s : Serving). s.world) keeps.serving ∙ was.world;
+      run = subst (λ (s : Serving). IsRun first.serving s (history_of first.serving.world calls)) (sym keeps.serving) was.run;
+      leaves = moves.leaves;
+      same = same_on first.volume old.volume new.volume was.same moves.same;
     }
 
 -- The laws
@@ -245,6 +254,9 @@ traced first last calls (Fails_at {calls = earlier} {old = old} {new = new} even
 traced first last calls (Stays_down {calls = earlier} {old = old} {new = new} connection said before gives) =
     let was = traced first old earlier before in
     (gives.stays.world ∙ ap (λ (w : World). effect_of w (Takes connection)) was.0, (gives.says ∙ ap (λ (w : World). told w (Takes connection)) was.0, was.1))
+traced first last calls (Keeps_on {old = old} {new = new} before keeps) =
+    let was = traced first old calls before in
+    (ap (λ (s : Serving). s.world) keeps.serving ∙ was.0, was.1)
 
 pub every_trace : EveryTrace
 every_trace first last calls served = traced first last calls served

@@ -52,6 +52,22 @@ RefusesTurn old new number faults.Device =
     KeepsWorld old new × HasCause old new × (new.volume.is_down ≡ true)
 RefusesTurn old new number faults.Full = ⊥
 
+-- A checkpoint that was done, on any device: the server was up and is so, on the same volume, and the
+-- device has not failed in it.
+pub record HasKept (old new : View) : Type 0 where
+  pub up : old.volume.is_down ≡ false
+  pub still_up : new.volume.is_down ≡ false
+  pub none_failed : new.failures ≡ old.failures
+  pub same : IsSameVolume old.volume new.volume
+  pub world : KeepsWorld old new
+
+-- one that is refused, for the device alone
+pub record RefusesCheckpoint (old new : View) (fault : ServerFault) : Type 0 where
+  pub told : fault ≡ faults.Device
+  pub world : KeepsWorld old new
+  pub cause : HasCause old new
+  pub down : new.volume.is_down ≡ true
+
 -- after turns of a connection the server is up, on the same volume, the device has not failed, and
 -- the other connections are as they were
 pub record HasRunOn (old new : View) (number : ℕ) : Type 0 where

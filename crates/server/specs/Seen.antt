@@ -66,6 +66,14 @@ pub record GivesDown (old : Seen) (connection : ℕ) (said : Said) (new : Seen) 
   pub says : said ≡ told old.serving.world (Takes connection)
   pub moves : Moves old (Takes connection) new
 
+-- A checkpoint is no event: content was moved on the device. A stop within it leaves what it may have
+-- left before, whatever event it is taken for, and a stop after it no other tree.
+pub record Checkpoints (old new : Seen) : Type 0 where
+  pub serving : new.serving ≡ old.serving
+  pub moves : (event : Event) → Moves old event new
+  -- so the next call can be made
+  pub ready : IsRecent new.volume new.serving.recent
+
 -- what was done, the newest first
 pub data Call : Type 0 where
   Did : Event → Said → Call
@@ -82,6 +90,8 @@ pub data IsServed (first : Seen) : List Call → Seen → Type 0 where
   Stays_down : {calls : List Call} {old new : Seen} (connection : ℕ) (said : Said)
       → IsServed first calls old → GivesDown old connection said new
       → IsServed first (Did (Takes connection) said ∷ calls) new
+  Keeps_on : {calls : List Call} {old new : Seen} → IsServed first calls old
+      → Checkpoints old new → IsServed first calls new
 
 -- By the definition
 

@@ -2,7 +2,7 @@
 use Rattle.std.specs.Prelude.{ℕ, List, Option, ◌≡◌}
 use Rattle.std.specs.Global.{Vec}
 use Rattle.std.specs.Option.{option_map}
-use Rattle.compound.specs.States.{SharedState, shared_of}
+use Rattle.compound.specs.States.{SharedState, most_reply_bytes, shared_of}
 use Rattle.disk.specs.declared.device.Device.{Ghosts}
 use Rattle.fs.specs.FileSystem.{FileSystem}
 use Rattle.fs.specs.Views.{fs_of, fs_failures}
@@ -16,17 +16,21 @@ use Rattle.session.specs.Limits.{served}
 use Rattle.volume.specs.Held.{Held, IsRecent, LeavesOne}
 use Rattle.server.specs.Connections.{connections_of}
 use Rattle.server.specs.declared.server.Server.{Server}
-use Rattle.server.specs.Seen.{Seen, Said, Gave, Does, Breaks, GivesDown, IsTurned}
+use Rattle.server.specs.Seen.{Seen, Said, Gave, Does, Breaks, Checkpoints, GivesDown, IsTurned}
 
--- 64 clients, 32 sessions, 8 slots; records of 16,384 bytes; 16 connections; an OK result ends
--- within 16,368 bytes of its reply. A constant of the code that is changed is refused.
+-- how many connections there may be at a time
+abbrev pub most_connections : ℕ
+most_connections = 16
+
+-- 64 clients, 32 sessions, 8 slots; records of 16,384 bytes; an OK result ends within 16,368
+-- bytes of its reply. A constant of the code that is changed is refused.
 abbrev pub server_limits : Limits → ServerLimits
 server_limits volume = record {
   volume = volume;
   sessions = served;
   records = record_limits;
-  connections = 16;
-  reply_bytes = 16368;
+  connections = most_connections;
+  reply_bytes = most_reply_bytes;
 }
 
 abbrev pub world_by : SharedState → (connections : List (ℕ × world.Connection)) → World
@@ -95,6 +99,11 @@ gave output = Gave (option_map (λ reply. reply.items) output)
 abbrev pub Serves : {D : Type 0} {g : Ghosts D} → (old new : Server D g) → Event → Said → Type 0
 Serves old new event said = (recent : List Tree) → IsRecent (volume_of old) recent
     → (after : List Tree) × Does (seen_with old recent) event said (seen_with new after)
+
+-- a checkpoint: whichever trees a stop may leave before it, a stop may leave after it
+abbrev pub Keeps : {D : Type 0} {g : Ghosts D} → (old new : Server D g) → Type 0
+Keeps old new = (recent : List Tree) → IsRecent (volume_of old) recent
+    → Checkpoints (seen_with old recent) (seen_with new recent)
 
 -- the device fails in it
 abbrev pub Fails : {D : Type 0} {g : Ghosts D} → (old new : Server D g) → Event → Type 0

@@ -42,9 +42,9 @@ impl<D: Device> Server<D> {
     ghost use Rattle.model.specs.Tree.{Tree};
     ghost use Rattle.model.specs.World.{Closed, is_busy, can_connect};
     ghost use Rattle.server.specs.Connections.{turn_view};
-    ghost use Rattle.server.specs.Refused.{view, IsUntouched, connection_at, HasTurned, RefusesTurn, RefusesHangUp};
+    ghost use Rattle.server.specs.Refused.{view, IsUntouched, connection_at, HasKept, HasTurned, RefusesCheckpoint, RefusesTurn, RefusesHangUp};
     ghost use Rattle.server.specs.Seen.{Does, Breaks, Took, Turned, Done};
-    ghost use Rattle.server.specs.Views.{world_of, files_of, volume_of, failures_of, seen_with, seen_down, gave, Serves, Fails, Gives, Turning};
+    ghost use Rattle.server.specs.Views.{world_of, files_of, volume_of, failures_of, most_connections, seen_with, seen_down, gave, Serves, Fails, Gives, Keeps, Turning};
 
     /// The run of this mount: the restart count that it wrote.
     pub fn restart_count(&self) -> u32
@@ -75,9 +75,9 @@ impl<D: Device> Server<D> {
         // Refused
         ensures device { IsErrOf result ServerFault.Device ↔ ((volume_of self.old).is_down ≡ true) }
         ensures full { IsErrOf result ServerFault.Full
-            → length (world_of self.old).connections ≡ MAX_CONNECTIONS }
+            → length (world_of self.old).connections ≡ most_connections }
         ensures is_full { (volume_of self.old).is_down ≡ false
-            → length (world_of self.old).connections ≡ MAX_CONNECTIONS
+            → length (world_of self.old).connections ≡ most_connections
             → IsErrOf result ServerFault.Full }
         ensures only { IfErr result (λ fault.
             (fault ≡ ServerFault.NoConnection → ⊥) × (fault ≡ ServerFault.Closed → ⊥)) }
@@ -217,6 +217,33 @@ impl<D: Device> Server<D> {
         match self.connections.get(conn) {
             Some(connection) => connection.is_busy(),
             None => false,
+        }
+    }
+
+    /// Copies home what the journal's open gate names, and closes it, so that the next change waits
+    /// for two syncs, and not for four: for when no reply is due. Nothing that a client can tell
+    /// changes, and a stop leaves what it might have left before.
+    ///
+    /// # Errors
+    /// Device where the file system is down, or goes down in this call.
+    pub fn checkpoint(&mut self) -> Result<(), ServerFault>
+        // Done
+        ensures ok { D.keeps_word → OnOk result (Keeps self.old self.new) }
+        ensures kept { OnOk result (HasKept (view self.old) (view self.new)) }
+        // The device fails in it
+        ensures fails { D.keeps_word → (volume_of self.old).is_down ≡ false
+            → OnErr result ((event : runs.Event) → Fails self.old self.new event) }
+        // Refused
+        ensures refused { IfErr result (RefusesCheckpoint (view self.old) (view self.new)) }
+        ensures is_down { (volume_of self.old).is_down ≡ true
+            → IsErrOf result ServerFault.Device × IsUntouched (view self.old) (view self.new) }
+    {
+        if self.fs.is_down() {
+            return Err(ServerFault::Device);
+        }
+        match self.fs.checkpoint() {
+            Ok(()) => Ok(()),
+            Err(_) => Err(ServerFault::Device),
         }
     }
 

@@ -1,0 +1,103 @@
+-- A checkpoint between two calls: the machine is as it was, and a stop leaves what it might have left.
+use Rattle.std.proofs.Common.{◌≡◌, ◌⊎◌, Bool, List, ◌∷◌, refl, sym, ap, ◌∙◌, subst, inl, inr, ⊎_elim, true, false}
+use Rattle.std.specs.List.{IsAmong}
+use Rattle.disk.specs.Moments.{History, AddsOnly}
+use Rattle.disk.proofs.MomentLemmas.{AddsOnly-weaken}
+use Rattle.compound.specs.States.{shared}
+use Rattle.fs.specs.FileSystem.{FileSystem}
+use Rattle.fs.specs.declared.fault.FsFault.{FsFault}
+use Rattle.fs.specs.declared.fault.FsFault.TheVariants as faults
+use Rattle.volume.proofs.FrontLaws.{among_more}
+use Rattle.volume.specs.Held.{Held, IsSameVolume, IsRecent, KeepsRecent, AddsTrees, StandsForOne, MayAdd}
+use Rattle.model.specs.Keyed.{Keyed}
+use Rattle.model.specs.Opens.{Opens}
+use Rattle.model.specs.Runs.{Serving, Event, MayLeave}
+use Rattle.model.specs.Session.{Table}
+use Rattle.model.specs.Tree.{Tree}
+use Rattle.model.specs.World.{World, Connection}
+use Rattle.server.specs.Seen.{Checkpoints, Breaks}
+use Rattle.server.specs.Views.{world_by}
+use Rattle.server.proofs.Moves.{broken_leaves}
+use Rattle.server.proofs.ServedTurns.{broken}
+
+-- whichever event it is taken for
+keeping_moments : (old : Serving) (held : Held) (new : History) → IsRecent held old.recent → AddsTrees held held.tree new → (event : Event)
+    → AddsOnly (StandsForOne held (MayLeave old event)) held.history new
+keeping_moments old held new is adds event = AddsOnly-weaken
+    (StandsForOne held (MayAdd old.recent held.tree)) (StandsForOne held (MayLeave old event)) held.history new
+    (λ image found. (
+      found.0,
+      inl (⊎_elim
+          (λ (stays : IsAmong old.recent found.0). stays)
+          (λ (same : found.0 ≡ held.tree). subst (λ (tree : Tree). IsAmong old.recent tree) (sym same) is.newest)
+          found.1),
+      found.2,
+    ))
+    (adds old.recent is)
+
+module _ (old new : FileSystem) (table : Table) (opens : Opens) (connections : Keyed Connection)
+    (same : IsSameVolume old.volume new.volume) (changes : new.changes ≡ old.changes) where
+  -- all but the tree
+  pub keeps_world : (tree : Tree) → (let with_tree : FileSystem → World = λ files. record (world_by (shared files table opens) connections) { tree = tree } in with_tree new ≡ with_tree old)
+  keeps_world tree = broken (shared old table opens) (shared new table opens) connections connections same changes refl refl tree
+
+  pub kept_world : new.volume.tree ≡ old.volume.tree → world_by (shared new table opens) connections ≡ world_by (shared old table opens) connections
+  kept_world trees = keeps_world new.volume.tree ∙ ap (λ (tree : Tree). record (world_by (shared old table opens) connections) { tree = tree }) trees
+
+  abbrev serving_of : FileSystem → List Tree → Serving
+  serving_of files recent = record { world = world_by (shared files table opens) connections; recent = recent; is_down = files.volume.is_down }
+
+  abbrev Kept : (recent left : List Tree) → Type 0
+  Kept recent left =
+      Checkpoints (record { serving = serving_of old recent; volume = old.volume }) (record { serving = serving_of new left; volume = new.volume })
+
+  -- where it is done
+  pub checkpointed : new.volume.tree ≡ old.volume.tree → old.volume.is_down ≡ false → new.volume.is_down ≡ false → KeepsRecent old.volume new.volume
+      → AddsTrees old.volume old.volume.tree new.volume.history → (recent : List Tree) → IsRecent old.volume recent → Kept recent recent
+  checkpointed trees up still_up keeps adds recent ready = record {
+    serving =
+        ap (λ (world : World). record { world = world; recent = recent; is_down = new.volume.is_down }) (kept_world trees)
+        ∙ ap (λ (down : Bool). record { world = world_by (shared old table opens) connections; recent = recent; is_down = down }) (still_up ∙ sym up);
+    moves = λ event. record {
+      moments = keeping_moments (serving_of old recent) old.volume new.volume.history ready adds event;
+      leaves = (keeps recent ready).leaves;
+      same = same;
+    };
+    ready = keeps recent ready;
+  }
+
+  -- where the device fails in it
+  pub checkpoint_fails : old.volume.is_down ≡ false → new.volume.is_down ≡ true → AddsTrees old.volume old.volume.tree new.volume.history
+      → (event : Event) (recent : List Tree) → IsRecent old.volume recent → (after : List Tree)
+      × Breaks (record { serving = serving_of old recent; volume = old.volume }) event (record {
+        serving = record {
+          world = record (world_by (shared new table opens) connections) { tree = old.volume.tree };
+          recent = after;
+          is_down = new.volume.is_down;
+        };
+        volume = new.volume;
+      })
+  checkpoint_fails up down adds event recent ready = (
+    old.volume.tree ∷ recent,
+    record {
+      fails = record {
+        up = up;
+        world = keeps_world old.volume.tree;
+        down = down;
+        no_others = λ tree left. inl (⊎_elim
+            (λ (first : tree ≡ old.volume.tree). subst (λ (one : Tree). IsAmong recent one) (sym first) ready.newest)
+            (λ (rest : IsAmong recent tree). rest)
+            (among_more old.volume.tree recent tree left));
+      };
+      moves = record {
+        moments = keeping_moments (serving_of old recent) old.volume new.volume.history ready adds event;
+        leaves = broken_leaves old.volume new.volume old.volume.tree recent ready adds same;
+        same = same;
+      };
+    },
+  )
+
+-- a volume that was up is refused for the device
+pub only_device : (fault : FsFault) → (fault ≡ faults.Device) ⊎ (fault ≡ faults.Down) → (fault ≡ faults.Down → ⊥) → fault ≡ faults.Device
+only_device fault (inl device) up = device
+only_device fault (inr down) up = absurd (up down)

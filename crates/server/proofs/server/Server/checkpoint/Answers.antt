@@ -1,0 +1,81 @@
+use Rattle.std.proofs.Common.{◌≡◌, ℕ, false, true, Err, inl, inr, refl, sym, ap, ◌∙◌, subst, true≢false}
+use Rattle.fs.specs.FileSystem.{FileSystem}
+use Rattle.fs.specs.Views.{fs_of}
+use Rattle.fs.specs.declared.fault.FsFault.TheVariants as fault
+use Rattle.opens.specs.Views.{opens_of}
+use Rattle.session.specs.Views.{table_of}
+use Rattle.server.specs.Connections.{connections_of}
+use Rattle.server.specs.Views.{world_of, volume_of, failures_of}
+use Rattle.server.proofs.Checkpoints.{checkpointed, checkpoint_fails, keeps_world, only_device}
+use Rattle.server.proofs.Worlds.{AllOfRun}
+use Rattle.server.proofs.server.Server.checkpoint.Goals as goal
+
+pub returns-then-is_down-clause-refused : goal.returns-then-is_down-clause-refused
+unfolding world_of volume_of failures_of
+returns-then-is_down-clause-refused g c = record {
+  told = refl;
+  world = refl;
+  cause = inl (sym c.if-is_down.ensures);
+  down = sym c.if-is_down.ensures;
+}
+
+pub invariant_of-self : goal.invariant_of-self
+invariant_of-self g c =
+    let s = c.args.self.now in
+    record {
+      few = s.few;
+      of_run = subst (λ (r : ℕ). AllOfRun r (connections_of s.connections)) (sym c.checkpoint.ensures.volume.volume_changes.same.run) s.of_run;
+    }
+
+pub returns-in-Ok-clause-ok : goal.returns-in-Ok-clause-ok
+unfolding world_of volume_of
+returns-in-Ok-clause-ok g c = λ keeps.
+    let s = c.args.self.now in
+    let did = c.in-Ok.ensures in
+    let volume = did.volume.volume_changes in
+    checkpointed (fs_of s.fs) (fs_of c.checkpoint.new.self) (table_of s.table) (opens_of s.opens) (connections_of s.connections) volume.same did.changes
+    (did.shows.tree_is keeps) (sym c.if-is_down.ensures) volume.ends.still_up (did.recent keeps) (volume.moments keeps (fs_of s.fs).volume.tree false (refl, refl))
+
+pub returns-in-Ok-clause-kept : goal.returns-in-Ok-clause-kept
+unfolding world_of volume_of failures_of
+returns-in-Ok-clause-kept g c =
+    let s = c.args.self.now in
+    let did = c.in-Ok.ensures in
+    let volume = did.volume.volume_changes in
+    record {
+      up = sym c.if-is_down.ensures;
+      still_up = volume.ends.still_up;
+      none_failed = volume.none (λ broken. cc);
+      same = volume.same;
+      world = keeps_world (fs_of s.fs) (fs_of c.checkpoint.new.self) (table_of s.table) (opens_of s.opens) (connections_of s.connections) volume.same did.changes
+          (fs_of c.checkpoint.new.self).volume.tree;
+    }
+
+pub returns-in-Err-clause-fails : goal.returns-in-Err-clause-fails
+unfolding world_of volume_of
+returns-in-Err-clause-fails g c = λ keeps up.
+    let s = c.args.self.now in
+    let did = c.in-Err.ensures in
+    let volume = did.volume.volume_changes in
+    let device : c.in-Err.field-0 ≡ fault.Device = only_device c.in-Err.field-0 did.refuses
+    (λ down. true≢false (sym (did.down.0 (ap Err down)) ∙ up)) in
+    let failed = rw device at did.volume in
+    checkpoint_fails (fs_of s.fs) (fs_of c.checkpoint.new.self) (table_of s.table) (opens_of s.opens) (connections_of s.connections) volume.same did.changes
+    up failed.volume_changes.ends.down (volume.moments keeps (fs_of s.fs).volume.tree false (refl, refl))
+
+pub returns-in-Err-clause-refused : goal.returns-in-Err-clause-refused
+unfolding world_of volume_of failures_of
+returns-in-Err-clause-refused g c =
+    let s = c.args.self.now in
+    let did = c.in-Err.ensures in
+    let volume = did.volume.volume_changes in
+    let device : c.in-Err.field-0 ≡ fault.Device = only_device c.in-Err.field-0 did.refuses
+    (λ down. true≢false (sym (did.down.0 (ap Err down)) ∙ sym c.if-is_down.ensures)) in
+    let failed = rw device at did.volume in
+    record {
+      told = refl;
+      world = keeps_world (fs_of s.fs) (fs_of c.checkpoint.new.self) (table_of s.table) (opens_of s.opens) (connections_of s.connections) volume.same did.changes
+          (fs_of c.checkpoint.new.self).volume.tree;
+      cause = inr failed.volume_changes.ends.cause;
+      down = failed.volume_changes.ends.down;
+    }
