@@ -3,17 +3,12 @@
 
 use crate::calls::{Kind, stream_of};
 use crate::copying::Copies;
-use crate::journals::{Flushes, Held, ReadsListed};
-use crate::listing::{ListsNames, full_directory};
-use crate::places::{FillsPlaces, PLACES, TakesFarPlaces, WritesSectors, fill};
 use crate::records::{ReadsCalls, ReadsRecord, Tally};
 use crate::replies::WritesReplies;
 use crate::rows::Rows;
 use crate::volumes::{Makes, Measured, SMALL, Tree};
 use crate::work::{Undone, Work};
-use disk::{Device, SECTOR};
-use freemap::Bitmap;
-use journal::FIRST_TARGET;
+use disk::Device;
 use rpc::Assembler;
 use std::alloc::Global;
 
@@ -25,9 +20,6 @@ pub fn print_counts<R: Print>(rt: &R, alloc: Global) -> anyhow::Result<()> {
     }
     print_held(rt, alloc)?;
     print_replies(rt, alloc)?;
-    print_places(rt, alloc)?;
-    print_names(rt, alloc)?;
-    print_journals(rt, alloc)?;
     print_volumes(rt, alloc)
 }
 
@@ -85,65 +77,6 @@ fn print_replies<R: Print>(rt: &R, alloc: Global) -> anyhow::Result<()> {
     };
     let copied = copies.turn()?;
     println!(rt; "copies: {copied}, the last of {} bytes", copies.copy.len())?;
-    Ok(())
-}
-
-fn print_places<R: Print>(rt: &R, alloc: Global) -> anyhow::Result<()> {
-    let mut fills = FillsPlaces {
-        places: Bitmap::new(alloc, PLACES)?,
-    };
-    let filled = fills.turn()?;
-    println!(rt;
-        "places: {filled} taken or given back, {} free",
-        fills.places.free_count()
-    )?;
-    fill(&mut fills.places)?;
-    let mut far = TakesFarPlaces {
-        places: fills.places,
-    };
-    let taken = far.turn()?;
-    println!(rt;
-        "far places: {taken} taken, {} free",
-        far.places.free_count()
-    )?;
-    let mut writes = WritesSectors {
-        places: far.places,
-        sector: [0; SECTOR],
-    };
-    let written = writes.turn()?;
-    let used = writes.sector.iter().filter(|byte| **byte == 0xff).count();
-    println!(rt; "sectors of places: {written}, {used} bytes of the last are all used")?;
-    Ok(())
-}
-
-fn print_names<R: Print>(rt: &R, alloc: Global) -> anyhow::Result<()> {
-    let mut lists = ListsNames {
-        names: full_directory(alloc)?,
-        sum: 0,
-    };
-    let listed = lists.turn()?;
-    println!(rt;
-        "names: {listed} listed, {} the sum of their numbers",
-        lists.sum
-    )?;
-    Ok(())
-}
-
-fn print_journals<R: Print>(rt: &R, alloc: Global) -> anyhow::Result<()> {
-    let mut held = Held::new(alloc)?;
-    held.apply(FIRST_TARGET, 1)?;
-    let mut reads = ReadsListed {
-        held,
-        sector: FIRST_TARGET,
-        content: [0; SECTOR],
-    };
-    let read = reads.turn()?;
-    let mut flushes = Flushes {
-        held: Held::new(alloc)?,
-        count: 48,
-    };
-    let flushed = flushes.turn()?;
-    println!(rt; "journal: {read} read, {flushed} applied and flushed")?;
     Ok(())
 }
 

@@ -2,15 +2,9 @@
 
 use crate::calls::{Kind, Stream, stream_of};
 use crate::copying::Copies;
-use crate::journals::{Flushes, Held, ReadsListed};
-use crate::listing::{ListsNames, NAMES, full_directory};
-use crate::places::{FillsPlaces, PLACES, TakesFarPlaces, WritesSectors, fill};
 use crate::records::{ReadsCalls, ReadsRecord, Tally};
 use crate::replies::{REPLIES, WritesReplies};
 use crate::work::{Work, best_rate};
-use disk::SECTOR;
-use freemap::Bitmap;
-use journal::FIRST_TARGET;
 use rpc::Assembler;
 use std::alloc::Global;
 use std::time::Clock;
@@ -26,10 +20,7 @@ pub fn print_figures<R: Clock + Print>(rt: &R, alloc: Global) -> anyhow::Result<
     print_reads(rt, alloc, "WRITE calls", &writes)?;
     let asks = stream_of(alloc, Kind::GetAttr)?;
     print_reads(rt, alloc, "SEQUENCE-PUTFH-GETATTR calls", &asks)?;
-    print_replies(rt, alloc)?;
-    print_places(rt, alloc)?;
-    print_names(rt, alloc)?;
-    print_journals(rt, alloc)
+    print_replies(rt, alloc)
 }
 
 fn print_reads<R: Clock + Print>(
@@ -83,58 +74,6 @@ fn print_copies<R: Clock + Print>(
         copy: Vec::with_capacity(alloc, record_size)?,
     };
     print_rate(rt, "copied", &mut copies)
-}
-
-fn print_places<R: Clock + Print>(rt: &R, alloc: Global) -> anyhow::Result<()> {
-    println!(rt; "places: a volume of {PLACES}")?;
-    let mut fills = FillsPlaces {
-        places: Bitmap::new(alloc, PLACES)?,
-    };
-    print_rate(rt, "taken or given back", &mut fills)?;
-    fill(&mut fills.places)?;
-    let mut far = TakesFarPlaces {
-        places: fills.places,
-    };
-    print_rate(rt, "taken in the worst order", &mut far)?;
-    let mut writes = WritesSectors {
-        places: far.places,
-        sector: [0; 4096],
-    };
-    print_rate(rt, "sector written", &mut writes)
-}
-
-fn print_names<R: Clock + Print>(rt: &R, alloc: Global) -> anyhow::Result<()> {
-    println!(rt; "names: a directory of {NAMES}")?;
-    let mut lists = ListsNames {
-        names: full_directory(alloc)?,
-        sum: 0,
-    };
-    print_rate(rt, "listed", &mut lists)
-}
-
-/// Reads of a sector that waits for a flush, after one transaction and after 90, and transactions
-/// of 1 and of 48 sectors.
-fn print_journals<R: Clock + Print>(rt: &R, alloc: Global) -> anyhow::Result<()> {
-    for waiting in [1, 90] {
-        println!(rt; "journal: {waiting} transactions wait")?;
-        let mut held = Held::new(alloc)?;
-        for i in 0..waiting {
-            held.apply(FIRST_TARGET.saturating_add(i), 1)?;
-        }
-        let mut reads = ReadsListed {
-            held,
-            sector: FIRST_TARGET,
-            content: [0; SECTOR],
-        };
-        print_rate(rt, "the first one's sector read", &mut reads)?;
-    }
-    for count in [1, 48] {
-        println!(rt; "journal: transactions of {count} sectors, over memory")?;
-        let held = Held::new(alloc)?;
-        let mut flushes = Flushes { held, count };
-        print_rate(rt, "applied and flushed", &mut flushes)?;
-    }
-    Ok(())
 }
 
 /// Measures one kind of work, and prints how many things it does a second.
