@@ -68,6 +68,11 @@ pub fn hangup<D: Device>(server: &mut Server<D>, conn: usize, now: u64) -> Resul
     Ok(server.hangup(conn, now)?)
 }
 
+/// Copies home what the journal's open gate names, while no reply is due.
+pub fn checkpoint<D: Device>(server: &mut Server<D>) -> Result<(), Refused> {
+    Ok(server.checkpoint()?)
+}
+
 /// Makes the record of these arguments, which the client keeps.
 pub(crate) fn request(client: &mut Client, arguments: &[Argument<'_>]) -> Result<(), Refused>
     requires { All ArgumentFits arguments.now }

@@ -7,6 +7,7 @@ use disk::Device;
 use server::{Server, Turn};
 use std::alloc::Global;
 use std::io::{BufRead, BufReader, ErrorKind, Read, Write};
+use std::net::OpenStream;
 use std::time::{Clock, Duration};
 use std::{io, thread};
 
@@ -17,6 +18,9 @@ const PIECE_BYTES: usize = 32_768;
 const TRIES: u32 = 8;
 
 const PAUSE_MILLIS: u64 = 10;
+
+/// How long nothing comes before the server uses the time.
+const QUIET_MILLIS: u64 = 1;
 
 /// A mounted volume, and the one connection over which it is served.
 #[derive(Drop)]
@@ -65,7 +69,7 @@ impl<D: Device> Host<D> {
     pub fn serve<R, S>(&mut self, rt: &R, peer: S) -> Result<(), Refused>
     where
         R: Clock + AllocGlobal,
-        S: Read + Write + Drop,
+        S: Read + Write + OpenStream + Drop,
     {
         match self.meet(rt, peer) {
             Ok(()) | Err(Parting::Peer) => Ok(()),
@@ -76,7 +80,7 @@ impl<D: Device> Host<D> {
     fn meet<R, S>(&mut self, rt: &R, peer: S) -> Result<(), Parting>
     where
         R: Clock + AllocGlobal,
-        S: Read + Write + Drop,
+        S: Read + Write + OpenStream + Drop,
     {
         self.hang_up(rt)?;
         let mut stream = BufReader::with_capacity(rt.alloc(), PIECE_BYTES, peer)?;
@@ -87,7 +91,7 @@ impl<D: Device> Host<D> {
     fn admit<C, S>(&mut self, clock: &C, stream: &mut BufReader<S>) -> Result<(), Parting>
     where
         C: Clock,
-        S: Read + Write,
+        S: Read + Write + OpenStream,
     {
         let conn = link::connect(&mut self.server)?;
         self.conn = Some(conn);
@@ -97,7 +101,8 @@ impl<D: Device> Host<D> {
     }
 
     /// Takes what the peer sends, and answers it, until the peer's bytes end. What the server does
-    /// not take of a piece is offered again after the reply.
+    /// not take of a piece is offered again after the reply. Where nothing comes for a while, it
+    /// makes a checkpoint, and then waits for the peer.
     fn converse<C, S>(
         &mut self,
         clock: &C,
@@ -106,12 +111,19 @@ impl<D: Device> Host<D> {
     ) -> Result<(), Parting>
     where
         C: Clock,
-        S: Read + Write,
+        S: Read + Write + OpenStream,
     {
+        let mut has_rested = true;
         for _ in 0..u64::MAX {
             let piece = match stream.fill_buf() {
                 Ok(piece) => piece,
                 Err(error) if error.kind() == ErrorKind::Interrupted => continue,
+                Err(error) if is_quiet(&error) && !has_rested => {
+                    link::checkpoint(&mut self.server)?;
+                    stream.get_ref().set_read_timeout(None)?;
+                    has_rested = true;
+                    continue;
+                }
                 Err(_) => break,
             };
             if piece.is_empty() {
@@ -120,6 +132,9 @@ impl<D: Device> Host<D> {
             let taken = link::feed(&mut self.server, conn, piece)?;
             stream.consume(taken);
             self.answer(clock, conn, stream.get_mut())?;
+            if has_rested {
+                has_rested = !listens_briefly(stream.get_ref());
+            }
         }
         Ok(())
     }
@@ -169,6 +184,17 @@ impl<D: Device> Host<D> {
         }
         Err(Refused::Memory)
     }
+}
+
+/// Whether nothing came for a while.
+fn is_quiet(error: &io::Error) -> bool {
+    matches!(error.kind(), ErrorKind::WouldBlock | ErrorKind::TimedOut)
+}
+
+/// Has a read of the stream end where nothing comes for a while; whether the system does that.
+fn listens_briefly<S: OpenStream>(stream: &S) -> bool {
+    let quiet = Duration::from_millis(QUIET_MILLIS);
+    stream.set_read_timeout(Some(quiet)).is_ok()
 }
 
 fn write_reply<W: Write>(out: &mut W, reply: &[u8]) -> io::Result<()> {
