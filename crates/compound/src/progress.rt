@@ -14,7 +14,7 @@ pub(crate) const RESULT_BUFFER: usize = 16_384;
 pub(crate) const RECORD_BUFFER: usize = RESULT_BUFFER + 28;
 
 /// A slot of a session.
-#[derive(Clone, Copy, Debug, PartialEq, Eq)]
+#[derive(Clone, Copy, PartialEq, Eq)]
 pub(crate) struct SlotId {
     pub session: [u8; 16],
     pub slot: u32,

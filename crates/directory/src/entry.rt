@@ -5,7 +5,7 @@ ghost use Rattle.std.specs.Prelude.{◌≡◌, ◌<◌, ◌^◌, IfOk};
 use std::alloc::{AllocError, Global};
 
 /// A name, with its stamp and its node.
-#[derive(Debug, Drop)]
+#[derive(Drop)]
 pub struct Entry {
     /// 1 to 255 bytes.
     pub name: Vec<u8>,

@@ -9,7 +9,7 @@ use crate::entry::Entry;
 use std::alloc::{AllocError, Global};
 
 /// The stamp of a record, and the place where the record stands.
-#[derive(Clone, Copy, Debug)]
+#[derive(Clone, Copy)]
 pub(crate) struct Placed {
     pub(crate) stamp: u64,
     pub(crate) place: usize,

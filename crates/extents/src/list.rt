@@ -14,7 +14,7 @@ use std::marker::Model;
 /// zero.
 ///
 /// Contracts see the list of the sectors.
-#[derive(Debug, Drop)]
+#[derive(Drop)]
 pub struct BlockList {
     sectors: Vec<Option<u32>>,
 }

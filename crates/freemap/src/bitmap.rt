@@ -13,7 +13,7 @@ use std::marker::Model;
 /// to look for a free place.
 ///
 /// Contracts see a list of booleans, true where the place is used.
-#[derive(Debug, Drop)]
+#[derive(Drop)]
 pub struct Bitmap {
     bits: Vec<u8>,
     count: u32,

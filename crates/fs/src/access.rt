@@ -35,7 +35,7 @@ const EXECUTE: u32 = 0x20;
 
 /// What ACCESS answers: of the bits that are asked those that a node of this kind has, and those of
 /// them that the caller is granted.
-#[derive(Clone, Copy, Debug, PartialEq, Eq)]
+#[derive(Clone, Copy, PartialEq, Eq)]
 pub struct Access {
     pub supported: u32,
     pub granted: u32,

@@ -1,5 +1,5 @@
 /// A directory that was made.
-#[derive(Clone, Copy, Debug, PartialEq, Eq)]
+#[derive(Clone, Copy, PartialEq, Eq)]
 pub struct Created {
     /// Its number, and the new change value of the directory that holds it.
     pub number: u64,

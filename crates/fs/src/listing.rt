@@ -20,7 +20,7 @@ use wire_attributes::{Attribute, AttributesAnswer, ListedAttributes, ListedEntry
 const EMPTY_PAGE: usize = 16;
 
 /// What READDIR asks (RFC 8881, section 18.23). Its dircount is not looked at.
-#[derive(Clone, Copy, Debug)]
+#[derive(Clone, Copy)]
 pub struct Listing<'a> {
     /// The directory's number.
     pub directory: u64,

@@ -19,7 +19,7 @@ use settings::{GivenAttributes, SETTABLE_AT_CREATION, Settings, check_attributes
 use std::alloc::AllocError;
 
 /// The directory that a caller asks for.
-#[derive(Clone, Copy, Debug)]
+#[derive(Clone, Copy)]
 pub struct NewDirectory<'a> {
     /// The number of the directory that is to hold it.
     pub parent: u64,

@@ -23,7 +23,7 @@ const READ: u32 = 1;
 const WRITE: u32 = 2;
 
 /// How a file is opened by its name (RFC 8881, section 18.16.1, `openflag4`).
-#[derive(Clone, Copy, Debug)]
+#[derive(Clone, Copy)]
 pub enum How<'a> {
     /// It has to be there.
     NoCreate,
@@ -36,14 +36,14 @@ pub enum How<'a> {
 
 /// What an open asks to do, and to deny to others, as it was sent (RFC 8881, section 18.16.1,
 /// `share_access` and `share_deny`).
-#[derive(Clone, Copy, Debug)]
+#[derive(Clone, Copy)]
 pub struct Share {
     pub access: u32,
     pub deny: u32,
 }
 
 /// The file that a caller opens by its name.
-#[derive(Clone, Copy, Debug)]
+#[derive(Clone, Copy)]
 pub struct Opening<'a> {
     /// The number of the directory that has it.
     pub directory: u64,
@@ -53,7 +53,7 @@ pub struct Opening<'a> {
 }
 
 /// What an OPEN does to its file.
-#[derive(Clone, Copy, Debug, PartialEq, Eq)]
+#[derive(Clone, Copy, PartialEq, Eq)]
 pub enum OpenEffect {
     Nothing,
     /// It has no bytes then.
@@ -63,7 +63,7 @@ pub enum OpenEffect {
 
 /// Whether the reply has room for the result of an OPEN by a name, which tells the attributes that
 /// were set: by what it does to its file.
-#[derive(Clone, Copy, Debug)]
+#[derive(Clone, Copy)]
 pub struct OpenRoom {
     pub nothing: bool,
     pub cut: bool,
@@ -83,7 +83,7 @@ impl OpenRoom {
 }
 
 /// A file that was opened.
-#[derive(Clone, Copy, Debug, PartialEq, Eq)]
+#[derive(Clone, Copy, PartialEq, Eq)]
 pub struct Opened {
     pub number: u64,
     /// The directory that has its name; 0 and 0 where it was opened without one.

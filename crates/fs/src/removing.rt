@@ -13,7 +13,7 @@ use model::status::Status;
 use names::check_name;
 
 /// A name that was removed.
-#[derive(Clone, Copy, Debug, PartialEq, Eq)]
+#[derive(Clone, Copy, PartialEq, Eq)]
 pub struct Removed {
     /// The number of the node that it led to, which is gone.
     pub number: u64,

@@ -20,7 +20,7 @@ use names::check_name;
 use std::alloc::{AllocError, Global};
 
 /// The rename that a caller asks for.
-#[derive(Clone, Copy, Debug)]
+#[derive(Clone, Copy)]
 pub struct Renaming<'a> {
     /// The number of the directory that has the name, the saved filehandle.
     pub from: u64,
@@ -31,14 +31,14 @@ pub struct Renaming<'a> {
 }
 
 /// The change value of a directory, before and after.
-#[derive(Clone, Copy, Debug, PartialEq, Eq)]
+#[derive(Clone, Copy, PartialEq, Eq)]
 pub struct Change {
     pub before: u64,
     pub after: u64,
 }
 
 /// A name that was given to its node in place of another one.
-#[derive(Clone, Copy, Debug, PartialEq, Eq)]
+#[derive(Clone, Copy, PartialEq, Eq)]
 pub struct Renamed {
     /// The directory that had the node.
     pub source: Change,

@@ -26,7 +26,7 @@ use std::alloc::AllocError;
 use wire_attributes::numbers_of;
 
 /// What a caller sets of a node.
-#[derive(Clone, Copy, Debug)]
+#[derive(Clone, Copy)]
 pub struct Setting<'a> {
     /// The node's number.
     pub number: u64,

@@ -10,7 +10,7 @@ use model::not_done::NotDone;
 use model::status::Status;
 
 /// The bytes that a caller writes to a file.
-#[derive(Clone, Copy, Debug)]
+#[derive(Clone, Copy)]
 pub struct Writing<'a> {
     /// Where the first of them is to stand.
     pub offset: u64,

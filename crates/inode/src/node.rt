@@ -8,14 +8,14 @@ use model::node::NodeKind;
 use std::alloc::{AllocError, Global};
 
 /// The forms of node sectors.
-#[derive(Clone, Copy, Debug, PartialEq, Eq)]
+#[derive(Clone, Copy, PartialEq, Eq)]
 pub enum Form {
     /// `NODE`, with up to 40 entries.
     One,
 }
 
 /// A node, apart from its bytes or names.
-#[derive(Debug, Drop)]
+#[derive(Drop)]
 pub struct Inode {
     pub kind: NodeKind,
     /// The node's number, as in its filehandle.

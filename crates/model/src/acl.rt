@@ -9,7 +9,7 @@ use std::marker::Model;
 use xdr::Words;
 
 /// The rights that an entry names (RFC 8881, section 6.2.1.3, `acemask4`): a 32-bit word.
-#[derive(Clone, Copy, PartialEq, Eq, Debug)]
+#[derive(Clone, Copy, PartialEq, Eq)]
 pub struct Mask(u32);
 
 bitflag_items! {
@@ -59,7 +59,7 @@ impl Flags for Mask {
 }
 
 /// The flags of an entry (RFC 8881, section 6.2.1.4, `aceflag4`): a 32-bit word.
-#[derive(Clone, Copy, PartialEq, Eq, Debug)]
+#[derive(Clone, Copy, PartialEq, Eq)]
 pub struct AceFlags(u32);
 
 bitflag_items! {
@@ -97,14 +97,14 @@ impl Flags for AceFlags {
 }
 
 /// Whether an entry grants or denies (RFC 8881, section 6.2.1.1, `acetype4`).
-#[derive(Clone, Copy, PartialEq, Eq, Debug)]
+#[derive(Clone, Copy, PartialEq, Eq)]
 pub enum AceKind {
     Allow = 0,
     Deny = 1,
 }
 
 /// Whom an entry speaks of (RFC 8881, section 6.2.1.5).
-#[derive(Clone, Copy, PartialEq, Eq, Debug)]
+#[derive(Clone, Copy, PartialEq, Eq)]
 pub enum Who {
     /// `OWNER@`: the node's owner.
     Owner,
@@ -143,7 +143,7 @@ impl Who {
 }
 
 /// An access control entry (RFC 8881, section 6.2.1, `nfsace4`).
-#[derive(Clone, Copy, PartialEq, Eq, Debug)]
+#[derive(Clone, Copy, PartialEq, Eq)]
 pub struct Ace {
     pub kind: AceKind,
     pub flags: AceFlags,
@@ -165,7 +165,7 @@ impl Ace {
 /// An access control list: its entries, in the order in which they are evaluated.
 ///
 /// Contracts see the list of the entries.
-#[derive(Drop, Debug)]
+#[derive(Drop)]
 pub struct Acl {
     entries: Vec<Ace>,
 }
@@ -225,7 +225,7 @@ impl Acl {
 /// 5531, appendix A).
 ///
 /// Contracts see the list of their numbers.
-#[derive(Drop, Debug)]
+#[derive(Drop)]
 pub struct Gids {
     numbers: Words<16>,
 }
@@ -278,7 +278,7 @@ impl From<Words<16>> for Gids {
 
 /// Who asks: a user, its first group and its other groups, as its call says (RFC 5531, appendix A,
 /// AUTH_SYS).
-#[derive(Drop, Debug)]
+#[derive(Drop)]
 pub struct Cred {
     pub uid: u32,
     pub gid: u32,

@@ -3,7 +3,7 @@
 ghost use Rattle.std.specs.Prelude.{◌≡◌, ◌+◌, ◌≤◌};
 
 /// What a tree may have: this server's profile. The definitions take the limits as an argument.
-#[derive(Clone, Copy, PartialEq, Eq, Debug)]
+#[derive(Clone, Copy, PartialEq, Eq)]
 pub struct Limits {
     /// Sectors of the data region, which nodes are charged.
     pub data_sectors: usize,

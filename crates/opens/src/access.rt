@@ -5,7 +5,7 @@ ghost use Rattle.std.specs.Prelude.{⊤, [], ◌∷◌, codes};
 use bitflags::{Flag, Flags, bitflag_items};
 
 /// The access of an open (RFC 8881, section 18.16.3, `share_access`).
-#[derive(Clone, Copy, PartialEq, Eq, Debug)]
+#[derive(Clone, Copy, PartialEq, Eq)]
 pub struct Access(u32);
 
 bitflag_items! {

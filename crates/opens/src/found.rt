@@ -15,7 +15,7 @@ use model::status::Status;
 use wire::StateId;
 
 /// Where a stateid is used.
-#[derive(Clone, Copy, Debug)]
+#[derive(Clone, Copy)]
 pub struct Standing {
     /// The session's client.
     pub client: u64,

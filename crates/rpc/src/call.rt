@@ -14,7 +14,7 @@ use xdr::{Reader, Refusal};
 pub const MAX_AUTH_BYTES: u32 = 400;
 
 /// What follows the RPC version of a call. The verifier is read, and not looked at.
-#[derive(Clone, Copy, Debug)]
+#[derive(Clone, Copy)]
 pub struct Call<'a> {
     /// The call's number, which the reply repeats.
     pub xid: u32,
@@ -30,7 +30,7 @@ pub struct Call<'a> {
 }
 
 /// What a record is read as.
-#[derive(Clone, Copy, Debug)]
+#[derive(Clone, Copy)]
 pub enum CallRead<'a> {
     /// A call of another version of RPC, of which nothing more is read.
     OtherVersion { xid: u32 },

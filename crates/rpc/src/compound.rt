@@ -5,7 +5,7 @@ ghost use Rattle.std.specs.Prelude.{◌<◌};
 use crate::tag::Tag;
 
 /// A COMPOUND of minor version 1 and at least one operation.
-#[derive(Clone, Copy, Debug)]
+#[derive(Clone, Copy)]
 pub struct Compound<'a> {
     pub tag: Tag<'a>,
     /// How many operations there are.

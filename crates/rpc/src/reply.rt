@@ -16,14 +16,14 @@ use model::status::Status;
 use xdr::{Refusal, Writer, opaque_size};
 
 /// Why a caller's authentication is refused.
-#[derive(Clone, Copy, Debug, PartialEq, Eq)]
+#[derive(Clone, Copy, PartialEq, Eq)]
 pub enum AuthStat {
     BadCredential = 1,
     TooWeak = 5,
 }
 
 /// The result of a COMPOUND (RFC 8881, section 16.2).
-#[derive(Clone, Copy, Debug)]
+#[derive(Clone, Copy)]
 pub struct CompoundResult<'a> {
     /// The status of the last operation that ran.
     pub status: Status,
@@ -35,7 +35,7 @@ pub struct CompoundResult<'a> {
 }
 
 /// A reply.
-#[derive(Clone, Copy, Debug)]
+#[derive(Clone, Copy)]
 pub enum Reply<'a> {
     /// Denied: RPC versions 2 to 2 are spoken.
     VersionRefused,

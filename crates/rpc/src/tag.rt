@@ -7,7 +7,7 @@ ghost use Rattle.rpc.specs.declared.tag.TheConstants.{MAX_TAG_BYTES};
 pub const MAX_TAG_BYTES: u32 = 255;
 
 /// A text of at most 255 bytes, which the reply repeats. Any bytes are taken.
-#[derive(Clone, Copy, Debug)]
+#[derive(Clone, Copy)]
 pub struct Tag<'a> {
     pub bytes: &'a [u8],
     ghost short: { length bytes.now ≤ MAX_TAG_BYTES },

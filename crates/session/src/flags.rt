@@ -6,7 +6,7 @@ ghost use Rattle.model.specs.Session.{exchange_flags, has_only, session_flags};
 use bitflags::{Flag, Flags, bitflag_items};
 
 /// The flags of EXCHANGE_ID (`EXCHGID4_FLAG_`).
-#[derive(Clone, Copy, PartialEq, Eq, Debug)]
+#[derive(Clone, Copy, PartialEq, Eq)]
 pub struct ExchangeFlags(u32);
 
 bitflag_items! {
@@ -59,7 +59,7 @@ impl ExchangeFlags {
 }
 
 /// The flags of CREATE_SESSION (`CREATE_SESSION4_FLAG_`).
-#[derive(Clone, Copy, PartialEq, Eq, Debug)]
+#[derive(Clone, Copy, PartialEq, Eq)]
 pub struct SessionFlags(u32);
 
 bitflag_items! {

@@ -15,7 +15,7 @@ use model::status::Status;
 use wire::{SequenceAnswer, SequenceArguments};
 
 /// What a SEQUENCE that is not refused does.
-#[derive(Clone, Copy, Debug, PartialEq, Eq)]
+#[derive(Clone, Copy, PartialEq, Eq)]
 pub enum Begun {
     /// The request is a retry: the slot's kept reply answers it, which `Table::kept` gives.
     Replays,

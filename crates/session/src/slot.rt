@@ -25,7 +25,7 @@ pub struct Slot {
 }
 
 /// What a slot does with a request.
-#[derive(Clone, Copy, Debug, PartialEq, Eq)]
+#[derive(Clone, Copy, PartialEq, Eq)]
 pub enum Next {
     /// The request is a retry, answered by the kept reply.
     Replays,

@@ -1,7 +1,7 @@
 //! Attributes as a client gives them.
 
 /// Attributes as a client gives them (RFC 8881, section 3.3.9, `fattr4`).
-#[derive(Clone, Copy, Debug)]
+#[derive(Clone, Copy)]
 pub struct GivenAttributes<'a> {
     /// At most 8 words: bit m of word n stands for attribute 32 n + m.
     pub bitmap: &'a [u32],

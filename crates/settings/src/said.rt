@@ -11,7 +11,7 @@ use std::alloc::{AllocError, Global};
 use wire_attributes::{AclEntry, Value, ace_of, number_of};
 
 /// What attributes set: nothing of what they do not say.
-#[derive(Drop, Debug)]
+#[derive(Drop)]
 pub struct Settings {
     /// No attribute is given.
     pub is_empty: bool,

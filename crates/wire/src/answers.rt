@@ -9,7 +9,7 @@ use crate::small::{Attributes, Bitmap, ChangeInfo, Channel, StateId};
 use xdr::{Refusal, Writer};
 
 /// `ACCESS4resok`.
-#[derive(Clone, Copy, Debug, PartialEq, Eq)]
+#[derive(Clone, Copy, PartialEq, Eq)]
 pub struct AccessAnswer {
     pub supported: u32,
     pub access: u32,
@@ -71,7 +71,7 @@ impl OpenAnswer {
 }
 
 /// `READ4resok`.
-#[derive(Clone, Copy, Debug, PartialEq, Eq)]
+#[derive(Clone, Copy, PartialEq, Eq)]
 pub struct ReadAnswer<'a> {
     pub is_end: bool,
     pub data: &'a [u8],
@@ -156,7 +156,7 @@ fn write_link(w: &mut Writer, entry: &Entry<'_>) -> Result<(), Refusal>
 }
 
 /// `RENAME4resok`: the changes of the directory that lost the name, and of the one that gained it.
-#[derive(Clone, Copy, Debug, PartialEq, Eq)]
+#[derive(Clone, Copy, PartialEq, Eq)]
 pub struct RenameAnswer {
     pub source: ChangeInfo,
     pub target: ChangeInfo,
@@ -173,7 +173,7 @@ impl RenameAnswer {
 }
 
 /// `WRITE4resok`.
-#[derive(Clone, Copy, Debug, PartialEq, Eq)]
+#[derive(Clone, Copy, PartialEq, Eq)]
 pub struct WriteAnswer {
     pub count: u32,
     pub committed: u32,
@@ -192,7 +192,7 @@ impl WriteAnswer {
 }
 
 /// `EXCHANGE_ID4resok`, with SP4_NONE, the minor id 0 and no implementation.
-#[derive(Clone, Copy, Debug, PartialEq, Eq)]
+#[derive(Clone, Copy, PartialEq, Eq)]
 pub struct ExchangeIdAnswer<'a> {
     pub client: u64,
     pub sequence: u32,
@@ -234,7 +234,7 @@ impl ExchangeIdAnswer<'_> {
 }
 
 /// `CREATE_SESSION4resok`.
-#[derive(Clone, Copy, Debug, PartialEq, Eq)]
+#[derive(Clone, Copy, PartialEq, Eq)]
 pub struct CreateSessionAnswer {
     pub session: [u8; 16],
     pub sequence: u32,
@@ -264,7 +264,7 @@ impl CreateSessionAnswer {
 }
 
 /// `SEQUENCE4resok`.
-#[derive(Clone, Copy, Debug, PartialEq, Eq)]
+#[derive(Clone, Copy, PartialEq, Eq)]
 pub struct SequenceAnswer {
     pub session: [u8; 16],
     pub sequence: u32,

@@ -23,7 +23,7 @@ use xdr::{Reader, Refusal, Words};
 pub const MAX_HANDLE_BYTES: u32 = 128;
 
 /// The operations that have arguments and results on the wire, with their numbers (`nfs_opnum4`).
-#[derive(Clone, Copy, Debug, PartialEq, Eq)]
+#[derive(Clone, Copy, PartialEq, Eq)]
 pub enum Operation {
     Access = 3,
     Close = 4,

@@ -10,7 +10,7 @@ use crate::small::{ANY_LENGTH, Attributes, StateId};
 use xdr::{Reader, Refusal, Writer};
 
 /// `CLOSE4args`: the seqid is ignored.
-#[derive(Clone, Copy, Debug, PartialEq, Eq)]
+#[derive(Clone, Copy, PartialEq, Eq)]
 pub struct CloseArguments {
     pub seqid: u32,
     pub state: StateId,
@@ -30,7 +30,7 @@ impl CloseArguments {
 }
 
 /// `COMMIT4args`.
-#[derive(Clone, Copy, Debug, PartialEq, Eq)]
+#[derive(Clone, Copy, PartialEq, Eq)]
 pub struct CommitArguments {
     pub offset: u64,
     pub count: u32,
@@ -50,7 +50,7 @@ impl CommitArguments {
 }
 
 /// `READ4args`.
-#[derive(Clone, Copy, Debug, PartialEq, Eq)]
+#[derive(Clone, Copy, PartialEq, Eq)]
 pub struct ReadArguments {
     pub state: StateId,
     pub offset: u64,
@@ -76,7 +76,7 @@ impl ReadArguments {
 }
 
 /// `stable_how4`: what of a WRITE is to be on the device before its answer.
-#[derive(Clone, Copy, Debug, PartialEq, Eq)]
+#[derive(Clone, Copy, PartialEq, Eq)]
 pub enum StableHow {
     /// UNSTABLE4: nothing; the bytes may be lost until the next COMMIT.
     Unstable,

@@ -17,7 +17,7 @@ pub enum OpenType<'a> {
 }
 
 /// `open_claim4`: of a claim other than these two nothing that follows is looked at.
-#[derive(Clone, Copy, Debug, PartialEq, Eq)]
+#[derive(Clone, Copy, PartialEq, Eq)]
 pub enum Claim<'a> {
     /// CLAIM_NULL: a name in the current directory.
     ByName(&'a [u8]),
@@ -43,7 +43,7 @@ impl<'a> Claim<'a> {
 }
 
 /// The two exclusive modes of `createmode4`.
-#[derive(Clone, Copy, Debug, PartialEq, Eq)]
+#[derive(Clone, Copy, PartialEq, Eq)]
 pub enum ExclusiveCreate {
     /// EXCLUSIVE4: a verifier follows.
     ByVerifier,

@@ -133,7 +133,7 @@ fn each_security<'a>(
 }
 
 /// `SEQUENCE4args`.
-#[derive(Clone, Copy, Debug, PartialEq, Eq)]
+#[derive(Clone, Copy, PartialEq, Eq)]
 pub struct SequenceArguments {
     pub session: [u8; 16],
     pub sequence: u32,

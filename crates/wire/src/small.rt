@@ -56,7 +56,7 @@ pub(crate) const MAX_OWNER_BYTES: u32 = 1024;
 const MAX_MACHINE_NAME_BYTES: u32 = 255;
 
 /// `stateid4`.
-#[derive(Clone, Copy, Debug, PartialEq, Eq)]
+#[derive(Clone, Copy, PartialEq, Eq)]
 pub struct StateId {
     pub seqid: u32,
     pub other: [u8; 12],
@@ -113,7 +113,7 @@ impl<'a> Attributes<'a> {
 }
 
 /// `change_info4`: the directory's change attribute before and after.
-#[derive(Clone, Copy, Debug, PartialEq, Eq)]
+#[derive(Clone, Copy, PartialEq, Eq)]
 pub struct ChangeInfo {
     pub is_atomic: bool,
     pub before: u64,
@@ -132,7 +132,7 @@ impl ChangeInfo {
 }
 
 /// `channel_attrs4`.
-#[derive(Clone, Copy, Debug, PartialEq, Eq)]
+#[derive(Clone, Copy, PartialEq, Eq)]
 pub struct Channel {
     pub header_pad_size: u32,
     pub max_request_size: u32,
@@ -215,7 +215,7 @@ fn write_ird(w: &mut Writer, ird: Option<u32>) -> Result<(), Refusal>
 }
 
 /// `nfs_impl_id4`: who made the client, and when.
-#[derive(Clone, Copy, Debug, PartialEq, Eq)]
+#[derive(Clone, Copy, PartialEq, Eq)]
 pub struct Implementation<'a> {
     pub domain: &'a [u8],
     pub name: &'a [u8],

@@ -16,7 +16,7 @@ use xdr::{Refusal, Words, Writer};
 
 /// `fattr4` of a node: of the attributes that a bitmap asks those that the server has, and their
 /// values. It is spelled where it is written; no value stands in memory of its own.
-#[derive(Clone, Copy, Debug)]
+#[derive(Clone, Copy)]
 pub struct AttributesAnswer<'a> {
     pub node: NodeAttributes<'a>,
     /// The bitmap that is asked, of any length.

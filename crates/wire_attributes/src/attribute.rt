@@ -4,7 +4,7 @@ ghost use Rattle.std.specs.Prelude.{◌≡◌};
 ghost use Rattle.wire_attributes.specs.NodeValues.{number_of};
 
 /// An attribute (RFC 8881, sections 5.6 to 5.8, and 6), with its number.
-#[derive(Clone, Copy, Debug, PartialEq, Eq)]
+#[derive(Clone, Copy, PartialEq, Eq)]
 pub enum Attribute {
     SupportedAttrs = 0,
     Kind = 1,

@@ -11,7 +11,7 @@ use std::alloc::Global;
 use xdr::{Reader, Refusal, Writer};
 
 /// `nfsace4`: what its numbers and its text mean is not looked at.
-#[derive(Debug, Drop, PartialEq, Eq)]
+#[derive(Drop, PartialEq, Eq)]
 pub struct AclEntry<'a> {
     /// `acetype4`
     pub kind: u32,

@@ -15,7 +15,7 @@ use xdr::{Refusal, Writer, opaque_size};
 const RDATTR_ERROR: u32 = 0x800;
 
 /// The attributes of an entry.
-#[derive(Clone, Copy, Debug)]
+#[derive(Clone, Copy)]
 pub enum ListedAttributes<'a> {
     Shown(AttributesAnswer<'a>),
     /// Its list is asked, and the caller may not read it: rdattr_error alone, with ACCESS.
@@ -25,7 +25,7 @@ pub enum ListedAttributes<'a> {
 }
 
 /// `entry4`.
-#[derive(Clone, Copy, Debug)]
+#[derive(Clone, Copy)]
 pub struct ListedEntry<'a> {
     pub cookie: u64,
     pub name: &'a [u8],

@@ -37,7 +37,7 @@ const ACL_SUPPORT: u32 = 3;
 const NANOSECONDS: u64 = 1_000_000_000;
 
 /// What a node shows of itself, and the limits of its volume that it shows.
-#[derive(Clone, Copy, Debug)]
+#[derive(Clone, Copy)]
 pub struct NodeAttributes<'a> {
     pub kind: NodeKind,
     pub number: u64,

@@ -12,7 +12,7 @@ use wire::{ANY_LENGTH, Bitmap, MAX_HANDLE_BYTES, read_trimmed};
 use xdr::{Reader, Refusal, Writer};
 
 /// `fsid4`.
-#[derive(Clone, Copy, Debug, PartialEq, Eq)]
+#[derive(Clone, Copy, PartialEq, Eq)]
 pub struct FileSystemId {
     pub major: u64,
     pub minor: u64,
@@ -39,7 +39,7 @@ impl FileSystemId {
 }
 
 /// `nfstime4`.
-#[derive(Clone, Copy, Debug, PartialEq, Eq)]
+#[derive(Clone, Copy, PartialEq, Eq)]
 pub struct Time {
     /// Since 1970, as the number that their eight bytes spell.
     pub seconds: u64,

@@ -14,7 +14,7 @@ use crate::writer::Writer;
 use std::marker::Model;
 
 /// At most `N` numbers. In a contract it is their list.
-#[derive(Drop, Debug)]
+#[derive(Drop)]
 pub struct Words<const N: usize> {
     words: [u32; N],
     count: usize,
