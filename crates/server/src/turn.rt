@@ -1,5 +1,5 @@
 /// What a turn of a connection did.
-#[derive(Clone, Copy, PartialEq, Eq)]
+#[derive(Clone, Copy, Debug, PartialEq, Eq)]
 pub enum Turn {
     /// No whole request waits, or the last reply was not taken.
     Idle,
