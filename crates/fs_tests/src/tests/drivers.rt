@@ -9,6 +9,6 @@ mod pages;
 mod volumes;
 
 pub(super) use asking::ask;
-pub(super) use call::{Answer, Call, Caller, Given, Make};
+pub(super) use call::{Answer, Call, Caller, Effect, Given, Make};
 pub(super) use changes::make_dir;
 pub(super) use volumes::{Tree, check, format, mount, mount_on, mounted, refused, remount};

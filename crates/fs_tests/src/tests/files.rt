@@ -1,11 +1,11 @@
 //! Files: OPEN by a name, and what is written and read after it.
 
-use super::drivers::{Answer, Call, Given, Make, mounted};
+use super::drivers::{Answer, Call, Effect, Given, Make, mounted};
 use super::rows::{
     EXISTS, FIRST, FOURTH, INVALID, IS_DIRECTORY, MAKES_A, MODE_755, NO_ACCESS, NO_ENTRY, NO_SPACE,
     OTHER, OWNER, ROOT, Row, SECOND, THIRD, play, try_both, try_rows, try_sized,
 };
-use fs::{FsFault, OpenEffect};
+use fs::FsFault;
 use model::status::Status;
 use std::test::Fail;
 
@@ -81,16 +81,12 @@ const FILE_TOO_BIG: Result<Answer, FsFault> = Err(FsFault::Status(Status::FBig))
 const MAKES_F: Row = (
     OWNER,
     Call::Open(ROOT, b"f", WRITES, EMPTY),
-    Ok(Answer::Opened(FIRST, OpenEffect::Made, (1, FIRST))),
+    Ok(Answer::Opened(FIRST, Effect::Made, (1, FIRST))),
     b"",
 );
 
 /// What is answered where the file `f` is there.
-const KNOWN: Result<Answer, FsFault> = Ok(Answer::Opened(
-    FIRST,
-    OpenEffect::Nothing,
-    (FIRST, FIRST),
-));
+const KNOWN: Result<Answer, FsFault> = Ok(Answer::Opened(FIRST, Effect::Nothing, (FIRST, FIRST)));
 
 const WRITTEN: [Row; 2] = [
     MAKES_F,
@@ -113,7 +109,7 @@ const READ_AND_CUT: [Row; 5] = [
     (
         OWNER,
         Call::Open(ROOT, b"f", READS, EMPTY),
-        Ok(Answer::Opened(FIRST, OpenEffect::Cut, (FIRST, FIRST))),
+        Ok(Answer::Opened(FIRST, Effect::Cut, (FIRST, FIRST))),
         b"",
     ),
     (OWNER, Call::Read(FIRST, 0, 20), Ok(Answer::Read(true)), b""),
@@ -129,7 +125,7 @@ const SIZED: [Row; 5] = [
     (
         OWNER,
         Call::Open(ROOT, b"f", WRITES, OF_8200),
-        Ok(Answer::Opened(FIRST, OpenEffect::Made, (1, FIRST))),
+        Ok(Answer::Opened(FIRST, Effect::Made, (1, FIRST))),
         b"",
     ),
     (OWNER, Call::Open(ROOT, b"f", WRITES, OF_8191), KNOWN, b""),
@@ -171,14 +167,14 @@ const REFUSED: [Row; 12] = [
     (
         OWNER,
         Call::Open(ROOT, b"f", READS, NEW),
-        Ok(Answer::Opened(SECOND, OpenEffect::Made, (FIRST, SECOND))),
+        Ok(Answer::Opened(SECOND, Effect::Made, (FIRST, SECOND))),
         b"",
     ),
     (OWNER, Call::Open(ROOT, b"f", READS, NEW), EXISTS, b""),
     (
         OTHER,
         Call::Open(ROOT, b"f", READS, Make::No),
-        Ok(Answer::Opened(SECOND, OpenEffect::Nothing, (SECOND, SECOND))),
+        Ok(Answer::Opened(SECOND, Effect::Nothing, (SECOND, SECOND))),
         b"",
     ),
     (
@@ -291,14 +287,14 @@ const CHARGED: [Row; 5] = [
     (
         OWNER,
         Call::Open(ROOT, b"g", WRITES, OF_36864),
-        Ok(Answer::Opened(THIRD, OpenEffect::Made, (FIRST, THIRD))),
+        Ok(Answer::Opened(THIRD, Effect::Made, (FIRST, THIRD))),
         b"",
     ),
     (OWNER, Call::Set(THIRD, SIZE_36865), NO_SPACE, b""),
     (
         OWNER,
         Call::Open(ROOT, b"h", WRITES, EMPTY),
-        Ok(Answer::Opened(FOURTH, OpenEffect::Made, (THIRD, FOURTH))),
+        Ok(Answer::Opened(FOURTH, Effect::Made, (THIRD, FOURTH))),
         b"",
     ),
 ];

@@ -64,6 +64,24 @@ pub(crate) enum Call<'a> {
     Check(u64),
 }
 
+/// What an OPEN did to its file, in a form that is shown where a row fails.
+#[derive(Clone, Copy, Debug, PartialEq)]
+pub(crate) enum Effect {
+    Nothing,
+    Cut,
+    Made,
+}
+
+impl From<OpenEffect> for Effect {
+    fn from(effect: OpenEffect) -> Effect {
+        match effect {
+            OpenEffect::Nothing => Effect::Nothing,
+            OpenEffect::Cut => Effect::Cut,
+            OpenEffect::Made => Effect::Made,
+        }
+    }
+}
+
 /// What is answered, beside bytes.
 #[derive(Clone, Copy, Debug, PartialEq)]
 pub(crate) enum Answer {
@@ -75,7 +93,7 @@ pub(crate) enum Answer {
     /// The number of a new directory, and the change of the one that holds it, before.
     Created(u64, u64),
     /// The number of a file, what was done to it, and the change of its directory before and after.
-    Opened(u64, OpenEffect, (u64, u64)),
+    Opened(u64, Effect, (u64, u64)),
     /// The number of what is gone, and the change of its directory before and after.
     Removed(u64, (u64, u64)),
     /// The changes of both directories before and after, and the number of what is gone.

@@ -71,7 +71,7 @@ pub(crate) fn open<'a>(
     };
     let opened = fs.open_file(&caller.cred(), caller.now, asked, false, room)?;
     let Change { before, after } = opened.directory;
-    Ok(Answer::Opened(opened.number, opened.effect, (before, after)))
+    Ok(Answer::Opened(opened.number, opened.effect.into(), (before, after)))
 }
 
 pub(crate) fn remove(
