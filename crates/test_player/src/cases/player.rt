@@ -105,7 +105,7 @@ fn compare(alloc: Global, stream: Stream, wanted: &[u8], got: &[u8]) -> Result<(
 }
 
 /// The port is told, and each peer was answered.
-fn compare_peers(alloc: Global, peers: &[Peer], output: &Output<'_>) -> Result<(), Difference> {
+fn compare_peers(alloc: Global, peers: &[Peer], output: &Output<'_, '_>) -> Result<(), Difference> {
     if port_of(&output.text).is_none() {
         return Err(Difference::Port);
     }
