@@ -7,16 +7,16 @@ use std::net::{Ipv4Addr, Shutdown, TcpStream};
 
 /// What a command tells on its standard output, and the peers that it serves by then.
 #[derive(Drop)]
-pub struct Output<'r, 'w> {
-    rt: &'r HostRuntime,
-    way: &'w Way,
+pub struct Output<'a> {
+    rt: &'a HostRuntime,
+    way: &'a Way,
     pub text: Vec<u8>,
     pub streams: Vec<TcpStream>,
 }
 
-impl<'r, 'w> Output<'r, 'w> {
+impl<'a> Output<'a> {
     /// Nothing is told, and nobody has connected.
-    pub fn new(rt: &'r HostRuntime, way: &'w Way) -> Output<'r, 'w> {
+    pub fn new(rt: &'a HostRuntime, way: &'a Way) -> Output<'a> {
         Output {
             rt,
             way,
@@ -26,7 +26,7 @@ impl<'r, 'w> Output<'r, 'w> {
     }
 }
 
-impl Write for Output<'_, '_> {
+impl Write for Output<'_> {
     fn write(&mut self, bytes: &[u8]) -> io::Result<usize> {
         if let Way::Fails = self.way {
             return Err(io::Error::from(ErrorKind::BrokenPipe));

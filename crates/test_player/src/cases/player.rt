@@ -53,12 +53,12 @@ fn take(rt: &HostRuntime, step: &Step<'_>, lock: &mut Option<File>) -> Result<()
 }
 
 /// Runs a command, and compares what it leaves.
-fn run(
-    rt: &HostRuntime,
+fn run<'a>(
+    rt: &'a HostRuntime,
     status: u8,
     words: &[&str],
-    texts: &Texts,
-    way: &Way,
+    texts: &'a Texts,
+    way: &'a Way,
 ) -> Result<(), Difference> {
     let port = take_port(rt, words)?;
     let words = fill(rt, words, &port)?;
@@ -105,7 +105,7 @@ fn compare(alloc: Global, stream: Stream, wanted: &[u8], got: &[u8]) -> Result<(
 }
 
 /// The port is told, and each peer was answered.
-fn compare_peers(alloc: Global, peers: &[Peer], output: &Output<'_, '_>) -> Result<(), Difference> {
+fn compare_peers(alloc: Global, peers: &[Peer], output: &Output<'_>) -> Result<(), Difference> {
     if port_of(&output.text).is_none() {
         return Err(Difference::Port);
     }

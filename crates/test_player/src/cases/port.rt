@@ -25,17 +25,18 @@ pub fn take_port(rt: &HostRuntime, words: &[&str]) -> io::Result<Option<TakenPor
 }
 
 /// The words of a command, with the port that one of them stands for.
-pub fn fill<'a>(
+pub fn fill(
     rt: &HostRuntime,
-    words: &[&'a str],
-    port: &'a Option<TakenPort>,
-) -> Result<Vec<&'a str>, AllocError> {
+    words: &[&str],
+    port: &Option<TakenPort>,
+) -> Result<Vec<String>, AllocError> {
     let mut filled = Vec::new(rt.alloc());
     for word in words {
-        filled.push(match port {
+        let text = match port {
             Some(port) if *word == TAKEN => port.digits.as_str(),
             _ => *word,
-        })?;
+        };
+        filled.push(String::from_str(rt.alloc(), text)?)?;
     }
     Ok(filled)
 }
