@@ -1,7 +1,6 @@
 //! A server and its peers, one after the other: a peer's bytes go to the server piece by piece, and
 //! each reply goes back in one write.
 
-use crate::moment::moment;
 use callers::{Refused, link};
 use disk::Device;
 use server::{Server, Turn};
@@ -10,6 +9,7 @@ use std::io::{BufRead, BufReader, ErrorKind, Read, Write};
 use std::net::OpenStream;
 use std::time::{Clock, Duration};
 use std::{io, thread};
+use system::moment;
 
 /// The most bytes of a piece. The longest record of a request fits, with the headers of all its
 /// fragments.

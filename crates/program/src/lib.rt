@@ -3,13 +3,10 @@
 #![tactic(auto)]
 
 mod host;
-mod machine;
-mod moment;
 mod process;
 mod run;
 mod serve;
 mod words;
 
-pub use machine::Machine;
 pub use process::run_process;
 pub use run::command;

@@ -1,6 +1,5 @@
 //! One run of the program, apart from the process around it.
 
-use crate::machine::Machine;
 use crate::serve::serve;
 use crate::words::{Request, read_words};
 use callers::{Refused, link};
@@ -9,16 +8,15 @@ use fs::Checked;
 use script::run_script;
 use server::is_volume_size;
 use std::convert::AsStr;
-use std::fs::{File, metadata, read_to_string};
+use std::fs::{File, read_to_string};
 use std::io::{BufRead, ErrorKind, Write};
 use std::rt::Files;
+use system::{Machine, open_refusal, open_volume, open_volume_to_read, tell_outcome, tell_usage};
 
-/// The exit statuses.
-const DONE: u8 = 0;
+/// The words that there may be.
+pub(crate) const USAGE: &str =
+    "nfs41 [format FILE SECTORS NODES | run FILE SCRIPT | check FILE | serve FILE PORT COUNT]";
 
-const REFUSED: u8 = 1;
-
-const USAGE: u8 = 2;
 /// The volume in memory.
 const MEMORY_SECTORS: u32 = 256;
 
@@ -35,27 +33,9 @@ where
     E: Write,
 {
     match read_words(rt.alloc(), words) {
-        Ok(Request::Usage) => tell_usage(err),
+        Ok(Request::Usage) => tell_usage(err, USAGE),
         Ok(request) => tell_outcome(err, do_request(rt, request, input, out)),
         Err(error) => tell_outcome(err, Err(error.into())),
-    }
-}
-
-pub(crate) fn tell_usage<E: Write>(err: &mut E) -> u8 {
-    let _ = writeln!(
-        err,
-        "usage: nfs41 [format FILE SECTORS NODES | run FILE SCRIPT | check FILE | serve FILE PORT COUNT]"
-    );
-    USAGE
-}
-
-pub(crate) fn tell_outcome<E: Write>(err: &mut E, outcome: Result<(), Refused>) -> u8 {
-    match outcome {
-        Ok(()) => DONE,
-        Err(refused) => {
-            let _ = writeln!(err, "refused: {refused}");
-            REFUSED
-        }
     }
 }
 
@@ -163,35 +143,8 @@ fn check_volume<R>(rt: &R, file: &str) -> Result<Checked, Refused>
 where
     R: Files<File = File> + AllocGlobal,
 {
-    // To open a pipe for reading waits for its writer.
-    if !is_file(rt, file)? {
-        return Err(Refused::Open);
-    }
-    let mut device = whole(FileDevice::open_to_read(rt, rt.alloc(), file)?)?;
+    let mut device = open_volume_to_read(rt, file)?;
     link::check(rt.alloc(), &mut device)
-}
-
-fn is_file<R: Files>(rt: &R, file: &str) -> Result<bool, Refused> {
-    match metadata(rt, file) {
-        Ok(found) => Ok(found.is_file()),
-        Err(error) => Err(open_refusal(error.kind())),
-    }
-}
-
-fn open_volume<R>(rt: &R, file: &str) -> Result<FileDevice, Refused>
-where
-    R: Files<File = File> + AllocGlobal,
-{
-    whole(FileDevice::open(rt, rt.alloc(), file)?)
-}
-
-/// The device, if its file is one of whole sectors.
-fn whole(device: FileDevice) -> Result<FileDevice, Refused> {
-    if device.is_whole() {
-        Ok(device)
-    } else {
-        Err(Refused::NotVolume)
-    }
 }
 
 /// Why a script is not read.
@@ -199,13 +152,5 @@ fn read_refusal(kind: ErrorKind) -> Refused {
     match kind {
         ErrorKind::InvalidData => Refused::Script,
         _ => open_refusal(kind),
-    }
-}
-
-/// Why a file is not opened.
-pub(crate) fn open_refusal(kind: ErrorKind) -> Refused {
-    match kind {
-        ErrorKind::OutOfMemory => Refused::Memory,
-        _ => Refused::Open,
     }
 }

@@ -1,0 +1,14 @@
+//! What the programs ask of the system, and how they tell what came of it.
+#![tactic(auto)]
+
+mod beginning;
+mod machine;
+mod outcome;
+mod time;
+mod volume_file;
+
+pub use beginning::{Begun, Unbegun, begin};
+pub use machine::Machine;
+pub use outcome::{tell_outcome, tell_usage};
+pub use time::moment;
+pub use volume_file::{open_refusal, open_volume, open_volume_to_read};

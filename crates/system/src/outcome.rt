@@ -1,0 +1,28 @@
+//! How a program tells what came of it: its exit status, and a line on its standard error.
+
+use callers::Refused;
+use std::io::Write;
+
+/// The exit statuses.
+const DONE: u8 = 0;
+
+const REFUSED: u8 = 1;
+
+const USAGE: u8 = 2;
+
+/// Tells why it was refused, by name, where it was. Answers the exit status.
+pub fn tell_outcome<E: Write>(err: &mut E, outcome: Result<(), Refused>) -> u8 {
+    match outcome {
+        Ok(()) => DONE,
+        Err(refused) => {
+            let _ = writeln!(err, "refused: {refused}");
+            REFUSED
+        }
+    }
+}
+
+/// Tells which words there may be. Answers the exit status.
+pub fn tell_usage<E: Write>(err: &mut E, usage: &str) -> u8 {
+    let _ = writeln!(err, "usage: {usage}");
+    USAGE
+}
