@@ -1,0 +1,101 @@
+//! The listening socket, and the connection that waits for a place.
+
+use crate::patience::limit_patience;
+use callers::Refused;
+use mio::net::{TcpListener, TcpStream};
+use mio::{Interest, Poll, Token};
+use os::FromRawFd;
+use std::env::Env;
+use std::io::ErrorKind;
+use std::net::{Net, SocketAddr};
+use std::{env, io, net};
+
+/// The socket that a service manager hands over is this descriptor, and so many are told of.
+const HANDED_OVER: i32 = 3;
+
+const HOW_MANY: &str = "LISTEN_FDS";
+
+/// The listening socket, and the connection that waits for a place. Others wait in the system.
+#[derive(Drop)]
+pub struct Door {
+    listener: TcpListener,
+    /// Whether a connection may wait in the system.
+    can_accept: bool,
+    waiting: Option<TcpStream>,
+}
+
+impl Door {
+    /// Listens on this address. Port 0 is one that the system picks.
+    pub fn listen<R: Net>(rt: &R, address: SocketAddr) -> Result<Door, Refused> {
+        Ok(Door::of(TcpListener::bind(rt, address)?))
+    }
+
+    /// Listens on the socket that a service manager has handed over: systemd, by LISTEN_FDS=1.
+    ///
+    /// # Errors
+    /// Io where it handed none over.
+    pub fn handed_over<R: Net + Env + AllocGlobal>(rt: &R) -> Result<Door, Refused> {
+        match env::var(rt, HOW_MANY) {
+            Ok(count) if count.as_str() == "1" => Ok(Door::of(adopt(rt)?)),
+            _ => Err(Refused::Io),
+        }
+    }
+
+    fn of(listener: TcpListener) -> Door {
+        limit_patience(&listener);
+        Door {
+            listener,
+            can_accept: true,
+            waiting: None,
+        }
+    }
+
+    /// Has the system tell of connections by this token.
+    pub fn register(&mut self, poll: &Poll, token: Token) -> io::Result<()> {
+        poll.registry()
+            .register(&mut self.listener, token, Interest::READABLE)
+    }
+
+    /// Where it listens.
+    pub fn address(&self) -> io::Result<SocketAddr> {
+        self.listener.local_addr()
+    }
+
+    /// The system told of a connection.
+    pub fn wake(&mut self) {
+        self.can_accept = true;
+    }
+
+    /// Whether a connection waits for a place.
+    ///
+    /// # Errors
+    /// The system may give one later.
+    pub fn has_waiting(&mut self) -> io::Result<bool> {
+        if self.can_accept && self.waiting.is_none() {
+            match self.listener.accept() {
+                Ok((stream, _)) => self.waiting = Some(stream),
+                Err(error) if error.kind() == ErrorKind::WouldBlock => self.can_accept = false,
+                Err(error) => return Err(error),
+            }
+        }
+        Ok(self.waiting.is_some())
+    }
+
+    /// The connection that waits, which is the caller's from now on.
+    pub fn take_waiting(&mut self) -> Option<TcpStream> {
+        self.waiting.take()
+    }
+
+    /// Whether a connection was found waiting, and has no place yet.
+    pub fn is_kept_waiting(&self) -> bool {
+        self.waiting.is_some()
+    }
+}
+
+/// The socket of the descriptor that is handed over.
+fn adopt<R: Net>(_rt: &R) -> io::Result<TcpListener> {
+    // Nothing else in the program uses the descriptor.
+    let listener = unsafe { net::TcpListener::from_raw_fd(HANDED_OVER) };
+    listener.set_nonblocking(true)?;
+    Ok(TcpListener::from_std(listener))
+}

@@ -1,0 +1,382 @@
+//! A mounted volume, its peers, and the loop over them.
+
+use crate::door::Door;
+use crate::inbox::Inbox;
+use crate::pace::Pace;
+use crate::peer::{Peer, Step};
+use crate::told::Told;
+use callers::{Refused, link};
+use disk::Device;
+use mio::event::Event;
+use mio::net::TcpStream;
+use mio::{Events, Interest, Poll, Token};
+use server::{MAX_CONNECTIONS, Server};
+use slab::Slab;
+use std::alloc::Global;
+use std::io::Write;
+use std::net::Net;
+use std::time::{Clock, Duration, Instant};
+use system::moment;
+
+/// The most changes that the system tells of at once.
+const MAX_EVENTS: usize = 64;
+
+const DOOR: Token = Token(usize::MAX);
+
+/// The pause after want of memory, or of what the system gives.
+const PAUSE_MILLIS: u64 = 10;
+
+/// How long nothing comes before the server uses the time.
+const QUIET_MILLIS: u64 = 1;
+
+/// For how long a peer may be quiet while another one waits for its place, and how often that is
+/// looked at.
+const PATIENCE_SECONDS: u64 = 60;
+
+const GLANCE_SECONDS: u64 = 1;
+
+/// Mounts the device's volume, tells the door's address, and serves until the device, the clock or
+/// the system's telling of changes fails. Where no peer has been there for `forget_after`, a new run
+/// of the server begins, without clients, and is told on `err`.
+///
+/// # Errors
+/// As [`Hub::new`] and [`Hub::run`].
+pub fn serve<R, D, O, E>(
+    rt: &R,
+    device: D,
+    door: Door,
+    forget_after: Option<Duration>,
+    out: &mut O,
+    err: &mut E,
+) -> Result<(), Refused>
+where
+    R: Net + Clock + AllocGlobal,
+    D: Device,
+    O: Write,
+    E: Write,
+{
+    let mut hub = Hub::new(rt, device, door, forget_after)?;
+    writeln!(out, "serving {}", hub.door.address()?)?;
+    out.flush()?;
+    for _ in 0..u64::MAX {
+        hub.run(rt, err)?;
+        hub = hub.begin_anew(rt.alloc())?;
+        let _ = writeln!(err, "run {}", hub.restart_count());
+    }
+    Ok(())
+}
+
+/// A mounted volume, and the peers that it is served to.
+#[derive(Drop)]
+pub struct Hub<D: Device> {
+    server: Server<D>,
+    poll: Poll,
+    events: Events,
+    door: Door,
+    peers: Slab<Peer<TcpStream>>,
+    told: Told,
+    /// How soon to go on.
+    pace: Pace,
+    /// Whether nothing has changed since the last checkpoint.
+    is_rested: bool,
+    /// Since when no peer has been there, where there was one in this run.
+    alone_since: Option<Instant>,
+    forget_after: Option<Duration>,
+}
+
+impl<D: Device> Hub<D> {
+    /// Mounts the device's volume.
+    ///
+    /// # Errors
+    /// Those of a mount; Io where the system tells of no changes; Memory.
+    pub fn new<R>(
+        rt: &R,
+        device: D,
+        mut door: Door,
+        forget_after: Option<Duration>,
+    ) -> Result<Hub<D>, Refused>
+    where
+        R: Net + AllocGlobal,
+    {
+        let peers = Slab::with_capacity(rt.alloc(), MAX_CONNECTIONS)?;
+        let events = Events::with_capacity(rt.alloc(), MAX_EVENTS)?;
+        let poll = Poll::new(rt)?;
+        door.register(&poll, DOOR)?;
+        Ok(Hub {
+            server: link::mount(rt.alloc(), device)?,
+            poll,
+            events,
+            door,
+            peers,
+            told: Told::new(),
+            pace: Pace::Goes,
+            is_rested: true,
+            alone_since: None,
+            forget_after,
+        })
+    }
+
+    /// How often the volume was mounted.
+    pub fn restart_count(&self) -> u32 {
+        link::restart_count(&self.server)
+    }
+
+    /// The device, as it is now: peers are gone, and what was not kept is lost.
+    pub fn into_device(self) -> D {
+        let Hub { server, .. } = self;
+        server.into_device()
+    }
+
+    /// The same without a client, a session or an open: a new run on the same device.
+    ///
+    /// # Errors
+    /// Those of a mount.
+    pub fn begin_anew(self, alloc: Global) -> Result<Hub<D>, Refused> {
+        let Hub {
+            server,
+            poll,
+            events,
+            door,
+            peers,
+            told,
+            forget_after,
+            ..
+        } = self;
+        Ok(Hub {
+            server: link::mount(alloc, server.into_device())?,
+            poll,
+            events,
+            door,
+            peers,
+            told,
+            pace: Pace::Goes,
+            is_rested: true,
+            alone_since: None,
+            forget_after,
+        })
+    }
+
+    /// Serves until no peer has been there for as long as was given.
+    ///
+    /// # Errors
+    /// Those of `go_on`.
+    pub fn run<R, E>(&mut self, rt: &R, err: &mut E) -> Result<(), Refused>
+    where
+        R: Clock + AllocGlobal,
+        E: Write,
+    {
+        for _ in 0..u64::MAX {
+            let timeout = self.timeout(Instant::now(rt)?);
+            if timeout == Some(Duration::ZERO) && self.pace != Pace::Goes {
+                break;
+            }
+            self.go_on(rt, timeout, err)?;
+        }
+        Ok(())
+    }
+
+    /// Waits for the system for so long at most; then connections that wait are given places, and
+    /// each peer has one step, with one operation of a request at most. Answers how soon to go on.
+    ///
+    /// # Errors
+    /// Device where the device fails; Io where the clock does, or the system's telling of changes.
+    pub fn go_on<R, E>(
+        &mut self,
+        rt: &R,
+        timeout: Option<Duration>,
+        err: &mut E,
+    ) -> Result<Pace, Refused>
+    where
+        R: Clock + AllocGlobal,
+        E: Write,
+    {
+        let was_told = self.hear(timeout)?;
+        if self.pace == Pace::Sleeps && !was_told {
+            self.rest()?;
+        }
+        self.pace = self.round(rt, Instant::now(rt)?, err)?;
+        Ok(self.pace)
+    }
+
+    /// How long it may wait for the system: zero, but for a pace that goes, where it was alone for
+    /// so long that it is to forget its clients.
+    fn timeout(&self, now: Instant) -> Option<Duration> {
+        match self.pace {
+            Pace::Goes => Some(Duration::ZERO),
+            Pace::Pauses => Some(Duration::from_millis(PAUSE_MILLIS)),
+            Pace::Sleeps if !self.is_rested => Some(Duration::from_millis(QUIET_MILLIS)),
+            Pace::Sleeps if self.door.is_kept_waiting() => Some(Duration::from_secs(
+                GLANCE_SECONDS,
+            )),
+            Pace::Sleeps => self.until_forgetting(now),
+        }
+    }
+
+    fn until_forgetting(&self, now: Instant) -> Option<Duration> {
+        let alone_for = now.duration_since(self.alone_since?);
+        Some(self.forget_after?.saturating_sub(alone_for))
+    }
+
+    /// Makes a checkpoint, if something has changed since the last one.
+    fn rest(&mut self) -> Result<(), Refused> {
+        if !self.is_rested {
+            link::checkpoint(&mut self.server)?;
+            self.is_rested = true;
+        }
+        Ok(())
+    }
+
+    /// Waits for the system, and tells the door and the peers what it told of them. Whether it told
+    /// anything.
+    fn hear(&mut self, timeout: Option<Duration>) -> Result<bool, Refused> {
+        self.poll.poll(&mut self.events, timeout)?;
+        for event in &self.events {
+            if event.token() == DOOR {
+                self.door.wake();
+            } else if let Some(peer) = self.peers.get_mut(event.token().0) {
+                let is_broken = is_broken(event);
+                peer.wake(
+                    event.is_readable() || is_broken,
+                    event.is_writable() || is_broken,
+                );
+            }
+        }
+        Ok(!self.events.is_empty())
+    }
+
+    /// Connections that wait are given places, and each peer has a step.
+    fn round<R, E>(&mut self, rt: &R, now: Instant, err: &mut E) -> Result<Pace, Refused>
+    where
+        R: Clock + AllocGlobal,
+        E: Write,
+    {
+        let mut pace = self.welcome(rt, now)?;
+        for key in 0..MAX_CONNECTIONS {
+            pace = pace.or(self.step(key, rt, now, err)?);
+        }
+        if pace == Pace::Goes {
+            self.is_rested = false;
+        }
+        Ok(pace)
+    }
+
+    /// Gives a connection that waits a place, if there is one, or makes room for it.
+    fn welcome<R>(&mut self, rt: &R, now: Instant) -> Result<Pace, Refused>
+    where
+        R: Clock + AllocGlobal,
+    {
+        match self.door.has_waiting() {
+            Ok(true) => {}
+            Ok(false) => return Ok(Pace::Sleeps),
+            Err(_) => return Ok(Pace::Pauses),
+        }
+        if self.peers.len() < MAX_CONNECTIONS {
+            return self.admit(rt, now);
+        }
+        Ok(self.dismiss_the_quietest(now))
+    }
+
+    /// Has the connection that waits served. Where there is no memory for it, it waits on.
+    fn admit<R>(&mut self, rt: &R, now: Instant) -> Result<Pace, Refused>
+    where
+        R: Clock + AllocGlobal,
+    {
+        let Ok(inbox) = Inbox::new(rt.alloc()) else {
+            return Ok(Pace::Pauses);
+        };
+        if self.peers.reserve(1).is_err() {
+            return Ok(Pace::Pauses);
+        }
+        let conn = match link::connect(&mut self.server) {
+            Ok(conn) => conn,
+            Err(Refused::Memory) => return Ok(Pace::Pauses),
+            Err(refused) => return Err(refused),
+        };
+        let token = Token(self.peers.vacant_key());
+        match taken_in(&mut self.door, &self.poll, token) {
+            Some(stream) => {
+                self.alone_since = None;
+                let peer = Peer::new(conn, stream, inbox, now);
+                self.peers.insert_reserved(peer);
+            }
+            None => link::hangup(&mut self.server, conn, moment(rt)?)?,
+        }
+        Ok(Pace::Goes)
+    }
+
+    /// Ends the peer that was quiet longest, if that was long, and has nothing half sent: its
+    /// sessions live on, and its client connects again.
+    fn dismiss_the_quietest(&mut self, now: Instant) -> Pace {
+        let mut quietest = None;
+        let mut longest = Duration::from_secs(PATIENCE_SECONDS);
+        for (key, peer) in self.peers.iter() {
+            if let Some(quiet) = peer.quiet_for(now)
+                && quiet >= longest
+            {
+                quietest = Some(key);
+                longest = quiet;
+            }
+        }
+        let Some(key) = quietest else {
+            return Pace::Sleeps;
+        };
+        if let Some(peer) = self.peers.get_mut(key) {
+            peer.dismiss();
+        }
+        Pace::Goes
+    }
+
+    fn step<C, E>(
+        &mut self,
+        key: usize,
+        clock: &C,
+        now: Instant,
+        err: &mut E,
+    ) -> Result<Pace, Refused>
+    where
+        C: Clock,
+        E: Write,
+    {
+        let Some(peer) = self.peers.get_mut(key) else {
+            return Ok(Pace::Sleeps);
+        };
+        let step = peer.step(&mut self.server, clock, now)?;
+        if let Some(delayed) = peer.take_delayed() {
+            self.told.tell(delayed, now, err);
+        }
+        match step {
+            Step::Stays(pace) => Ok(pace),
+            Step::Ended => {
+                self.remove(key, now);
+                Ok(Pace::Goes)
+            }
+        }
+    }
+
+    /// Its stream is closed with it, and another connection may have its place.
+    fn remove(&mut self, key: usize, now: Instant) {
+        self.peers.try_remove(key);
+        if self.peers.is_empty() {
+            self.alone_since = Some(now);
+        }
+    }
+}
+
+/// The connection that waits, of which the system tells changes by this token from now on; where it
+/// does not, the connection is closed.
+fn taken_in(door: &mut Door, poll: &Poll, token: Token) -> Option<TcpStream> {
+    let mut stream = door.take_waiting()?;
+    // Without this a reply may wait in the system for the peer's acknowledgement of the one before.
+    // It is sent all the same.
+    let _ = stream.set_nodelay(true);
+    let interests = Interest::READABLE | Interest::WRITABLE;
+    match poll.registry().register(&mut stream, token, interests) {
+        Ok(()) => Some(stream),
+        Err(_) => None,
+    }
+}
+
+/// Whether the stream has ended or failed, which the next read or write tells.
+fn is_broken(event: &Event) -> bool {
+    event.is_error() || event.is_read_closed() || event.is_write_closed()
+}

@@ -1,0 +1,40 @@
+//! For how long the system bears a peer that says nothing, or takes nothing.
+
+use libc::net as c;
+use std::os::fd::AsRawFd;
+
+/// Seconds of silence before the first probe, between probes, and how many are not answered until
+/// the connection is reset.
+const IDLE: i32 = 60;
+
+const BETWEEN: i32 = 10;
+
+const PROBES: i32 = 6;
+
+/// Milliseconds for which a peer may leave what it was sent unacknowledged, or take none of it.
+const UNTAKEN: i32 = 120_000;
+
+/// Has the system end a connection whose peer is gone or takes no reply. Connections have what the
+/// socket has that accepts them. Where the system refuses, they are served all the same.
+pub fn limit_patience<S: AsRawFd>(listener: &S) {
+    let fd = listener.as_raw_fd();
+    let _ = unsafe { c::setsockopt(fd, c::SOL_SOCKET, c::SO_KEEPALIVE, &value_of(1), 4) };
+    let _ = unsafe { c::setsockopt(fd, c::IPPROTO_TCP, c::TCP_KEEPIDLE, &value_of(IDLE), 4) };
+    let _ = unsafe { c::setsockopt(fd, c::IPPROTO_TCP, c::TCP_KEEPINTVL, &value_of(BETWEEN), 4) };
+    let _ = unsafe { c::setsockopt(fd, c::IPPROTO_TCP, c::TCP_KEEPCNT, &value_of(PROBES), 4) };
+    let _ = unsafe {
+        c::setsockopt(
+            fd,
+            c::IPPROTO_TCP,
+            c::TCP_USER_TIMEOUT,
+            &value_of(UNTAKEN),
+            4,
+        )
+    };
+}
+
+fn value_of(number: i32) -> [u8; 16] {
+    let mut value = [0u8; 16];
+    value[..4].copy_from_slice(&number.to_ne_bytes());
+    value
+}
