@@ -47,7 +47,7 @@ boot() {
             kill_one "$server"
             serve
         fi
-    done < <(sed -uE 's/\r*$//; 1,/== begins$/d; /^== ends$/,$d
+    done < <(sed -uE 's/\r*$//; 0,/== begins$/d; /^== ends$/,$d
         s/port=[0-9]+$/port=PORT/
         s/(sed|\.[a-z]+\.)[A-Za-z0-9]{6}([":]| )/\1XXXXXX\2/
         s/ at main\.c.*//' < console)

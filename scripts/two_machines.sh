@@ -83,7 +83,7 @@ mounts() {
     says '== both mount the volume'
     on_both 'mount.nfs4 $server /mnt -o $options'
     on anna 'mkdir /mnt/shared'
-    on bert 'ls /mnt'
+    on bert 'ls -1 /mnt'
 }
 
 makes_and_reads() {
@@ -92,7 +92,7 @@ makes_and_reads() {
     begins bert 'make_files /mnt/bert 200'
     await anna
     await bert
-    on_both 'ls /mnt'
+    on_both 'ls -1 /mnt'
     on_both 'cat /mnt/anna/* | md5sum'
     on_both 'cat /mnt/bert/* | md5sum'
 }
@@ -132,7 +132,7 @@ is_cut_off() {
     sleep 10
     kill_one "${emulators[bert]}"
     await anna
-    on anna 'rm /mnt/shared/endless /mnt/shared/held; ls /mnt/shared'
+    on anna 'rm /mnt/shared/endless /mnt/shared/held; ls -1 /mnt/shared'
 }
 
 comes_back() {
