@@ -1,6 +1,7 @@
 //! What no contract says: that calls succeed, what stands after mounts and stops, and that another
 //! reading of the layout finds what the checked one finds.
 
+mod caches;
 mod drivers;
 mod files;
 mod images;

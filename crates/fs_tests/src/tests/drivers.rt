@@ -11,4 +11,6 @@ mod volumes;
 pub(super) use asking::ask;
 pub(super) use call::{Answer, Call, Caller, Effect, Given, Make};
 pub(super) use changes::make_dir;
-pub(super) use volumes::{Tree, check, format, mount, mount_on, mounted, refused, remount};
+pub(super) use volumes::{
+    Tree, check, format, image_of, mount, mount_cached, mount_on, mounted, refused, remount,
+};

@@ -1,8 +1,10 @@
 //! Volumes with bytes that are other ones: a check answers what an independent reading finds.
 
-use super::drivers::{Call as Asked, Caller, Given, Make, ask, check, mounted, refused, remount};
-use super::independent::{Image, SECTOR, Unfit, check_image};
-use disk::{Call, Device, MemDevice};
+use super::drivers::{
+    Call as Asked, Caller, Given, Make, ask, check, image_of, mounted, refused, remount,
+};
+use super::independent::{Image, Unfit, check_image};
+use disk::{Call, MemDevice};
 use fs::MountFault;
 use std::alloc::Global;
 use std::process::Abort;
@@ -42,17 +44,6 @@ const FILLING: [Asked<'static>; 8] = [
     Asked::Write(G, 0, b"first", true),
     Asked::Write(G, 8_192, b"third", true),
 ];
-
-/// The sectors of a volume in memory.
-fn image_of(alloc: Global, device: &mut MemDevice) -> Result<Image, Fail> {
-    let mut image = Vec::with_capacity(alloc, SECTORS as usize)?;
-    for number in 0..SECTORS {
-        let mut content = [0; SECTOR];
-        device.read(number, &mut content)?;
-        image.push(content)?;
-    }
-    Ok(image)
-}
 
 /// A directory `a` with `b` in it and `c` in that, a file `f` of 5,000 bytes, and a file `g` with a
 /// hole, of two runs. It was mounted twice: the second mount copied home what the gate still named,

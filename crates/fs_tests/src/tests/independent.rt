@@ -4,7 +4,7 @@
 use std::alloc::{AllocError, AllocFailed, Global};
 use std::str;
 
-pub(super) const SECTOR: usize = 4_096;
+const SECTOR: usize = 4_096;
 
 pub(super) type Image = Vec<[u8; SECTOR]>;
 

@@ -1,7 +1,7 @@
 //! One call, whichever.
 
 use super::call::{Answer, Call, Caller};
-use super::calls::{check, commit, handle, look_up, put_handle, read};
+use super::calls::{attributes, check, commit, handle, look_up, put_handle, read};
 use super::changes::{make_dir, open, remove, rename, set, write};
 use super::pages::list;
 use super::volumes::Tree;
@@ -10,7 +10,7 @@ use fs::FsFault;
 use std::alloc::Global;
 
 /// Makes a call. The bytes that it gives are put after those in `out`: of a file, of the entries of
-/// a page one after the other, of a filehandle.
+/// a page one after the other, of attributes, of a filehandle.
 pub(crate) fn ask(
     alloc: Global,
     fs: &mut Tree,
@@ -49,6 +49,7 @@ fn tell(
         Call::List(directory, behind, most) => {
             list(alloc, fs, cred, (directory, behind), most, out)
         }
+        Call::Attributes(number, asked) => attributes(alloc, fs, cred, number, asked, out),
         Call::PutHandle(bytes) => put_handle(fs, bytes),
         Call::Handle(number) => handle(fs, number, out),
         Call::Check(number) => check(fs, number),

@@ -51,6 +51,8 @@ pub(crate) enum Call<'a> {
     /// RENAME from a directory and name to another directory and name.
     Rename(u64, &'a [u8], u64, &'a [u8]),
     Set(u64, Given<'a>),
+    /// GETATTR of what a bitmap asks.
+    Attributes(u64, &'a [u32; 2]),
     /// READ from an offset on, of so many bytes.
     Read(u64, u64, u32),
     /// WRITE from an offset on, and whether it is to be stable.

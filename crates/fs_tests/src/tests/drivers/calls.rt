@@ -5,6 +5,7 @@ use super::volumes::Tree;
 use acl_eval::Cred;
 use fs::FsFault;
 use std::alloc::Global;
+use xdr::Writer;
 
 pub(crate) fn look_up(
     fs: &Tree,
@@ -13,6 +14,24 @@ pub(crate) fn look_up(
     name: &[u8],
 ) -> Result<Answer, FsFault> {
     Ok(Answer::Number(fs.lookup(cred, directory, name)?))
+}
+
+/// The attributes of a node that a bitmap asks, as a result has them.
+pub(crate) fn attributes(
+    alloc: Global,
+    fs: &Tree,
+    cred: &Cred,
+    number: u64,
+    asked: &[u32],
+    out: &mut Vec<u8>,
+) -> Result<Answer, FsFault> {
+    let answer = fs.attributes(cred, number, asked)?;
+    let mut writer = Writer::new(alloc);
+    if answer.write(&mut writer).is_err() {
+        return Err(FsFault::Memory);
+    }
+    out.extend_from_slice(writer.as_slice())?;
+    Ok(Answer::Done)
 }
 
 pub(crate) fn put_handle(fs: &Tree, bytes: &[u8]) -> Result<Answer, FsFault> {

@@ -1,8 +1,9 @@
 //! Volumes in memory, and file systems on them.
 
-use disk::{Device, MemDevice};
+use disk::{Device, MemDevice, SECTOR};
 use fs::{Fs, MountFault};
 use std::alloc::Global;
+use std::num::NonZeroUsize;
 use std::test::Fail;
 
 /// A file system over memory.
@@ -31,6 +32,18 @@ pub(crate) fn mount(alloc: Global, device: MemDevice) -> Result<Tree, Fail> {
     }
 }
 
+/// Mounts a device that holds a volume; the journal keeps so many sectors in memory.
+pub(crate) fn mount_cached(
+    alloc: Global,
+    device: MemDevice,
+    cached: NonZeroUsize,
+) -> Result<Tree, Fail> {
+    match Fs::mount_cached(alloc, device, cached) {
+        Ok(fs) => Ok(fs),
+        Err(_) => Err("not mounted".into()),
+    }
+}
+
 /// A new volume of so many sectors and nodes, mounted.
 pub(crate) fn mounted(alloc: Global, sectors: u32, nodes: u32) -> Result<Tree, Fail> {
     mount(alloc, format(alloc, sectors, nodes)?)
@@ -53,4 +66,15 @@ pub(crate) fn refused(alloc: Global, device: MemDevice) -> Option<(MountFault, M
 pub(crate) fn check(alloc: Global, device: &mut MemDevice) -> Result<(), MountFault> {
     Fs::check(alloc, device)?;
     Ok(())
+}
+
+/// The sectors of a device.
+pub(crate) fn image_of(alloc: Global, device: &mut MemDevice) -> Result<Vec<[u8; SECTOR]>, Fail> {
+    let mut image = Vec::new(alloc);
+    for number in 0..device.sectors() {
+        let mut content = [0; SECTOR];
+        device.read(number, &mut content)?;
+        image.push(content)?;
+    }
+    Ok(image)
 }
