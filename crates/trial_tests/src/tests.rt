@@ -2,10 +2,13 @@
 //! is mounted, and that the replies of many clients are those of a small model, byte for byte.
 
 mod calls;
+mod changes;
 mod choices;
+mod faults;
 mod left;
 mod line;
 mod operation;
+mod remounts;
 mod rounds;
 mod script;
 mod seed;

@@ -1,7 +1,7 @@
 //! Which operations a client asks for, as a seed chooses.
 
 use super::operation::{
-    Data, How, OpenState, Opening, Operation, Reading, Share, Stable, Stateid, Writing,
+    Data, How, Mode, OpenState, Opening, Operation, Reading, Share, Stable, Stateid, Writing,
 };
 use super::seed::Seed;
 use super::simple::stateids::Open;
@@ -107,7 +107,7 @@ impl Seed {
     fn operation(&mut self, world: &World) -> Operation {
         match self.below(20) {
             0..4 => Operation::Lookup(self.name()),
-            4..6 => Operation::MakeDir(self.name()),
+            4..6 => Operation::MakeDir(self.name(), self.mode()),
             6 => Operation::GetHandle,
             7 => Operation::Root,
             8..10 => Operation::GetAttributes,
@@ -137,6 +137,14 @@ impl Seed {
     fn name(&mut self) -> u8 {
         let place = self.below(NAMES.len());
         NAMES.get(place).copied().unwrap_or(b'a')
+    }
+
+    /// Seldom one that bars other users.
+    fn mode(&mut self) -> Mode {
+        match self.below(8) {
+            0 => Mode::Private,
+            _ => Mode::Public,
+        }
     }
 
     fn opening(&mut self) -> Opening {
@@ -185,7 +193,7 @@ impl Seed {
             1 => 2000,
             _ => self.below(60),
         };
-        Data { first, len }
+        Data::Rising { first, len }
     }
 
     fn reading(&mut self, state: Stateid) -> Reading {

@@ -17,11 +17,26 @@ const NAMES: [u8; 9] = [b'a', b'b', b'c', b'd', b'e', b'f', b'g', b'x', b'y'];
 /// The most bytes that a READ gives.
 const PIECE: u64 = 8192;
 
+/// A user who owns nothing.
+const STRANGER: u32 = 9;
+
 /// A new volume at rest.
 pub(super) fn volume(alloc: Global, sectors: u32, nodes: u32) -> Result<MemDevice, Fail> {
     let mut device = CrashDevice::new(MemDevice::new(alloc, sectors)?, Stop::Never);
     drivers::format(alloc, &mut device, nodes)?;
     Ok(device.landed(alloc, &[])?)
+}
+
+/// By how much the restart count of a mount may be above that of its tree.
+#[derive(Clone, Copy)]
+pub(super) struct Raised {
+    pub(super) least: u32,
+    pub(super) most: u32,
+}
+
+impl Raised {
+    /// The next run begins.
+    pub(super) const ONCE: Raised = Raised { least: 1, most: 1 };
 }
 
 /// The trees that may be there, and the numbers of all their nodes.
@@ -62,18 +77,13 @@ impl Left {
     }
 
     /// The place of the tree that is mounted on this device.
-    fn place_on(&self, device: MemDevice) -> Result<usize, Fail> {
+    pub(super) fn place_on(&self, device: MemDevice, raised: Raised) -> Result<usize, Fail> {
         let mut mounted = Mounted {
             alloc: self.alloc,
             fs: drivers::mount_tree(self.alloc, device)?,
-            cred: Cred {
-                uid: 9,
-                gid: 9,
-                gids: Gids::new(),
-            },
         };
         for (place, tree) in self.trees.iter().enumerate() {
-            if mounted.is_of_run_after(tree) && mounted.has(tree, &self.numbers)? {
+            if mounted.is_raised(tree, raised) && mounted.has(tree, &self.numbers)? {
                 return Ok(place);
             }
         }
@@ -84,7 +94,8 @@ impl Left {
     pub(super) fn places(&self, stopped: &CrashDevice) -> Result<Vec<usize>, Fail> {
         let mut places = Vec::new(self.alloc);
         for landing in landings(self.alloc, &stopped.unsynced(self.alloc)?)?.iter() {
-            places.push(self.place_on(stopped.landed(self.alloc, landing)?)?)?;
+            let device = stopped.landed(self.alloc, landing)?;
+            places.push(self.place_on(device, Raised::ONCE)?)?;
         }
         Ok(places)
     }
@@ -94,6 +105,11 @@ impl Left {
         let tried = landings(self.alloc, &stopped.unsynced(self.alloc)?)?;
         let chosen = tried.get(landing).ok_or("no landing")?;
         Ok(stopped.landed(self.alloc, chosen)?)
+    }
+
+    /// How many changes made the tree at a place.
+    pub(super) fn changes(&self, place: usize) -> u32 {
+        self.trees.get(place).map_or(0, |tree| tree.changes)
     }
 
     /// The tree at a place.
@@ -156,13 +172,24 @@ fn push_numbers(numbers: &mut Vec<u64>, tree: &Tree) -> Result<(), AllocError> {
 struct Mounted {
     alloc: Global,
     fs: Fs<MemDevice>,
-    cred: Cred,
+}
+
+/// A user, in no group but that of the same number.
+fn cred(uid: u32) -> Cred {
+    Cred {
+        uid,
+        gid: uid,
+        gids: Gids::new(),
+    }
 }
 
 impl Mounted {
-    /// Whether it is the run after that of the tree.
-    fn is_of_run_after(&self, tree: &Tree) -> bool {
-        self.fs.restart_count() == tree.run.saturating_add(1)
+    /// Whether its count is above that of the tree by so much.
+    fn is_raised(&self, tree: &Tree, raised: Raised) -> bool {
+        match self.fs.restart_count().checked_sub(tree.run) {
+            Some(by) => raised.least <= by && by <= raised.most,
+            None => false,
+        }
     }
 
     /// Whether it has this tree, and none of the numbers that the tree lacks.
@@ -185,25 +212,38 @@ impl Mounted {
 
     fn has_node(&mut self, tree: &Tree, node: &Node) -> Result<bool, Fail> {
         let number = node.number;
-        let told = drivers::change_and_size(&self.fs, &self.cred, number);
+        let told = drivers::change_and_size(&self.fs, &cred(STRANGER), number);
         if told != Ok((node.change, tree.size(number))) {
             return Ok(false);
         }
         match tree.bytes(number) {
             Some(bytes) => self.has_bytes(number, bytes),
-            None => Ok(self.has_names(tree, number)),
+            None => Ok(self.has_names(tree, node)),
         }
     }
 
-    fn has_names(&self, tree: &Tree, directory: u64) -> bool {
+    /// Whether a directory has its names, for its owner and for others.
+    fn has_names(&self, tree: &Tree, node: &Node) -> bool {
         for name in NAMES {
-            let expected = tree.child(Entry { directory, name });
-            let found = drivers::look_up(&self.fs, &self.cred, directory, name);
-            if found != expected.ok_or(FsFault::Status(Status::NoEnt)) {
+            let at = Entry {
+                directory: node.number,
+                name,
+            };
+            if !self.finds(tree, at, node.owner) || !self.finds(tree, at, STRANGER) {
                 return false;
             }
         }
         true
+    }
+
+    /// Whether a user finds at a name what the tree has there.
+    fn finds(&self, tree: &Tree, at: Entry, uid: u32) -> bool {
+        let expected = if tree.may_search(at.directory, uid) {
+            tree.child(at).ok_or(FsFault::Status(Status::NoEnt))
+        } else {
+            Err(FsFault::Status(Status::Access))
+        };
+        drivers::look_up(&self.fs, &cred(uid), at.directory, at.name) == expected
     }
 
     /// Whether the file reads so, in pieces up to its end.
@@ -211,7 +251,7 @@ impl Mounted {
         let mut given = Vec::new(self.alloc);
         let mut offset = 0;
         for _ in 0..bytes.len().saturating_add(1) {
-            if drivers::read(&mut self.fs, &self.cred, number, offset, &mut given)? {
+            if drivers::read(&mut self.fs, &cred(STRANGER), number, offset, &mut given)? {
                 return Ok(given.as_slice() == bytes);
             }
             offset = PIECE.saturating_add(offset);

@@ -46,6 +46,10 @@ impl Line {
         matches!(self.stage, Stage::Quiet)
     }
 
+    pub(super) fn has_reply(&self) -> bool {
+        matches!(self.stage, Stage::Replied(_))
+    }
+
     /// Sends this record from now on.
     pub(super) fn send(&mut self, request: Request, bytes: Vec<u8>) -> Result<(), AllocError> {
         self.len = bytes.len();

@@ -17,6 +17,9 @@ use xdr::Writer;
 /// The mode 755: the owner makes nodes in a directory, everyone looks names up.
 const MODE_755: [u8; 4] = [0, 0, 1, 0xED];
 
+/// The mode 700: nobody but the owner does either.
+const MODE_700: [u8; 4] = [0, 0, 1, 0xC0];
+
 /// The mode 644: the owner writes a file, everyone reads it.
 const MODE_644: [u8; 4] = [0, 0, 1, 0xA4];
 
@@ -106,6 +109,15 @@ impl Share {
     }
 }
 
+/// Who uses a new directory.
+#[derive(Clone, Copy, PartialEq)]
+pub(super) enum Mode {
+    /// 755.
+    Public,
+    /// 700.
+    Private,
+}
+
 /// How a file is opened.
 #[derive(Clone, Copy, PartialEq)]
 pub(super) enum How {
@@ -152,23 +164,32 @@ impl Stable {
     }
 }
 
-/// So many bytes, each one more than the one before it.
+/// What is written.
 #[derive(Clone, Copy)]
-pub(super) struct Data {
-    pub(super) first: u8,
-    pub(super) len: usize,
+pub(super) enum Data {
+    /// So many bytes, each one more than the one before it.
+    Rising { first: u8, len: usize },
+    /// A word of five letters.
+    Word([u8; 5]),
 }
 
 impl Data {
     pub(super) fn bytes(self, alloc: Global) -> Result<Vec<u8>, AllocError> {
-        let mut bytes = Vec::new(alloc);
-        let mut byte = self.first;
-        for _ in 0..self.len {
-            bytes.push(byte)?;
-            byte = byte.wrapping_add(1);
+        match self {
+            Data::Rising { first, len } => rising(alloc, first, len),
+            Data::Word(letters) => Vec::from_slice(alloc, &letters),
         }
-        Ok(bytes)
     }
+}
+
+fn rising(alloc: Global, first: u8, len: usize) -> Result<Vec<u8>, AllocError> {
+    let mut bytes = Vec::new(alloc);
+    let mut byte = first;
+    for _ in 0..len {
+        bytes.push(byte)?;
+        byte = byte.wrapping_add(1);
+    }
+    Ok(bytes)
 }
 
 /// A WRITE.
@@ -199,7 +220,7 @@ pub(super) enum Operation {
     /// SAVEFH.
     Save,
     /// CREATE of a directory.
-    MakeDir(u8),
+    MakeDir(u8, Mode),
     Remove(u8),
     /// RENAME of the first name, in the saved directory, to the second, in the current one.
     Rename(u8, u8),
@@ -234,8 +255,8 @@ impl Operation {
             }
             Operation::Lookup(name) => write_argument(call, &Argument::Lookup(&[name]))?,
             Operation::Save => write_argument(call, &Argument::SaveFh)?,
-            Operation::MakeDir(name) => {
-                write_argument(call, &Argument::Create(new_directory(&[name])))?
+            Operation::MakeDir(name, mode) => {
+                write_argument(call, &Argument::Create(new_directory(&[name], mode)))?
             }
             Operation::Remove(name) => write_argument(call, &Argument::Remove(&[name]))?,
             Operation::Rename(old, new) => write_rename(call, old, new)?,
@@ -278,16 +299,26 @@ fn with_mode(first: u32) -> Bitmap {
     bitmap
 }
 
-fn new_directory(name: &[u8]) -> CreateArguments<'_>
+/// What a new directory has.
+fn mode_of_directory(mode: Mode) -> Attributes<'static>
+    ensures { AttributesFit result }
+{
+    Attributes {
+        bitmap: with_mode(0),
+        values: match mode {
+            Mode::Public => &MODE_755,
+            Mode::Private => &MODE_700,
+        },
+    }
+}
+
+fn new_directory(name: &[u8], mode: Mode) -> CreateArguments<'_>
     requires { length name.now ≤ 65536 }
     ensures { CreateFits result }
 {
     CreateArguments::NewDirectory {
         name,
-        attributes: Attributes {
-            bitmap: with_mode(0),
-            values: &MODE_755,
-        },
+        attributes: mode_of_directory(mode),
     }
 }
 
@@ -300,7 +331,7 @@ fn write_rename(call: &mut Writer, old: u8, new: u8) -> Result<(), Fail> {
 }
 
 /// What a new file has.
-fn mode_alone() -> Attributes<'static>
+fn mode_of_file() -> Attributes<'static>
     ensures { AttributesFit result }
 {
     Attributes {
@@ -324,9 +355,9 @@ fn open_type(how: How) -> OpenType<'static>
 {
     match how {
         How::Known => OpenType::NoCreate,
-        How::Unchecked => OpenType::Unchecked(mode_alone()),
+        How::Unchecked => OpenType::Unchecked(mode_of_file()),
         How::Emptied => OpenType::Unchecked(size_and_mode()),
-        How::Guarded => OpenType::Guarded(mode_alone()),
+        How::Guarded => OpenType::Guarded(mode_of_file()),
     }
 }
 

@@ -1,21 +1,20 @@
 //! Stops before and within each write and each sync of a server that makes and moves directories.
 
 use super::left::Left;
-use super::operation::Operation;
-use super::rounds::{Asked, Round, Trial, asks, begin, nothing};
+use super::operation::{Mode, Operation};
+use super::remounts::mount;
+use super::rounds::{Asked, Round, Trial, asks, live, nothing};
 use super::simple::refused::{ACCESS, EXIST, OK};
 use super::simple::tree::Tree;
-use disk::{CrashDevice, Stop};
-use server::Server;
+use disk::Stop;
 use std::alloc::Global;
-use std::process::Abort;
 use std::test::Fail;
 
 /// Asks for a directory of this name in the one to which the path's names lead from the root, of
 /// which there are two at most.
 fn makes(path: &[u8], name: u8, status: u32) -> Asked {
     let root = Operation::Root;
-    let make = Operation::MakeDir(name);
+    let make = Operation::MakeDir(name, Mode::Public);
     match *path {
         [] => asks(&[root, make], status),
         [first] => asks(&[root, Operation::Lookup(first), make], status),
@@ -73,29 +72,6 @@ fn stops_of_a_rename_that_replaces(rt: HostRuntime) -> Result<(), Fail> {
     Ok(())
 }
 
-/// Plays the rounds to their end: the tree then, and the device.
-fn live(
-    rt: &impl Abort,
-    alloc: Global,
-    device: CrashDevice,
-    rounds: &[Round],
-) -> Result<(Tree, CrashDevice), Fail> {
-    let mut twin = begin(rt, alloc, device)?;
-    if twin.play(rt, rounds)? {
-        return Err("stopped in its first life".into());
-    }
-    let (world, device) = twin.into_parts();
-    Ok((world.into_tree(), device))
-}
-
-/// Begins a second life on a device: the device, wherever that ended.
-fn live_again(alloc: Global, device: CrashDevice) -> CrashDevice {
-    match Server::mount(alloc, device) {
-        Ok(server) => server.into_device(),
-        Err(refused) => refused.device,
-    }
-}
-
 /// The tree as it is before and after the count is raised once more.
 fn with_both_counts(alloc: Global, tree: Tree) -> Result<Left, Fail> {
     let mut raised = tree.try_clone(alloc)?;
@@ -112,13 +88,13 @@ fn stops_of_a_second_mount(rt: HostRuntime) -> Result<(), Fail> {
     let trial = Trial::new(alloc, &rounds)?;
     let (tree, first) = live(&rt, alloc, trial.device(Stop::Never)?, &rounds)?;
     let begun = first.steps();
-    let whole = live_again(alloc, first);
+    let (whole, _) = mount(alloc, first);
     let left = with_both_counts(alloc, tree)?;
     let mut found = [0usize; 2];
     for step in begun..whole.steps() {
         for stop in [Stop::Before(step), Stop::Within(step)] {
             let (_, device) = live(&rt, alloc, trial.device(stop)?, &rounds)?;
-            let stopped = live_again(alloc, device);
+            let (stopped, _) = mount(alloc, device);
             assert!(rt; stopped.is_stopped());
             for place in left.places(&stopped)? {
                 found[place.min(1)] = found[place.min(1)].saturating_add(1);

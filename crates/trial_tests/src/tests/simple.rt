@@ -224,7 +224,7 @@ impl World {
             Operation::Handle(number) => self.put_handle(work, number),
             Operation::Lookup(name) => self.look_up(work, name),
             Operation::Save => self.save(work),
-            Operation::MakeDir(name) => self.make_directory(work, name),
+            Operation::MakeDir(name, mode) => self.make_directory(work, name, mode),
             Operation::Remove(name) => self.remove(work, name),
             Operation::Rename(old, new) => self.rename(work, old, new),
             Operation::GetHandle => self.give_handle(work),

@@ -2,7 +2,7 @@
 //! same time.
 
 use super::operation::{
-    Data, How, OpenState, Opening, Operation, Reading, Share, Stable, Stateid, Writing,
+    Data, How, Mode, OpenState, Opening, Operation, Reading, Share, Stable, Stateid, Writing,
 };
 use super::rounds::{Asked, Round, Trial, asks, nothing};
 use super::simple::refused::{EXIST, OK, STALE};
@@ -47,14 +47,14 @@ fn reads(offset: u64, count: u32) -> Operation {
 }
 
 /// What is written.
-const HELLO: Data = Data {
+const HELLO: Data = Data::Rising {
     first: b'a',
     len: 10,
 };
 
-const BLOCK: Data = Data { first: 0, len: 100 };
+const BLOCK: Data = Data::Rising { first: 0, len: 100 };
 
-const MORE: Data = Data {
+const MORE: Data = Data::Rising {
     first: b'0',
     len: 9,
 };
@@ -81,7 +81,7 @@ fn first_unstable_round() -> Round {
         asks(
             &[
                 Operation::Root,
-                Operation::MakeDir(b'd'),
+                Operation::MakeDir(b'd', Mode::Public),
                 opens(b'g', How::Guarded),
                 writes(Stable::FileSync, Stateid::Current, 4090, HELLO),
             ],
@@ -127,7 +127,7 @@ fn third_unstable_round() -> Round {
             &[
                 Operation::Root,
                 Operation::GetAttributes,
-                Operation::MakeDir(b'e'),
+                Operation::MakeDir(b'e', Mode::Public),
             ],
             OK,
         ),
@@ -225,7 +225,10 @@ fn replacing_rounds(moved: Data, replaced: Data) -> [Round; 3] {
             asks(&[root, Operation::Save, Operation::Rename(b'x', b'y')], OK),
             nothing(),
         ],
-        [asks(&[root, Operation::MakeDir(b'd')], OK), nothing()],
+        [
+            asks(&[root, Operation::MakeDir(b'd', Mode::Public)], OK),
+            nothing(),
+        ],
     ]
 }
 
@@ -267,21 +270,21 @@ fn stops_of_files_that_end(rt: HostRuntime) -> Result<(), Fail> {
 /// The files that are moved and replaced: `1` and `2`, and one of two blocks to one of a few bytes.
 const REPLACED: [(Data, Data); 2] = [
     (
-        Data {
+        Data::Rising {
             first: b'1',
             len: 1,
         },
-        Data {
+        Data::Rising {
             first: b'2',
             len: 1,
         },
     ),
     (
-        Data {
+        Data::Rising {
             first: b'1',
             len: 5000,
         },
-        Data {
+        Data::Rising {
             first: b'2',
             len: 9,
         },

@@ -103,7 +103,16 @@ fn join_all<D: Device>(
 impl<D: Device> Twin<D> {
     /// Mounts a volume that holds the tree; the clients are there, and no connection.
     pub(super) fn mount(alloc: Global, device: D, setting: Setting) -> Result<Twin<D>, Fail> {
-        let mut server = drivers::mount(alloc, device)?;
+        Twin::serve(alloc, drivers::mount(alloc, device)?, setting)
+    }
+
+    /// The same of a volume that is mounted.
+    pub(super) fn serve(
+        alloc: Global,
+        server: Server<D>,
+        setting: Setting,
+    ) -> Result<Twin<D>, Fail> {
+        let mut server = server;
         let clients = join_all(alloc, &mut server, setting.clients)?;
         let Setting { tree, may_stop, .. } = setting;
         Ok(Twin {
@@ -241,12 +250,12 @@ impl<D: Device> Twin<D> {
         );
         for at in 0..self.lines.len() {
             let _ = self.take(rt, at)?;
-            self.expect_no_turn(rt, at);
+            self.expect_nothing_else(rt, at);
         }
         Ok(())
     }
 
-    fn expect_no_turn(&mut self, rt: &impl Abort, at: usize) {
+    fn expect_nothing_else(&mut self, rt: &impl Abort, at: usize) {
         if let Some(line) = self.lines.get(at) {
             assert_eq!(rt;
                 drivers::turn(&mut self.server, line.conn),
@@ -254,6 +263,10 @@ impl<D: Device> Twin<D> {
             );
             assert_eq!(rt;
                 drivers::feed(&mut self.server, line.conn, &[0]),
+                Err(ServerFault::Device)
+            );
+            assert_eq!(rt;
+                drivers::hangup(&mut self.server, line.conn),
                 Err(ServerFault::Device)
             );
         }

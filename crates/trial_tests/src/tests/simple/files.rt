@@ -1,6 +1,6 @@
 //! Operations on files.
 
-use super::refused::{BAD_STATEID, EXIST, ISDIR, NOENT, NOTDIR, Refused, unless};
+use super::refused::{ACCESS, BAD_STATEID, EXIST, ISDIR, NOENT, NOTDIR, Refused, unless};
 use super::spelling::Changed;
 use super::stateids::{Need, Place};
 use super::tree::{Content, Entry, check_size};
@@ -32,6 +32,7 @@ impl World {
     pub(super) fn open(&mut self, work: &mut Work, opening: Opening) -> Result<(), Refused> {
         let directory = self.current(work)?;
         unless(self.tree.is_directory(directory), NOTDIR)?;
+        unless(self.tree.may_search(directory, work.uid), ACCESS)?;
         let at = Entry {
             directory,
             name: opening.name,

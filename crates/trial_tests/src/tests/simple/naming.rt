@@ -1,10 +1,10 @@
 //! Operations on names, and on what names lead to.
 
-use super::refused::{EXIST, NOENT, NOTDIR, Refused, STALE, unless};
+use super::refused::{ACCESS, EXIST, NOENT, NOTDIR, Refused, STALE, unless};
 use super::spelling::Changed;
 use super::tree::{Content, Entry, ROOT};
 use super::{Work, World};
-use crate::tests::operation::{CHANGE_AND_SIZE, MODE, Operation};
+use crate::tests::operation::{CHANGE_AND_SIZE, MODE, Mode, Operation};
 
 impl World {
     /// The current node, which is there.
@@ -33,6 +33,7 @@ impl World {
 
     pub(super) fn look_up(&mut self, work: &mut Work, name: u8) -> Result<(), Refused> {
         let directory = self.current_directory(work)?;
+        unless(self.tree.may_search(directory, work.uid), ACCESS)?;
         let Some(number) = self.tree.child(Entry { directory, name }) else {
             return Err(Refused::Status(NOENT));
         };
@@ -60,15 +61,20 @@ impl World {
         Ok(work.results.number(self.tree.size(number))?)
     }
 
-    pub(super) fn make_directory(&mut self, work: &mut Work, name: u8) -> Result<(), Refused> {
+    pub(super) fn make_directory(
+        &mut self,
+        work: &mut Work,
+        name: u8,
+        mode: Mode,
+    ) -> Result<(), Refused> {
         let directory = self.current_directory(work)?;
         let at = Entry { directory, name };
         self.tree.check_writer(directory, work.uid)?;
         unless(self.tree.child(at).is_none(), EXIST)?;
         let before = self.tree.change_of(directory);
-        let number = self.tree.add(work.uid, at, Content::Directory)?;
+        let number = self.tree.add(work.uid, at, Content::Directory(mode))?;
         work.go_to(number, None);
-        work.results.done(Operation::MakeDir(name))?;
+        work.results.done(Operation::MakeDir(name, mode))?;
         work.results.change(Changed {
             before,
             after: number,

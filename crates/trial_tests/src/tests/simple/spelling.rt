@@ -44,7 +44,7 @@ pub(crate) fn number_of(operation: Operation) -> u32 {
         Operation::Handle(_) => PUTFH,
         Operation::Lookup(_) => LOOKUP,
         Operation::Save => SAVEFH,
-        Operation::MakeDir(_) => CREATE,
+        Operation::MakeDir(_, _) => CREATE,
         Operation::Remove(_) => REMOVE,
         Operation::Rename(_, _) => RENAME,
         Operation::GetHandle => GETFH,

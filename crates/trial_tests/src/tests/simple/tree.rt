@@ -1,6 +1,7 @@
 //! The model's tree: files and directories as a list.
 
 use super::refused::{ACCESS, EXIST, FBIG, INVAL, NOENT, NOSPC, NOTEMPTY, Refused, unless};
+use crate::tests::operation::Mode;
 use std::alloc::{AllocError, Global};
 
 pub(crate) const ROOT: u64 = 1;
@@ -32,7 +33,7 @@ pub(crate) struct Entry {
 
 #[derive(Drop)]
 pub(crate) enum Content {
-    Directory,
+    Directory(Mode),
     File(Vec<u8>),
 }
 
@@ -40,7 +41,7 @@ pub(crate) enum Content {
 pub(crate) struct Node {
     pub(crate) number: u64,
     pub(crate) at: Entry,
-    owner: u32,
+    pub(crate) owner: u32,
     pub(crate) change: u64,
     pub(crate) content: Content,
 }
@@ -48,7 +49,7 @@ pub(crate) struct Node {
 impl Node {
     fn try_clone(&self, alloc: Global) -> Result<Node, AllocError> {
         let content = match &self.content {
-            Content::Directory => Content::Directory,
+            Content::Directory(mode) => Content::Directory(*mode),
             Content::File(bytes) => Content::File(Vec::from_slice(alloc, bytes)?),
         };
         Ok(Node {
@@ -61,12 +62,16 @@ impl Node {
     }
 
     pub(crate) fn is_directory(&self) -> bool {
-        matches!(self.content, Content::Directory)
+        matches!(self.content, Content::Directory(_))
+    }
+
+    fn is_private(&self) -> bool {
+        matches!(self.content, Content::Directory(Mode::Private))
     }
 
     fn bytes(&self) -> Option<&[u8]> {
         match &self.content {
-            Content::Directory => None,
+            Content::Directory(_) => None,
             Content::File(bytes) => Some(bytes),
         }
     }
@@ -109,7 +114,7 @@ impl Tree {
             },
             owner: 0,
             change: 1,
-            content: Content::Directory,
+            content: Content::Directory(Mode::Public),
         })?;
         Ok(Tree {
             run: 1,
@@ -210,6 +215,14 @@ impl Tree {
         let before = self.charge(number, self.size(number));
         let others = self.charges().saturating_sub(before);
         others.saturating_add(self.charge(number, size)) <= self.room.sectors
+    }
+
+    /// Whether a user may look names up in a directory.
+    pub(crate) fn may_search(&self, number: u64, uid: u32) -> bool {
+        match self.node(number) {
+            Some(node) => node.owner == uid || !node.is_private(),
+            None => false,
+        }
     }
 
     /// Whether the caller may write a file, or a directory's names: its owner may, and everyone in the root.
