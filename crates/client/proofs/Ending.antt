@@ -13,7 +13,7 @@ pub none_left : (operations : List ℕ) → ending operations [] ≡ None
 none_left [] = refl
 none_left (operation ∷ operations) = refl
 
-goes_on : (operation : ℕ) (operations : List ℕ) (one : answers.Outcome) (rest : List answers.Outcome) → 0 < length rest → number_of one ≡ operation → is_ok one ≡ true
+pub goes_on : (operation : ℕ) (operations : List ℕ) (one : answers.Outcome) (rest : List answers.Outcome) → 0 < length rest → number_of one ≡ operation → is_ok one ≡ true
     → ending (operation ∷ operations) (one ∷ rest) ≡ ending operations rest
 goes_on operation operations one [] some same ok = absurd (omega arith)
 goes_on operation operations one (next ∷ rest) some same ok = rw (eq-eqb (number_of one) operation same, ok) refl

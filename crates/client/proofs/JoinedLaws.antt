@@ -45,7 +45,7 @@ module _ (xid : ℕ) (cred : Cred) (tag : List ℕ) (operations : List Argument)
   abbrev call : Call
   call = call_with (compound_call xid (credential_text cred)) body
 
-  text : List ℕ
+  unfoldable pub text : List ℕ
   text = call_text xid (credential_text cred) tag operations
 
   spelled : text ≡ call_head.spelling (compound_call xid (credential_text cred)) ++ body
@@ -85,16 +85,16 @@ module _ (xid : ℕ) (cred : Cred) (tag : List ℕ) (operations : List Argument)
         ap (front world.limits.records) (sym (append-nil (framed bytes))) ∙ sent_is_read world.limits.records bytes [] within.size within.short within.fragments in
         ap (arrived (framed bytes)) whole ∙ ap (λ (read : CallRead). cond (is_call_read read) (Waiting bytes) Closed) is_read
 
-    after_is : arrives world number (record_text xid (credential_text cred) tag operations) ≡ with_connection world number (Waiting text)
+    pub after_is : arrives world number (record_text xid (credential_text cred) tag operations) ≡ with_connection world number (Waiting text)
     unfolding arrives
     after_is =
         ap (connection_changed world number (arrives_at world.limits.records (record_text xid (credential_text cred) tag operations))) quiet
         ∙ ap (with_connection world number) came
 
-    abbrev Asks : World → Type 0
+    abbrev pub Asks : World → Type 0
     Asks after = request_at after (at number after.connections) ≡ Some (in_progress after xid cred (compound_sent tag operations))
 
-    waits : Asks (with_connection world number (Waiting text))
+    pub waits : Asks (with_connection world number (Waiting text))
     waits =
         let after = with_connection world number (Waiting text) in
         ap (request_at after) (at-with_same world.connections number (Waiting text))

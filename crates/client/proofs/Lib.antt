@@ -4,3 +4,8 @@ pub mod Ending
 pub mod Receiving
 pub mod Exchanging
 pub mod JoinedLaws
+pub mod Outcomes
+pub mod Nexts
+pub mod Elsewhere
+pub mod WholeLaws
+pub mod Worked

@@ -6,3 +6,5 @@ pub mod Replies
 pub mod Streams
 pub mod Exchanges
 pub mod Joined
+pub mod Whole
+pub mod ExchangeExample

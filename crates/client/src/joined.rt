@@ -1,11 +1,21 @@
 //! What joins the client's end of a connection with the server's.
 
+ghost use Rattle.client.specs.ExchangeExample.{ExchangeExample};
 ghost use Rattle.client.specs.Joined.{EveryRecordIsAsked, EveryReplyIsTold};
+ghost use Rattle.client.specs.Whole.{EveryExchange};
 
 /// The record of a client that arrives on a quiet connection is the request of this caller with
-/// these operations; and the reply of a request that ends, with results that answer a front of
-/// them, is read as these results.
+/// these operations; the reply of a request that ends, with results that answer a front of them, is
+/// read as these results; and of a record whose operations are run one a turn, whatever happens
+/// between, the client tells their outcomes, and no others. A reply that a slot keeps is left out.
 pub fn every_exchange()
     ensures asked { EveryRecordIsAsked }
     ensures told { EveryReplyIsTold }
+    ensures whole { EveryExchange }
+{}
+
+/// An exchange that is worked out by hand: what `every_exchange` asks can be met.
+#[tactic(auto, using(crate::proofs::Worked::worked))]
+pub fn exchange_example()
+    ensures { ExchangeExample }
 {}

@@ -1,0 +1,72 @@
+-- An exchange: the record that a client sends arrives on a quiet connection, its operations are run
+-- one a turn, whatever else happens between, and of the reply the client tells the outcomes.
+use Rattle.std.specs.Prelude.{◌≡◌, ◌<◌, ◌^◌, ⊤, ℕ, List, [], ◌∷◌, length, None, Some}
+use Rattle.std.specs.List.{AllByRecursion}
+use Rattle.model.specs.declared.acl.Cred.{Cred}
+use Rattle.model.specs.declared.status.Status.{Status}
+use Rattle.model.specs.Answer.{Outcome}
+use Rattle.model.specs.Keyed.{at}
+use Rattle.model.specs.Operation.{Argument}
+use Rattle.model.specs.RuledOut.{IsOutcome, request_at}
+use Rattle.model.specs.Runs.{Event, Arrives, Turns, HangsUp, Connects, Takes, effect_of}
+use Rattle.model.specs.WireAnswers.{outcome}
+use Rattle.model.specs.WireArguments.{argument}
+use Rattle.model.specs.World.{World, InProgress, Quiet, Busy, Replied, next_operation, one, arrives}
+use Rattle.client.specs.Client.{Client}
+use Rattle.client.specs.Replies.{Gives, reply_to}
+use Rattle.client.specs.Requests.{credential_text, call_text, record_text, new_record}
+use Rattle.client.specs.Joined.{CanBeSent, IsWithin}
+
+-- an event of another connection, or bytes, which a connection that has a request does not take
+abbrev pub IsElsewhere : (number : ℕ) → Event → Type 0
+IsElsewhere number (Arrives connection piece) = ⊤
+IsElsewhere number (Turns connection now) = connection ≡ number → ⊥
+IsElsewhere number (HangsUp connection) = connection ≡ number → ⊥
+IsElsewhere number (Connects connection) = ⊤
+IsElsewhere number (Takes connection) = connection ≡ number → ⊥
+
+-- The turns of a connection, with whatever else happens between: the outcomes of the operations of
+-- its request, one a turn, and the reply. A reply that a slot keeps has no outcome of its own.
+pub data IsAnsweredBy (number : ℕ) : World → List Outcome → (reply : List ℕ) → Type 0 where
+  Elsewhere : {world : World} {outcomes : List Outcome} {reply : List ℕ} (event : Event)
+      → IsElsewhere number event → IsAnsweredBy number (effect_of world event) outcomes reply
+      → IsAnsweredBy number world outcomes reply
+  Goes_on : {world : World} {outcomes : List Outcome} {reply : List ℕ} (now : ℕ)
+      (request after : InProgress) (first : Outcome)
+      → request_at world (at number world.connections) ≡ Some request
+      → at number (one world number now).world.connections ≡ Some (Busy after)
+      → IsOutcome world request (next_operation request) first (one world number now).executed
+      (one world number now).world.tree
+      → IsAnsweredBy number (one world number now).world outcomes reply
+      → IsAnsweredBy number world (first ∷ outcomes) reply
+  Ends : {world : World} {reply : List ℕ} (now : ℕ) (request : InProgress) (last : Outcome)
+      → request_at world (at number world.connections) ≡ Some request
+      → at number (one world number now).world.connections ≡ Some (Replied reply)
+      → (one world number now).replays ≡ None
+      → IsOutcome world request (next_operation request) last (one world number now).executed
+      (one world number now).world.tree
+      → IsAnsweredBy number world (last ∷ []) reply
+
+-- The client's record holds these operations, arrives, and is answered by these outcomes. What is
+-- sent and what is answered has a spelling, and the reply is one fragment.
+pub record IsExchange (client : Client) (cred : Cred) (operations : List Argument) (xid : ℕ)
+    (world : World) (number : ℕ) (outcomes : List Outcome) (reply : List ℕ) : Type 0 where
+  pub sent : client.sent
+      ≡ Some (new_record xid (credential_text cred) client.tag operations)
+  pub can : CanBeSent xid cred client.tag operations
+  pub fits : AllByRecursion argument.Fits operations
+  pub within : IsWithin world (call_text xid (credential_text cred) client.tag operations)
+  pub quiet : at number world.connections ≡ Some (Quiet [])
+  pub answered : IsAnsweredBy number
+      (arrives world number (record_text xid (credential_text cred) client.tag operations))
+      outcomes reply
+  pub short : length reply < 2 ^ 31
+  pub told : AllByRecursion outcome.Fits outcomes
+
+-- the client tells these outcomes, and no others
+abbrev pub EveryExchange : Type 0
+EveryExchange =
+    (client : Client) (cred : Cred) (operations : List Argument) (xid : ℕ) (world : World)
+    (number : ℕ) (outcomes : List Outcome) (reply : List ℕ)
+    → IsExchange client cred operations xid world number outcomes reply
+    → (last : Status) × (reply_to client reply ≡ Gives outcomes last)
