@@ -1,8 +1,9 @@
 //! How a server or the program does otherwise than a row or a case has it.
 
+use callers::Refused;
 use disk::DiskFault;
 use server::{FormatFault, MountFault, ServerFault, Turn};
-use std::alloc::AllocError;
+use std::alloc::{AllocError, Global};
 use std::{fmt, io};
 use thiserror::Error;
 
@@ -70,6 +71,9 @@ pub enum Difference {
     /// The volume is not mounted.
     #[error("not mounted: {0}")]
     Mount(#[from] MountFault),
+    /// The loop over the server's peers ends.
+    #[error("the loop ends: {0}")]
+    Loop(#[from] Refused),
     /// A file or a socket fails.
     #[error("{0}")]
     Io(#[from] io::Error),
@@ -94,6 +98,26 @@ pub enum Answer {
     HungUp,
     /// The call is refused.
     Refused(ServerFault),
+}
+
+/// A call is answered as is wanted.
+pub fn expect(wanted: Answer, got: Answer) -> Result<(), Difference> {
+    if wanted == got {
+        Ok(())
+    } else {
+        Err(Difference::Answer { wanted, got })
+    }
+}
+
+/// The reply is the one that is wanted.
+pub fn expect_reply(alloc: Global, wanted: &[u8], got: Vec<u8>) -> Result<(), Difference> {
+    if got.as_slice() == wanted {
+        return Ok(());
+    }
+    Err(Difference::Reply {
+        wanted: Words(Vec::from_slice(alloc, wanted)?),
+        got: Words(got),
+    })
 }
 
 /// The streams of a command.

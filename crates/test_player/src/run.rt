@@ -2,7 +2,7 @@
 
 use crate::cases::{self, Case};
 use crate::difference::Differs;
-use crate::rows::{self, Row, Sheet};
+use crate::rows::{self, Place, Row, Sheet};
 use anyhow::{Result, anyhow, ensure};
 use std::fs;
 use std::rt::Files;
@@ -37,8 +37,8 @@ fn read_text<R: Files + AllocGlobal>(rt: &R, file: &str) -> Result<String> {
 }
 
 /// Plays the rows of a file once the whole file has a form. Each file is its name and its text.
-fn run_rows<R: Print + AllocGlobal>(
-    rt: &R,
+fn run_rows(
+    rt: &HostRuntime,
     (shared, records): (&str, &str),
     (file, text): (&str, &str),
 ) -> Result<bool> {
@@ -56,11 +56,22 @@ fn run_rows<R: Print + AllocGlobal>(
     }
 }
 
-fn play_rows<R: Print + AllocGlobal>(rt: &R, file: &str, rows: &[Row<'_>]) -> Result<bool> {
+fn play_rows(rt: &HostRuntime, file: &str, rows: &[Row<'_>]) -> Result<bool> {
     let mut as_written = true;
     for row in rows {
-        if !tell(rt, file, row.name, rows::play(rt.alloc(), row))? {
+        if !play_row(rt, file, row)? {
             as_written = false;
+        }
+    }
+    Ok(as_written)
+}
+
+/// Plays a row wherever it can be played.
+fn play_row(rt: &HostRuntime, file: &str, row: &Row<'_>) -> Result<bool> {
+    let mut as_written = true;
+    for (place, told) in [(Place::Server, ""), (Place::Sockets, ", over sockets")] {
+        if row.is_of(place) {
+            as_written &= tell(rt, file, row.name, told, rows::play(rt, row, place))?;
         }
     }
     Ok(as_written)
@@ -77,27 +88,28 @@ fn run_cases(rt: &HostRuntime, file: &str, text: &str) -> Result<bool> {
 fn play_cases(rt: &HostRuntime, file: &str, cases: &[Case<'_>]) -> Result<bool> {
     let mut as_written = true;
     for case in cases {
-        if !tell(rt, file, case.name, cases::play(rt, case))? {
+        if !tell(rt, file, case.name, "", cases::play(rt, case))? {
             as_written = false;
         }
     }
     Ok(as_written)
 }
 
-/// Tells how a row or a case went. Whether it went as written.
+/// Tells how a row or a case went, and where it was played. Whether it went as written.
 fn tell<R: Print>(
     rt: &R,
     file: &str,
     name: &str,
+    place: &str,
     outcome: std::result::Result<(), Differs>,
 ) -> Result<bool> {
     match outcome {
         Ok(()) => {
-            println!(rt; "{file}: {name}: ok")?;
+            println!(rt; "{file}: {name}{place}: ok")?;
             Ok(true)
         }
         Err(differs) => {
-            println!(rt; "{file}: {name}: {differs}")?;
+            println!(rt; "{file}: {name}{place}: {differs}")?;
             Ok(false)
         }
     }

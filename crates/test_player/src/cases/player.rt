@@ -5,7 +5,7 @@ use super::output::{Output, port_of};
 use super::port::{fill, take_port};
 use super::step::{Hold, Peer, Step, Way};
 use super::text::Texts;
-use crate::difference::{Difference, Differs, Stream, Text, Words};
+use crate::difference::{Difference, Differs, Stream, Text, expect_reply};
 use program::command;
 use std::alloc::Global;
 use std::fs::File;
@@ -120,13 +120,7 @@ fn compare_reply(alloc: Global, wanted: &[u8], peer: &TcpStream) -> Result<(), D
     let mut stream = peer;
     let mut got = Vec::new(alloc);
     stream.read_to_end(&mut got)?;
-    if got.as_slice() == wanted {
-        return Ok(());
-    }
-    Err(Difference::Reply {
-        wanted: Words(Vec::from_slice(alloc, wanted)?),
-        got: Words(got),
-    })
+    expect_reply(alloc, wanted, got)
 }
 
 fn has(wanted: usize, got: usize) -> Result<(), Difference> {

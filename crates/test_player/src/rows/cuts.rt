@@ -1,5 +1,6 @@
 //! Records that end too soon.
 
+use super::call::Call;
 use super::records::{Filling, HEADER, Records, set_header};
 use super::row::Row;
 use super::step::{Step, connection_of};
@@ -75,12 +76,12 @@ fn add_new(line: u32, connection: usize, row: &mut Row<'_>) -> Result<(), Fault>
 impl Question {
     /// One turn that is asked, and its reply.
     fn ask(&self) -> Result<Step, Fault> {
-        Ok(Step::Asks {
+        Ok(Step::Asks(Call {
             connection: self.connection,
             record: self.record.clone()?,
             turns: 1,
             reply: self.reply.clone()?,
-        })
+        }))
     }
 }
 

@@ -1,5 +1,7 @@
 //! Rows.
 
+use super::call::{Call, orders_of};
+use super::player::Place;
 use super::step::Step;
 use crate::fault::Fault;
 use std::alloc::Global;
@@ -11,6 +13,8 @@ pub struct Row<'a> {
     pub steps: Vec<Placed>,
     /// How many of the steps are `tries`.
     pub tried: u32,
+    /// In how many orders records that meet arrive.
+    pub orders: usize,
 }
 
 /// A step, and the line that it stands on.
@@ -27,11 +31,34 @@ impl<'a> Row<'a> {
             name,
             steps: Vec::new(alloc),
             tried: 0,
+            orders: 1,
         }
+    }
+
+    /// Whether it can be played there.
+    pub fn is_of(&self, place: Place) -> bool {
+        self.steps.iter().all(|placed| placed.step.is_of(place))
     }
 
     /// Puts a step after the others.
     pub fn add(&mut self, line: u32, step: Step) -> Result<(), Fault> {
         Ok(self.steps.push(Placed { line, step })?)
+    }
+    /// Has a call meet those right above it.
+    pub fn meet(&mut self, alloc: Global, line: u32, call: Call) -> Result<(), Fault> {
+        if let Some(
+            Placed {
+                step: Step::Meets(calls),
+                ..
+            },
+        ) = self.steps.last_mut()
+        {
+            calls.push(call)?;
+            self.orders = self.orders.max(orders_of(calls.len()));
+            return Ok(());
+        }
+        let mut calls = Vec::new(alloc);
+        calls.push(call)?;
+        self.add(line, Step::Meets(calls))
     }
 }

@@ -1,6 +1,8 @@
 //! The steps of a row.
 
+use super::call::Call;
 use super::cuts::add_cuts;
+use super::player::Place;
 use super::records::{Filling, Records, read_words};
 use super::row::Row;
 use crate::fault::Fault;
@@ -37,11 +39,13 @@ pub enum Step {
     },
     /// Hands in a record, runs so many operations, of which the last one gives the reply, and takes
     /// this reply.
-    Asks {
+    Asks(Call),
+    /// The same of records that arrive together.
+    Meets(Vec<Call>),
+    /// Hands in a record, which is not answered yet.
+    Waits {
         connection: usize,
         record: Vec<u8>,
-        turns: u32,
-        reply: Vec<u8>,
     },
     /// Hands in bytes that close the connection, which stays so: each later piece and turn is
     /// answered Closed.
@@ -67,6 +71,19 @@ pub enum Step {
     Restarts,
 }
 
+impl Step {
+    /// Whether it can be taken there: no connection waits for the server itself, and over sockets
+    /// turns are the loop's.
+    pub fn is_of(&self, place: Place) -> bool {
+        match place {
+            Place::Server => !matches!(self, Step::Waits { .. }),
+            Place::Sockets => {
+                !matches!(self, Step::Runs { .. } | Step::Lacks { .. } | Step::IsFull)
+            }
+        }
+    }
+}
+
 /// Puts what the words of a line say after the steps of a row.
 pub fn add_steps(
     alloc: Global,
@@ -82,6 +99,7 @@ pub fn add_steps(
         "tries" => add_try(alloc, records, line, words, row),
         "repeats" => add_repeats(alloc, records, line, words, row),
         "cuts" => add_cuts(alloc, records, line, words, row),
+        "meets" => row.meet(alloc, line, call_of(alloc, records, words)?),
         _ => row.add(line, read_step(alloc, records, *verb, words)?),
     }
 }
@@ -96,8 +114,9 @@ fn read_step(
         "feeds" => feeds(alloc, records, words),
         "drips" => drips(alloc, records, words),
         "ends" => ends(alloc, records, words),
-        "asks" => asks(alloc, records, words),
+        "asks" => Ok(Step::Asks(call_of(alloc, records, words)?)),
         "closes" => closes(alloc, records, words),
+        "waits" => waits(alloc, records, words),
         _ => read_plain(verb, words),
     }
 }
@@ -138,6 +157,11 @@ fn closes(alloc: Global, records: &Records<'_>, words: &[&str]) -> Result<Step, 
     Ok(Step::Closes { connection, record })
 }
 
+fn waits(alloc: Global, records: &Records<'_>, words: &[&str]) -> Result<Step, Fault> {
+    let (connection, record) = record_of(alloc, records, words)?;
+    Ok(Step::Waits { connection, record })
+}
+
 /// Reads `CONNECTION RECORD`.
 fn record_of(
     alloc: Global,
@@ -164,11 +188,12 @@ fn ends(alloc: Global, records: &Records<'_>, words: &[&str]) -> Result<Step, Fa
     })
 }
 
-fn asks(alloc: Global, records: &Records<'_>, words: &[&str]) -> Result<Step, Fault> {
+/// Reads `CONNECTION RECORD TURNS REPLY`.
+fn call_of(alloc: Global, records: &Records<'_>, words: &[&str]) -> Result<Call, Fault> {
     let [connection, record, turns, reply] = words else {
         return Err(Fault::Step);
     };
-    Ok(Step::Asks {
+    Ok(Call {
         connection: connection_of(*connection)?,
         record: records.spell(alloc, *record, None)?,
         turns: count_of(*turns)?,
@@ -216,12 +241,12 @@ fn tries(alloc: Global, records: &Records<'_>, number: u32, words: &[&str]) -> R
         status: hexadecimal(*status).ok_or(Fault::Step)?,
         words: words.as_slice(),
     };
-    Ok(Step::Asks {
+    Ok(Step::Asks(Call {
         connection: connection_of(*connection)?,
         record: records.spell(alloc, *record, Some(filling))?,
         turns: count_of(*turns)?,
         reply: records.spell(alloc, *reply, Some(filling))?,
-    })
+    }))
 }
 
 pub fn connection_of(word: &str) -> Result<usize, Fault> {
