@@ -1,4 +1,5 @@
-//! Flushes behind one gate: how many syncs they take, and what the gate names then.
+//! Flushes behind one gate, and a checkpoint: how many syncs they take, and what the gate names
+//! then.
 
 use super::super::drivers::{content_of, filled, memory, put};
 use super::SECTORS;
@@ -8,7 +9,7 @@ use journal::JournalFault;
 use std::alloc::Global;
 use std::test::Fail;
 
-const STEPS: [Step<'static>; 17] = [
+const STEPS: [Step<'static>; 21] = [
     Step::Apply(&[200], 1),
     Step::Apply(&[200], 2),
     Step::Apply(&[200], 3),
@@ -26,16 +27,24 @@ const STEPS: [Step<'static>; 17] = [
     Step::Apply(&[200], 12),
     Step::Flush,
     Step::Superblock(13),
+    Step::Checkpoint,
+    Step::Checkpoint,
+    Step::Apply(&[200], 14),
+    Step::Flush,
 ];
 
 // so many of the steps: the syncs since the mount, and what the gate names then
-const ROWS: [(usize, u64, &[u32]); 6] = [
+const ROWS: [(usize, u64, &[u32]); 9] = [
     (10, 0, &[]),
     (11, 2, &[200]),
     (13, 4, &[200, 201]),
     (14, 4, &[200, 201]),
     (16, 8, &[200]),
     (17, 9, &[200]),
+    // the gate is closed, once; so the same sector again takes two syncs, and not four
+    (18, 11, &[]),
+    (19, 11, &[]),
+    (21, 13, &[200]),
 ];
 
 // a gate that names these, and zeros for none

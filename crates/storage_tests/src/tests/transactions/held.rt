@@ -19,6 +19,7 @@ pub(super) enum Step<'a> {
     /// A transaction that fills these sectors with this.
     Apply(&'a [u32], u8),
     Flush,
+    Checkpoint,
     /// Fills sector 0 with this.
     Superblock(u8),
     /// The byte that a sector is filled with, or 255.
@@ -74,6 +75,7 @@ impl<D: Device> Held<D> {
         match step {
             Step::Apply(to, byte) => self.apply(alloc, to, byte),
             Step::Flush => self.flush(),
+            Step::Checkpoint => self.checkpoint(),
             Step::Superblock(byte) => self.superblock(byte),
             Step::Byte(n) => self.byte_at(n),
         }
@@ -100,6 +102,11 @@ impl<D: Device> Held<D> {
 
     fn flush(&mut self) -> Result<u8, JournalFault> {
         self.journal.flush()?;
+        Ok(0)
+    }
+
+    fn checkpoint(&mut self) -> Result<u8, JournalFault> {
+        self.journal.checkpoint()?;
         Ok(0)
     }
 

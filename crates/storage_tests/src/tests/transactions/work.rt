@@ -64,7 +64,7 @@ impl Reached {
             Step::Apply(_, _) => self.applied = self.applied.saturating_add(1),
             Step::Flush => self.flushed = self.applied,
             Step::Superblock(byte) => self.superblock = byte,
-            Step::Byte(_) => {}
+            Step::Checkpoint | Step::Byte(_) => {}
         }
         Ok(())
     }
