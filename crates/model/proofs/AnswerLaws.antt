@@ -1,5 +1,6 @@
 -- What was answered was permitted.
 use Rattle.std.proofs.Common.{◌≡◌, ℕ, ◌⊎◌, inl, inr, Bool, true, false, cond, List, [], ◌∷◌, ◌++◌, Option, None, Some, Result, Ok, Err, refl, sym, subst, find, slice_get, option_to_list, append-nil}
+use Rattle.model.specs.Seats.{Seats}
 use Rattle.model.specs.declared.status.Status.{Status}
 use Rattle.model.specs.declared.status.Status.TheVariants as status
 use Rattle.model.specs.declared.limits.Limits.{Limits}
@@ -14,7 +15,7 @@ use Rattle.model.specs.Session as sessions
 use Rattle.model.specs.Session.{Table, Session}
 use Rattle.model.specs.Step.{State, does}
 use Rattle.model.specs.Tree.{Tree}
-use Rattle.model.specs.World.{World, ServerLimits, InProgress, Connection, Quiet, Waiting, Busy, Replied, Closed, HasRun, Gives, Replays, exchanged, created_by, tabled, started_in, begun, reclaimed, state_of, refuses, in_room, has_room, run as run_of, Turned, Entry, executed_entry, behind, ends, goes_on, with_result, is_last, has_run, operates, Next, Refuses, Reads, next_operation, requested, in_progress, called, turned, one, reply_at}
+use Rattle.model.specs.World.{World, ServerLimits, InProgress, Connection, Quiet, Waiting, Busy, Replied, Closed, HasRun, Gives, Replays, exchanged, created_by, tabled, started_in, begun, reclaimed, state_of, refuses, in_room, has_room, run as run_of, Turned, Entry, executed_entry, behind, ends, goes_on, with_result, is_last, has_run, operates, Next, Refuses, Reads, next_operation, requested, in_progress, called, turned, one, reply_at, closes, is_to_hold, further}
 use Rattle.model.proofs.Headline.{slice_get-last}
 use Rattle.model.proofs.LimitLaws.{modes_keep_limits, inheritance_keeps_limits}
 use Rattle.model.proofs.Headline.{taken_done, done_behind}
@@ -104,12 +105,20 @@ either_permitted : (b : Bool) (x y : Turned) → TurnPermitted x → TurnPermitt
 either_permitted true x y first second = first
 either_permitted false x y first second = second
 
+closes_permitted : (world : World) (number : ℕ) (request : InProgress) (last : Status) (executed : Option Entry)
+    → EntryPermitted executed → TurnPermitted (closes world number request last executed)
+closes_permitted world number request last executed permits =
+    either_permitted (is_to_hold request.slot world.table.seats) (goes_on world number (record request { ended = Some last }) executed)
+    (ends world number request last executed) permits permits
+
 behind_permitted : (world : World) (number : ℕ) (request : InProgress) (outcome : Outcome) (executed : Option Entry)
     → EntryPermitted executed → TurnPermitted (behind world number request outcome executed)
-behind_permitted world number request (Outcome.Refused operation reason) executed permits = permits
+behind_permitted world number request (Outcome.Refused operation reason) executed permits =
+    closes_permitted world number (with_result request (Outcome.Refused operation reason)) reason executed permits
 behind_permitted world number request (Outcome.Done answer) executed permits =
-    either_permitted (is_last request) (ends world number (with_result request (Outcome.Done answer)) status.Ok executed)
-    (goes_on world number (with_result request (Outcome.Done answer)) executed) permits permits
+    either_permitted (is_last request) (closes world number (with_result request (Outcome.Done answer)) status.Ok executed)
+    (goes_on world number (with_result request (Outcome.Done answer)) executed)
+    (closes_permitted world number (with_result request (Outcome.Done answer)) status.Ok executed permits) permits
 
 has_run_permitted : (world : World) (number : ℕ) (request : InProgress) (operation : Argument) (ran : HasRun)
     → RanPermitted world request operation ran → TurnPermitted (has_run world number request operation ran)
@@ -135,11 +144,15 @@ called_permitted world number now NoCall = tt
 called_permitted world number now (OtherVersion xid) = tt
 called_permitted world number now (Calls call) = requested_permitted world number now call.xid (request_of call)
 
+further_permitted : (world : World) (number now : ℕ) (request : InProgress) (ended : Option Status) → TurnPermitted (further world number now request ended)
+further_permitted world number now request None = operates_permitted world number now request (next_operation request)
+further_permitted world number now request (Some last) = tt
+
 turned_permitted : (world : World) (number now : ℕ) (connection : Option Connection) → TurnPermitted (turned world number now connection)
 turned_permitted world number now None = tt
 turned_permitted world number now (Some (Quiet bytes)) = tt
 turned_permitted world number now (Some (Waiting request)) = called_permitted world number now (read_call request)
-turned_permitted world number now (Some (Busy request)) = operates_permitted world number now request (next_operation request)
+turned_permitted world number now (Some (Busy request)) = further_permitted world number now request request.ended
 turned_permitted world number now (Some (Replied reply)) = tt
 turned_permitted world number now (Some Closed) = tt
 
@@ -171,22 +184,22 @@ with_executed : (done : List Entry) (executed : Option Entry) → AllPermitted d
 with_executed done None all permits = subst AllPermitted (sym (append-nil done)) all
 with_executed done (Some entry) all permits = one_more done entry all permits
 
-run_is_permitted : (limits : ServerLimits) (run : ℕ) (start : Tree) (serving : Serving) (history : History)
-    → IsRun (mounted limits run start) serving history → AllPermitted history.done
-run_is_permitted limits run start _ _ Begins = λ i entry is. let never : ⊥ = cc in absurd never
-run_is_permitted limits run start _ _ (Goes_on {old} {new} {history} event runs happens) =
+run_is_permitted : (limits : ServerLimits) (run : ℕ) (start : Tree) (seats : Seats) (serving : Serving) (history : History)
+    → IsRun (mounted limits run start seats) serving history → AllPermitted history.done
+run_is_permitted limits run start seats _ _ Begins = λ i entry is. let never : ⊥ = cc in absurd never
+run_is_permitted limits run start seats _ _ (Goes_on {old} {new} {history} event runs happens) =
     subst AllPermitted (done_behind history old.world event)
-    (with_executed history.done (executed_of old.world event) (run_is_permitted limits run start old history runs) (event_permitted old.world event))
-run_is_permitted limits run start _ _ (Fails_at {old} {new} {history} event runs fails) =
-    with_executed history.done (executed_of old.world event) (run_is_permitted limits run start old history runs) (event_permitted old.world event)
-run_is_permitted limits run start _ _ (Stays_down {old} {new} {history} connection runs stays) =
-    subst AllPermitted (sym (taken_done history connection (reply_at old.world connection))) (run_is_permitted limits run start old history runs)
+    (with_executed history.done (executed_of old.world event) (run_is_permitted limits run start seats old history runs) (event_permitted old.world event))
+run_is_permitted limits run start seats _ _ (Fails_at {old} {new} {history} event runs fails) =
+    with_executed history.done (executed_of old.world event) (run_is_permitted limits run start seats old history runs) (event_permitted old.world event)
+run_is_permitted limits run start seats _ _ (Stays_down {old} {new} {history} connection runs stays) =
+    subst AllPermitted (sym (taken_done history connection (reply_at old.world connection))) (run_is_permitted limits run start seats old history runs)
 
 under_way : (world : World) (event : Event) (is_down : Bool) → EntryPermitted (executed_by world event is_down)
 under_way world event true = tt
 under_way world event false = event_permitted world event
 
 pub every_answer_is_permitted : EveryAnswerIsPermitted
-every_answer_is_permitted limits run start serving history runs event =
-    with_executed history.done (executed_by serving.world event serving.is_down) (run_is_permitted limits run start serving history runs)
+every_answer_is_permitted limits run start seats serving history runs event =
+    with_executed history.done (executed_by serving.world event serving.is_down) (run_is_permitted limits run start seats serving history runs)
     (under_way serving.world event serving.is_down)

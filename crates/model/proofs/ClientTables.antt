@@ -3,6 +3,7 @@
 use Rattle.std.proofs.Common.{◌≡◌, ℕ, ◌≤◌, Bool, true, false, not, cond, ◌&&◌, ◌||◌, ◌==◌, List, [], ◌∷◌, ◌++◌, map, filter, find, Option, None, Some, Result, refl, sym, ap, ◌∙◌, bytes_eq, eqb-true, eq-eqb}
 use Rattle.std.specs.List.{list_all, list_any}
 use Rattle.std.proofs.lemmas.Bool.{true≢false, and_parts, and_from, not-false, not-true, or_parts}
+use Rattle.model.specs.Seats.{has_seat}
 use Rattle.model.specs.declared.status.Status.{Status}
 use Rattle.model.specs.declared.status.Status.TheVariants as status
 use Rattle.model.specs.Answer.{ExchangeIdAnswer, CreateSessionAnswer}
@@ -330,11 +331,15 @@ module _ (name : List ℕ) (here : ℕ) (reply : List ℕ) (table : Table) where
 
   pub finish_lives : (opens : Opens) → Lives table opens → Lives (finish name here reply table) opens
   unfolding finish
-  finish_lives opens lives = slotted_lives name here keeps table opens lives
+  finish_lives opens lives =
+      let slotted = slotted_lives name here keeps table opens lives in
+      record { of_opens = slotted.of_opens; of_sessions = slotted.of_sessions }
 
   pub finish_stays : (id : List ℕ) (session : Session) → find (is_session id) table.sessions ≡ Some session → StaysFor id session.client (finish name here reply table)
   unfolding finish
-  finish_stays id session found = slotted_stays name here keeps table id session found
+  finish_stays id session found =
+      let slotted = slotted_stays name here keeps table id session found in
+      record { session = slotted.session; stands = slotted.stands; client = slotted.client }
 
 -- Sessions that end
 
@@ -352,7 +357,9 @@ module _ (table : Table) (one_each : (id : List ℕ) → size (is_session id) ta
   -- DESTROY_SESSION
 
   by_lives : (name : List ℕ) (known : Option Session) (opens : Opens) → Lives table opens → Lives (destroy_by name table known).1 opens
-  by_lives name None opens lives = lives
+  by_lives name None opens lives =
+      either (λ (r : Option Status × Table). Lives r.1 opens) (has_seat name table.seats) _ _
+      (λ seated. record { of_opens = lives.of_opens; of_sessions = lives.of_sessions }) (λ none. lives)
   by_lives name (Some session) opens lives =
       either (λ (r : Option Status × Table). Lives r.1 opens) (is_running session) _ _ (λ busy. lives)
       (λ idle. record {
@@ -365,7 +372,9 @@ module _ (table : Table) (one_each : (id : List ℕ) → size (is_session id) ta
   destroy_lives name opens lives = by_lives name (find (is_session name) table.sessions) opens lives
 
   by_running : (name : List ℕ) (known : Option Session) → find (is_session name) table.sessions ≡ known → KeepsRunning table (destroy_by name table known).1
-  by_running name None is = same_running table table refl
+  by_running name None is =
+      either (λ (r : Option Status × Table). KeepsRunning table r.1) (has_seat name table.seats) _ _
+      (λ seated. same_running table _ refl) (λ none. same_running table table refl)
   by_running name (Some ended) is =
       either (λ (r : Option Status × Table). KeepsRunning table r.1) (is_running ended) _ _ (λ busy. same_running table table refl)
       (λ idle id place session on found. record {

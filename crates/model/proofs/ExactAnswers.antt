@@ -169,6 +169,7 @@ refusal_again status.TooManyOps other = refl
 refusal_again status.OpNotInSession other = refl
 refusal_again status.ClientIdBusy other = refl
 refusal_again status.SeqFalseRetry other = refl
+refusal_again status.DeadSession other = refl
 refusal_again status.NotOnlyOp other = refl
 
 refused_takes : (n code : ℕ) (o : Option Status) (bytes : List ℕ) (w : Outcome) (rest : List ℕ) → code ≢ 0 → refusal_of code ≡ o → IsBytes bytes → refused_by n o bytes ≡ Ok (w, rest)
@@ -259,6 +260,7 @@ code_small status.TooManyOps = omega arith
 code_small status.OpNotInSession = omega arith
 code_small status.ClientIdBusy = omega arith
 code_small status.SeqFalseRetry = omega arith
+code_small status.DeadSession = omega arith
 code_small status.NotOnlyOp = omega arith
 
 behind_again : (n : ℕ) (reason : Status) (rest : List ℕ) → refused_by n (Some reason) (behind_refusal n ++ rest) ≡ Ok (Refused n reason, rest)

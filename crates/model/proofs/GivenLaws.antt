@@ -16,8 +16,9 @@ use Rattle.model.specs.Stamp.{next_stamp}
 use Rattle.model.specs.StampRuns.{GivesStamp, EveryStampIsGiven}
 use Rattle.model.specs.Step.{State, does, alters, stamp_of}
 use Rattle.model.specs.StepLaws.{IsSound}
+use Rattle.model.specs.Seats.{Seats}
 use Rattle.model.specs.Tree.{Tree}
-use Rattle.model.specs.World.{World, ServerLimits, InProgress, Connection, Quiet, Waiting, Busy, Replied, Closed, HasRun, Gives, Replays, exchanged, created_by, tabled, started_in, begun, reclaimed, stepped, state_of, refuses, in_room, has_room, run as run_of, Turned, Entry, executed_entry, behind, ends, goes_on, with_result, is_last, has_run, operates, Next, Refuses, Reads, next_operation, requested, in_progress, called, turned, one, reply_at}
+use Rattle.model.specs.World.{World, ServerLimits, InProgress, Connection, Quiet, Waiting, Busy, Replied, Closed, HasRun, Gives, Replays, exchanged, created_by, tabled, started_in, begun, reclaimed, stepped, state_of, refuses, in_room, has_room, run as run_of, Turned, Entry, executed_entry, behind, ends, goes_on, with_result, is_last, has_run, operates, Next, Refuses, Reads, next_operation, requested, in_progress, called, turned, one, reply_at, closes, is_to_hold, further}
 use Rattle.model.proofs.Headline.{slice_get-last, taken_done, done_behind}
 use Rattle.model.proofs.LimitLaws.{modes_keep_limits, inheritance_keeps_limits}
 use Rattle.model.proofs.RunLaws.{does_lawful}
@@ -111,12 +112,21 @@ module _ (limits : ServerLimits) (run : ℕ) (room : limits.volume.aces_set + 5 
   either_stamped true x y first second = first
   either_stamped false x y first second = second
 
+  closes_stamped : (world : World) (number : ℕ) (request : InProgress) (last : Status) (executed : Option Entry)
+      → EntryStamped executed → TurnStamped (closes world number request last executed)
+  closes_stamped world number request last executed stamps =
+      either_stamped (is_to_hold request.slot world.table.seats)
+      (goes_on world number (record request { ended = Some last }) executed)
+      (ends world number request last executed) stamps stamps
+
   behind_stamped : (world : World) (number : ℕ) (request : InProgress) (outcome : Outcome) (executed : Option Entry)
       → EntryStamped executed → TurnStamped (behind world number request outcome executed)
-  behind_stamped world number request (Outcome.Refused operation reason) executed stamps = stamps
+  behind_stamped world number request (Outcome.Refused operation reason) executed stamps =
+      closes_stamped world number (with_result request (Outcome.Refused operation reason)) reason executed stamps
   behind_stamped world number request (Outcome.Done answer) executed stamps =
-      either_stamped (is_last request) (ends world number (with_result request (Outcome.Done answer)) status.Ok executed)
-      (goes_on world number (with_result request (Outcome.Done answer)) executed) stamps stamps
+      either_stamped (is_last request) (closes world number (with_result request (Outcome.Done answer)) status.Ok executed)
+      (goes_on world number (with_result request (Outcome.Done answer)) executed)
+      (closes_stamped world number (with_result request (Outcome.Done answer)) status.Ok executed stamps) stamps
 
   has_run_stamped : (world : World) (number : ℕ) (request : InProgress) (operation : Argument) (ran : HasRun) → request.context.run ≡ run
       → RanStamped world request ran → TurnStamped (has_run world number request operation ran)
@@ -136,6 +146,11 @@ module _ (limits : ServerLimits) (run : ℕ) (room : limits.volume.aces_set + 5 
       (in_room_stamped world (record request { rest = rest }) (operation_of operation) _
       (run_stamped world (record request { rest = rest }) now operation sound same))
 
+  further_stamped : (world : World) (number now : ℕ) (request : InProgress) (ended : Option Status) → IsSoundWorld limits run world → request.context.run ≡ run
+      → TurnStamped (further world number now request ended)
+  further_stamped world number now request None sound same = operates_stamped world number now request (next_operation request) sound same
+  further_stamped world number now request (Some last) sound same = tt
+
   requested_stamped : (world : World) (number now xid : ℕ) (request : Request) → IsSoundWorld limits run world → TurnStamped (requested world number now xid request)
   requested_stamped world number now xid (Answers reply) sound = tt
   requested_stamped world number now xid (Runs cred compound) sound =
@@ -152,7 +167,7 @@ module _ (limits : ServerLimits) (run : ℕ) (room : limits.volume.aces_set + 5 
   turned_stamped world number now (Some (Quiet bytes)) is sound = tt
   turned_stamped world number now (Some (Waiting request)) is sound = called_stamped world number now (read_call request) sound
   turned_stamped world number now (Some (Busy request)) is sound =
-      operates_stamped world number now request (next_operation request) sound (sound.busy number request is)
+      further_stamped world number now request request.ended sound (sound.busy number request is)
   turned_stamped world number now (Some (Replied reply)) is sound = tt
   turned_stamped world number now (Some Closed) is sound = tt
 
@@ -183,16 +198,16 @@ module _ (limits : ServerLimits) (run : ℕ) (room : limits.volume.aces_set + 5 
   with_executed done None all stamps = subst AllStamped (sym (append-nil done)) all
   with_executed done (Some entry) all stamps = one_more done entry all stamps
 
-  module _ (start : Tree) (begins : IsStart limits.volume run start) where
-    run_is_stamped : (serving : Serving) (history : History) → IsRun (mounted limits run start) serving history → AllStamped history.done
+  module _ (start : Tree) (seats : Seats) (begins : IsStart limits.volume run start) where
+    run_is_stamped : (serving : Serving) (history : History) → IsRun (mounted limits run start seats) serving history → AllStamped history.done
     run_is_stamped _ _ Begins = λ i entry is. let never : ⊥ = cc in absurd never
     run_is_stamped _ _ (Goes_on {old} {new} {history} event runs happens) =
         subst AllStamped (done_behind history old.world event)
         (with_executed history.done (executed_of old.world event) (run_is_stamped old history runs)
-        (event_stamped old.world event (serving_sound limits run room start begins old history runs).world))
+        (event_stamped old.world event (serving_sound limits run room start seats begins old history runs).world))
     run_is_stamped _ _ (Fails_at {old} {new} {history} event runs fails) =
         with_executed history.done (executed_of old.world event) (run_is_stamped old history runs)
-        (event_stamped old.world event (serving_sound limits run room start begins old history runs).world)
+        (event_stamped old.world event (serving_sound limits run room start seats begins old history runs).world)
     run_is_stamped _ _ (Stays_down {old} {new} {history} connection runs stays) =
         subst AllStamped (sym (taken_done history connection (reply_at old.world connection))) (run_is_stamped old history runs)
 
@@ -201,6 +216,6 @@ module _ (limits : ServerLimits) (run : ℕ) (room : limits.volume.aces_set + 5 
   under_way world event false sound = event_stamped world event sound
 
 pub every_stamp_is_given : EveryStampIsGiven
-every_stamp_is_given limits run start serving history room begins runs event =
-    with_executed limits run room history.done (executed_by serving.world event serving.is_down) (run_is_stamped limits run room start begins serving history runs)
-    (under_way limits run room serving.world event serving.is_down (serving_sound limits run room start begins serving history runs).world)
+every_stamp_is_given limits run start seats serving history room begins runs event =
+    with_executed limits run room history.done (executed_by serving.world event serving.is_down) (run_is_stamped limits run room start seats begins serving history runs)
+    (under_way limits run room serving.world event serving.is_down (serving_sound limits run room start seats begins serving history runs).world)

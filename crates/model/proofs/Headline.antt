@@ -3,6 +3,7 @@ use Rattle.std.proofs.Common.{◌≡◌, ℕ, zero, suc, ◌<◌, ◌≤◌, ◌
 use Rattle.std.proofs.lemmas.List.{take-append-le}
 use Rattle.std.specs.List.{IsAmong, AllByRecursion}
 use Rattle.std.proofs.lemmas.Bool.{false≢true, or_left, and_from, or_right}
+use Rattle.model.specs.Seats.{Seats}
 use Rattle.model.specs.Keyed.{at}
 use Rattle.model.specs.Tree.{Tree}
 use Rattle.model.specs.World.{World, ServerLimits, Entry, Turned, Turn, Idle, Ran, Answered, one, is_busy, reply_at}
@@ -345,8 +346,8 @@ AllLawful-none : AllLawful []
 unfolding AllLawful
 AllLawful-none i entry e = let never : ⊥ = cc in absurd never
 
-holds_at_start : (limits : ServerLimits) (run : ℕ) (start : Tree) → Holds start (mounted limits run start) no_history
-holds_at_start limits run start = record {
+holds_at_start : (limits : ServerLimits) (run : ℕ) (start : Tree) (seats : Seats) → Holds start (mounted limits run start seats) no_history
+holds_at_start limits run start seats = record {
   settled = 0;
   core = record {
     within = omega arith;
@@ -447,7 +448,7 @@ stopped_by start serving history event tree held false e may =
     (left_by start serving event history.done held.settled tree core may)))
 
 pub every_run : EveryRun
-every_run limits run start serving history is_run event tree may =
+every_run limits run start seats serving history is_run event tree may =
     stopped_by start serving history event tree
-    (holds start (mounted limits run start) serving history (holds_at_start limits run start) is_run)
+    (holds start (mounted limits run start seats) serving history (holds_at_start limits run start seats) is_run)
     serving.is_down refl may

@@ -13,6 +13,7 @@ use Rattle.xdr.proofs.Sizes.{counted_length}
 use Rattle.xdr.proofs.Steps.{bind_ok, guard_ok, ok_is}
 use Rattle.xdr.proofs.Reading.{padded_len}
 use Rattle.xdr.proofs.Numbers.{length-number_32}
+use Rattle.model.specs.Seats.{has_seat}
 use Rattle.model.specs.declared.acl.Cred.{Cred}
 use Rattle.model.specs.declared.status.Status.{Status}
 use Rattle.model.specs.declared.status.Status.TheVariants as status
@@ -28,8 +29,8 @@ use Rattle.model.specs.Session.{SessionLimits, Client, Slot, Session, Table, no_
 use Rattle.model.specs.StateIds.{has_opens}
 use Rattle.model.specs.Status.{code_of}
 use Rattle.model.specs.WireAnswers.{behind_refusal}
-use Rattle.model.specs.World.{ServerLimits, InProgress, Connection, Quiet, Waiting, Busy, Replied, Closed, World, Entry, HasRun, Gives, Replays, Next, Refuses, Reads, Turned, next_operation, exchanged, created_by, tabled, started_in, begun, reclaimed, run, outcome_text, reply_with, has_room, in_room, status_of, with_result, result_of, kept_by, ends, goes_on, behind, has_run, operates, in_progress, requested, called, turned, with_connection, executed_entry, refuses, one, arrived, arrives_at, connection_changed, arrives, without_reply, takes, can_connect, connects, is_busy, without_connection, hangs_up, operations_left, turns, hung_up, is_last}
-use Rattle.model.specs.KeptReplies.{reply_so_far, max_kept, is_short_state, keeps_short, IsShort, HasReplyRoom, KeepsShort}
+use Rattle.model.specs.World.{ServerLimits, InProgress, Connection, Quiet, Waiting, Busy, Replied, Closed, World, Entry, HasRun, Gives, Replays, Next, Refuses, Reads, Turned, next_operation, exchanged, created_by, tabled, started_in, begun, reclaimed, run, outcome_text, reply_with, has_room, in_room, status_of, with_result, result_of, kept_by, ends, goes_on, behind, has_run, operates, in_progress, requested, called, turned, with_connection, executed_entry, refuses, one, arrived, arrives_at, connection_changed, arrives, without_reply, takes, can_connect, connects, is_busy, without_connection, hangs_up, operations_left, turns, hung_up, is_last, further, closes, is_to_hold}
+use Rattle.model.specs.KeptReplies.{reply_so_far, max_kept, is_short_state, keeps_short, IsShort, HasReplyRoom, KeepsShort, IsShortSoFar}
 use Rattle.model.proofs.KeyedLaws.{at-with_same, at-with_other, at-without_same, at-without_other}
 use Rattle.model.proofs.SlotLaw.{exchange_same, destroy_client_same, reclaim_same}
 use Rattle.model.proofs.TableLaws.{all-filter, all-append, all-map}
@@ -68,7 +69,7 @@ module _ (most : ℕ) where
   created_short limits arguments client table None is =
       all-append (keeps_short most) (staying client table) (new_session limits arguments client table)
       (all-filter (keeps_short most) (λ x. not (is_of_clients (replaced_by client table) x)) table.sessions is)
-      (all-replicate (λ slot. is_short_state most slot.state) ((sessions.fore_channel limits arguments.fore).max_requests) no_slot refl)
+      (all-replicate (λ slot. is_short_state most slot.state) ((sessions.fore_channel (sessions.limits_for limits (sessions.persists limits arguments client table)) arguments.fore).max_requests) no_slot refl)
 
   abbrev ShortOutcome : CreateSessionOutcome → Type 0
   ShortOutcome o = AllShort o.table.sessions
@@ -87,7 +88,8 @@ module _ (most : ℕ) where
           (λ other. created_short limits arguments client table (first_refusal (create_refusals limits arguments client table)) is)
 
   destroy_short : (id : List ℕ) (table : Table) (known : Option Session) → AllShort table.sessions → AllShort (destroy_by id table known).1.sessions
-  destroy_short id table None is = is
+  destroy_short id table None is =
+      either (λ (r : Option Status × Table). AllShort r.1.sessions) (has_seat id table.seats) _ _ (λ seated. is) (λ none. is)
   destroy_short id table (Some session) is =
       either (λ (r : Option Status × Table). AllShort r.1.sessions) (is_running session) _ _
       (λ runs. is)
@@ -196,6 +198,7 @@ pub record Leaves (world : World) (request : InProgress) (after : World) (left :
   pub short : AllShort (max_kept world.limits) after.table.sessions
   pub tag : left.tag ≡ request.tag
   pub results : left.results ≡ request.results
+  pub ended : left.ended ≡ request.ended
 
 abbrev HasLeft : World → InProgress → HasRun → Type 0
 HasLeft world request (Gives outcome after left) = Leaves world request after left
@@ -203,10 +206,10 @@ HasLeft world request (Replays result session slot) = Unit {0}
 
 module _ (world : World) (request : InProgress) (short : AllShort (max_kept world.limits) world.table.sessions) where
   leaves_same : Leaves world request world request
-  leaves_same = record { limits = refl; connections = refl; short = short; tag = refl; results = refl }
+  leaves_same = record { limits = refl; connections = refl; short = short; tag = refl; results = refl; ended = refl }
 
   leaves_table : (table : Table) → AllShort (max_kept world.limits) table.sessions → Leaves world request (record world { table = table }) request
-  leaves_table table is = record { limits = refl; connections = refl; short = is; tag = refl; results = refl }
+  leaves_table table is = record { limits = refl; connections = refl; short = is; tag = refl; results = refl; ended = refl }
 
   exchanged_leaves : (r : Result ExchangeIdAnswer Status × Table) → AllShort (max_kept world.limits) r.1.sessions → HasLeft world request (exchanged world request r)
   exchanged_leaves (Err reason, table) is = leaves_table table is
@@ -215,7 +218,7 @@ module _ (world : World) (request : InProgress) (short : AllShort (max_kept worl
   created_leaves : (o : CreateSessionOutcome) (answer : Result CreateSessionAnswer Status) → AllShort (max_kept world.limits) o.table.sessions
       → HasLeft world request (created_by world request o answer)
   created_leaves o (Err reason) is = leaves_same
-  created_leaves o (Ok answer) is = record { limits = refl; connections = refl; short = is; tag = refl; results = refl }
+  created_leaves o (Ok answer) is = record { limits = refl; connections = refl; short = is; tag = refl; results = refl; ended = refl }
 
   tabled_leaves : (operation : ℕ) (answer : Answer) (r : Option Status × Table) → AllShort (max_kept world.limits) r.1.sessions
       → HasLeft world request (tabled world request operation answer r)
@@ -234,7 +237,7 @@ module _ (world : World) (request : InProgress) (short : AllShort (max_kept worl
 
       by_session : (known : Option Session) → HasLeft world request (started_in world request arguments known)
       by_session None = leaves_same
-      by_session (Some session) = record { limits = refl; connections = refl; short = started_short; tag = refl; results = refl }
+      by_session (Some session) = record { limits = refl; connections = refl; short = started_short; tag = refl; results = refl; ended = refl }
 
   reclaimed_leaves : (refusal : Option Status) → HasLeft world request (reclaimed world request refusal)
   reclaimed_leaves None = leaves_same
@@ -253,7 +256,7 @@ module _ (world : World) (request : InProgress) (short : AllShort (max_kept worl
   run_leaves now (Argument.ReclaimComplete true) = reclaimed_leaves _
   run_leaves now (Argument.ReclaimComplete false) =
       tabled_leaves 58 Answer.ReclaimComplete _ (ap (list_all (keeps_short (max_kept world.limits))) (reclaim_same request.context.client world.table).sessions ∙ short)
-  run_leaves now operation = record { limits = refl; connections = refl; short = short; tag = refl; results = refl }
+  run_leaves now operation = record { limits = refl; connections = refl; short = short; tag = refl; results = refl; ended = refl }
 
 -- A turn
 
@@ -265,21 +268,20 @@ pub record Bounded (limits : ServerLimits) (world : World) : Type 0 where
 -- a connection that is put down in place of another
 put_down : (limits : ServerLimits) (connections : Keyed Connection) (here : ℕ) (new : Connection) (world : World) → world.limits ≡ limits
     → world.connections ≡ with connections here new → AllShort (max_kept limits) world.table.sessions
-    → ((other : ℕ) (request : InProgress) → at other connections ≡ Some (Busy request) → weight request ≤ limits.reply_bytes)
-    → ((request : InProgress) → new ≡ Busy request → weight request ≤ limits.reply_bytes) → Bounded limits world
+    → ((other : ℕ) (request : InProgress) → at other connections ≡ Some (Busy request) → IsShortSoFar limits request request.ended)
+    → ((request : InProgress) → new ≡ Busy request → IsShortSoFar limits request request.ended) → Bounded limits world
 put_down limits connections here new world limits_are are short others mine = record {
   same = limits_are;
   short = record {
     kept = subst (λ (l : ServerLimits). AllShort (max_kept l) world.table.sessions) (sym limits_are) short;
     busy = λ other request busy.
         let there : at other (with connections here new) ≡ Some (Busy request) = ap (at other) (sym are) ∙ busy in
-        let light : weight request ≤ limits.reply_bytes = by_place other request there (cases_eq other here) in
-        omega (arith, so_far request, light, ap (λ (l : ServerLimits). l.reply_bytes) limits_are);
+        subst (λ (l : ServerLimits). IsShortSoFar l request request.ended) (sym limits_are) (by_place other request there (cases_eq other here));
   };
 }
   where
     by_place : (other : ℕ) (request : InProgress) → at other (with connections here new) ≡ Some (Busy request) → (other ≡ here) ⊎ (other ≢ here)
-        → weight request ≤ limits.reply_bytes
+        → IsShortSoFar limits request request.ended
     by_place other request there (inl same) =
         mine request (same_Some new (Busy request)
         (sym (at-with_same connections here new) ∙ (ap (λ (n : ℕ). at n (with connections here new)) (sym same) ∙ there)))
@@ -287,8 +289,19 @@ put_down limits connections here new world limits_are are short others mine = re
 
 -- the requests of a short world are light
 light_in : (world : World) → IsShort world → (other : ℕ) (request : InProgress) → at other world.connections ≡ Some (Busy request)
-    → weight request ≤ world.limits.reply_bytes
-light_in world short other request busy = omega (arith, so_far request, short.busy other request busy)
+    → IsShortSoFar world.limits request request.ended
+light_in world short other request busy = short.busy other request busy
+
+-- of one that has operations left, its weight; and the other way round
+its_weight : (limits : ServerLimits) (request : InProgress) → request.ended ≡ None → IsShortSoFar limits request request.ended → weight request ≤ limits.reply_bytes
+its_weight limits request none short =
+    let so : length (reply_so_far request) ≤ limits.reply_bytes = subst (IsShortSoFar limits request) none short in
+    omega (arith, so_far request, so)
+
+weighs : (limits : ServerLimits) (request : InProgress) → request.ended ≡ None → weight request ≤ limits.reply_bytes → IsShortSoFar limits request request.ended
+weighs limits request none light =
+    let so : length (reply_so_far request) ≤ limits.reply_bytes = omega (arith, so_far request, light) in
+    subst (IsShortSoFar limits request) (sym none) so
 
 module _ (world : World) (short : IsShort world) (here : ℕ) where
   abbrev limits : ServerLimits
@@ -311,7 +324,8 @@ module _ (world : World) (short : IsShort world) (here : ℕ) where
       slotted_short (max_kept limits) slot.0 slot.1 (λ s. record (slot_at s slot.1) { state = sessions.Kept result })
       (λ s. le-leb (length result) (max_kept limits) fits) table.sessions kept
 
-  module _ (request : InProgress) (after : World) (left : InProgress) (leaves : Leaves world request after left) (light : weight request ≤ limits.reply_bytes) where
+  module _ (request : InProgress) (after : World) (left : InProgress) (leaves : Leaves world request after left) (light : weight request ≤ limits.reply_bytes)
+      (goes : request.ended ≡ None) where
     same_weight : weight left ≡ weight request
     same_weight = ap (λ (tag : List ℕ). 32 + length (counted tag) + length left.results) leaves.tag
         ∙ ap (λ (results : List ℕ). 32 + length (counted request.tag) + length results) leaves.results
@@ -327,6 +341,26 @@ module _ (world : World) (short : IsShort world) (here : ℕ) where
         (ap (λ (c : Keyed Connection). with c here (Replied (marks.framed (reply_text left.xid (Success (result_of (with_result left outcome) last)))))) leaves.connections)
         (kept_short left.slot (result_of (with_result left outcome) last) after.table most leaves.short)
 
+    -- the reply is to be held
+    waits : (outcome : Outcome) (last : Status) → weight request + length (outcome_text outcome) ≤ limits.reply_bytes + 12
+        → Bounded limits (goes_on after here (record (with_result left outcome) { ended = Some last }) None).world
+    waits outcome last fits =
+        let size = result_length last left.tag (left.answered + 1) (left.results ++ outcome_text outcome) in
+        let most : length (result_of (with_result left outcome) last) ≤ max_kept limits =
+        omega (arith, size, with_length left outcome, same_weight, fits) in
+        let new : InProgress = record (with_result left outcome) { ended = Some last } in
+        put_down limits world.connections here (Busy new) (goes_on after here new None).world leaves.limits
+        (ap (λ (c : Keyed Connection). with c here (Busy new)) leaves.connections) leaves.short (light_in world short)
+        (λ other same.
+        let is = busy_request new other same in
+        subst (λ (r : InProgress). IsShortSoFar limits r r.ended) is most)
+
+    closed : (outcome : Outcome) (last : Status) (executed : Option Entry) → weight request + length (outcome_text outcome) ≤ limits.reply_bytes + 12
+        → Bounded limits (closes after here (with_result left outcome) last executed).world
+    closed outcome last executed fits =
+        either (λ (t : Turned). Bounded limits t.world) (is_to_hold left.slot after.table.seats) _ _
+        (λ seated. waits outcome last fits) (λ none. ended outcome last fits)
+
     gone_on : (outcome : Outcome) → weight request + length (outcome_text outcome) ≤ limits.reply_bytes
         → Bounded limits (goes_on after here (with_result left outcome) None).world
     gone_on outcome fits =
@@ -334,48 +368,48 @@ module _ (world : World) (short : IsShort world) (here : ℕ) where
         (ap (λ (c : Keyed Connection). with c here (Busy (with_result left outcome))) leaves.connections) leaves.short (light_in world short)
         (λ other same.
         let is = busy_request (with_result left outcome) other same in
-        subst (λ (r : InProgress). weight r ≤ limits.reply_bytes) is
-        (omega (arith, with_length left outcome, same_weight, fits)))
+        subst (λ (r : InProgress). IsShortSoFar limits r r.ended) is
+        (weighs limits (with_result left outcome) (leaves.ended ∙ goes) (omega (arith, with_length left outcome, same_weight, fits))))
 
     refused_behind : (operation : ℕ) (reason : Status) (executed : Option Entry)
         → Bounded limits (behind after here left (Refused operation reason) executed).world
-    refused_behind operation reason executed = ended (Refused operation reason) reason (omega (arith, refused_length operation reason, light))
+    refused_behind operation reason executed = closed (Refused operation reason) reason executed (omega (arith, refused_length operation reason, light))
 
     done_behind : (answer : Answer) (executed : Option Entry) → weight request + length (outcome_text (Done answer)) ≤ limits.reply_bytes
         → Bounded limits (behind after here left (Done answer) executed).world
     done_behind answer executed fits =
         either (λ (t : Turned). Bounded limits t.world) (is_last left) _ _
-        (λ last. ended (Done answer) status.Ok (omega (arith, fits)))
+        (λ last. closed (Done answer) status.Ok executed (omega (arith, fits)))
         (λ more. gone_on (Done answer) fits)
 
   -- the result that an operation gave, if there is room for it
-  fits_behind : (request : InProgress) → weight request ≤ limits.reply_bytes → (operation : Argument) (before : InProgress) → (ran : HasRun)
+  fits_behind : (request : InProgress) → weight request ≤ limits.reply_bytes → request.ended ≡ None → (operation : Argument) (before : InProgress) → (ran : HasRun)
       → HasLeft world request ran → Bounded limits (has_run world here before operation (in_room world request (operation_of operation) ran)).world
-  fits_behind request light operation before (Gives (Refused number reason) after left) leaves =
-      refused_behind request after left leaves light number reason (Some (executed_entry world before operation (Refused number reason) after))
-  fits_behind request light operation before (Gives (Done answer) after left) leaves = by_room (has_room world request (Done answer)) refl
+  fits_behind request light goes operation before (Gives (Refused number reason) after left) leaves =
+      refused_behind request after left leaves light goes number reason (Some (executed_entry world before operation (Refused number reason) after))
+  fits_behind request light goes operation before (Gives (Done answer) after left) leaves = by_room (has_room world request (Done answer)) refl
     where
       too_big : Bounded limits (has_run world here before operation (refuses world request (operation_of operation) status.RepTooBig)).world
-      too_big = refused_behind request world request (leaves_same world request short.kept) light (operation_of operation) status.RepTooBig
+      too_big = refused_behind request world request (leaves_same world request short.kept) light goes (operation_of operation) status.RepTooBig
           (Some (executed_entry world before operation (Refused (operation_of operation) status.RepTooBig) world))
 
       by_room : (room : Bool) → has_room world request (Done answer) ≡ room
           → Bounded limits (has_run world here before operation
           (cond room (Gives (Done answer) after left) (refuses world request (operation_of operation) status.RepTooBig))).world
       by_room true is =
-          done_behind request after left leaves light answer (Some (executed_entry world before operation (Done answer) after))
+          done_behind request after left leaves light goes answer (Some (executed_entry world before operation (Done answer) after))
           (omega (arith, reply_with_length request (Done answer), leb-true (length (reply_with request (Done answer))) limits.reply_bytes is))
       by_room false is = too_big
-  fits_behind request light operation before (Replays result session slot) leaves =
+  fits_behind request light goes operation before (Replays result session slot) leaves =
       replied (marks.framed (reply_text before.xid (Success result))) (with_connection world here (Replied (marks.framed (reply_text before.xid (Success result)))))
       refl refl short.kept
 
-  operates_bounded : (now : ℕ) (request : InProgress) → weight request ≤ limits.reply_bytes → (next : Next) → Bounded limits (operates world here now request next).world
-  operates_bounded now request light (Refuses operation reason) =
-      refused_behind request world request (leaves_same world request short.kept) light operation reason None
-  operates_bounded now request light (Reads operation rest) =
+  operates_bounded : (now : ℕ) (request : InProgress) → weight request ≤ limits.reply_bytes → request.ended ≡ None → (next : Next) → Bounded limits (operates world here now request next).world
+  operates_bounded now request light goes (Refuses operation reason) =
+      refused_behind request world request (leaves_same world request short.kept) light goes operation reason None
+  operates_bounded now request light goes (Reads operation rest) =
       let read : InProgress = record request { rest = rest } in
-      fits_behind read light operation read (run world read now operation) (run_leaves world read short.kept now operation)
+      fits_behind read light goes operation read (run world read now operation) (run_leaves world read short.kept now operation)
 
   stays : Bounded limits world
   stays = record { short = short; same = refl }
@@ -388,18 +422,30 @@ module _ (world : World) (short : IsShort world) (here : ℕ) where
     requested_bounded xid (Answers reply) fits = answered (marks.framed (reply_text xid reply))
     requested_bounded xid (Runs cred compound) fits =
         let light : weight (in_progress world xid cred compound) ≤ limits.reply_bytes = omega (arith, room, fits, counted_length compound.tag) in
-        operates_bounded now (in_progress world xid cred compound) light (next_operation (in_progress world xid cred compound))
+        operates_bounded now (in_progress world xid cred compound) light refl (next_operation (in_progress world xid cred compound))
 
     called_bounded : (read : CallRead) → Bounded limits (called world here now read).world
     called_bounded NoCall = stays
     called_bounded (OtherVersion xid) = answered (marks.framed (reply_text xid VersionRefused))
     called_bounded (Calls call) = requested_bounded call.xid (request_of call) (request_fits call)
 
+    -- one whose reply was to be held: it is there
+    makes : (request : InProgress) (last : Status) → length (result_of request last) ≤ max_kept limits → Bounded limits (ends world here request last None).world
+    makes request last most =
+        let reply = marks.framed (reply_text request.xid (Success (result_of request last))) in
+        replied reply (ends world here request last None).world refl refl (kept_short request.slot (result_of request last) world.table most short.kept)
+
+    further_bounded : (request : InProgress) → (status : Option Status) → request.ended ≡ status → IsShortSoFar limits request status
+        → Bounded limits (further world here now request status).world
+    further_bounded request None none so =
+        operates_bounded now request (its_weight limits request none (subst (IsShortSoFar limits request) (sym none) so)) none (next_operation request)
+    further_bounded request (Some last) is most = makes request last most
+
     turned_bounded : (connection : Option Connection) → at here world.connections ≡ connection → Bounded limits (turned world here now connection).world
     turned_bounded None is = stays
     turned_bounded (Some (Quiet bytes)) is = stays
     turned_bounded (Some (Waiting request)) is = called_bounded (read_call request)
-    turned_bounded (Some (Busy request)) is = operates_bounded now request (light_in world short here request is) (next_operation request)
+    turned_bounded (Some (Busy request)) is = further_bounded request request.ended refl (light_in world short here request is)
     turned_bounded (Some (Replied reply)) is = stays
     turned_bounded (Some Closed) is = stays
 
@@ -461,7 +507,7 @@ module _ (world : World) (short : IsShort world) (here : ℕ) where
       nothing request same = cc
 
       by_place : (other : ℕ) (request : InProgress) → at other (without_connection world here).connections ≡ Some (Busy request)
-          → (other ≡ here) ⊎ (other ≢ here) → length (reply_so_far request) ≤ world.limits.reply_bytes
+          → (other ≡ here) ⊎ (other ≢ here) → IsShortSoFar world.limits request request.ended
       by_place other request there (inl same) =
           absurd (nothing request (sym (at-without_same world.connections here) ∙ (ap (λ (n : ℕ). at n (without_connection world here).connections) (sym same) ∙ there)))
       by_place other request there (inr differs) =
@@ -485,7 +531,7 @@ hung_up_short world here now room short =
 pub keeps_short_law : KeepsShort
 unfolding arrives takes connects
 keeps_short_law = record {
-  begins = λ limits run tree. record { kept = refl; busy = λ number request busy. absurd (nothing request busy) };
+  begins = λ limits run tree seats. record { kept = refl; busy = λ number request busy. absurd (nothing request busy) };
   turn = λ world number now room short. (turn_bounded world number now room short).short;
   arrival = λ world number piece short.
       changed_short world short number (arrives_at world.limits.records piece) (arrival_only world short number piece) (at number world.connections) refl;

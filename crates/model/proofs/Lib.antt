@@ -41,6 +41,14 @@ pub mod RpcRows
 pub mod RuledOutLaws
 pub mod RunLaws
 pub mod ServedOnceLaws
+pub mod SeatLaws
+pub mod SeatRunLaws
+pub mod SeatLives
+pub mod SeatReplies
+pub mod SeatsFreed
+pub mod SeatTables
+pub mod SeatsGo
+pub mod SeatWorlds
 pub mod SessionRows
 pub mod SlotLaw
 pub mod SlotRuns

@@ -1,8 +1,9 @@
 -- At each moment of a run each open, each session and each request that has begun is of a client with a confirmed record.
-use Rattle.std.proofs.Common.{◌≡◌, ◌≢◌, ℕ, ◌≤◌, ◌+◌, ◌⊎◌, inl, inr, Bool, true, false, ◌&&◌, ◌==◌, nat_lt, List, [], ◌∷◌, find, filter, Option, None, Some, Result, Ok, Err, refl, sym, ap, ◌∙◌, subst, arith, eqb-true, eq-eqb, ltb-false, bytes_eq}
+use Rattle.std.proofs.Common.{◌≡◌, ◌≢◌, ℕ, ◌≤◌, ◌+◌, ◌⊎◌, inl, inr, Bool, true, false, ◌&&◌, ◌==◌, nat_lt, List, [], ◌∷◌, find, filter, Option, None, Some, Result, Ok, Err, refl, sym, ap, ◌∙◌, subst, arith, eqb-true, eq-eqb, ltb-false, bytes_eq, is_some}
 use Rattle.std.specs.List.{list_all}
 use Rattle.std.proofs.lemmas.Bool.{true≢false, cases_eq, and_parts, and_from, or_left}
 use Rattle.std.proofs.lemmas.Slice.Eq.{bytes_eq-Decides}
+use Rattle.model.specs.Seats.{Seats}
 use Rattle.model.specs.declared.status.Status.{Status}
 use Rattle.model.specs.declared.status.Status.TheVariants as status
 use Rattle.model.specs.Answer.{Answer, Outcome, Done, Refused, ExchangeIdAnswer, CreateSessionAnswer}
@@ -24,7 +25,7 @@ use Rattle.model.specs.SlotsHeld.{is_slot_running, is_on, is_busy_on}
 use Rattle.model.specs.StateIds.{Found, Anonymous, Names, found, is_like, open_like, upgraded, opened, opened_by, without_clients}
 use Rattle.model.specs.Step.{State, Stepped, effect, rename, does}
 use Rattle.model.specs.Tree.{Tree}
-use Rattle.model.specs.World.{ServerLimits, InProgress, Connection, Quiet, Busy, Replied, World, HasRun, Gives, Replays, Entry, executed_entry, exchanged, created_by, tabled, started_in, begun, reclaimed, refuses, stepped, state_of, run, Turned, with_connection, with_result, result_of, kept_by, behind, ends, goes_on, is_last, stands_alone, is_sequence, one, in_progress, mounted_world, Reads, next_operation, arrives, takes, connects, hangs_up, can_connect, connection_changed, arrives_at, without_reply, is_busy, without_connection}
+use Rattle.model.specs.World.{ServerLimits, InProgress, Connection, Quiet, Busy, Replied, World, HasRun, Gives, Replays, Entry, executed_entry, exchanged, created_by, tabled, started_in, begun, reclaimed, refuses, stepped, state_of, run, Turned, with_connection, with_result, result_of, kept_by, behind, ends, goes_on, is_last, stands_alone, is_sequence, one, in_progress, mounted_world, Reads, next_operation, arrives, takes, connects, hangs_up, can_connect, connection_changed, arrives_at, without_reply, is_busy, without_connection, closes, is_to_hold}
 use Rattle.model.proofs.ClientTables.{is_of_known, Lives, StaysFor, KeepsRunning, exchange_lives, exchange_running, destroy_client_lives, destroy_client_running, reclaim_lives, reclaim_running, destroy_lives, destroy_running, create_lives, create_running, started_lives, started_stays, finish_lives, finish_stays}
 use Rattle.model.proofs.KeyedLaws.{at-with_same, at-with_other, at-without_same, at-without_other}
 use Rattle.model.proofs.LimitLaws.{modes_keep_limits, inheritance_keeps_limits}
@@ -35,7 +36,7 @@ use Rattle.model.proofs.StepCases.{does_cases}
 use Rattle.model.proofs.StepProofs.{every_step}
 use Rattle.model.proofs.TableCalls.{either, found_given, ids_differ}
 use Rattle.model.proofs.TableLaws.{size, all-filter}
-use Rattle.model.proofs.TurnCases.{GoesWith, Begun, New, IsTurn, Idles, Says, Unread, TooBig, Gave, Repeats, turn_is, read_of, arrival_only, taking_only}
+use Rattle.model.proofs.TurnCases.{GoesWith, Begun, New, IsTurn, Idles, Says, Unread, TooBig, Gave, Repeats, turn_is, read_of, arrival_only, taking_only, Closes}
 
 -- Opens as lists of entries that all pass a test
 
@@ -161,6 +162,7 @@ record Leaves (world : World) (outcome : Outcome) (after : World) (left : InProg
   connections : after.connections ≡ world.connections
   running : KeepsRunning world.table after.table
   more : is_done outcome ≡ true → is_last left ≡ false → RunsInSession after.table left
+  slotted : is_some left.slot ≡ true → RunsInSession after.table left
 
 abbrev HasLeft : World → HasRun → Type 0
 HasLeft world (Gives outcome after left) = Leaves world outcome after left
@@ -184,17 +186,22 @@ stays_in old new request running on runs =
     record { slot = on.slot; session = stays.session; on = on.on; stands = stays.stands; client = stays.client ∙ on.client }
 
 module _ (limits : ServerLimits) (world : World) (held : Held limits world) (living : Living world) (request : InProgress)
-    (runs : (on : RunsInSession world.table request) → is_slot_running on.slot.0 on.slot.1 world.table ≡ true) where
+    (runs : (on : RunsInSession world.table request) → is_slot_running on.slot.0 on.slot.1 world.table ≡ true)
+    (mine : is_some request.slot ≡ true → RunsInSession world.table request) where
   one_each : (id : List ℕ) → size (is_session id) world.table.sessions ≤ 1
   one_each id = ids_differ limits.sessions world.table.session_serial world.table.sessions held.holds.1 id
 
   left_refused : (operation : ℕ) (reason : Status) → HasLeft world (refuses world request operation reason)
   left_refused operation reason =
-      record { lives = living.lives; connections = refl; running = stays_same world.table; more = λ done last. never false done refl }
+      record { lives = living.lives; connections = refl; running = stays_same world.table; more = λ done last. never false done refl; slotted = mine }
+
+  stays_mine : (table : Table) → KeepsRunning world.table table → is_some request.slot ≡ true → RunsInSession table request
+  stays_mine table running some = stays_in world.table table request running (mine some) (runs (mine some))
 
   table_left : (outcome : Outcome) (table : Table) → Lives table world.opens → KeepsRunning world.table table
       → (is_last request ≡ false → RunsInSession table request) → Leaves world outcome (record world { table = table }) request
-  table_left outcome table lives running on = record { lives = lives; connections = refl; running = running; more = λ done last. on last }
+  table_left outcome table lives running on =
+      record { lives = lives; connections = refl; running = running; more = λ done last. on last; slotted = stays_mine table running }
 
   exchanged_left : (r : Result ExchangeIdAnswer Status × Table) → is_last request ≡ true → Lives r.1 world.opens → KeepsRunning world.table r.1
       → HasLeft world (exchanged world request r)
@@ -205,7 +212,7 @@ module _ (limits : ServerLimits) (world : World) (held : Held limits world) (liv
       → Lives o.table (without_clients o.ended_clients world.opens) → KeepsRunning world.table o.table → HasLeft world (created_by world request o answer)
   created_left o (Err reason) last lives running = left_refused _ reason
   created_left o (Ok answer) last lives running =
-      record { lives = lives; connections = refl; running = running; more = λ done more. never (is_last request) last more }
+      record { lives = lives; connections = refl; running = running; more = λ done more. never (is_last request) last more; slotted = stays_mine o.table running }
 
   tabled_left : (operation : ℕ) (answer : Answer) (r : Option Status × Table) → Lives r.1 world.opens → KeepsRunning world.table r.1
       → (is_last request ≡ false → RunsInSession r.1 request) → HasLeft world (tabled world request operation answer r)
@@ -227,6 +234,13 @@ module _ (limits : ServerLimits) (world : World) (held : Held limits world) (liv
         connections = refl;
         running = λ id place other on found. started_stays uid arguments world.table id other found;
         more = λ done last. record {
+          slot = (arguments.session, arguments.slot);
+          session = stays.session;
+          on = refl;
+          stands = stays.stands;
+          client = stays.client;
+        };
+        slotted = λ some. record {
           slot = (arguments.session, arguments.slot);
           session = stays.session;
           on = refl;
@@ -256,6 +270,7 @@ module _ (limits : ServerLimits) (world : World) (held : Held limits world) (liv
         connections = refl;
         running = stays_same world.table;
         more = λ done last. record { slot = on.slot; session = on.session; on = on.on; stands = on.stands; client = on.client ∙ sym law.keeps_caller.1 };
+        slotted = λ some. record { slot = on.slot; session = on.session; on = on.on; stands = on.stands; client = on.client ∙ sym law.keeps_caller.1 };
       }
 
   run_left : (now : ℕ) (operation : Argument) → Goes world request operation → HasLeft world (run world request now operation)
@@ -359,35 +374,58 @@ module _ (limits : ServerLimits) (world : World) (held : Held limits world) (liv
   kept_stays (Some slot) result table id session found = finish_stays slot.0 slot.1 result table id session found
 
   module _ (outcome : Outcome) (after : World) (left : InProgress) (leaves : Leaves world outcome after left) where
-    ended : (last : Status) (executed : Option Entry) → Living (ends after here (with_result left outcome) last executed).world
-    ended last executed =
-        let result = result_of (with_result left outcome) last in
+    ended : (answered : ℕ) (results : List ℕ) (last : Status) (executed : Option Entry)
+        → Living (ends after here (record left { answered = answered; results = results }) last executed).world
+    ended answered results last executed =
+        let result = result_of (record left { answered = answered; results = results }) last in
         let reply = framed (reply_text left.xid (Success result)) in
-        put_down after.table (ends after here (with_result left outcome) last executed).world (Replied reply) leaves.running
+        put_down after.table (ends after here (record left { answered = answered; results = results }) last executed).world (Replied reply) leaves.running
         (kept_stays left.slot result after.table) (ap (λ (c : Keyed Connection). with c here (Replied reply)) leaves.connections)
         (kept_lives left.slot result after.table after.opens leaves.lives)
         (not_busy reply (kept_by left.slot result after.table))
 
-    gone_on : is_done outcome ≡ true → is_last left ≡ false → (executed : Option Entry) → Living (goes_on after here (with_result left outcome) executed).world
-    gone_on done more executed =
-        let on = leaves.more done more in
-        put_down after.table (goes_on after here (with_result left outcome) executed).world (Busy (with_result left outcome)) leaves.running
+    gone_on : RunsInSession after.table left → (status : Option Status) → (executed : Option Entry)
+        → Living (goes_on after here (record (with_result left outcome) { ended = status }) executed).world
+    gone_on on status executed =
+        let new : InProgress = record (with_result left outcome) { ended = status } in
+        put_down after.table (goes_on after here new executed).world (Busy new) leaves.running
         (λ id session found. record { session = session; stands = found; client = refl })
-        (ap (λ (c : Keyed Connection). with c here (Busy (with_result left outcome))) leaves.connections) leaves.lives
-        (λ request is. subst (RunsInSession after.table) (busy_is (with_result left outcome) request is)
+        (ap (λ (c : Keyed Connection). with c here (Busy new)) leaves.connections) leaves.lives
+        (λ request is. subst (RunsInSession after.table) (busy_is new request is)
         (record { slot = on.slot; session = on.session; on = on.on; stands = on.stands; client = on.client }))
+
+    closed : (last : Status) (executed : Option Entry) → Living (closes after here (with_result left outcome) last executed).world
+    closed last executed =
+        either (λ (t : Turned). Living t.world) (is_to_hold left.slot after.table.seats) _ _
+        (λ seated. gone_on (leaves.slotted (some_slot left.slot seated)) (Some last) executed)
+        (λ none. ended (with_result left outcome).answered (with_result left outcome).results last executed)
+      where
+        some_slot : (slot : Option (List ℕ × ℕ)) → is_to_hold slot after.table.seats ≡ true → is_some slot ≡ true
+        some_slot None seated = seated
+        some_slot (Some slot) seated = refl
 
   went : (outcome : Outcome) (after : World) (left : InProgress) → Leaves world outcome after left → (executed : Option Entry)
       → Living (behind after here left outcome executed).world
-  went (Refused operation reason) after left leaves executed = ended (Refused operation reason) after left leaves reason executed
+  went (Refused operation reason) after left leaves executed = closed (Refused operation reason) after left leaves reason executed
   went (Done answer) after left leaves executed =
       either (λ (t : Turned). Living t.world) (is_last left) _ _
-      (λ last. ended (Done answer) after left leaves status.Ok executed)
-      (λ more. gone_on (Done answer) after left leaves refl more executed)
+      (λ last. closed (Done answer) after left leaves status.Ok executed)
+      (λ more. gone_on (Done answer) after left leaves (leaves.more refl more) left.ended executed)
 
-  refused_here : (request : InProgress) (operation : ℕ) (reason : Status) → Leaves world (Refused operation reason) world request
-  refused_here request operation reason =
-      record { lives = living.lives; connections = refl; running = stays_same world.table; more = λ done last. never false done refl }
+  refused_here : (request : InProgress) (operation : ℕ) (reason : Status) → (is_some request.slot ≡ true → RunsInSession world.table request)
+      → Leaves world (Refused operation reason) world request
+  refused_here request operation reason mine =
+      record { lives = living.lives; connections = refl; running = stays_same world.table; more = λ done last. never false done refl; slotted = mine }
+
+  -- a request that has a slot runs in a session
+  its_session : (request : InProgress) → GoesWith world here request → is_some request.slot ≡ true → RunsInSession world.table request
+  its_session request (Begun _ is) some = living.requests here request is
+  its_session _ (New bytes xid cred compound waits few) some = absurd (true≢false (sym some))
+
+  read_session : (request : InProgress) (rest : List ℕ) → GoesWith world here request → is_some (read_of request rest).slot ≡ true → RunsInSession world.table (read_of request rest)
+  read_session request rest goes some =
+      let on = its_session request goes some in
+      record { slot = on.slot; session = on.session; on = on.on; stands = on.stands; client = on.client }
 
   -- a request that has begun runs in a session
   goes_so : (request : InProgress) (operation : Argument) (rest : List ℕ) → GoesWith world here request → next_operation request ≡ Reads operation rest
@@ -418,14 +456,17 @@ module _ (limits : ServerLimits) (world : World) (held : Held limits world) (liv
   turned : (now : ℕ) (t : Turned) → IsTurn world here now t → Living t.world
   turned now _ Idles = living
   turned now _ (Says bytes xid reply waits) = replied (framed (reply_text xid reply))
-  turned now _ (Unread request operation reason goes) = went (Refused operation reason) world request (refused_here request operation reason) None
+  turned now _ (Closes request last there is) =
+      ended (Refused 0 status.Ok) world request (refused_here request 0 status.Ok (λ some. living.requests here request there)) request.answered request.results last None
+  turned now _ (Unread request operation reason goes) =
+      went (Refused operation reason) world request (refused_here request operation reason (its_session request goes)) None
   turned now _ (TooBig request operation rest goes reads) =
       went (Refused (operation_of operation) status.RepTooBig) world (read_of request rest)
-      (refused_here (read_of request rest) (operation_of operation) status.RepTooBig)
+      (refused_here (read_of request rest) (operation_of operation) status.RepTooBig (read_session request rest goes))
       (Some (executed_entry world (read_of request rest) operation (Refused (operation_of operation) status.RepTooBig) world))
   turned now _ (Gave request operation rest outcome after left goes reads is) =
       went outcome after left
-      (subst (HasLeft world) is (run_left limits world held living (read_of request rest) (its_running request rest goes) now operation
+      (subst (HasLeft world) is (run_left limits world held living (read_of request rest) (its_running request rest goes) (read_session request rest goes) now operation
       (goes_so request operation rest goes reads)))
       (Some (executed_entry world (read_of request rest) operation outcome after))
   turned now _ (Repeats request operation rest result session slot goes reads is) = replied (framed (reply_text request.xid (Success result)))
@@ -475,8 +516,8 @@ event_living limits world (Takes connection) held living =
 
 -- A run
 
-mounted_living : (limits : ServerLimits) (run : ℕ) (start : Tree) → Living (mounted_world limits run start)
-mounted_living limits run start = record {
+mounted_living : (limits : ServerLimits) (run : ℕ) (start : Tree) (seats : Seats) → Living (mounted_world limits run start seats)
+mounted_living limits run start seats = record {
   lives = record { of_opens = refl; of_sessions = refl };
   requests = λ number request is. absurd (nothing request is);
 }
@@ -484,21 +525,21 @@ mounted_living limits run start = record {
     nothing : (request : InProgress) → None ≡ Some (Busy request) → ⊥
     nothing request same = cc
 
-run_living : (limits : ServerLimits) (run : ℕ) (start : Tree) (serving : Serving) (history : History) → IsRun (mounted limits run start) serving history
+run_living : (limits : ServerLimits) (run : ℕ) (start : Tree) (seats : Seats) (serving : Serving) (history : History) → IsRun (mounted limits run start seats) serving history
     → Living serving.world
-run_living limits run start serving history Begins = mounted_living limits run start
-run_living limits run start serving history (Goes_on {old = old} {new = new} {history = earlier} event is_run happens) =
+run_living limits run start seats serving history Begins = mounted_living limits run start seats
+run_living limits run start seats serving history (Goes_on {old = old} {new = new} {history = earlier} event is_run happens) =
     subst Living (sym happens.world)
-    (event_living limits old.world event (run_held limits run start old earlier is_run) (run_living limits run start old earlier is_run))
-run_living limits run start serving history (Fails_at {old = old} {new = new} {history = earlier} event is_run fails) =
-    subst Living (sym fails.world) (run_living limits run start old earlier is_run)
-run_living limits run start serving history (Stays_down {old = old} {new = new} {history = earlier} connection is_run stays) =
+    (event_living limits old.world event (run_held limits run start seats old earlier is_run) (run_living limits run start seats old earlier is_run))
+run_living limits run start seats serving history (Fails_at {old = old} {new = new} {history = earlier} event is_run fails) =
+    subst Living (sym fails.world) (run_living limits run start seats old earlier is_run)
+run_living limits run start seats serving history (Stays_down {old = old} {new = new} {history = earlier} connection is_run stays) =
     subst Living (sym stays.world)
-    (event_living limits old.world (Takes connection) (run_held limits run start old earlier is_run) (run_living limits run start old earlier is_run))
+    (event_living limits old.world (Takes connection) (run_held limits run start seats old earlier is_run) (run_living limits run start seats old earlier is_run))
 
 pub every_open_has_client : EveryOpenHasClient
-every_open_has_client limits run start serving history is_run =
-    let living = run_living limits run start serving history is_run in
+every_open_has_client limits run start seats serving history is_run =
+    let living = run_living limits run start seats serving history is_run in
     record {
       opens = λ serial known there.
           all_at_known serving.world.table serving.world.opens serial known living.lives.of_opens there;

@@ -2,6 +2,7 @@
 use Rattle.std.proofs.Common.{◌≡◌, ◌≢◌, ℕ, ◌⊎◌, inl, inr, Bool, true, false, cond, List, [], ◌∷◌, ◌++◌, find, Option, None, Some, Result, Ok, Err, refl, sym, ap, ◌∙◌, subst}
 use Rattle.std.proofs.lemmas.Bool.{cases_eq}
 use Rattle.std.proofs.lemmas.Option.{same_Some}
+use Rattle.model.specs.Seats.{Seats}
 use Rattle.model.specs.declared.status.Status.{Status}
 use Rattle.model.specs.declared.status.Status.TheVariants as status
 use Rattle.model.specs.Answer.{Answer, Outcome, Done, Refused, ExchangeIdAnswer, CreateSessionAnswer}
@@ -17,11 +18,11 @@ use Rattle.model.specs.Session.{Session, Table, is_session, begin}
 use Rattle.model.specs.StateIds.{has_opens}
 use Rattle.model.specs.State.{current_refusals}
 use Rattle.model.specs.Tree.{Tree}
-use Rattle.model.specs.World.{ServerLimits, InProgress, Connection, Quiet, Busy, Replied, World, Entry, HasRun, Gives, Replays, Turned, exchanged, created_by, tabled, started_in, begun, reclaimed, state_of, run, with_result, result_of, behind, ends, goes_on, executed_entry, one, with_connection, without_connection, arrives, arrives_at, connection_changed, without_reply, takes, can_connect, connects, is_busy, hangs_up, mounted_world, is_last}
+use Rattle.model.specs.World.{ServerLimits, InProgress, Connection, Quiet, Busy, Replied, World, Entry, HasRun, Gives, Replays, Turned, exchanged, created_by, tabled, started_in, begun, reclaimed, state_of, run, with_result, result_of, behind, ends, goes_on, executed_entry, one, with_connection, without_connection, arrives, arrives_at, connection_changed, without_reply, takes, can_connect, connects, is_busy, hangs_up, mounted_world, is_last, closes, is_to_hold}
 use Rattle.model.proofs.KeyedLaws.{at-with_same, at-with_other, at-without_same, at-without_other}
 use Rattle.model.proofs.ResultLaws.{one_more}
 use Rattle.model.proofs.TableCalls.{either}
-use Rattle.model.proofs.TurnCases.{GoesWith, Begun, New, read_of, IsTurn, Idles, Says, Unread, TooBig, Gave, Repeats, turn_is, arrival_only, taking_only}
+use Rattle.model.proofs.TurnCases.{GoesWith, Begun, New, read_of, IsTurn, Idles, Says, Unread, TooBig, Gave, Repeats, turn_is, arrival_only, taking_only, Closes}
 use Rattle.model.proofs.SlotsHeld.{busy_request}
 
 abbrev AllHave : World → Type 0
@@ -117,24 +118,36 @@ module _ (world : World) (has : AllHave world) (here : ℕ) where
       }),
     )
 
-    ended : (outcome : Outcome) (last : Status) (executed : Option Entry) → AllHave (ends after here (with_result left outcome) last executed).world
-    ended outcome last executed =
-        let reply = framed (reply_text left.xid (Success (result_of (with_result left outcome) last))) in
-        replied reply (ends after here (with_result left outcome) last executed).world
+    ended : (answered : ℕ) (results : List ℕ) (last : Status) (executed : Option Entry)
+        → AllHave (ends after here (record left { answered = answered; results = results }) last executed).world
+    ended answered results last executed =
+        let reply = framed (reply_text left.xid (Success (result_of (record left { answered = answered; results = results }) last))) in
+        replied reply (ends after here (record left { answered = answered; results = results }) last executed).world
         (ap (λ (c : Keyed Connection). with c here (Replied reply)) leaves.connections)
 
-    gone_on : (outcome : Outcome) (executed : Option Entry) → AllHave (goes_on after here (with_result left outcome) executed).world
-    gone_on outcome executed =
-        put_down (Busy (with_result left outcome)) (goes_on after here (with_result left outcome) executed).world
-        (ap (λ (c : Keyed Connection). with c here (Busy (with_result left outcome))) leaves.connections)
-        (λ other same. subst HasResults (busy_request (with_result left outcome) other same) (one_further outcome))
+    abbrev further_on : Outcome → (status : Option Status) → InProgress
+    further_on outcome status = record (with_result left outcome) { ended = status }
+
+    gone_on : (outcome : Outcome) (status : Option Status) (executed : Option Entry) → AllHave (goes_on after here (further_on outcome status) executed).world
+    gone_on outcome status executed =
+        let results = one_further outcome in
+        put_down (Busy (further_on outcome status)) (goes_on after here (further_on outcome status) executed).world
+        (ap (λ (c : Keyed Connection). with c here (Busy (further_on outcome status))) leaves.connections)
+        (λ other same. subst HasResults (busy_request (further_on outcome status) other same)
+        (results.0, record { answered = results.1.answered; spelled = results.1.spelled }))
+
+    closed : (outcome : Outcome) (last : Status) (executed : Option Entry) → AllHave (closes after here (with_result left outcome) last executed).world
+    closed outcome last executed =
+        either (λ (t : Turned). AllHave t.world) (is_to_hold left.slot after.table.seats) _ _
+        (λ seated. gone_on outcome (Some last) executed)
+        (λ none. ended (with_result left outcome).answered (with_result left outcome).results last executed)
 
     went : (outcome : Outcome) (executed : Option Entry) → AllHave (behind after here left outcome executed).world
-    went (Refused operation reason) executed = ended (Refused operation reason) reason executed
+    went (Refused operation reason) executed = closed (Refused operation reason) reason executed
     went (Done answer) executed =
         either (λ (t : Turned). AllHave t.world) (is_last left) _ _
-        (λ last. ended (Done answer) status.Ok executed)
-        (λ more. gone_on (Done answer) executed)
+        (λ last. closed (Done answer) status.Ok executed)
+        (λ more. gone_on (Done answer) left.ended executed)
 
   goes_has : (request : InProgress) → GoesWith world here request → HasResults request
   goes_has request (Begun _ is) = has here request is
@@ -143,6 +156,8 @@ module _ (world : World) (has : AllHave world) (here : ℕ) where
   turned : (now : ℕ) (t : Turned) → IsTurn world here now t → AllHave t.world
   turned now _ Idles = has
   turned now _ (Says bytes xid reply is) = replied (framed (reply_text xid reply)) (with_connection world here (Replied (framed (reply_text xid reply)))) refl
+  turned now _ (Closes request last there is) =
+      ended request (has here request there) world request (same world request) request.answered request.results last None
   turned now _ (Unread request operation reason goes) =
       went request (goes_has request goes) world request (same world request) (Refused operation reason) None
   turned now _ (TooBig request operation rest goes reads) =
@@ -198,21 +213,21 @@ event_has world (Takes connection) has =
 
 -- A run
 
-mounted_has : (limits : ServerLimits) (run : ℕ) (start : Tree) → AllHave (mounted_world limits run start)
-mounted_has limits run start number request busy = absurd (nothing busy)
+mounted_has : (limits : ServerLimits) (run : ℕ) (start : Tree) (seats : Seats) → AllHave (mounted_world limits run start seats)
+mounted_has limits run start seats number request busy = absurd (nothing busy)
   where
     nothing : None ≡ Some (Busy request) → ⊥
     nothing wrong = cc
 
-run_has : (limits : ServerLimits) (run : ℕ) (start : Tree) (serving : Serving) (history : History) → IsRun (mounted limits run start) serving history
+run_has : (limits : ServerLimits) (run : ℕ) (start : Tree) (seats : Seats) (serving : Serving) (history : History) → IsRun (mounted limits run start seats) serving history
     → AllHave serving.world
-run_has limits run start serving history Begins = mounted_has limits run start
-run_has limits run start serving history (Goes_on {old = old} {new = new} {history = earlier} event is_run happens) =
-    subst AllHave (sym happens.world) (event_has old.world event (run_has limits run start old earlier is_run))
-run_has limits run start serving history (Fails_at {old = old} {new = new} {history = earlier} event is_run fails) =
-    subst AllHave (sym fails.world) (run_has limits run start old earlier is_run)
-run_has limits run start serving history (Stays_down {old = old} {new = new} {history = earlier} connection is_run stays) =
-    subst AllHave (sym stays.world) (event_has old.world (Takes connection) (run_has limits run start old earlier is_run))
+run_has limits run start seats serving history Begins = mounted_has limits run start seats
+run_has limits run start seats serving history (Goes_on {old = old} {new = new} {history = earlier} event is_run happens) =
+    subst AllHave (sym happens.world) (event_has old.world event (run_has limits run start seats old earlier is_run))
+run_has limits run start seats serving history (Fails_at {old = old} {new = new} {history = earlier} event is_run fails) =
+    subst AllHave (sym fails.world) (run_has limits run start seats old earlier is_run)
+run_has limits run start seats serving history (Stays_down {old = old} {new = new} {history = earlier} connection is_run stays) =
+    subst AllHave (sym stays.world) (event_has old.world (Takes connection) (run_has limits run start seats old earlier is_run))
 
 pub every_request_has_results : EveryRequestHasResults
-every_request_has_results limits run start serving history is_run = run_has limits run start serving history is_run
+every_request_has_results limits run start seats serving history is_run = run_has limits run start seats serving history is_run

@@ -1,7 +1,8 @@
 -- The laws of what the definitions rule out.
-use Rattle.std.proofs.Common.{inr, ◌⊎◌, ◌≡◌, ◌≢◌, ℕ, zero, suc, ◌+◌, ◌-◌, ◌<◌, ◌≤◌, inl, Bool, true, false, cond, ◌==◌, nat_lt, List, [], ◌∷◌, ◌++◌, length, take, slice_get, find, Option, None, Some, Result, Ok, Err, refl, sym, ap, ◌∙◌, subst, arith, eq-eqb}
+use Rattle.std.proofs.Common.{inr, ◌⊎◌, ◌≡◌, ◌≢◌, ℕ, zero, suc, ◌+◌, ◌-◌, ◌<◌, ◌≤◌, inl, Bool, true, false, cond, ◌==◌, nat_lt, List, [], ◌∷◌, ◌++◌, length, take, slice_get, find, Option, None, Some, Result, Ok, Err, refl, sym, ap, ◌∙◌, subst, arith, eq-eqb, get_or}
 use borrow.Author.Tests.{eqb-false}
 use Rattle.std.proofs.lemmas.Bool.{eqb-true, false≢true, cond-true}
+use Rattle.model.specs.Seats.{Seats}
 use Rattle.model.specs.declared.status.Status.{Status}
 use Rattle.model.specs.declared.status.Status.TheVariants as status
 use Rattle.model.specs.Answer.{Answer, Outcome, ExchangeIdAnswer, CreateSessionAnswer}
@@ -13,9 +14,9 @@ use Rattle.model.specs.Rpc.{CallRead, NoCall, OtherVersion, Calls, Request, Answ
 use Rattle.model.specs.Session as sessions
 use Rattle.model.specs.Session.{Table, Session, Slot, Kept, Begun, Runs, begin, begin_by, begin_slot, begin_new, finish, finished_slot, changed_where, is_session, slot_at, next_number}
 use Rattle.model.specs.Tree.{Tree}
-use Rattle.model.specs.World.{World, InProgress, Connection, Quiet, Waiting, Busy, Replied, Closed, HasRun, Gives, Replays, outcome_text, exchanged, created_by, session_created, tabled, started_in, begun, reclaimed, refuses, in_room, has_room, run, Turned, Entry, executed_entry, behind, ends, goes_on, reply_with, status_of, requested, in_progress, called, with_result, is_last, has_run, operates, Next, Refuses, Reads, next_operation, turned, one, without_connection, hangs_up, hung_up, turns, operations_left, is_busy}
+use Rattle.model.specs.World.{World, InProgress, Connection, Quiet, Waiting, Busy, Replied, Closed, HasRun, Gives, Replays, outcome_text, exchanged, created_by, session_created, tabled, started_in, begun, reclaimed, refuses, in_room, has_room, run, Turned, Entry, executed_entry, behind, ends, goes_on, reply_with, status_of, requested, in_progress, called, with_result, is_last, has_run, operates, Next, Refuses, Reads, next_operation, turned, one, without_connection, hangs_up, hung_up, turns, operations_left, is_busy, further, closes, is_to_hold}
 use Rattle.model.specs.Runs.{tree_after, executed, executed_by, executed_of, effect_of, Event, Serving, IsAfter, is_done}
-use Rattle.model.specs.RuledOut.{NoSkip, NoEarlyReply, NoTakingBack, NoSecondRun, NoForgetting, NoGap, IsOutcome, IsBehind, IsOneFurther, OneATurn, HangsUpLast, request_by, request_in, request_at, after_turns, HangUpIsEvents, EachEventHappens}
+use Rattle.model.specs.RuledOut.{NoSkip, NoEarlyReply, NoTakingBack, NoSecondRun, NoForgetting, NoGap, IsOutcome, IsBehind, IsOneFurther, OneATurn, HangsUpLast, request_by, request_in, request_at, after_turns, HangUpIsEvents, EachEventHappens, with_operations, EndsByHolding}
 use Rattle.std.proofs.Common.{get_or-set_same, length-set, lt-ltb}
 use Rattle.std.specs.List.{IsAmong}
 use Rattle.model.proofs.Headline.{every_run, only_start}
@@ -43,8 +44,8 @@ still_there (first ∷ done) more zero entry is = is
 still_there (first ∷ done) more (suc i) entry is = still_there done more i entry is
 
 pub no_taking_back : NoTakingBack
-no_taking_back limits run start serving history i change is_run handed_out there durable event tree may =
-    let prefix = every_run limits run start serving history is_run event tree may in
+no_taking_back limits run start seats serving history i change is_run handed_out there durable event tree may =
+    let prefix = every_run limits run start seats serving history is_run event tree may in
     (prefix.k, prefix.good i change handed_out (still_there history.done _ i change there) durable, prefix.holds)
 
 -- SEQUENCE
@@ -63,7 +64,7 @@ kept_never uid count arguments session slot reply same e = by_test (arguments.se
 pub no_second_run : NoSecondRun
 unfolding begin
 no_second_run uid count arguments table session reply known kept same e =
-    let there : begin_by uid count arguments (Some session) ≡ Runs = ap (begin_by uid count arguments) (sym known) ∙ e in
+    let there : begin_by uid count arguments table.seats (Some session) ≡ Runs = ap (begin_by uid count arguments table.seats) (sym known) ∙ e in
     let slot = slot_at session arguments.slot in
     let at_slot = (cond_runs (nat_lt arguments.slot (length session.slots)) _ (sessions.Refuses status.BadSlot) (refuses_not status.BadSlot) there).1 in
     kept_never uid count arguments session slot reply same (ap (begin_slot uid count arguments session slot) (sym kept) ∙ at_slot)
@@ -90,10 +91,10 @@ kept_replays : (uid count : ℕ) (arguments : SequenceArguments) (session : Sess
 kept_replays uid count arguments session slot reply same caller =
     cond-true _ _ _ (eq-eqb arguments.sequence slot.last same) ∙ cond-true _ _ _ (eq-eqb uid slot.uid caller)
 
-finished_replays : (uid count : ℕ) (arguments : SequenceArguments) (session : Session) (reply : List ℕ) → arguments.slot < length session.slots
+finished_replays : (uid count : ℕ) (arguments : SequenceArguments) (seats : Seats) (session : Session) (reply : List ℕ) → arguments.slot < length session.slots
     → arguments.sequence ≡ (slot_at session arguments.slot).last → uid ≡ (slot_at session arguments.slot).uid
-    → begin_by uid count arguments (Some (finished_slot arguments.slot reply session)) ≡ sessions.Replays reply
-finished_replays uid count arguments session reply within same caller =
+    → begin_by uid count arguments seats (Some (finished_slot arguments.slot reply session)) ≡ sessions.Replays reply
+finished_replays uid count arguments seats session reply within same caller =
     let new : Slot = record (slot_at session arguments.slot) { state = Kept reply } in
     let done = finished_slot arguments.slot reply session in
     let there : slot_at done arguments.slot ≡ new = get_or-set_same session.slots arguments.slot new sessions.no_slot within in
@@ -105,9 +106,9 @@ finished_replays uid count arguments session reply within same caller =
 pub no_forgetting : NoForgetting
 unfolding begin finish
 no_forgetting uid count arguments table session reply known within same caller =
-    ap (begin_by uid count arguments)
+    ap (begin_by uid count arguments (finish arguments.session arguments.slot reply table).seats)
     (found_changed arguments.session (finished_slot arguments.slot reply) table.sessions session (λ one. refl) known)
-    ∙ finished_replays uid count arguments session reply within same caller
+    ∙ finished_replays uid count arguments (finish arguments.session arguments.slot reply table).seats session reply within same caller
 
 pub no_gap : NoGap
 no_gap uid count arguments table session known e =
@@ -222,7 +223,7 @@ module _ (old : World) (request : InProgress) (next : Next) (number : ℕ) where
   busy_further left world answer entry come more =
       let same = come.same in
       let after : InProgress = with_result left (Outcome.Done answer) in
-      subst (IsOneFurther old request next (goes_on world number after entry)) (sym (at-with_same world.connections number (Busy after))) (record {
+      subst (IsOneFurther old request next (goes_on world number after entry)) (sym (at-with_same world.connections number (Busy after))) (inl (record {
         answer = answer;
         executes = come.executes;
         results = ap (λ (bytes : List ℕ). bytes ++ outcome_text (Outcome.Done answer)) same.results;
@@ -232,7 +233,7 @@ module _ (old : World) (request : InProgress) (next : Next) (number : ℕ) where
         tag = same.tag;
         count = same.count;
         others = λ last. eqb-false (left.answered + 1) left.count more (ap (λ (n : ℕ). n + 1) same.answered ∙ last ∙ sym same.count);
-      })
+      }))
 
   ends_further : (left : InProgress) (world : World) (outcome : Outcome) (entry : Option Entry) → HasCome old request next left world outcome entry
       → (is_done outcome ≡ false) ⊎ (request.answered + 1 ≡ request.count) → Further (ends world number (with_result left outcome) (status_of outcome) entry)
@@ -241,17 +242,41 @@ module _ (old : World) (request : InProgress) (next : Next) (number : ℕ) where
       (sym (at-with_same world.connections number (Replied (framed (reply_with left outcome)))))
       (inl (record { outcome = outcome; executes = come.executes; last = why; says = same_reply left come.rest outcome come.same }))
 
+  waits_further : (left : InProgress) (world : World) (outcome : Outcome) (entry : Option Entry) → HasCome old request next left world outcome entry
+      → (is_done outcome ≡ false) ⊎ (request.answered + 1 ≡ request.count)
+      → Further (goes_on world number (record (with_result left outcome) { ended = Some (status_of outcome) }) entry)
+  waits_further left world outcome entry come why =
+      let same = come.same in
+      let after : InProgress = record (with_result left outcome) { ended = Some (status_of outcome) } in
+      subst (IsOneFurther old request next (goes_on world number after entry)) (sym (at-with_same world.connections number (Busy after))) (inr (record {
+        outcome = outcome;
+        executes = come.executes;
+        last = why;
+        results = ap (λ (bytes : List ℕ). bytes ++ outcome_text outcome) same.results;
+        answered = ap (λ (n : ℕ). n + 1) same.answered;
+        ended = refl;
+        xid = same.xid;
+        tag = same.tag;
+        count = same.count;
+      }))
+
   chosen_further : (b : Bool) (x y : Turned) → (b ≡ true → Further x) → (b ≡ false → Further y) → Further (cond b x y)
   chosen_further true x y first second = first refl
   chosen_further false x y first second = second refl
 
+  closes_further : (left : InProgress) (world : World) (outcome : Outcome) (entry : Option Entry) → HasCome old request next left world outcome entry
+      → (is_done outcome ≡ false) ⊎ (request.answered + 1 ≡ request.count) → Further (closes world number (with_result left outcome) (status_of outcome) entry)
+  closes_further left world outcome entry come why =
+      chosen_further (is_to_hold left.slot world.table.seats) _ _
+      (λ seated. waits_further left world outcome entry come why) (λ none. ends_further left world outcome entry come why)
+
   behind_further : (left : InProgress) (world : World) (outcome : Outcome) (entry : Option Entry) → HasCome old request next left world outcome entry
       → Further (behind world number left outcome entry)
   behind_further left world (Outcome.Refused operation reason) entry come =
-      ends_further left world (Outcome.Refused operation reason) entry come (inl refl)
+      closes_further left world (Outcome.Refused operation reason) entry come (inl refl)
   behind_further left world (Outcome.Done answer) entry come =
       chosen_further (is_last left) _ _
-      (λ last. ends_further left world (Outcome.Done answer) entry come
+      (λ last. closes_further left world (Outcome.Done answer) entry come
       (inr (ap (λ (n : ℕ). n + 1) (sym come.same.answered) ∙ eqb-true (left.answered + 1) left.count last ∙ come.same.count)))
       (λ more. busy_further left world answer entry come more)
 
@@ -301,12 +326,17 @@ called_further world number now request NoCall is = let never : ⊥ = cc in absu
 called_further world number now request (OtherVersion xid) is = let never : ⊥ = cc in absurd never
 called_further world number now request (Calls call) is = requested_further world number now call.xid request (request_of call) is
 
+ended_further : (world : World) (number now : ℕ) (request one : InProgress) (ended : Option Status) → with_operations one ended ≡ Some request
+    → Further world request (next_operation request) number (further world number now one ended)
+ended_further world number now request one None is = begun_further world number now request one is
+ended_further world number now request one (Some last) is = let never : ⊥ = cc in absurd never
+
 turned_further : (world : World) (number now : ℕ) (request : InProgress) (connection : Option Connection) → request_at world connection ≡ Some request
     → Further world request (next_operation request) number (turned world number now connection)
 turned_further world number now request None is = let never : ⊥ = cc in absurd never
 turned_further world number now request (Some (Quiet bytes)) is = let never : ⊥ = cc in absurd never
 turned_further world number now request (Some (Waiting bytes)) is = called_further world number now request (read_call bytes) is
-turned_further world number now request (Some (Busy one)) is = begun_further world number now request one is
+turned_further world number now request (Some (Busy one)) is = ended_further world number now request one one.ended is
 turned_further world number now request (Some (Replied reply)) is = let never : ⊥ = cc in absurd never
 turned_further world number now request (Some Closed) is = let never : ⊥ = cc in absurd never
 
@@ -324,33 +354,62 @@ busy_turns : (most : ℕ) (world : World) (number now : ℕ) → is_busy (at num
 busy_turns most world number now e = ap (λ (b : Bool). cond b (turns most (one world number now).world number now) world) e
 
 -- after a turn, with what its further turns come to
-turns_end : (most : ℕ) (world : World) (number now : ℕ) (request : InProgress) → at number world.connections ≡ Some (Busy request) → request.count ≡ request.answered + most
-    → request.answered < request.count → is_busy (at number (turns most world number now).connections) ≡ false
-turns_end zero world number now request is left some = absurd (omega arith)
-turns_end (suc most) world number now request is left some =
-    let further = one_a_turn world number now request (ap (request_at world) is) in
+makes_reply : (world : World) (number now : ℕ) (request : InProgress) (last : Status) → at number world.connections ≡ Some (Busy request) → request.ended ≡ Some last
+    → one world number now ≡ ends world number request last None
+unfolding one
+makes_reply world number now request last is ended =
+    ap (turned world number now) is ∙ ap (further world number now request) ended
+
+pub ends_by_holding : EndsByHolding
+ends_by_holding world number now request last is ended = makes_reply world number now request last is ended
+
+turns_end : (most : ℕ) (world : World) (number now : ℕ) (request : InProgress) → at number world.connections ≡ Some (Busy request) → request.count + 1 ≤ request.answered + most
+    → request.answered ≤ request.count → (request.ended ≡ None → request.answered < request.count) → is_busy (at number (turns most world number now).connections) ≡ false
+turns_end zero world number now request is left within some = absurd (omega arith)
+turns_end (suc most) world number now request is left within some =
     let busy : is_busy (at number world.connections) ≡ true = ap is_busy is in
     subst (λ (after : World). is_busy (at number after.connections) ≡ false) (sym (busy_turns most world number now busy))
-    (by_connection (at number (one world number now).world.connections) refl further (λ after at_after count some. turns_end most (one world number now).world number now after at_after count some))
+    (by_ended request.ended refl (λ after at_after count inside some. turns_end most (one world number now).world number now after at_after count inside some))
   where
-    by_connection : (connection : Option Connection) → at number (one world number now).world.connections ≡ connection → IsOneFurther world request (next_operation request) (one world number now) connection
-        → ((after : InProgress) → at number (one world number now).world.connections ≡ Some (Busy after) → after.count ≡ after.answered + most → after.answered < after.count
-        → is_busy (at number (turns most (one world number now).world number now).connections) ≡ false)
+    by_connection : request.answered < request.count → (connection : Option Connection) → at number (one world number now).world.connections ≡ connection
+        → IsOneFurther world request (next_operation request) (one world number now) connection
+        → ((after : InProgress) → at number (one world number now).world.connections ≡ Some (Busy after) → after.count + 1 ≤ after.answered + most → after.answered ≤ after.count
+        → (after.ended ≡ None → after.answered < after.count) → is_busy (at number (turns most (one world number now).world number now).connections) ≡ false)
         → is_busy (at number (turns most (one world number now).world number now).connections) ≡ false
-    by_connection None e further more = absurd further
-    by_connection (Some (Quiet bytes)) e further more = absurd further
-    by_connection (Some (Waiting bytes)) e further more = absurd further
-    by_connection (Some Closed) e further more = absurd further
-    by_connection (Some (Replied reply)) e further more =
+    by_connection less None e further more = absurd further
+    by_connection less (Some (Quiet bytes)) e further more = absurd further
+    by_connection less (Some (Waiting bytes)) e further more = absurd further
+    by_connection less (Some Closed) e further more = absurd further
+    by_connection less (Some (Replied reply)) e further more =
         let quiet : is_busy (at number (one world number now).world.connections) ≡ false = ap is_busy e in
         subst (λ (after : World). is_busy (at number after.connections) ≡ false) (sym (quiet_turns most (one world number now).world number now quiet)) quiet
-    by_connection (Some (Busy after)) e further more =
+    by_connection less (Some (Busy after)) e (inl further) more =
         let answered = further.answered in
         let count = further.count in
-        more after e (omega (arith, left)) (below after answered count further.others)
+        more after e (omega (arith, left, answered, count)) (omega (arith, less, answered, count)) (λ none. below after answered count further.others)
       where
         below : (after : InProgress) → after.answered ≡ request.answered + 1 → after.count ≡ request.count → request.answered + 1 ≢ request.count → after.answered < after.count
-        below after answered count unequal = omega (arith, some)
+        below after answered count unequal = omega (arith, less)
+    by_connection less (Some (Busy after)) e (inr further) more =
+        let answered = further.answered in
+        let count = further.count in
+        more after e (omega (arith, left, answered, count)) (omega (arith, less, answered, count)) (λ none. absurd (never (sym none ∙ further.ended)))
+      where
+        never : {s : Status} → None ≡ Some s → ⊥
+        never e = cc
+
+    by_ended : (ended : Option Status) → request.ended ≡ ended
+        → ((after : InProgress) → at number (one world number now).world.connections ≡ Some (Busy after) → after.count + 1 ≤ after.answered + most → after.answered ≤ after.count
+        → (after.ended ≡ None → after.answered < after.count) → is_busy (at number (turns most (one world number now).world number now).connections) ≡ false)
+        → is_busy (at number (turns most (one world number now).world number now).connections) ≡ false
+    by_ended None none more =
+        by_connection (some none) (at number (one world number now).world.connections) refl
+        (one_a_turn world number now request (ap (request_at world) is ∙ ap (with_operations request) none)) more
+    by_ended (Some last) ended more =
+        let made = makes_reply world number now request last is ended in
+        let quiet : is_busy (at number (one world number now).world.connections) ≡ false =
+        ap (λ (t : Turned). is_busy (at number t.world.connections)) made ∙ ap is_busy (at-with_same world.connections number _) in
+        subst (λ (after : World). is_busy (at number after.connections) ≡ false) (sym (quiet_turns most (one world number now).world number now quiet)) quiet
 
 pub dropped : (world : World) (number : ℕ) → is_busy (at number world.connections) ≡ false → hangs_up world number ≡ without_connection world number
 unfolding hangs_up
@@ -361,9 +420,9 @@ unfolding hangs_up hung_up
 hangs_up_last = record {
   keeps = λ world number e. ap (λ (b : Bool). cond b world (without_connection world number)) e;
   goes = λ world number now request is some.
-      let most : operations_left (at number world.connections) ≡ request.count - request.answered = ap operations_left is in
-      let ended = turns_end (request.count - request.answered) world number now request is (omega arith) some in
-      let after = turns (request.count - request.answered) world number now in
+      let most : operations_left (at number world.connections) ≡ suc (request.count - request.answered) = ap operations_left is in
+      let ended = turns_end (suc (request.count - request.answered)) world number now request is (omega arith) (omega arith) (λ none. some) in
+      let after = turns (suc (request.count - request.answered)) world number now in
       let same : hung_up world number now ≡ hangs_up after number = ap (λ (n : ℕ). hangs_up (turns n world number now) number) most in
       ap (λ (left : World). at number left.connections) (same ∙ dropped after number ended) ∙ at-without_same after.connections number;
 }
@@ -385,10 +444,18 @@ hang_up_is_events world number now =
 
 -- A server that flushes each change at once
 
+only_seats : (one seats : Seats) → IsAmong (one ∷ []) seats → seats ≡ one
+only_seats one seats among = by_place among.0 among.1.0 among.1.1
+  where
+    by_place : (place : ℕ) → place < length (one ∷ []) → seats ≡ get_or (one ∷ []) place seats → seats ≡ one
+    by_place zero less e = e
+    by_place (suc place) less e = absurd (omega arith)
+
 flushed : Serving → Event → Serving
 flushed old event = record {
   world = effect_of old.world event;
   recent = (effect_of old.world event).tree ∷ [];
+  held = (effect_of old.world event).table.seats ∷ [];
   is_down = false;
 }
 
@@ -416,6 +483,7 @@ each_event_happens old event up among =
             (left_flushed old (effect_of old.world event).tree tree (executed_of old.world event) fits among (only_start _ tree left));
         durable = λ entry e lasts tree left.
             lasts_flushed old.world.tree (effect_of old.world event).tree tree (executed_of old.world event) entry fits (sym is ∙ e) (only_start _ tree left);
+        seats = λ seats left. only_seats _ seats left;
       },
       (0, (omega arith, refl)),
     )

@@ -20,7 +20,7 @@ use Rattle.model.specs.Operation.{SequenceArguments, operation_of}
 use Rattle.model.specs.Rpc.{CallRead, NoCall, OtherVersion, Calls, Request, Answers, Runs, read_call, request_of}
 use Rattle.model.specs.Session as sessions
 use Rattle.model.specs.Session.{Table, Session}
-use Rattle.model.specs.World.{World, InProgress, Connection, Quiet, Waiting, Busy, Replied, Closed, HasRun, Gives, Replays, exchanged, created_by, session_created, tabled, started_in, begun, reclaimed, stepped, state_of, refuses, in_room, has_room, run, Turned, Entry, executed_entry, behind, ends, goes_on, with_result, is_last, has_run, operates, Next, Refuses, Reads, next_operation, requested, in_progress, called, turned, one, connection_changed, arrives, arrives_at, takes, without_reply, connects, can_connect, hangs_up, is_busy}
+use Rattle.model.specs.World.{World, InProgress, Connection, Quiet, Waiting, Busy, Replied, Closed, HasRun, Gives, Replays, exchanged, created_by, session_created, tabled, started_in, begun, reclaimed, stepped, state_of, refuses, in_room, has_room, run, Turned, Entry, executed_entry, behind, ends, goes_on, with_result, is_last, has_run, operates, Next, Refuses, Reads, next_operation, requested, in_progress, called, turned, one, connection_changed, arrives, arrives_at, takes, without_reply, connects, can_connect, hangs_up, is_busy, closes, is_to_hold, further}
 use Rattle.model.specs.Keyed.{at}
 use Rattle.model.specs.Runs.{is_done, before, Event, Arrives, Turns, HangsUp, Connects, Takes, effect_of, executed_of}
 use Rattle.model.proofs.RefusalLaws.{none_before}
@@ -165,12 +165,20 @@ either_fits : (old : Tree) (b : Bool) (x y : Turned) → TurnFits old x → Turn
 either_fits old true x y first second = first
 either_fits old false x y first second = second
 
+closes_fits : (old : Tree) (world : World) (number : ℕ) (request : InProgress) (last : Status) (executed : Option Entry) → EntryFits old world.tree executed
+    → TurnFits old (closes world number request last executed)
+closes_fits old world number request last executed fits =
+    either_fits old (is_to_hold request.slot world.table.seats) (goes_on world number (record request { ended = Some last }) executed)
+    (ends world number request last executed) fits fits
+
 behind_fits : (old : Tree) (world : World) (number : ℕ) (request : InProgress) (outcome : Outcome) (executed : Option Entry) → EntryFits old world.tree executed
     → TurnFits old (behind world number request outcome executed)
-behind_fits old world number request (Outcome.Refused operation reason) executed fits = fits
+behind_fits old world number request (Outcome.Refused operation reason) executed fits =
+    closes_fits old world number (with_result request (Outcome.Refused operation reason)) reason executed fits
 behind_fits old world number request (Outcome.Done answer) executed fits =
-    either_fits old (is_last request) (ends world number (with_result request (Outcome.Done answer)) status.Ok executed)
-    (goes_on world number (with_result request (Outcome.Done answer)) executed) fits fits
+    either_fits old (is_last request) (closes world number (with_result request (Outcome.Done answer)) status.Ok executed)
+    (goes_on world number (with_result request (Outcome.Done answer)) executed)
+    (closes_fits old world number (with_result request (Outcome.Done answer)) status.Ok executed fits) fits
 
 has_run_fits : (world : World) (number : ℕ) (request : InProgress) (operation : Argument) (ran : HasRun) → RanFits world request operation ran
     → TurnFits world.tree (has_run world number request operation ran)
@@ -194,11 +202,15 @@ called_fits world number now NoCall = refl
 called_fits world number now (OtherVersion xid) = refl
 called_fits world number now (Calls call) = requested_fits world number now call.xid (request_of call)
 
+further_fits : (world : World) (number now : ℕ) (request : InProgress) (ended : Option Status) → TurnFits world.tree (further world number now request ended)
+further_fits world number now request None = operates_fits world number now request (next_operation request)
+further_fits world number now request (Some last) = refl
+
 turned_fits : (world : World) (number now : ℕ) (connection : Option Connection) → TurnFits world.tree (turned world number now connection)
 turned_fits world number now None = refl
 turned_fits world number now (Some (Quiet bytes)) = refl
 turned_fits world number now (Some (Waiting request)) = called_fits world number now (read_call request)
-turned_fits world number now (Some (Busy request)) = operates_fits world number now request (next_operation request)
+turned_fits world number now (Some (Busy request)) = further_fits world number now request request.ended
 turned_fits world number now (Some (Replied reply)) = refl
 turned_fits world number now (Some Closed) = refl
 

@@ -1,6 +1,7 @@
 -- A slot's numbers run in their order over every run of the whole server.
 use Rattle.std.proofs.Common.{◌≡◌, ℕ, inl, Bool, true, false, cond, List, [], ◌∷◌, ◌++◌, option_to_list, find, Option, None, Some, Result, Ok, Err, refl, sym, ap, ◌∙◌, subst, lit<, append_assoc, append-nil}
 use Rattle.std.proofs.lemmas.Bool.{false≢true}
+use Rattle.model.specs.Seats.{Seats}
 use Rattle.model.specs.declared.status.Status.{Status}
 use Rattle.model.specs.declared.status.Status.TheVariants as status
 use Rattle.model.specs.Answer.{Answer, Outcome, ExchangeIdAnswer, CreateSessionAnswer}
@@ -12,7 +13,7 @@ use Rattle.model.specs.Session.{Table, Session, begin, is_session, next_number}
 use Rattle.model.specs.SessionRuns.{CountsFrom}
 use Rattle.model.specs.Tree.{Tree}
 use Rattle.model.specs.StateIds.{has_opens}
-use Rattle.model.specs.World.{World, ServerLimits, InProgress, Connection, Quiet, Waiting, Busy, Replied, Closed, HasRun, Gives, Replays, exchanged, created_by, tabled, started_in, begun, reclaimed, refuses, in_room, has_room, run, Turned, Entry, executed_entry, behind, ends, goes_on, kept_by, result_of, with_result, is_last, has_run, operates, Next, Refuses, Reads, next_operation, requested, in_progress, called, turned, one, connection_changed, arrives, arrives_at, takes, without_reply, connects, can_connect, hangs_up, is_busy, reply_at}
+use Rattle.model.specs.World.{World, ServerLimits, InProgress, Connection, Quiet, Waiting, Busy, Replied, Closed, HasRun, Gives, Replays, exchanged, created_by, tabled, started_in, begun, reclaimed, refuses, in_room, has_room, run, Turned, Entry, executed_entry, behind, ends, goes_on, kept_by, result_of, with_result, is_last, has_run, operates, Next, Refuses, Reads, next_operation, requested, in_progress, called, turned, one, connection_changed, arrives, arrives_at, takes, without_reply, connects, can_connect, hangs_up, is_busy, reply_at, closes, is_to_hold, further}
 use Rattle.model.specs.Runs.{Event, Arrives, Turns, HangsUp, Connects, Takes, effect_of, executed_of, History, Serving, mounted, IsRun, Begins, Goes_on, Fails_at, Stays_down}
 use Rattle.model.specs.ServedOnce.{number_begun, number_by, numbers_in, EveryServedSlot}
 use Rattle.model.proofs.Headline.{Joined, done_behind, taken_done}
@@ -129,15 +130,23 @@ either_turn : (id : List ℕ) (slot last : ℕ) (b : Bool) (x y : Turned) → Tu
 either_turn id slot last true x y first second = first
 either_turn id slot last false x y first second = second
 
+closes_goes : (id : List ℕ) (slot last : ℕ) (world : World) (number : ℕ) (request : InProgress) (status : Status) (entry : Option Entry)
+    → Goes id slot last world.table (number_of id slot entry) → TurnGoes id slot last (closes world number request status entry)
+unfolding TurnGoes
+closes_goes id slot last world number request status entry goes =
+    either_turn id slot last (is_to_hold request.slot world.table.seats) (goes_on world number (record request { ended = Some status }) entry)
+    (ends world number request status entry) goes
+    (kept_goes id slot last request.slot (result_of request status) world.table (number_of id slot entry) goes)
+
 behind_goes : (id : List ℕ) (slot last : ℕ) (world : World) (number : ℕ) (request : InProgress) (outcome : Outcome) (entry : Option Entry)
     → Goes id slot last world.table (number_of id slot entry) → TurnGoes id slot last (behind world number request outcome entry)
 unfolding TurnGoes
 behind_goes id slot last world number request (Outcome.Refused operation reason) entry goes =
-    kept_goes id slot last request.slot (result_of (with_result request (Outcome.Refused operation reason)) reason) world.table (number_of id slot entry) goes
+    closes_goes id slot last world number (with_result request (Outcome.Refused operation reason)) reason entry goes
 behind_goes id slot last world number request (Outcome.Done answer) entry goes =
-    either_turn id slot last (is_last request) (ends world number (with_result request (Outcome.Done answer)) status.Ok entry)
+    either_turn id slot last (is_last request) (closes world number (with_result request (Outcome.Done answer)) status.Ok entry)
     (goes_on world number (with_result request (Outcome.Done answer)) entry)
-    (kept_goes id slot last request.slot (result_of (with_result request (Outcome.Done answer)) status.Ok) world.table (number_of id slot entry) goes) goes
+    (closes_goes id slot last world number (with_result request (Outcome.Done answer)) status.Ok entry goes) goes
 
 has_run_goes : (id : List ℕ) (slot last : ℕ) (world : World) (number : ℕ) (request : InProgress) (operation : Argument) (ran : HasRun) → Stands id slot last world.table
     → RanGoes id slot last operation ran → TurnGoes id slot last (has_run world number request operation ran)
@@ -168,13 +177,20 @@ called_goes id slot last world number now NoCall stands = stands
 called_goes id slot last world number now (OtherVersion xid) stands = stands
 called_goes id slot last world number now (Calls call) stands = requested_goes id slot last world number now call.xid (request_of call) stands
 
+further_goes : (id : List ℕ) (slot last : ℕ) (world : World) (number now : ℕ) (request : InProgress) (ended : Option Status) → Stands id slot last world.table
+    → TurnGoes id slot last (further world number now request ended)
+unfolding TurnGoes number_of
+further_goes id slot last world number now request None stands = operates_goes id slot last world number now request (next_operation request) stands
+further_goes id slot last world number now request (Some status) stands =
+    kept_stands id slot last request.slot (result_of request status) world.table stands
+
 turned_goes : (id : List ℕ) (slot last : ℕ) (world : World) (number now : ℕ) (connection : Option Connection) → Stands id slot last world.table
     → TurnGoes id slot last (turned world number now connection)
 unfolding TurnGoes number_of
 turned_goes id slot last world number now None stands = stands
 turned_goes id slot last world number now (Some (Quiet bytes)) stands = stands
 turned_goes id slot last world number now (Some (Waiting request)) stands = called_goes id slot last world number now (read_call request) stands
-turned_goes id slot last world number now (Some (Busy request)) stands = operates_goes id slot last world number now request (next_operation request) stands
+turned_goes id slot last world number now (Some (Busy request)) stands = further_goes id slot last world number now request request.ended stands
 turned_goes id slot last world number now (Some (Replied reply)) stands = stands
 turned_goes id slot last world number now (Some Closed) stands = stands
 
@@ -192,19 +208,19 @@ either_table : (world : World) (b : Bool) (x y : World) → x.table ≡ world.ta
 either_table world true x y first second = first
 either_table world false x y first second = second
 
-arrives_table : (world : World) (number : ℕ) (piece : List ℕ) → (arrives world number piece).table ≡ world.table
+pub arrives_table : (world : World) (number : ℕ) (piece : List ℕ) → (arrives world number piece).table ≡ world.table
 unfolding arrives
 arrives_table world number piece = changed_table world number (arrives_at world.limits.records piece) (at number world.connections)
 
-takes_table : (world : World) (number : ℕ) → (takes world number).table ≡ world.table
+pub takes_table : (world : World) (number : ℕ) → (takes world number).table ≡ world.table
 unfolding takes
 takes_table world number = changed_table world number without_reply (at number world.connections)
 
-connects_table : (world : World) (number : ℕ) → (connects world number).table ≡ world.table
+pub connects_table : (world : World) (number : ℕ) → (connects world number).table ≡ world.table
 unfolding connects
 connects_table world number = either_table world (can_connect world number) _ _ refl refl
 
-hangs_up_table : (world : World) (number : ℕ) → (hangs_up world number).table ≡ world.table
+pub hangs_up_table : (world : World) (number : ℕ) → (hangs_up world number).table ≡ world.table
 unfolding hangs_up
 hangs_up_table world number = either_table world (is_busy (at number world.connections)) _ _ refl refl
 
@@ -234,7 +250,7 @@ CountsTo-counts : (first : ℕ) (numbers : List ℕ) (last : ℕ) → CountsTo f
 CountsTo-counts first [] last counts = tt
 CountsTo-counts first (head ∷ numbers) last counts = (counts.0, CountsTo-counts head numbers last counts.1)
 
-numbers_in-append : (id : List ℕ) (slot : ℕ) (done : List Entry) (entry : Entry)
+pub numbers_in-append : (id : List ℕ) (slot : ℕ) (done : List Entry) (entry : Entry)
     → numbers_in id slot (done ++ entry ∷ []) ≡ numbers_in id slot done ++ option_to_list (number_by id slot entry.operation entry.outcome)
 numbers_in-append id slot [] entry = append-nil (option_to_list (number_by id slot entry.operation entry.outcome))
 numbers_in-append id slot (first ∷ done) entry =
@@ -275,25 +291,25 @@ event_counted id slot old new event done counted up world =
     (counted_by id slot counted.last new (effect_of old.world event).table (numbers_in id slot done) (number_of id slot (executed_of old.world event))
     counted.counts goes (λ still. ap (λ (left : World). left.table) (world still)))
 
-counted_run : (limits : ServerLimits) (run : ℕ) (start : Tree) (id : List ℕ) (slot : ℕ) (serving : Serving) (history : History) → IsRun (mounted limits run start) serving history
+counted_run : (limits : ServerLimits) (run : ℕ) (start : Tree) (seats : Seats) (id : List ℕ) (slot : ℕ) (serving : Serving) (history : History) → IsRun (mounted limits run start seats) serving history
     → Counted id slot serving (numbers_in id slot history.done)
-counted_run limits run start id slot serving history Begins = record {
+counted_run limits run start seats id slot serving history Begins = record {
   last = 0;
   counts = refl;
   stands = λ up. record { made = tt; small = lit< tt; each = tt; new_or_old = inl refl };
 }
-counted_run limits run start id slot serving history (Goes_on {old = old} {new = new} {history = earlier} event is_run happens) =
+counted_run limits run start seats id slot serving history (Goes_on {old = old} {new = new} {history = earlier} event is_run happens) =
     subst (λ (done : List Entry). Counted id slot new (numbers_in id slot done)) (done_behind earlier old.world event)
-    (event_counted id slot old new event earlier.done (counted_run limits run start id slot old earlier is_run) happens.up (λ up. happens.world))
-counted_run limits run start id slot serving history (Fails_at {old = old} {new = new} {history = earlier} event is_run fails) =
-    event_counted id slot old new event earlier.done (counted_run limits run start id slot old earlier is_run) fails.up (λ up. absurd (false≢true (sym up ∙ fails.down)))
-counted_run limits run start id slot serving history (Stays_down {old = old} {new = new} {history = earlier} connection is_run stays) =
-    let counted = counted_run limits run start id slot old earlier is_run in
+    (event_counted id slot old new event earlier.done (counted_run limits run start seats id slot old earlier is_run) happens.up (λ up. happens.world))
+counted_run limits run start seats id slot serving history (Fails_at {old = old} {new = new} {history = earlier} event is_run fails) =
+    event_counted id slot old new event earlier.done (counted_run limits run start seats id slot old earlier is_run) fails.up (λ up. absurd (false≢true (sym up ∙ fails.down)))
+counted_run limits run start seats id slot serving history (Stays_down {old = old} {new = new} {history = earlier} connection is_run stays) =
+    let counted = counted_run limits run start seats id slot old earlier is_run in
     subst (λ (done : List Entry). Counted id slot new (numbers_in id slot done)) (sym (taken_done earlier connection (reply_at old.world connection)))
     (record { last = counted.last; counts = counted.counts; stands = λ up. absurd (false≢true (sym up ∙ stays.still_down)) })
 
 pub every_served_slot : EveryServedSlot
-every_served_slot limits run start serving history is_run id slot =
-    let counted = counted_run limits run start id slot serving history is_run in
+every_served_slot limits run start seats serving history is_run id slot =
+    let counted = counted_run limits run start seats id slot serving history is_run in
     let counts = CountsTo-counts 0 (numbers_in id slot history.done) counted.last counted.counts in
     (counts, others_between (numbers_in id slot history.done) counts)

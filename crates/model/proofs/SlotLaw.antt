@@ -7,12 +7,13 @@ use Rattle.std.proofs.lemmas.Nat.{from_be_bytes-to_be_bytes_8}
 use Rattle.std.specs.List.{AllByRecursion}
 use Rattle.std.specs.Int.{w64, to_be_bytes, from_be_bytes}
 use Rattle.std.proofs.lemmas.Bool.{and_parts}
+use Rattle.model.specs.Seats.{HeldReply, Seat, Seats, is_seat_of, seat_of, has_seat, freed}
 use Rattle.model.specs.declared.status.Status.{Status}
 use Rattle.model.specs.declared.status.Status.TheVariants as status
 use Rattle.model.specs.Refusal.{Refusals, first_refusal}
 use Rattle.model.specs.Operation.{ExchangeIdArguments, CreateSessionArguments, SequenceArguments}
 use Rattle.model.specs.Answer.{CreateSessionAnswer}
-use Rattle.model.specs.Session.{SessionLimits, Client, Slot, Session, Table, Begun, Refuses, Replays, Runs, Free, Running, Kept, SlotState, session_id, is_session, slot_at, no_slot, empty_table, has_state, without_unconfirmed, without_client, is_full_of_clients, new_record, exchange_by, exchange_id, is_confirmed_of, exchange_flags, has_only, create_refusals, create_unless, create_again, create_by, create_session, new_session, staying, is_of_clients, replaced_by, is_full_of_sessions, fore_channel, CreateSessionOutcome, next_number, destroy_by, destroy_session, is_running, destroy_client_by, destroy_client_id, is_client, reclaim_by, reclaim_complete, begin_new, begin_slot, begin_by, begin, with_slot, started, finished_slot, finish, without_where}
+use Rattle.model.specs.Session.{SessionLimits, Client, Slot, Session, Table, Begun, Refuses, Replays, Runs, Free, Running, Kept, SlotState, session_id, is_session, slot_at, no_slot, empty_table, has_state, without_unconfirmed, without_client, is_full_of_clients, new_record, exchange_by, exchange_id, is_confirmed_of, exchange_flags, has_only, create_refusals, create_unless, create_again, create_by, create_session, new_session, staying, is_of_clients, replaced_by, is_full_of_sessions, fore_channel, CreateSessionOutcome, next_number, destroy_by, destroy_session, is_running, destroy_client_by, destroy_client_id, is_client, reclaim_by, reclaim_complete, begin_new, begin_slot, begin_by, begin, with_slot, started, finished_slot, finish, without_where, limits_for, persists, begin_held, begin_dead}
 use Rattle.model.specs.SessionRuns.{Call, Exchanges, Creates, Destroys, DestroysClient, Reclaims, Begins, Finishes, after, runs_on, number_on, started_by, numbers_on, CountsFrom, OthersBetween, EverySlot}
 use Rattle.model.proofs.BooleanLaws.{second_of_neither}
 use Rattle.model.proofs.RefusalLaws.{none_in_front}
@@ -76,6 +77,7 @@ pub record Stands (id : List ℕ) (slot last : ℕ) (table : Table) : Type 0 whe
 pub record SameSessions (old new : Table) : Type 0 where
   pub sessions : new.sessions ≡ old.sessions
   pub serial : new.session_serial ≡ old.session_serial
+  pub seats : new.seats ≡ old.seats
 
 pub Stands-same : (id : List ℕ) (slot last : ℕ) (old new : Table) → SameSessions old new → Stands id slot last old → Stands id slot last new
 Stands-same id slot last old new same stands = record {
@@ -91,40 +93,40 @@ SameIn table outcome = SameSessions table outcome.1
 new_record_same : (limits : SessionLimits) (uid : ℕ) (arguments : ExchangeIdArguments) (table cleared : Table) → SameSessions table cleared → SameIn table (new_record limits uid arguments table cleared)
 new_record_same limits uid arguments table cleared same =
     both (SameIn table) (is_full_of_clients limits (without_unconfirmed arguments.owner cleared)) _ _
-    (record { sessions = refl; serial = refl }) (record { sessions = same.sessions; serial = same.serial })
+    (record { sessions = refl; serial = refl; seats = refl }) (record { sessions = same.sessions; serial = same.serial; seats = same.seats })
 
 exchange_by_same : (limits : SessionLimits) (has_opens : ℕ → Bool) (uid : ℕ) (arguments : ExchangeIdArguments) (table : Table) (known : Option Client)
     → SameIn table (exchange_by limits has_opens uid arguments table known)
-exchange_by_same limits has_opens uid arguments table None = new_record_same limits uid arguments table table (record { sessions = refl; serial = refl })
+exchange_by_same limits has_opens uid arguments table None = new_record_same limits uid arguments table table (record { sessions = refl; serial = refl; seats = refl })
 exchange_by_same limits has_opens uid arguments table (Some client) =
     both (SameIn table) (client.principal == uid) _ _
     (both (SameIn table) (bytes_eq client.verifier arguments.verifier) _ _
-    (record { sessions = refl; serial = refl })
-    (new_record_same limits uid arguments table table (record { sessions = refl; serial = refl })))
+    (record { sessions = refl; serial = refl; seats = refl })
+    (new_record_same limits uid arguments table table (record { sessions = refl; serial = refl; seats = refl })))
     (both (SameIn table) (has_state has_opens table client.number) _ _
-    (record { sessions = refl; serial = refl })
-    (new_record_same limits uid arguments table (without_client client.number table) (record { sessions = refl; serial = refl })))
+    (record { sessions = refl; serial = refl; seats = refl })
+    (new_record_same limits uid arguments table (without_client client.number table) (record { sessions = refl; serial = refl; seats = refl })))
 
 pub exchange_same : (limits : SessionLimits) (has_opens : ℕ → Bool) (uid : ℕ) (arguments : ExchangeIdArguments) (table : Table) → SameIn table (exchange_id limits has_opens uid arguments table)
 unfolding exchange_id
 exchange_same limits has_opens uid arguments table =
     both (SameIn table) (has_only exchange_flags arguments.flags) _ _
     (exchange_by_same limits has_opens uid arguments table (find (is_confirmed_of arguments.owner) table.clients))
-    (record { sessions = refl; serial = refl })
+    (record { sessions = refl; serial = refl; seats = refl })
 
 destroy_client_by_same : (has_opens : ℕ → Bool) (number : ℕ) (table : Table) (known : Option Client) → SameIn table (destroy_client_by has_opens number table known)
-destroy_client_by_same has_opens number table None = record { sessions = refl; serial = refl }
+destroy_client_by_same has_opens number table None = record { sessions = refl; serial = refl; seats = refl }
 destroy_client_by_same has_opens number table (Some client) =
-    both (SameIn table) (has_state has_opens table number) _ _ (record { sessions = refl; serial = refl }) (record { sessions = refl; serial = refl })
+    both (SameIn table) (has_state has_opens table number) _ _ (record { sessions = refl; serial = refl; seats = refl }) (record { sessions = refl; serial = refl; seats = refl })
 
 pub destroy_client_same : (has_opens : ℕ → Bool) (number : ℕ) (table : Table) → SameIn table (destroy_client_id has_opens number table)
 unfolding destroy_client_id
 destroy_client_same has_opens number table = destroy_client_by_same has_opens number table (find (is_client number) table.clients)
 
 reclaim_by_same : (number : ℕ) (table : Table) (known : Option Client) → SameIn table (reclaim_by number table known)
-reclaim_by_same number table None = record { sessions = refl; serial = refl }
+reclaim_by_same number table None = record { sessions = refl; serial = refl; seats = refl }
 reclaim_by_same number table (Some client) =
-    both (SameIn table) client.has_reclaimed _ _ (record { sessions = refl; serial = refl }) (record { sessions = refl; serial = refl })
+    both (SameIn table) client.has_reclaimed _ _ (record { sessions = refl; serial = refl; seats = refl }) (record { sessions = refl; serial = refl; seats = refl })
 
 pub reclaim_same : (number : ℕ) (table : Table) → SameIn table (reclaim_complete number table)
 unfolding reclaim_complete
@@ -141,11 +143,18 @@ Stands-fewer id slot last table gone stands = record {
   new_or_old = stands.new_or_old;
 }
 
+-- what the seats are does not matter
+Stands-seats : (id : List ℕ) (slot last : ℕ) (table : Table) (seats : Seats) → Stands id slot last table → Stands id slot last (record table { seats = seats })
+Stands-seats id slot last table seats stands = record { made = stands.made; small = stands.small; each = stands.each; new_or_old = stands.new_or_old }
+
 destroy_by_stands : (id : List ℕ) (slot last : ℕ) (name : List ℕ) (table : Table) (known : Option Session) → Stands id slot last table
     → Stands id slot last (destroy_by name table known).1
-destroy_by_stands id slot last name table None stands = stands
+destroy_by_stands id slot last name table None stands =
+    both (λ (outcome : Option Status × Table). Stands id slot last outcome.1) (has_seat name table.seats) _ _
+    (Stands-seats id slot last table (freed (is_seat_of name) table.seats) stands) stands
 destroy_by_stands id slot last name table (Some session) stands =
-    both (λ (outcome : Option Status × Table). Stands id slot last outcome.1) (is_running session) _ _ stands (Stands-fewer id slot last table (is_session name) stands)
+    both (λ (outcome : Option Status × Table). Stands id slot last outcome.1) (is_running session) _ _ stands
+    (Stands-seats id slot last _ (freed (is_seat_of name) table.seats) (Stands-fewer id slot last table (is_session name) stands))
 
 pub destroy_stands : (id : List ℕ) (slot last : ℕ) (name : List ℕ) (table : Table) → Stands id slot last table → Stands id slot last (destroy_session name table).1
 unfolding destroy_session
@@ -158,7 +167,7 @@ last_passes [] test reason e = (none_in_front test reason None e).0
 last_passes (first ∷ tests) test reason e =
     last_passes tests test reason (none_in_front first.0 first.1 (first_refusal (tests ++ (test, reason) ∷ [])) e).1
 
-serial_left : (limits : SessionLimits) (arguments : CreateSessionArguments) (client : Client) (table : Table)
+pub serial_left : (limits : SessionLimits) (arguments : CreateSessionArguments) (client : Client) (table : Table)
     → first_refusal (create_refusals limits arguments client table) ≡ None → table.session_serial < 2 ^ 64 - 1
 serial_left limits arguments client table e =
     leb-false (2 ^ 64 - 1) table.session_serial
@@ -214,7 +223,7 @@ create_unless_stands limits id slot last arguments client table None e stands =
       made = All-append (IsMade (made + 1)) (staying client table) session (All-made_before made (staying client table) fewer.made) (omega arith);
       small = omega arith;
       each = All-append (HasLast id slot last) (staying client table) session fewer.each
-          (new_has_last id slot last made session (fore_channel limits arguments.fore).max_requests stands.new_or_old (omega arith) (omega arith) refl);
+          (new_has_last id slot last made session (fore_channel (limits_for limits (persists limits arguments client table)) arguments.fore).max_requests stands.new_or_old (omega arith) (omega arith) refl);
       new_or_old = new_or_old_later id last made stands.new_or_old;
     }
 
@@ -337,9 +346,19 @@ pub record RunsOn (arguments : SequenceArguments) (known : Option Session) : Typ
   pub within : arguments.slot < length session.slots
   pub next : arguments.sequence ≡ next_number (slot_at session arguments.slot).last
 
-by_runs : (uid count : ℕ) (arguments : SequenceArguments) (known : Option Session) → begin_by uid count arguments known ≡ Runs → RunsOn arguments known
-by_runs uid count arguments None e = absurd (refuses_not status.BadSession e)
-by_runs uid count arguments (Some session) e =
+held_never : (uid : ℕ) (arguments : SequenceArguments) (held : Option HeldReply) → begin_held uid arguments held ≡ Runs → ⊥
+held_never uid arguments None e = refuses_not status.DeadSession e
+held_never uid arguments (Some held) e =
+    cond_never (arguments.sequence == held.number && uid == held.uid) (Replays held.result) (Refuses status.DeadSession) (replays_not held.result) (refuses_not status.DeadSession) e
+
+-- a session of an earlier run runs nothing
+pub dead_never : (uid : ℕ) (arguments : SequenceArguments) (seat : Option Seat) → begin_dead uid arguments seat ≡ Runs → ⊥
+dead_never uid arguments None e = refuses_not status.BadSession e
+dead_never uid arguments (Some seat) e = held_never uid arguments (get_or seat.slots arguments.slot None) e
+
+by_runs : (uid count : ℕ) (arguments : SequenceArguments) (seats : Seats) (known : Option Session) → begin_by uid count arguments seats known ≡ Runs → RunsOn arguments known
+by_runs uid count arguments seats None e = absurd (dead_never uid arguments (seat_of arguments.session seats) e)
+by_runs uid count arguments seats (Some session) e =
     let tested = cond_runs (nat_lt arguments.slot (length session.slots)) _ (Refuses status.BadSlot) (refuses_not status.BadSlot) e in
     record {
       session = session;
@@ -351,7 +370,7 @@ by_runs uid count arguments (Some session) e =
 pub begin_runs : (uid count : ℕ) (arguments : SequenceArguments) (table : Table) → begin uid count arguments table ≡ Runs
     → RunsOn arguments (find (is_session arguments.session) table.sessions)
 unfolding begin
-begin_runs uid count arguments table e = by_runs uid count arguments _ e
+begin_runs uid count arguments table e = by_runs uid count arguments table.seats _ e
 
 -- A slot that runs
 

@@ -3,14 +3,15 @@ use Rattle.std.proofs.Common.{◌≡◌, ℕ, zero, suc, ◌<◌, ◌≤◌, inl
 use Rattle.std.specs.List.{list_any}
 use Rattle.std.proofs.lemmas.Bool.{cases_eq, and_parts, not-false, or_parts}
 use Rattle.std.proofs.lemmas.Slice.Eq.{bytes_eq-Decides}
+use Rattle.model.specs.Seats.{Seats, seat_of, has_seat}
 use Rattle.model.specs.declared.status.Status.{Status}
 use Rattle.model.specs.declared.status.Status.TheVariants as status
 use Rattle.model.specs.Answer.{CreateSessionAnswer}
 use Rattle.model.specs.Operation.{CreateSessionArguments, SequenceArguments}
 use Rattle.model.specs.Refusal.{first_refusal}
-use Rattle.model.specs.Session.{SessionLimits, Client, Slot, SlotState, Free, Running, Kept, Session, Table, Refuses, Runs, no_slot, slot_at, is_session, is_client, is_running, is_running_state, with_slot, destroy_by, destroy_session, create_session, create_by, create_again, create_unless, create_refusals, CreateSessionOutcome, is_of_clients, replaced_by, staying, next_number, new_session, fore_channel, begin, begin_by, begin_slot, started, finish}
+use Rattle.model.specs.Session.{SessionLimits, Client, Slot, SlotState, Free, Running, Kept, Session, Table, Refuses, Runs, no_slot, slot_at, is_session, is_client, is_running, is_running_state, with_slot, destroy_by, destroy_session, create_session, create_by, create_again, create_unless, create_refusals, CreateSessionOutcome, is_of_clients, replaced_by, staying, next_number, new_session, fore_channel, begin, begin_by, begin_slot, started, finish, limits_for, persists}
 use Rattle.model.specs.SlotsHeld.{runs_at, is_slot_running, is_on}
-use Rattle.model.proofs.SlotLaw.{id_of, cond_runs, cond_never, refuses_not}
+use Rattle.model.proofs.SlotLaw.{id_of, cond_runs, cond_never, refuses_not, dead_never}
 use Rattle.model.proofs.TableCalls.{either, found_passes}
 use Rattle.model.proofs.TableLaws.{size}
 use Rattle.model.proofs.BooleanLaws.{and_false, or_false}
@@ -180,7 +181,7 @@ created_same limits arguments client table None is id place =
     let three = none_in_front _ status.TooSmall _ two.1 in
     let four = none_in_front (list_any bad table.sessions) status.Delay _ three.1 in
     any-append (runs_at id place) (staying client table) (new_session limits arguments client table)
-    (rests_here id place (new_session limits arguments client table) (fresh_rests (fore_channel limits arguments.fore).max_requests place))
+    (rests_here id place (new_session limits arguments client table) (fresh_rests (fore_channel (limits_for limits (persists limits arguments client table)) arguments.fore).max_requests place))
     ∙ any-filter (runs_at id place) (λ x. not (is_of_clients (replaced_by client table) x)) bad table.sessions ends four.0
   where
     bad : Session → Bool
@@ -243,7 +244,8 @@ told_by id place (session ∷ sessions) first few found = by_test (told_by id pl
 -- DESTROY_SESSION ends no session that runs
 module _ (table : Table) (one_each : (id : List ℕ) → size (is_session id) table.sessions ≤ 1) where
   destroy_same : (name : List ℕ) (known : Option Session) → find (is_session name) table.sessions ≡ known → RunsSame table (destroy_by name table known).1
-  destroy_same name None found = λ id place. refl
+  destroy_same name None found =
+      either (λ (r : Option Status × Table). RunsSame table r.1) (has_seat name table.seats) _ _ (λ seated id place. refl) (λ none id place. refl)
   destroy_same name (Some session) found =
       either (λ (r : Option Status × Table). RunsSame table r.1) (is_running session) _ _ (λ runs id place. refl) (λ rests. ended rests)
     where
@@ -290,9 +292,9 @@ module _ (table : Table) (one_each : (id : List ℕ) → size (is_session id) ta
       absurd (cond_never (arguments.sequence == slot.last) (Refuses status.Delay) (Refuses status.SeqMisordered) (refuses_not status.Delay) (refuses_not status.SeqMisordered) e)
   slot_rests uid count arguments session slot (Kept reply) e = refl
 
-  rested : (uid count : ℕ) (arguments : SequenceArguments) (known : Option Session) → begin_by uid count arguments known ≡ Runs → Rested arguments known
-  rested uid count arguments None e = absurd (refuses_not status.BadSession e)
-  rested uid count arguments (Some session) e =
+  rested : (uid count : ℕ) (arguments : SequenceArguments) (seats : Seats) (known : Option Session) → begin_by uid count arguments seats known ≡ Runs → Rested arguments known
+  rested uid count arguments seats None e = absurd (dead_never uid arguments (seat_of arguments.session seats) e)
+  rested uid count arguments seats (Some session) e =
       let tested = cond_runs (nat_lt arguments.slot (length session.slots)) _ (Refuses status.BadSlot) (refuses_not status.BadSlot) e in
       record {
         session = session;
@@ -304,7 +306,7 @@ module _ (table : Table) (one_each : (id : List ℕ) → size (is_session id) ta
   module _ (uid count : ℕ) (arguments : SequenceArguments) (e : begin uid count arguments table ≡ Runs) where
     of : Rested arguments (find (is_session arguments.session) table.sessions)
     unfolding begin
-    of = rested uid count arguments (find (is_session arguments.session) table.sessions) e
+    of = rested uid count arguments table.seats (find (is_session arguments.session) table.sessions) e
 
     new : Session → Slot
     new session = record { last = arguments.sequence; uid = uid; state = Running }

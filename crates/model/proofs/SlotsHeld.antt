@@ -1,6 +1,7 @@
 -- A slot runs exactly where one connection is busy on it, at each moment of a run.
 use Rattle.std.proofs.Common.{◌≡◌, ◌≢◌, ℕ, ◌<◌, ◌≤◌, ◌⊎◌, inl, inr, Bool, true, false, not, cond, ◌&&◌, ◌||◌, nat_lt, is_some, length, List, [], ◌++◌, find, Option, None, Some, Result, Ok, Err, refl, sym, ap, ◌∙◌, subst, arith}
 use Rattle.std.proofs.lemmas.Bool.{true≢false, cases_eq, and_parts, false_from_ne_true}
+use Rattle.model.specs.Seats.{Seats}
 use Rattle.model.specs.declared.status.Status.{Status}
 use Rattle.model.specs.declared.status.Status.TheVariants as status
 use Rattle.model.specs.Answer.{Answer, Outcome, Done, Refused, ExchangeIdAnswer, CreateSessionAnswer}
@@ -16,7 +17,7 @@ use Rattle.model.specs.SessionRuns as calls
 use Rattle.model.specs.SlotsHeld.{is_slot_running, is_on, is_busy_on, RunsWhereBusy, EveryRunningSlot}
 use Rattle.model.specs.StateIds.{has_opens}
 use Rattle.model.specs.Tree.{Tree}
-use Rattle.model.specs.World.{ServerLimits, InProgress, Connection, Quiet, Waiting, Busy, Replied, Closed, World, Entry, HasRun, Gives, Replays, Next, Refuses, Reads, Turned, next_operation, exchanged, created_by, tabled, started_in, begun, reclaimed, run, has_room, in_room, with_result, result_of, kept_by, ends, goes_on, behind, has_run, operates, in_progress, requested, called, turned, with_connection, executed_entry, refuses, one, arrived, arrives_at, connection_changed, arrives, without_reply, takes, can_connect, connects, is_busy, without_connection, hangs_up, is_last, mounted_world}
+use Rattle.model.specs.World.{ServerLimits, InProgress, Connection, Quiet, Waiting, Busy, Replied, Closed, World, Entry, HasRun, Gives, Replays, Next, Refuses, Reads, Turned, next_operation, exchanged, created_by, tabled, started_in, begun, reclaimed, run, has_room, in_room, with_result, result_of, kept_by, ends, goes_on, closes, is_to_hold, further, behind, has_run, operates, in_progress, requested, called, turned, with_connection, executed_entry, refuses, one, arrived, arrives_at, connection_changed, arrives, without_reply, takes, can_connect, connects, is_busy, without_connection, hangs_up, is_last, mounted_world}
 use Rattle.model.proofs.KeyedLaws.{at-with_same, at-with_other, at-without_same, at-without_other}
 use Rattle.model.proofs.ReadOperations.{is_first, first_read}
 use Rattle.model.proofs.SlotLaw.{exchange_same, destroy_client_same, reclaim_same}
@@ -352,11 +353,12 @@ module _ (limits : ServerLimits) (world : World) (held : Held limits world) (her
       | inr none ↦ inr (goes.same id place ∙ ap (λ (s : Option (List ℕ × ℕ)). is_on s id place) none.0, none.1 id place)
     ]
 
-    ended : (outcome : Outcome) (last : Status) (executed : Option Entry) → Held limits (ends after here (with_result left outcome) last executed).world
-    ended outcome last executed =
-        let result = result_of (with_result left outcome) last in
+    ended : (answered : ℕ) (results : List ℕ) (last : Status) (executed : Option Entry)
+        → Held limits (ends after here (record left { answered = answered; results = results }) last executed).world
+    ended answered results last executed =
+        let result = result_of (record left { answered = answered; results = results }) last in
         let reply = marks.framed (reply_text left.xid (Success result)) in
-        put_down limits world held here (Replied reply) (ends after here (with_result left outcome) last executed).world
+        put_down limits world held here (Replied reply) (ends after here (record left { answered = answered; results = results }) last executed).world
         (leaves.limits_are ∙ held.limits_are) (ap (λ (c : Keyed Connection). with c here (Replied reply)) leaves.connections)
         (kept_holds limits left.slot result after.table leaves.holds)
         (record {
@@ -371,10 +373,13 @@ module _ (limits : ServerLimits) (world : World) (held : Held limits world) (her
         never : (reply : List ℕ) (other : InProgress) → Replied reply ≡ Busy other → ⊥
         never reply other wrong = cc
 
-    gone_on : (outcome : Outcome) (executed : Option Entry) → Held limits (goes_on after here (with_result left outcome) executed).world
-    gone_on outcome executed =
-        put_down limits world held here (Busy (with_result left outcome)) (goes_on after here (with_result left outcome) executed).world
-        (leaves.limits_are ∙ held.limits_are) (ap (λ (c : Keyed Connection). with c here (Busy (with_result left outcome))) leaves.connections)
+    abbrev further_on : Outcome → (status : Option Status) → InProgress
+    further_on outcome status = record (with_result left outcome) { ended = status }
+
+    gone_on : (outcome : Outcome) (status : Option Status) (executed : Option Entry) → Held limits (goes_on after here (further_on outcome status) executed).world
+    gone_on outcome status executed =
+        put_down limits world held here (Busy (further_on outcome status)) (goes_on after here (further_on outcome status) executed).world
+        (leaves.limits_are ∙ held.limits_are) (ap (λ (c : Keyed Connection). with c here (Busy (further_on outcome status))) leaves.connections)
         leaves.holds
         (record {
           runs = λ id place.
@@ -383,7 +388,7 @@ module _ (limits : ServerLimits) (world : World) (held : Held limits world) (her
           fresh = λ id place mine. by_fit id place (fits id place) mine;
         })
         (λ other same.
-        let is : (with_result left outcome).answered ≡ other.answered = ap (λ (r : InProgress). r.answered) (busy_request (with_result left outcome) other same) in
+        let is : (with_result left outcome).answered ≡ other.answered = ap (λ (r : InProgress). r.answered) (busy_request (further_on outcome status) other same) in
         omega (arith, is))
       where
         by_fit : (id : List ℕ) (place : ℕ) → Fit (is_on left.slot id place) (busy id place) (is_slot_running id place world.table) → is_on left.slot id place ≡ true
@@ -391,12 +396,18 @@ module _ (limits : ServerLimits) (world : World) (held : Held limits world) (her
         by_fit id place (inl same) mine = inl (sym same ∙ mine)
         by_fit id place (inr apart) mine = inr (apart.1 mine)
 
+    closed : (outcome : Outcome) (last : Status) (executed : Option Entry) → Held limits (closes after here (with_result left outcome) last executed).world
+    closed outcome last executed =
+        either (λ (t : Turned). Held limits t.world) (is_to_hold left.slot after.table.seats) _ _
+        (λ seated. gone_on outcome (Some last) executed)
+        (λ none. ended (with_result left outcome).answered (with_result left outcome).results last executed)
+
     went : (outcome : Outcome) (executed : Option Entry) → Held limits (behind after here left outcome executed).world
-    went (Refused operation reason) executed = ended (Refused operation reason) reason executed
+    went (Refused operation reason) executed = closed (Refused operation reason) reason executed
     went (Done answer) executed =
         either (λ (t : Turned). Held limits t.world) (is_last left) _ _
-        (λ last. ended (Done answer) status.Ok executed)
-        (λ more. gone_on (Done answer) executed)
+        (λ last. closed (Done answer) status.Ok executed)
+        (λ more. gone_on (Done answer) left.ended executed)
 
   running_on : (request : InProgress) → Goes request → (id : List ℕ) (place : ℕ) → is_on request.slot id place ≡ true → is_slot_running id place world.table ≡ true
   running_on request goes id place mine = held.law.runs id place here (goes.same id place ∙ mine)
@@ -444,14 +455,19 @@ module _ (limits : ServerLimits) (world : World) (held : Held limits world) (her
     called_held (OtherVersion xid) = replied (marks.framed (reply_text xid VersionRefused)) idle
     called_held (Calls call) = requested_held call.xid (request_of call)
 
+  further_held : (now : ℕ) (request : InProgress) → Goes request → (ended_as : Option Status) → Held limits (further world here now request ended_as).world
+  further_held now request goes None = operates_held now request goes (next_operation request) refl
+  further_held now request goes (Some last) =
+      ended request goes world request (leaves_same limits world held request (running_on request goes)) request.answered request.results last None
+
   turned_held : (now : ℕ) (connection : Option Connection) → at here world.connections ≡ connection → Held limits (turned world here now connection).world
   turned_held now None is = held
   turned_held now (Some (Quiet bytes)) is = held
   turned_held now (Some (Waiting request)) is = called_held now request is (read_call request)
   turned_held now (Some (Busy request)) is =
       let begun = held.begun here request is in
-      operates_held now request (record { same = λ id place. ap (is_busy_on id place) is; first = λ none. absurd (omega (arith, begun, none)) })
-      (next_operation request) refl
+      further_held now request (record { same = λ id place. ap (is_busy_on id place) is; first = λ none. absurd (omega (arith, begun, none)) })
+      request.ended
   turned_held now (Some (Replied reply)) is = held
   turned_held now (Some Closed) is = held
 
@@ -575,8 +591,8 @@ event_held limits world (Takes connection) held =
 
 -- A run
 
-mounted_held : (limits : ServerLimits) (run : ℕ) (start : Tree) → Held limits (mounted_world limits run start)
-mounted_held limits run start = record {
+mounted_held : (limits : ServerLimits) (run : ℕ) (start : Tree) (seats : Seats) → Held limits (mounted_world limits run start seats)
+mounted_held limits run start seats = record {
   law = record {
     held = λ id place running. absurd (true≢false (sym running));
     runs = λ id place number is. absurd (true≢false (sym is));
@@ -590,15 +606,15 @@ mounted_held limits run start = record {
     nothing : (request : InProgress) → None ≡ Some (Busy request) → ⊥
     nothing request same = cc
 
-pub run_held : (limits : ServerLimits) (run : ℕ) (start : Tree) (serving : Serving) (history : History) → IsRun (mounted limits run start) serving history
+pub run_held : (limits : ServerLimits) (run : ℕ) (start : Tree) (seats : Seats) (serving : Serving) (history : History) → IsRun (mounted limits run start seats) serving history
     → Held limits serving.world
-run_held limits run start serving history Begins = mounted_held limits run start
-run_held limits run start serving history (Goes_on {old = old} {new = new} {history = earlier} event is_run happens) =
-    subst (Held limits) (sym happens.world) (event_held limits old.world event (run_held limits run start old earlier is_run))
-run_held limits run start serving history (Fails_at {old = old} {new = new} {history = earlier} event is_run fails) =
-    subst (Held limits) (sym fails.world) (run_held limits run start old earlier is_run)
-run_held limits run start serving history (Stays_down {old = old} {new = new} {history = earlier} connection is_run stays) =
-    subst (Held limits) (sym stays.world) (event_held limits old.world (Takes connection) (run_held limits run start old earlier is_run))
+run_held limits run start seats serving history Begins = mounted_held limits run start seats
+run_held limits run start seats serving history (Goes_on {old = old} {new = new} {history = earlier} event is_run happens) =
+    subst (Held limits) (sym happens.world) (event_held limits old.world event (run_held limits run start seats old earlier is_run))
+run_held limits run start seats serving history (Fails_at {old = old} {new = new} {history = earlier} event is_run fails) =
+    subst (Held limits) (sym fails.world) (run_held limits run start seats old earlier is_run)
+run_held limits run start seats serving history (Stays_down {old = old} {new = new} {history = earlier} connection is_run stays) =
+    subst (Held limits) (sym stays.world) (event_held limits old.world (Takes connection) (run_held limits run start seats old earlier is_run))
 
 pub every_running_slot : EveryRunningSlot
-every_running_slot limits run start serving history is_run = (run_held limits run start serving history is_run).law
+every_running_slot limits run start seats serving history is_run = (run_held limits run start seats serving history is_run).law

@@ -3,6 +3,7 @@ use Rattle.std.proofs.Common.{ℕ, Bool, true, false, cond, List, [], ◌≡◌,
 use Rattle.std.specs.Prelude.{Option, Some, None}
 use Rattle.std.specs.List.{IsAmong}
 use Rattle.std.proofs.lemmas.Bool.{cases_eq}
+use Rattle.model.specs.Seats.{Seats}
 use Rattle.model.specs.declared.status.Status.{Status}
 use Rattle.model.specs.declared.status.Status.TheVariants as status
 use Rattle.model.specs.Answer.{Answer, Outcome, ExchangeIdAnswer, CreateSessionAnswer}
@@ -21,7 +22,7 @@ use Rattle.model.specs.Step.{does}
 use Rattle.model.specs.StepLaws.{IsSound}
 use Rattle.model.specs.Tree.{Tree}
 use Rattle.model.specs.WellFormed.{IsWellFormed, IsBefore}
-use Rattle.model.specs.World.{in_room, refuses, has_room, World, ServerLimits, InProgress, Connection, Quiet, Waiting, Busy, Replied, Closed, HasRun, Gives, Replays, with_connection, with_table, exchanged, created_by, tabled, started_in, begun, reclaimed, stepped, state_of, run as runs_operation, Turned, Entry, executed_entry, replies, behind, ends, goes_on, with_result, is_last, has_run, operates, Next, Refuses, Reads, next_operation, requested, in_progress, called, turned, one, connection_changed, arrived, arrives, arrives_at, takes, without_reply, connects, can_connect, hangs_up, is_busy, without_connection, mounted_world}
+use Rattle.model.specs.World.{in_room, refuses, has_room, World, ServerLimits, InProgress, Connection, Quiet, Waiting, Busy, Replied, Closed, HasRun, Gives, Replays, with_connection, with_table, exchanged, created_by, tabled, started_in, begun, reclaimed, stepped, state_of, run as runs_operation, Turned, Entry, executed_entry, replies, behind, ends, goes_on, with_result, is_last, has_run, operates, Next, Refuses, Reads, next_operation, requested, in_progress, called, turned, one, connection_changed, arrived, arrives, arrives_at, takes, without_reply, connects, can_connect, hangs_up, is_busy, without_connection, mounted_world, closes, is_to_hold, further}
 use Rattle.model.specs.Runs.{Event, Arrives, Turns, HangsUp, Connects, Takes, effect_of, executed_of, executed_by, executed, Serving, History, IsRun, Begins, Goes_on, Fails_at, Stays_down, IsAfter, MayLeave, mounted}
 use Rattle.model.proofs.FreshTree.{fresh_well_formed, fresh_before}
 use Rattle.model.proofs.KeyedLaws.{at-with_same, at-with_other, at-without_same, at-without_other, some≢none}
@@ -220,14 +221,22 @@ module _ (limits : ServerLimits) (run : ℕ) (room : limits.volume.aces_set + 5 
   either_sound true x y first second = first
   either_sound false x y first second = second
 
+  closes_sound : (world : World) (number : ℕ) (request : InProgress) (last : Status) (executed : Option Entry) → IsSoundWorld limits run world
+      → request.context.run ≡ run → SoundTurned (closes world number request last executed)
+  closes_sound world number request last executed sound same =
+      either_sound (is_to_hold request.slot world.table.seats) (goes_on world number (record request { ended = Some last }) executed)
+      (ends world number request last executed)
+      (goes_on_sound world number (record request { ended = Some last }) executed sound same)
+      (ends_sound world number request last executed sound)
+
   behind_sound : (world : World) (number : ℕ) (request : InProgress) (outcome : Outcome) (executed : Option Entry) → IsSoundWorld limits run world
       → request.context.run ≡ run → SoundTurned (behind world number request outcome executed)
   behind_sound world number request (Outcome.Refused operation reason) executed sound same =
-      ends_sound world number (with_result request (Outcome.Refused operation reason)) reason executed sound
+      closes_sound world number (with_result request (Outcome.Refused operation reason)) reason executed sound same
   behind_sound world number request (Outcome.Done answer) executed sound same =
-      either_sound (is_last request) (ends world number (with_result request (Outcome.Done answer)) status.Ok executed)
+      either_sound (is_last request) (closes world number (with_result request (Outcome.Done answer)) status.Ok executed)
       (goes_on world number (with_result request (Outcome.Done answer)) executed)
-      (ends_sound world number (with_result request (Outcome.Done answer)) status.Ok executed sound)
+      (closes_sound world number (with_result request (Outcome.Done answer)) status.Ok executed sound same)
       (goes_on_sound world number (with_result request (Outcome.Done answer)) executed sound same)
 
   has_run_sound : (world : World) (number : ℕ) (request : InProgress) (operation : Argument) (ran : HasRun) → IsSoundWorld limits run world
@@ -262,6 +271,11 @@ module _ (limits : ServerLimits) (run : ℕ) (room : limits.volume.aces_set + 5 
   called_sound world number now (OtherVersion xid) sound = replies_sound world number xid _ sound
   called_sound world number now (Calls call) sound = requested_sound world number now call.xid (request_of call) sound
 
+  further_sound : (world : World) (number now : ℕ) (request : InProgress) (ended : Option Status) → IsSoundWorld limits run world
+      → request.context.run ≡ run → SoundTurned (further world number now request ended)
+  further_sound world number now request None sound same = operates_sound world number now request (next_operation request) sound same
+  further_sound world number now request (Some last) sound same = ends_sound world number request last None sound
+
   turned_sound : (world : World) (number now : ℕ) (connection : Option Connection) → at number world.connections ≡ connection
       → IsSoundWorld limits run world → SoundTurned (turned world number now connection)
   unfolding SoundTurned
@@ -269,7 +283,7 @@ module _ (limits : ServerLimits) (run : ℕ) (room : limits.volume.aces_set + 5 
   turned_sound world number now (Some (Quiet bytes)) is sound = sound
   turned_sound world number now (Some (Waiting request)) is sound = called_sound world number now (read_call request) sound
   turned_sound world number now (Some (Busy request)) is sound =
-      operates_sound world number now request (next_operation request) sound (sound.busy number request is)
+      further_sound world number now request request.ended sound (sound.busy number request is)
   turned_sound world number now (Some (Replied reply)) is sound = sound
   turned_sound world number now (Some Closed) is sound = sound
 
@@ -371,8 +385,8 @@ module _ (limits : ServerLimits) (run : ℕ) (room : limits.volume.aces_set + 5 
   may_leave serving event tree sound (inl among) = sound.recent tree among
   may_leave serving event tree sound (inr after) = left_by_event serving.world event serving.is_down tree sound.world after
 
-  module _ (start : Tree) (begins : IsStart limits.volume run start) where
-    mounted_sound : IsSoundWorld limits run (mounted_world limits run start)
+  module _ (start : Tree) (seats : Seats) (begins : IsStart limits.volume run start) where
+    mounted_sound : IsSoundWorld limits run (mounted_world limits run start seats)
     mounted_sound = record {
       limits_are = refl;
       run_is = refl;
@@ -383,10 +397,10 @@ module _ (limits : ServerLimits) (run : ℕ) (room : limits.volume.aces_set + 5 
       opened = no_opens_are limits.volume start;
     }
 
-    pub serving_sound : (serving : Serving) (history : History) → IsRun (mounted limits run start) serving history → IsSoundServing serving
+    pub serving_sound : (serving : Serving) (history : History) → IsRun (mounted limits run start seats) serving history → IsSoundServing serving
     serving_sound _ _ Begins = record {
       world = mounted_sound;
-      recent = λ tree among. subst IsLeft (sym (only_start start tree among)) (left_of (mounted_world limits run start) mounted_sound);
+      recent = λ tree among. subst IsLeft (sym (only_start start tree among)) (left_of (mounted_world limits run start seats) mounted_sound);
     }
     serving_sound _ _ (Goes_on {old} {new} {history} event runs happens) =
         let before = serving_sound old history runs in
@@ -420,12 +434,12 @@ every_tree limits = record {
       let aces : 1 ≤ limits.volume.aces = omega arith in
       let stamp_above : 1 < next_stamp run 0 = omega arith in
       record { well_formed = fresh_well_formed limits.volume nodes aces; before = fresh_before (next_stamp run 0) stamp_above };
-  later = λ run start serving history room begins runs event tree leaves next after.
+  later = λ run start seats serving history room begins runs event tree leaves next after.
       later_start limits run room tree
-      (may_leave limits run room serving event tree (serving_sound limits run room start begins serving history runs) leaves) next after;
+      (may_leave limits run room serving event tree (serving_sound limits run room start seats begins serving history runs) leaves) next after;
 }
 
 -- the opens are so at each moment
 pub every_run_keeps_opens : EveryRunKeepsOpens
-every_run_keeps_opens limits run start serving history room begins runs =
-    (serving_sound limits run room start begins serving history runs).world.opened
+every_run_keeps_opens limits run start seats serving history room begins runs =
+    (serving_sound limits run room start seats begins serving history runs).world.opened

@@ -1,5 +1,6 @@
 -- The stamps of a run, by induction: each change takes the next one, and no other operation does.
 use Rattle.std.proofs.Common.{◌≡◌, ◌≢◌, ℕ, ◌+◌, ◌<◌, ◌≤◌, ◌^◌, ◌⊎◌, inl, inr, Bool, true, false, not, cond, ◌&&◌, ◌||◌, List, [], ◌∷◌, ◌++◌, length, slice_get, option_to_list, Option, None, Some, Result, Ok, Err, refl, sym, ap, ◌∙◌, subst, find, arith, rules, tests, length-append}
+use Rattle.model.specs.Seats.{Seats}
 use Rattle.model.specs.declared.limits.Limits.{Limits}
 use Rattle.model.specs.declared.status.Status.{Status}
 use Rattle.model.specs.declared.status.Status.TheVariants as status
@@ -19,7 +20,7 @@ use Rattle.model.specs.Open.{cuts, cut_or_not, with_file, makes_file, cuts_file,
 use Rattle.model.specs.SetAttr.{sets, set_attributes}
 use Rattle.model.specs.Step.{State, Stepped, current, is_name_there, rename, alters, effect, refusals, change_refusals, unless_refused, does}
 use Rattle.model.specs.Tree.{Tree}
-use Rattle.model.specs.World.{World, ServerLimits, InProgress, Connection, Quiet, Waiting, Busy, Replied, Closed, HasRun, Gives, Replays, exchanged, created_by, session_created, tabled, started_in, begun, reclaimed, stepped, state_of, refuses, in_room, has_room, run, Turned, Entry, executed_entry, behind, ends, goes_on, with_result, is_last, has_run, operates, Next, Refuses, Reads, next_operation, requested, in_progress, called, turned, one, connection_changed, arrives, arrives_at, takes, without_reply, connects, can_connect, hangs_up, is_busy}
+use Rattle.model.specs.World.{World, ServerLimits, InProgress, Connection, Quiet, Waiting, Busy, Replied, Closed, HasRun, Gives, Replays, exchanged, created_by, session_created, tabled, started_in, begun, reclaimed, stepped, state_of, refuses, in_room, has_room, run, Turned, Entry, executed_entry, behind, ends, goes_on, with_result, is_last, has_run, operates, Next, Refuses, Reads, next_operation, requested, in_progress, called, turned, one, connection_changed, arrives, arrives_at, takes, without_reply, connects, can_connect, hangs_up, is_busy, closes, is_to_hold, further}
 use Rattle.model.proofs.Headline.{slice_get-append, slice_get-within, slice_get-last, done_behind}
 use Rattle.model.proofs.RefusalLaws.{none_in_front, none_after}
 use Rattle.model.proofs.BooleanLaws.{second_held}
@@ -169,12 +170,20 @@ chosen_counts : (old : World) (b : Bool) (x y : Turned) → TurnCounts old x →
 chosen_counts old true x y first second = first
 chosen_counts old false x y first second = second
 
+closes_counts : (old world : World) (number : ℕ) (request : InProgress) (last : Status) (executed : Option Entry) → EntryCounts old.changes world.changes executed
+    → TurnCounts old (closes world number request last executed)
+closes_counts old world number request last executed counts =
+    chosen_counts old (is_to_hold request.slot world.table.seats) (goes_on world number (record request { ended = Some last }) executed)
+    (ends world number request last executed) counts counts
+
 behind_counts : (old world : World) (number : ℕ) (request : InProgress) (outcome : Outcome) (executed : Option Entry) → EntryCounts old.changes world.changes executed
     → TurnCounts old (behind world number request outcome executed)
-behind_counts old world number request (Outcome.Refused operation reason) executed counts = counts
+behind_counts old world number request (Outcome.Refused operation reason) executed counts =
+    closes_counts old world number (with_result request (Outcome.Refused operation reason)) reason executed counts
 behind_counts old world number request (Outcome.Done answer) executed counts =
-    chosen_counts old (is_last request) (ends world number (with_result request (Outcome.Done answer)) status.Ok executed)
-    (goes_on world number (with_result request (Outcome.Done answer)) executed) counts counts
+    chosen_counts old (is_last request) (closes world number (with_result request (Outcome.Done answer)) status.Ok executed)
+    (goes_on world number (with_result request (Outcome.Done answer)) executed)
+    (closes_counts old world number (with_result request (Outcome.Done answer)) status.Ok executed counts) counts
 
 has_run_counts : (world : World) (number : ℕ) (request : InProgress) (operation : Argument) (ran : HasRun) → RanCounts world ran → TurnCounts world (has_run world number request operation ran)
 has_run_counts world number request operation (Gives outcome after left) counts =
@@ -197,11 +206,15 @@ called_counts world number now NoCall = refl
 called_counts world number now (OtherVersion xid) = refl
 called_counts world number now (Calls call) = requested_counts world number now call.xid (request_of call)
 
+further_counts : (world : World) (number now : ℕ) (request : InProgress) (ended : Option Status) → TurnCounts world (further world number now request ended)
+further_counts world number now request None = operates_counts world number now request (next_operation request)
+further_counts world number now request (Some last) = refl
+
 turned_counts : (world : World) (number now : ℕ) (connection : Option Connection) → TurnCounts world (turned world number now connection)
 turned_counts world number now None = refl
 turned_counts world number now (Some (Quiet bytes)) = refl
 turned_counts world number now (Some (Waiting request)) = called_counts world number now (read_call request)
-turned_counts world number now (Some (Busy request)) = operates_counts world number now request (next_operation request)
+turned_counts world number now (Some (Busy request)) = further_counts world number now request request.ended
 turned_counts world number now (Some (Replied reply)) = refl
 turned_counts world number now (Some Closed) = refl
 
@@ -289,16 +302,16 @@ record Stamped (serving : Serving) (done : List Entry) : Type 0 where
 differ : (b : Bool) → b ≡ true → b ≡ false → ⊥
 differ b is other = cc
 
-stamped : (limits : ServerLimits) (run : ℕ) (start : Tree) (serving : Serving) (history : History) → IsRun (mounted limits run start) serving history → Stamped serving history.done
-stamped limits run start _ _ Begins = record {
+stamped : (limits : ServerLimits) (run : ℕ) (start : Tree) (seats : Seats) (serving : Serving) (history : History) → IsRun (mounted limits run start seats) serving history → Stamped serving history.done
+stamped limits run start seats _ _ Begins = record {
   numbers = record {
     rise = λ i j one other less first second differs. let never : ⊥ = cc in absurd never;
     within = λ i entry is differs. let never : ⊥ = cc in absurd never;
   };
   below = λ up i entry is. let never : ⊥ = cc in absurd never;
 }
-stamped limits run start _ _ (Goes_on {old} {new} {history} event is_run happens) =
-    let was = stamped limits run start old history is_run in
+stamped limits run start seats _ _ (Goes_on {old} {new} {history} event is_run happens) =
+    let was = stamped limits run start seats old history is_run in
     let counts = event_counts old.world event in
     let now : new.world.changes ≡ (effect_of old.world event).changes = ap (λ (w : World). w.changes) happens.world in
     subst (Stamped new) (done_behind history old.world event) (record {
@@ -306,14 +319,14 @@ stamped limits run start _ _ (Goes_on {old} {new} {history} event is_run happens
       below = λ up. subst (λ (n : ℕ). AreBelow n (history.done ++ option_to_list (executed_of old.world event))) (sym now)
           (below_more old.world.changes _ history.done (executed_of old.world event) (was.below happens.up) counts);
     })
-stamped limits run start _ _ (Fails_at {old} {new} {history} event is_run fails) =
-    let was = stamped limits run start old history is_run in
+stamped limits run start seats _ _ (Fails_at {old} {new} {history} event is_run fails) =
+    let was = stamped limits run start seats old history is_run in
     record {
       numbers = numbers_more old.world.changes _ history.done (executed_of old.world event) (was.below fails.up) was.numbers (event_counts old.world event);
       below = λ up. absurd (differ new.is_down fails.down up);
     }
-stamped limits run start _ _ (Stays_down {old} {new} {history} connection is_run stays) =
-    let was = stamped limits run start old history is_run in
+stamped limits run start seats _ _ (Stays_down {old} {new} {history} connection is_run stays) =
+    let was = stamped limits run start seats old history is_run in
     subst (Stamped new) (done_behind history old.world (Takes connection)) (record {
       numbers = subst Numbers (sym (append_none history.done)) was.numbers;
       below = λ up. absurd (differ new.is_down stays.still_down up);
@@ -326,8 +339,8 @@ numbers_with serving history event was false is =
     numbers_more serving.world.changes _ history.done (executed_of serving.world event) (was.below is) was.numbers (event_counts serving.world event)
 
 pub every_stamp : EveryStamp
-every_stamp limits run start serving history is_run event =
-    let numbers = numbers_with serving history event (stamped limits run start serving history is_run) serving.is_down refl in
+every_stamp limits run start seats serving history is_run event =
+    let numbers = numbers_with serving history event (stamped limits run start seats serving history is_run) serving.is_down refl in
     record {
       rise = λ i j one other less first second differs. let lower = numbers.rise i j one other less first second differs in omega (arith, lower);
       of_run = λ i entry is differs. let fit = numbers.within i entry is differs in (omega (arith, fit), omega (arith, fit));

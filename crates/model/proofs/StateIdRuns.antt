@@ -4,6 +4,7 @@ use Rattle.std.specs.Prelude.{Option, Some, None, Result, Ok, Err, option_to_lis
 use Rattle.std.proofs.lemmas.Bool.{true≢false, cases_eq}
 use Rattle.std.proofs.lemmas.List.{append_assoc, append-nil}
 use Rattle.std.proofs.lemmas.Option.{same_Some}
+use Rattle.model.specs.Seats.{Seats}
 use Rattle.model.specs.declared.status.Status.{Status}
 use Rattle.model.specs.declared.status.Status.TheVariants as status
 use Rattle.model.specs.Answer.{Answer, Outcome, Done, Refused, OpenAnswer, ExchangeIdAnswer, CreateSessionAnswer}
@@ -23,7 +24,7 @@ use Rattle.model.specs.StateIdLaws.{IsOwn, IsGiven, Stands as StandsIn, is_open}
 use Rattle.model.specs.StateIdRuns.{WasAnswered, IsOpenOf, access_by, accesses_in, joined_by, Stands, HasEnded, Verdicts, EveryStateIdGoesOn, JoinsAreCounted, EveryOtherRunRefuses}
 use Rattle.model.specs.Step.{State, does}
 use Rattle.model.specs.Tree.{Tree}
-use Rattle.model.specs.World.{ServerLimits, InProgress, Connection, Quiet, Busy, Replied, World, HasRun, Gives, Replays, Entry, executed_entry, exchanged, created_by, tabled, started_in, begun, reclaimed, stepped, state_of as state_in, run as runs_operation, Turned, with_connection, with_result, result_of, behind, ends, goes_on, is_last, one, mounted_world, arrives, takes, connects, hangs_up, can_connect, connection_changed, arrives_at, without_reply, is_busy, without_connection}
+use Rattle.model.specs.World.{ServerLimits, InProgress, Connection, Quiet, Busy, Replied, World, HasRun, Gives, Replays, Entry, executed_entry, exchanged, created_by, tabled, started_in, begun, reclaimed, stepped, state_of as state_in, run as runs_operation, Turned, with_connection, with_result, result_of, behind, ends, goes_on, is_last, one, mounted_world, arrives, takes, connects, hangs_up, can_connect, connection_changed, arrives_at, without_reply, is_busy, without_connection, closes, is_to_hold}
 use Rattle.model.proofs.Headline.{done_behind}
 use Rattle.model.proofs.KeyedLaws.{at-with_same, at-with_other, at-without_same, at-without_other, some≢none}
 use Rattle.model.proofs.LimitLaws.{modes_keep_limits, inheritance_keeps_limits}
@@ -31,7 +32,7 @@ use Rattle.model.proofs.OpenClients.{in_place}
 use Rattle.model.proofs.StateIdLaws.{newest, lower, own, not_own, other_run, ended}
 use Rattle.model.proofs.StepProofs.{every_step}
 use Rattle.model.proofs.TableCalls.{either}
-use Rattle.model.proofs.TurnCases.{GoesWith, Begun, New, IsTurn, Idles, Says, Unread, TooBig, Gave, Repeats, turn_is, read_of, arrival_only, taking_only}
+use Rattle.model.proofs.TurnCases.{GoesWith, Begun, New, IsTurn, Idles, Says, Unread, TooBig, Gave, Repeats, turn_is, read_of, arrival_only, taking_only, Closes}
 use Rattle.model.proofs.OpensJoined.{AreCounted, fewer_same, fewer_filter, other_of, IsOpened, Goes, OpensNone, fewer_goes, does_goes}
 
 -- What stands between two events: each request that has begun is of the run
@@ -147,30 +148,38 @@ module _ (run : ℕ) (small_run : run < 2 ^ 32) (world : World) (numbered : Numb
 
   module _ (outcome : Outcome) (after : World) (left : InProgress) (of_run : left.context.run ≡ run) (run_is : after.run ≡ world.run)
       (are : after.connections ≡ world.connections) (counted : AreCounted after.opens) (executed : Option Entry) (by : OpensBy run world executed after.opens) where
-    ended_goes : (last : Status) → TurnGoes (ends after here (with_result left outcome) last executed)
-    ended_goes last =
-        let reply = framed (reply_text left.xid (Success (result_of (with_result left outcome) last))) in (
-          put_down (ends after here (with_result left outcome) last executed).world (Replied reply) run_is
+    ended_goes : (answered : ℕ) (results : List ℕ) (last : Status) → TurnGoes (ends after here (record left { answered = answered; results = results }) last executed)
+    ended_goes answered results last =
+        let reply = framed (reply_text left.xid (Success (result_of (record left { answered = answered; results = results }) last))) in (
+          put_down (ends after here (record left { answered = answered; results = results }) last executed).world (Replied reply) run_is
               (ap (λ (c : Keyed Connection). with c here (Replied reply)) are) counted (not_busy reply),
           by,
         )
 
-    more_goes : TurnGoes (goes_on after here (with_result left outcome) executed)
-    more_goes = (
-      put_down (goes_on after here (with_result left outcome) executed).world (Busy (with_result left outcome)) run_is
-          (ap (λ (c : Keyed Connection). with c here (Busy (with_result left outcome))) are) counted
-          (λ request is. ap (λ (r : InProgress). r.context.run) (sym (busy_is (with_result left outcome) request is)) ∙ of_run),
+    abbrev further_on : (status : Option Status) → InProgress
+    further_on status = record (with_result left outcome) { ended = status }
+
+    more_goes : (status : Option Status) → TurnGoes (goes_on after here (further_on status) executed)
+    more_goes status = (
+      put_down (goes_on after here (further_on status) executed).world (Busy (further_on status)) run_is
+          (ap (λ (c : Keyed Connection). with c here (Busy (further_on status))) are) counted
+          (λ request is. ap (λ (r : InProgress). r.context.run) (sym (busy_is (further_on status) request is)) ∙ of_run),
       by,
     )
+
+    closes_goes : (last : Status) → TurnGoes (closes after here (with_result left outcome) last executed)
+    closes_goes last =
+        either TurnGoes (is_to_hold left.slot after.table.seats) _ _
+        (λ seated. more_goes (Some last)) (λ none. ended_goes (with_result left outcome).answered (with_result left outcome).results last)
 
   went : (outcome : Outcome) (after : World) (left : InProgress) → left.context.run ≡ run → after.run ≡ world.run → after.connections ≡ world.connections
       → AreCounted after.opens → (executed : Option Entry) → OpensBy run world executed after.opens → TurnGoes (behind after here left outcome executed)
   went (Refused operation reason) after left of_run run_is are counted executed by =
-      ended_goes (Refused operation reason) after left of_run run_is are counted executed by reason
+      closes_goes (Refused operation reason) after left of_run run_is are counted executed by reason
   went (Done answer) after left of_run run_is are counted executed by =
       either TurnGoes (is_last left) _ _
-      (λ last. ended_goes (Done answer) after left of_run run_is are counted executed by status.Ok)
-      (λ more. more_goes (Done answer) after left of_run run_is are counted executed by)
+      (λ last. closes_goes (Done answer) after left of_run run_is are counted executed by status.Ok)
+      (λ more. more_goes (Done answer) after left of_run run_is are counted executed by left.ended)
 
   its_run : (request : InProgress) → GoesWith world here request → request.context.run ≡ run
   its_run request (Begun _ is) = numbered.busy here request is
@@ -185,6 +194,8 @@ module _ (run : ℕ) (small_run : run < 2 ^ 32) (world : World) (numbered : Numb
   turned : (now : ℕ) (t : Turned) → IsTurn world here now t → TurnGoes t
   turned now _ Idles = (numbered, refl)
   turned now _ (Says bytes xid reply waits) = (replied (framed (reply_text xid reply)), refl)
+  turned now _ (Closes request last there is) =
+      ended_goes (Done Answer.PutRootFh) world request (numbered.busy here request there) refl refl numbered.counted None refl request.answered request.results last
   turned now _ (Unread request operation reason goes) =
       went (Refused operation reason) world request (its_run request goes) refl refl numbered.counted None refl
   turned now _ (TooBig request operation rest goes reads) =
@@ -268,8 +279,8 @@ module _ (run : ℕ) (small_run : run < 2 ^ 32) where
 
   -- Runs
 
-  mounted_numbered : (limits : ServerLimits) (start : Tree) → Numbered run (mounted_world limits run start)
-  mounted_numbered limits start = record {
+  mounted_numbered : (limits : ServerLimits) (start : Tree) (seats : Seats) → Numbered run (mounted_world limits run start seats)
+  mounted_numbered limits start seats = record {
     run_is = refl;
     busy = λ number request is. absurd (nothing request is);
     counted = record { rising = tt; given = λ serial known there. absurd (some≢none known (sym there)); small = omega arith };
@@ -386,7 +397,7 @@ module _ (run : ℕ) (small_run : run < 2 ^ 32) where
 
   module _ (entry : Entry) (arguments : OpenArguments) (answer : OpenAnswer) (new : Serving) (was : WasAnswered run entry arguments answer new) where
     old_numbered : Numbered run was.old.world
-    old_numbered = run_numbered (mounted was.limits run was.start) (mounted_numbered was.limits was.start) was.old was.history was.begun
+    old_numbered = run_numbered (mounted was.limits run was.start was.seats) (mounted_numbered was.limits was.start was.seats) was.old was.history was.begun
 
     new_numbered : Numbered run new.world
     new_numbered = subst (Numbered run) (sym was.happens.world) (event_goes was.old.world was.event old_numbered).0
@@ -495,9 +506,9 @@ every_state_id_goes_on run entry arguments answer new later since small was is_r
     }
 
 pub every_other_run_refuses : EveryOtherRunRefuses
-every_other_run_refuses run other entry arguments answer new limits start serving history event used small small_other apart was is_run is =
+every_other_run_refuses run other entry arguments answer new limits start seats serving history event used small small_other apart was is_run is =
     let opened = is_opened run small entry arguments answer new was in
-    let numbered = run_numbered other small_other (mounted limits other start) (mounted_numbered other small_other limits start) serving history is_run in
+    let numbered = run_numbered other small_other (mounted limits other start seats) (mounted_numbered other small_other limits start seats) serving history is_run in
     let by = used_in other small_other serving numbered event used is in
     ap (found used.state.opens used.state.context) opened.is.is
     ∙ other_run used.state.opens used.state.context run opened.serial opened.known.seqid opened.is.given

@@ -6,12 +6,13 @@ use Rattle.std.proofs.Math.Nat.{min-le_right}
 use Rattle.std.proofs.lemmas.Bool.{and_parts, or_parts}
 use Rattle.std.proofs.lemmas.List.{length-replicate}
 use Rattle.std.proofs.lemmas.List.Sums.{length-filter}
+use Rattle.model.specs.Seats.{has_seat}
 use Rattle.model.specs.declared.status.Status.{Status}
 use Rattle.model.specs.declared.status.Status.TheVariants as status
 use Rattle.model.specs.Refusal.{first_refusal}
 use Rattle.model.specs.Operation.{ExchangeIdArguments, CreateSessionArguments, SequenceArguments}
 use Rattle.model.specs.Answer.{CreateSessionAnswer, ExchangeIdAnswer}
-use Rattle.model.specs.Session.{SessionLimits, Client, Slot, Session, Table, Begun, Refuses, Replays, Runs, Running, Kept, slot_at, no_slot, empty_table, without_unconfirmed, without_client, is_full_of_clients, new_record, exchange_by, exchange_id, is_confirmed_of, is_unconfirmed_of, exchange_flags, has_only, has_state, is_client, is_session, create_session_answer, create_refusals, create_unless, create_again, create_by, create_session, new_session, staying, is_full_of_sessions, is_too_small, is_of_clients, replaced_by, session_flags, is_running, CreateSessionOutcome, next_number, destroy_by, destroy_session, destroy_client_by, destroy_client_id, reclaim_by, reclaim_complete, begin, with_slot, started, finish}
+use Rattle.model.specs.Session.{SessionLimits, Client, Slot, Session, Table, Begun, Refuses, Replays, Runs, Running, Kept, slot_at, no_slot, empty_table, without_unconfirmed, without_client, is_full_of_clients, new_record, exchange_by, exchange_id, is_confirmed_of, is_unconfirmed_of, exchange_flags, has_only, has_state, is_client, is_session, create_session_answer, create_refusals, create_unless, create_again, create_by, create_session, new_session, staying, is_full_of_sessions, is_too_small, is_of_clients, replaced_by, session_flags, is_running, CreateSessionOutcome, next_number, destroy_by, destroy_session, destroy_client_by, destroy_client_id, reclaim_by, reclaim_complete, begin, with_slot, started, finish, limits_for, persists}
 use Rattle.model.specs.SessionRuns.{Call, Exchanges, Creates, Destroys, DestroysClient, Reclaims, Begins, Finishes, after, started_by}
 use Rattle.model.specs.SessionTables.{has_serial, IsTable, after_calls, EveryTable}
 use Rattle.model.proofs.SlotLaw.{session_id-serial, id_of}
@@ -75,13 +76,18 @@ exchange_holds limits has_opens uid arguments table holds =
 
 -- CREATE_SESSION
 
+few_slots : (limits : SessionLimits) (asked : ℕ) (b : Bool) → length (replicate (min asked (limits_for limits b).slots) no_slot) ≤ limits.slots
+few_slots limits asked false =
+    omega (arith, length-replicate (min asked limits.slots) no_slot, min-le_right asked limits.slots)
+few_slots limits asked true =
+    omega (arith, length-replicate (min asked (min limits.seat_slots limits.slots)) no_slot, min-le_right asked (min limits.seat_slots limits.slots), min-le_right limits.seat_slots limits.slots)
+
 created_holds : (limits : SessionLimits) (arguments : CreateSessionArguments) (client : Client) (table : Table) → Holds limits table
     → find (is_client client.number) table.clients ≡ Some client → (first : Option Status)
     → first_refusal (create_refusals limits arguments client table) ≡ first → Holds limits (create_unless limits arguments client table first).table
 created_holds limits arguments client table holds found (Some reason) is = holds
 created_holds limits arguments client table holds found None none =
-    let slots : length (replicate (min arguments.fore.max_requests limits.slots) no_slot) ≤ limits.slots =
-    omega (arith, length-replicate (min arguments.fore.max_requests limits.slots) no_slot, min-le_right arguments.fore.max_requests limits.slots) in
+    let slots = few_slots limits arguments.fore.max_requests (persists limits arguments client table) in
     let behind_number = none_in_front (not (arguments.sequence == client.sequence)) status.SeqMisordered _ none in
     let behind_flags = none_in_front (not (has_only session_flags arguments.flags)) status.Inval _ behind_number.1 in
     let behind_size = none_in_front (is_too_small limits arguments.fore) status.TooSmall _ behind_flags.1 in
@@ -123,7 +129,8 @@ create_holds limits uid arguments table holds = create_by_holds limits uid argum
 -- The calls that end something, or mark it
 
 destroy_holds : (limits : SessionLimits) (id : List ℕ) (table : Table) (known : Option Session) → Holds limits table → Holds limits (destroy_by id table known).1
-destroy_holds limits id table None holds = holds
+destroy_holds limits id table None holds =
+    either (λ (r : Option Status × Table). Holds limits r.1) (has_seat id table.seats) _ _ (λ seated. holds) (λ none. holds)
 destroy_holds limits id table (Some session) holds =
     either (λ (r : Option Status × Table). Holds limits r.1) (is_running session) _ _
     (λ runs. holds)

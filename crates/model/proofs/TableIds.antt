@@ -2,11 +2,12 @@
 use Rattle.std.proofs.Common.{◌≡◌, ℕ, ◌<◌, Bool, true, false, not, cond, ◌||◌, ◌==◌, nat_lt, List, [], ◌∷◌, map, filter, Option, None, Some, Result, refl, ap, ◌∙◌, arith, find, eq-eqb, lt-ltb}
 use Rattle.std.specs.List.{list_all, list_any}
 use Rattle.std.proofs.lemmas.Bool.{and_from, or_right, or_left}
+use Rattle.model.specs.Seats.{Seats, has_seat, freed, is_seat_of}
 use Rattle.model.specs.declared.status.Status.{Status}
 use Rattle.model.specs.Refusal.{first_refusal}
 use Rattle.model.specs.Operation.{ExchangeIdArguments, CreateSessionArguments, SequenceArguments}
 use Rattle.model.specs.Answer.{CreateSessionAnswer, ExchangeIdAnswer}
-use Rattle.model.specs.Session.{SessionLimits, Client, Slot, Session, Table, Begun, Refuses, Replays, Runs, Running, Kept, slot_at, client_number, with_clients, with_sessions, without_unconfirmed, without_client, new_client, with_new_client, is_full_of_clients, new_record, exchange_by, exchange_id, is_confirmed_of, is_unconfirmed_of, exchange_flags, has_only, has_state, is_client, is_session, confirmed_with, create_session_answer, create_refusals, create_unless, create_again, create_by, create_session, new_session, staying, is_of_clients, replaced_by, is_running, CreateSessionOutcome, next_number, destroy_by, destroy_session, destroy_client_by, destroy_client_id, reclaim_by, reclaim_complete, begin, started, finish}
+use Rattle.model.specs.Session.{SessionLimits, Client, Slot, Session, Table, Begun, Refuses, Replays, Runs, Running, Kept, slot_at, client_number, with_clients, with_sessions, without_unconfirmed, without_client, new_client, with_new_client, is_full_of_clients, new_record, exchange_by, exchange_id, is_confirmed_of, is_unconfirmed_of, exchange_flags, has_only, has_state, is_client, is_session, confirmed_with, create_session_answer, create_refusals, create_unless, create_again, create_by, create_session, new_session, staying, is_of_clients, replaced_by, is_running, CreateSessionOutcome, next_number, destroy_by, destroy_session, destroy_client_by, destroy_client_id, reclaim_by, reclaim_complete, begin, started, finish, held_by}
 use Rattle.model.specs.SessionRuns.{Exchanges, Creates, Destroys, DestroysClient, Reclaims, Begins, Finishes, started_by}
 use Rattle.model.specs.SessionTables.{has_serial, was_there, is_new, session_was_there, is_new_session, GivesNew, EveryCallGivesNew}
 use Rattle.model.proofs.TableLaws.{all-filter, all-append, all-map, all-weaker, confirms, stays}
@@ -172,12 +173,23 @@ module _ (before : Table) where
 
   -- The others
 
+  reseated : (table : Table) (seats : Seats) → GivesNew before table → GivesNew before (record table { seats = seats })
+  reseated table seats gives = record {
+    run = gives.run;
+    clients = gives.clients;
+    client_serial = gives.client_serial;
+    sessions = gives.sessions;
+    session_serial = gives.session_serial;
+  }
+
   destroy_gives : (id : List ℕ) (table : Table) (session : Option Session) → GivesNew before table → GivesNew before (destroy_by id table session).1
-  destroy_gives id table None gives = gives
+  destroy_gives id table None gives =
+      either (λ (r : Option Status × Table). GivesNew before r.1) (has_seat id table.seats) _ _
+      (λ seated. reseated table (freed (is_seat_of id) table.seats) gives) (λ none. gives)
   destroy_gives id table (Some session) gives =
       either (λ (r : Option Status × Table). GivesNew before r.1) (is_running session) _ _
       (λ runs. gives)
-      (λ rests. fewer_sessions table (λ x. not (is_session id x)) gives)
+      (λ rests. reseated _ (freed (is_seat_of id) table.seats) (fewer_sessions table (λ x. not (is_session id x)) gives))
 
   destroy_client_gives : (has_opens : ℕ → Bool) (number : ℕ) (table : Table) (client : Option Client) → GivesNew before table
       → GivesNew before (destroy_client_by has_opens number table client).1
@@ -206,7 +218,7 @@ module _ (before : Table) where
   unfolding finish
   finish_gives id place reply table gives =
       let slot : Session → Slot = λ session. record (slot_at session place) { state = Kept reply } in
-      changed_sessions table (slotted id place slot) (slot_serial id place slot) gives
+      reseated _ (held_by id place reply table.seats (find (is_session id) table.sessions)) (changed_sessions table (slotted id place slot) (slot_serial id place slot) gives)
 
 pub every_call_gives_new : EveryCallGivesNew
 unfolding exchange_id create_session destroy_session destroy_client_id reclaim_complete

@@ -10,7 +10,7 @@ use Rattle.model.specs.Keyed.{at}
 use Rattle.model.specs.Operation.{Argument, operation_of}
 use Rattle.model.specs.Record.{RecordLimits, Front, Partial, Refused as BadRecord, Whole, front, framed}
 use Rattle.model.specs.Rpc.{CallRead, NoCall, OtherVersion, Calls, VersionRefused, read_call, is_call_read, Call, Request, Answers, Runs, request_of, by_head, by_cred, compound_request, is_empty, cred_of, compound_head, Compound, Reply, Success, reply_text}
-use Rattle.model.specs.World.{World, InProgress, Connection, Quiet, Waiting, Busy, Replied, Closed, HasRun, Gives, Replays, Next, Refuses, Reads, next_operation, run, has_room, in_room, Turned, Answered, idle, replies, behind, has_run, operates, executed_entry, in_progress, requested, called, turned, one, with_connection, arrived, arrives_at, without_reply}
+use Rattle.model.specs.World.{World, InProgress, Connection, Quiet, Waiting, Busy, Replied, Closed, HasRun, Gives, Replays, Next, Refuses, Reads, next_operation, run, has_room, in_room, Turned, Answered, idle, replies, behind, has_run, operates, executed_entry, ends, further, in_progress, requested, called, turned, one, with_connection, arrived, arrives_at, without_reply}
 
 -- the request that a turn of this connection goes on with: one that has begun, or that begins
 pub data GoesWith (world : World) (here : ℕ) : InProgress → Type 0 where
@@ -21,10 +21,12 @@ pub data GoesWith (world : World) (here : ℕ) : InProgress → Type 0 where
 abbrev pub read_of : InProgress → List ℕ → InProgress
 read_of request rest = record request { rest = rest }
 
--- nothing; a reply without an operation; one refused before it runs; one whose result has no room, or has it; a reply that a slot keeps
+-- nothing; a reply without an operation; one made of a request that has ended; one refused before it runs; one whose result has no room, or has it; a reply that a slot keeps
 pub data IsTurn (world : World) (here now : ℕ) : Turned → Type 0 where
   Idles : IsTurn world here now (idle world)
   Says : (bytes : List ℕ) (xid : ℕ) (reply : Reply) → at here world.connections ≡ Some (Waiting bytes) → IsTurn world here now (replies world here xid reply)
+  Closes : (request : InProgress) (last : Status) → at here world.connections ≡ Some (Busy request) → request.ended ≡ Some last
+      → IsTurn world here now (ends world here request last None)
   Unread : (request : InProgress) (operation : ℕ) (reason : Status) → GoesWith world here request
       → IsTurn world here now (behind world here request (Refused operation reason) None)
   TooBig : (request : InProgress) (operation : Argument) (rest : List ℕ) → GoesWith world here request → next_operation request ≡ Reads operation rest
@@ -112,11 +114,16 @@ module _ (world : World) (here now : ℕ) where
   called_is bytes waits (OtherVersion xid) = Says bytes xid VersionRefused waits
   called_is bytes waits (Calls call) = requested_is bytes waits call.xid (request_of call) (request_some call)
 
+  further_is : (request : InProgress) → at here world.connections ≡ Some (Busy request) → (ended : Option Status) → request.ended ≡ ended
+      → IsTurn world here now (further world here now request ended)
+  further_is request is None same = operates_is request (Begun request is) (next_operation request) refl
+  further_is request is (Some last) same = Closes request last is same
+
   turned_is : (connection : Option Connection) → at here world.connections ≡ connection → IsTurn world here now (turned world here now connection)
   turned_is None is = Idles
   turned_is (Some (Quiet bytes)) is = Idles
   turned_is (Some (Waiting bytes)) is = called_is bytes is (read_call bytes)
-  turned_is (Some (Busy request)) is = operates_is request (Begun request is) (next_operation request) refl
+  turned_is (Some (Busy request)) is = further_is request is request.ended refl
   turned_is (Some (Replied reply)) is = Idles
   turned_is (Some Closed) is = Idles
 

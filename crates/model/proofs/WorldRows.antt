@@ -1,6 +1,6 @@
 -- Worked rows over the world, bytes in and bytes out, on a fresh volume of 256 sectors and 16 nodes in its first run; the caller has
 -- uid 7 and gid 7, and each turn is at the moment 0.
-use Rattle.std.proofs.Common.{◌≡◌, ℕ, zero, suc, ◌+◌, ◌*◌, refl, List, [], ◌∷◌, ◌++◌, length, replicate, fold, Option, Some}
+use Rattle.std.proofs.Common.{◌≡◌, ℕ, zero, suc, ◌+◌, ◌*◌, refl, List, [], ◌∷◌, ◌++◌, length, replicate, fold, true, Option, Some, None}
 use Rattle.std.specs.Int.{w32}
 use Rattle.xdr.specs.Grammar.{number, number_at}
 use Rattle.xdr.specs.Forms.{padded, padded_at, counted, counted_at, each_at, elements, elements_at}
@@ -19,6 +19,7 @@ use Rattle.model.specs.Need.{permitted}
 use Rattle.model.specs.Record.{front_from, fragment, behind_header, framed}
 use Rattle.model.specs.Rpc.{words, read_call, request_of, reply_text, compound_text}
 use Rattle.model.specs.WireArguments.{arguments_at}
+use Rattle.model.specs.Seats.{no_seats}
 use Rattle.model.specs.Session.{exchange_id, create_session, destroy_session, destroy_client_id, reclaim_complete, begin, started, finish, session_id}
 use Rattle.model.specs.StateIds as stateids
 use Rattle.model.specs.Step.{does, effect, refusals}
@@ -28,7 +29,7 @@ use Rattle.model.specs.World.{World, ServerLimits, mounted_world, one, arrives, 
 abbrev limits : ServerLimits
 limits = record {
   volume = limits_of 256 16;
-  sessions = record { clients = 64; sessions = 32; slots = 8; operations = 16; record_bytes = 16384 };
+  sessions = record { clients = 64; sessions = 32; slots = 8; seat_slots = 2; operations = 16; persistent = true; record_bytes = 16384 };
   records = record { bytes = 16384; fragments = 64 };
   connections = 16;
   reply_bytes = 16368;
@@ -37,7 +38,7 @@ limits = record {
 -- a fresh server with two connections
 fresh : World
 unfolding connects
-fresh = connects (connects (mounted_world limits 1 fresh_tree) 0) 1
+fresh = connects (connects (mounted_world limits 1 fresh_tree []) 0) 1
 
 -- a record of one fragment; the words of it
 abbrev record_of : List ℕ → List ℕ
@@ -384,3 +385,105 @@ removes = refl
 read_behind : reply_at (turned 1 removed 0) 0 ≡ Some (compound_reply 9 70 4 (53 ∷ 0 ∷ 1 ∷ 1 ∷ 0 ∷ 1 ∷ 2 ∷ 0 ∷ 7 ∷ 7 ∷ 0 ∷ 24 ∷ 0 ∷ 15 ∷ 0 ∷ 25 ∷ 70 ∷ []))
 unfolding removed turned
 read_behind = refl
+
+-- On a volume with five seats, all free: a persistent session has two slots
+
+seated_fresh : World
+unfolding connects
+seated_fresh = connects (connects (mounted_world limits 1 fresh_tree no_seats) 0) 1
+
+seated_greeted : World
+unfolding seated_fresh behind
+seated_greeted = behind 1 seated_fresh 0 exchange_call
+
+abbrev persist_call : List ℕ
+persist_call = compound 3 7 1 (43 ∷ 1 ∷ 1 ∷ 1 ∷ 1 ∷ (channel ++ (channel ++ (0 ∷ 1 ∷ 0 ∷ []))))
+
+persists : answer 1 seated_greeted 0 persist_call
+    ≡ Some (compound_reply 3 0 1 (43 ∷ 0 ∷ 1 ∷ 1 ∷ 0 ∷ 1 ∷ 1 ∷ 1 ∷ (0 ∷ 16384 ∷ 16384 ∷ 16384 ∷ 16 ∷ 2 ∷ 0 ∷ channel)))
+unfolding seated_greeted answer
+persists = refl
+
+seated_opened : World
+unfolding seated_greeted behind
+seated_opened = behind 1 seated_greeted 0 persist_call
+
+-- SEQUENCE, PUTROOTFH, CREATE "a", GETFH: each operation a turn that answers Ran, and one more makes the reply
+abbrev seated_reply : List ℕ
+seated_reply = words (
+    0x80000094 ∷ 9 ∷ 1 ∷ 0 ∷ 0 ∷ 0 ∷ 0 ∷ 0 ∷ 0 ∷ 4 ∷ 0x35 ∷ 0
+    ∷ 1 ∷ 1 ∷ 0 ∷ 1 ∷ 1 ∷ 0 ∷ 1 ∷ 1 ∷ 0 ∷ 0x18 ∷ 0 ∷ 6
+    ∷ 0 ∷ 1 ∷ 0 ∷ 1 ∷ 1 ∷ 1 ∷ 2 ∷ 0 ∷ 2 ∷ 0xa ∷ 0 ∷ 8
+    ∷ 1 ∷ 1 ∷ [])
+
+seated_waiting : World
+unfolding seated_opened comes
+seated_waiting = comes seated_opened 0 (make_call 7)
+
+seated_fourth : next_turn (turned 3 seated_waiting 0) 0 ≡ Ran
+unfolding seated_waiting next_turn
+seated_fourth = refl
+
+seated_fifth : next_turn (turned 4 seated_waiting 0) 0 ≡ Answered
+unfolding seated_waiting next_turn
+seated_fifth = refl
+
+seated_make : answer 5 seated_opened 0 (make_call 7) ≡ Some seated_reply
+unfolding seated_opened answer
+seated_make = refl
+
+-- the same number waits until the reply is held
+seated_delay : answer 1 (turned 4 seated_waiting 0) 1 (make_call 7) ≡ Some (compound_reply 9 10008 1 (53 ∷ 10008 ∷ []))
+unfolding seated_waiting answer turned
+seated_delay = refl
+
+seated_made : World
+unfolding seated_opened behind
+seated_made = behind 5 seated_opened 0 (make_call 7)
+
+-- after a restart the retry has the same reply and makes nothing; the next number, and another caller, find a dead session
+restarted : World → World
+unfolding connects
+restarted world = connects (connects (mounted_world limits 2 world.tree world.table.seats) 0) 1
+
+retry_later : answer 1 (restarted seated_made) 1 (make_call 7) ≡ Some seated_reply
+unfolding seated_made restarted answer
+retry_later = refl
+
+retry_later_makes_nothing : length (names_at (behind 1 (restarted seated_made) 1 (make_call 7)).tree root) ≡ 1
+unfolding seated_made restarted behind
+retry_later_makes_nothing = refl
+
+dead_next : answer 1 (restarted seated_made) 1 (compound 12 7 1 (begin_on 0 2))
+    ≡ Some (words (0x8000002c ∷ 0xc ∷ 1 ∷ 0 ∷ 0 ∷ 0 ∷ 0 ∷ 0x275e ∷ 0 ∷ 1 ∷ 0x35 ∷ 0x275e ∷ []))
+unfolding seated_made restarted answer
+dead_next = refl
+
+dead_to_others : answer 1 (restarted seated_made) 1 (make_call 8) ≡ Some (compound_reply 9 10078 1 (53 ∷ 10078 ∷ []))
+unfolding seated_made restarted answer
+dead_to_others = refl
+
+-- a request that ran and whose reply was not held yet: the session is dead, and "a" is there once
+ran_only : World
+unfolding seated_waiting turned
+ran_only = turned 4 seated_waiting 0
+
+dead_retry : answer 1 (restarted ran_only) 1 (make_call 7) ≡ Some (compound_reply 9 10078 1 (53 ∷ 10078 ∷ []))
+unfolding ran_only restarted answer
+dead_retry = refl
+
+made_once : length (names_at (restarted ran_only).tree root) ≡ 1
+unfolding ran_only restarted
+made_once = refl
+
+-- DESTROY_SESSION frees the seat of a dead session: after it the session is unknown
+abbrev free_call : List ℕ
+free_call = compound 13 7 1 (44 ∷ 1 ∷ 1 ∷ 0 ∷ 1 ∷ [])
+
+destroys_dead : answer 1 (restarted seated_made) 1 free_call ≡ Some (compound_reply 13 0 1 (44 ∷ 0 ∷ []))
+unfolding seated_made restarted answer
+destroys_dead = refl
+
+unknown_then : answer 1 (behind 1 (restarted seated_made) 1 free_call) 1 (make_call 7) ≡ Some (compound_reply 9 10052 1 (53 ∷ 10052 ∷ []))
+unfolding seated_made restarted behind answer
+unknown_then = refl

@@ -2,6 +2,7 @@
 -- answered OK, a reading as well as a change, was permitted to its caller by the lists of the tree
 -- that it was answered from.
 use Rattle.std.specs.Prelude.{ℕ, ◌≡◌, Some, slice_get, IsTrue}
+use Rattle.model.specs.Seats.{Seats}
 use Rattle.model.specs.Need.{permitted}
 use Rattle.model.specs.Runs.{Event, Serving, History, IsRun, mounted, executed, done_with, is_done}
 use Rattle.model.specs.Tree.{Tree}
@@ -15,7 +16,7 @@ IsPermittedAnswer entry =
 -- the operation that is under way included
 abbrev pub EveryAnswerIsPermitted : Type 0
 EveryAnswerIsPermitted =
-    (limits : ServerLimits) (run : ℕ) (start : Tree) (serving : Serving) (history : History)
-    → IsRun (mounted limits run start) serving history → (event : Event) → (i : ℕ) (entry : Entry)
+    (limits : ServerLimits) (run : ℕ) (start : Tree) (seats : Seats) (serving : Serving) (history : History)
+    → IsRun (mounted limits run start seats) serving history → (event : Event) → (i : ℕ) (entry : Entry)
     → slice_get (done_with history (executed serving event)) i ≡ Some entry
     → IsPermittedAnswer entry

@@ -1,7 +1,9 @@
 -- What slots keep is bounded, whatever comes: RFC 8881, section 2.10.6.1.3. The bound is this
 -- server's profile.
-use Rattle.std.specs.Prelude.{◌≡◌, ◌≤◌, ℕ, ◌-◌, Bool, true, IsTrue, List, Some, length, nat_le}
+use Rattle.std.specs.Prelude.{◌≡◌, ◌≤◌, ℕ, ◌-◌, Bool, true, IsTrue, List, Option, Some, None, length, nat_le}
 use Rattle.std.specs.List.{list_all}
+use Rattle.model.specs.Seats.{Seats}
+use Rattle.model.specs.declared.status.Status.{Status}
 use Rattle.model.specs.declared.status.Status.TheVariants as status
 use Rattle.model.specs.Keyed.{at}
 use Rattle.model.specs.Rpc.{Success, reply_text}
@@ -26,10 +28,15 @@ is_short_state most (Kept reply) = nat_le (length reply) most
 abbrev pub keeps_short : (most : ℕ) → Session → Bool
 keeps_short most session = list_all (λ slot. is_short_state most slot.state) session.slots
 
+-- of a request that has begun: the reply that it has so far, or the whole result where that is there
+abbrev pub IsShortSoFar : ServerLimits → InProgress → (ended : Option Status) → Type 0
+IsShortSoFar limits request None = length (reply_so_far request) ≤ limits.reply_bytes
+IsShortSoFar limits request (Some last) = length (result_of request last) ≤ max_kept limits
+
 pub record IsShort (world : World) : Type 0 where
   pub kept : IsTrue (list_all (keeps_short (max_kept world.limits)) world.table.sessions)
   pub busy : (number : ℕ) (request : InProgress) → at number world.connections ≡ Some (Busy request)
-      → length (reply_so_far request) ≤ world.limits.reply_bytes
+      → IsShortSoFar world.limits request request.ended
 
 -- there is room for a COMPOUND without results
 abbrev pub HasReplyRoom : ServerLimits → Type 0
@@ -37,8 +44,8 @@ HasReplyRoom limits = 300 ≤ limits.reply_bytes
 
 -- The law: it holds when a run begins, and each event keeps it
 pub record KeepsShort : Type 0 where
-  pub begins : (limits : ServerLimits) (run : ℕ) (tree : Tree)
-      → IsShort (mounted_world limits run tree)
+  pub begins : (limits : ServerLimits) (run : ℕ) (tree : Tree) (seats : Seats)
+      → IsShort (mounted_world limits run tree seats)
   pub turn : (world : World) (number now : ℕ) → HasReplyRoom world.limits → IsShort world
       → IsShort (one world number now).world
   pub arrival : (world : World) (number : ℕ) (piece : List ℕ) → IsShort world

@@ -43,6 +43,8 @@ pub mod Rpc
 pub mod RpcGrammar
 pub mod RuledOut
 pub mod Runs
+pub mod SeatRuns
+pub mod Seats
 pub mod Served
 pub mod ServedOnce
 pub mod Session

@@ -1,6 +1,7 @@
 -- No open outlives its client: RFC 8881, sections 2.4, 8.2, 18.16, 18.35, 18.36 and 18.50.
 use Rattle.std.specs.Prelude.{ℕ, ◌≡◌, Bool, true, ◌&&◌, IsTrue, List, find, Some}
 use Rattle.std.specs.List.{list_all, list_any}
+use Rattle.model.specs.Seats.{Seats}
 use Rattle.model.specs.Keyed.{at}
 use Rattle.model.specs.Opens.{Open}
 use Rattle.model.specs.Runs.{Serving, History, IsRun, mounted}
@@ -36,6 +37,6 @@ pub record HaveClients (world : World) : Type 0 where
 
 -- at each moment of every run of the server
 abbrev pub EveryOpenHasClient : Type 0
-EveryOpenHasClient = (limits : ServerLimits) (run : ℕ) (start : Tree)
+EveryOpenHasClient = (limits : ServerLimits) (run : ℕ) (start : Tree) (seats : Seats)
     (serving : Serving) (history : History)
-    → IsRun (mounted limits run start) serving history → HaveClients serving.world
+    → IsRun (mounted limits run start seats) serving history → HaveClients serving.world

@@ -1,6 +1,7 @@
 -- The opens of a run, as every operation on the tree keeps them: RFC 8881, sections 8.2 (stateids)
 -- and 18.16 (OPEN).
 use Rattle.std.specs.Prelude.{ℕ, ◌+◌, ◌≡◌, ◌≤◌, Some, IsTrue, IsFalse, length}
+use Rattle.model.specs.Seats.{Seats}
 use Rattle.model.specs.Keyed.{at, is_key, IsAbove}
 use Rattle.model.specs.Limits.{Limits}
 use Rattle.model.specs.Opens.{Opens, Open}
@@ -40,7 +41,7 @@ EveryStepKeepsOpens =
 -- and so they are at each moment of every run of the server
 abbrev pub EveryRunKeepsOpens : Type 0
 EveryRunKeepsOpens =
-    (limits : ServerLimits) (run : ℕ) (start : Tree) (serving : Serving) (history : History)
+    (limits : ServerLimits) (run : ℕ) (start : Tree) (seats : Seats) (serving : Serving) (history : History)
     → limits.volume.aces_set + 5 ≤ limits.volume.aces → IsStart limits.volume run start
-    → IsRun (mounted limits run start) serving history
+    → IsRun (mounted limits run start seats) serving history
     → AreOpens limits.volume serving.world.tree serving.world.opens

@@ -3,6 +3,7 @@
 use Rattle.std.specs.Prelude.{◌≡◌, ℕ, ◌-◌, ◌^◌, List, [], ◌∷◌, ◌++◌, flat_map, length, Some}
 use Rattle.xdr.specs.Grammar.{Grammar, ◌&◌, unsigned_int}
 use Rattle.xdr.specs.Forms.{opaque, array}
+use Rattle.model.specs.Seats.{Seats}
 use Rattle.model.specs.declared.acl.Cred.{Cred}
 use Rattle.model.specs.declared.status.Status.{Status}
 use Rattle.model.specs.Answer.{Outcome}
@@ -43,7 +44,7 @@ HasResults request = (results : List Outcome) × AreResults request results
 
 abbrev pub EveryRequestHasResults : Type 0
 EveryRequestHasResults =
-    (limits : ServerLimits) (run : ℕ) (start : Tree) (serving : Serving) (history : History)
-    → IsRun (mounted limits run start) serving history
+    (limits : ServerLimits) (run : ℕ) (start : Tree) (seats : Seats) (serving : Serving) (history : History)
+    → IsRun (mounted limits run start seats) serving history
     → (number : ℕ) (request : InProgress)
     → at number serving.world.connections ≡ Some (Busy request) → HasResults request

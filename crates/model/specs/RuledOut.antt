@@ -1,6 +1,7 @@
 -- Servers that these definitions rule out, each by one law.
 use Rattle.std.specs.Prelude.{◌≡◌, ◌≢◌, ℕ, zero, suc, ◌+◌, ◌<◌, true, false, List, [], ◌∷◌, ◌++◌, length, take, slice_get, find, Option, None, Some, ◌⊎◌}
 use Rattle.std.specs.List.{IsAmong}
+use Rattle.model.specs.Seats.{Seats}
 use Rattle.model.specs.Keyed.{at}
 use Rattle.model.specs.Answer.{Answer, Outcome}
 use Rattle.model.specs.Operation.{Argument, SequenceArguments}
@@ -9,7 +10,8 @@ use Rattle.model.specs.Rpc as rpc
 use Rattle.model.specs.Rpc.{CallRead, NoCall, OtherVersion, Calls, Request, Answers, read_call, request_of, reply_text, Success}
 use Rattle.model.specs.Session.{Table, Session, Kept, Runs, Replays, begin, finish, is_session, slot_at, next_number}
 use Rattle.model.specs.Tree.{Tree}
-use Rattle.model.specs.World.{World, ServerLimits, Entry, InProgress, in_progress, Connection, Waiting, Busy, Replied, Next, Refuses, Reads, next_operation, state_of, outcome_text, Turned, one, reply_with, hangs_up, hung_up, is_busy}
+use Rattle.model.specs.declared.status.Status.{Status}
+use Rattle.model.specs.World.{World, ServerLimits, Entry, InProgress, in_progress, Connection, Waiting, Busy, Replied, Next, Refuses, Reads, next_operation, state_of, outcome_text, status_of, Turned, one, ends, reply_with, hangs_up, hung_up, is_busy}
 use Rattle.model.specs.Runs.{Event, Turns, HangsUp, effect_of, before, IsDurable, is_durable, is_done, History, Serving, mounted, executed, MayLeave, Happens, IsRun, IsGoodPrefix, done_with, tree_after}
 
 -- One that keeps a later change and skips an unstable write before it: the tree left is the one
@@ -30,9 +32,9 @@ NoEarlyReply =
 -- handed out as the i-th operation is in each tree that may be left at any later moment.
 abbrev pub NoTakingBack : Type 0
 NoTakingBack =
-    (limits : ServerLimits) (run : ℕ) (start : Tree) (serving : Serving) (history : History) (i : ℕ)
+    (limits : ServerLimits) (run : ℕ) (start : Tree) (seats : Seats) (serving : Serving) (history : History) (i : ℕ)
     (change : Entry)
-    → IsRun (mounted limits run start) serving history → IsAmong history.handed_out i
+    → IsRun (mounted limits run start seats) serving history → IsAmong history.handed_out i
     → slice_get history.done i ≡ Some change → IsDurable change
     → (event : Event) (tree : Tree) → MayLeave serving event tree
     → (k : ℕ) × (i < k)
@@ -126,9 +128,22 @@ pub record IsRepeated (world : World) (request : InProgress) (next : Next) (turn
   pub executes : turned.executed ≡ None
   pub says : reply ≡ framed (reply_text request.xid (Success result))
 
+-- the request with its last result after the others, whose reply a seat is to hold first
+pub record HasLast (world : World) (request : InProgress) (next : Next) (turned : Turned)
+    (after : InProgress) : Type 0 where
+  pub outcome : Outcome
+  pub executes : IsOutcome world request next outcome turned.executed turned.world.tree
+  pub last : (is_done outcome ≡ false) ⊎ (request.answered + 1 ≡ request.count)
+  pub results : after.results ≡ request.results ++ outcome_text outcome
+  pub answered : after.answered ≡ request.answered + 1
+  pub ended : after.ended ≡ Some (status_of outcome)
+  pub xid : after.xid ≡ request.xid
+  pub tag : after.tag ≡ request.tag
+  pub count : after.count ≡ request.count
+
 abbrev pub IsOneFurther : World → InProgress → Next → Turned → Option Connection → Type 0
 IsOneFurther world request next turned (Some (Busy after)) =
-    HasOneMore world request next turned after
+    HasOneMore world request next turned after ⊎ HasLast world request next turned after
 IsOneFurther world request next turned (Some (Replied reply)) =
     IsAnswered world request next turned reply ⊎ IsRepeated world request next turned reply
 IsOneFurther world request next turned _ = ⊥
@@ -143,8 +158,12 @@ request_in world NoCall = None
 request_in world (OtherVersion xid) = None
 request_in world (Calls call) = request_by world call.xid (request_of call)
 
+abbrev pub with_operations : InProgress → (ended : Option Status) → Option InProgress
+with_operations request None = Some request
+with_operations request (Some last) = None
+
 abbrev pub request_at : World → Option Connection → Option InProgress
-request_at world (Some (Busy request)) = Some request
+request_at world (Some (Busy request)) = with_operations request request.ended
 request_at world (Some (Waiting bytes)) = request_in world (read_call bytes)
 request_at world _ = None
 
@@ -154,6 +173,14 @@ OneATurn =
     → request_at world (at number world.connections) ≡ Some request
     → IsOneFurther world request (next_operation request) (one world number now)
     (at number (one world number now).world.connections)
+
+-- A request that has ended is answered without an operation: its reply is made of its results, and
+-- what its slot keeps from then on is what its seat holds.
+abbrev pub EndsByHolding : Type 0
+EndsByHolding =
+    (world : World) (number now : ℕ) (request : InProgress) (last : Status)
+    → at number world.connections ≡ Some (Busy request) → request.ended ≡ Some last
+    → one world number now ≡ ends world number request last None
 
 -- One whose hang-up drops the rest of a request that has begun: the connection goes only once the
 -- request is answered.

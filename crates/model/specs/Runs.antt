@@ -1,12 +1,14 @@
 -- What users of the server can rely on when it stops: NFS asks it of a server in RFC 8881, sections
 -- 18.3 (COMMIT), 18.32 (WRITE) and 2.10.6.2 (replies). A machine goes from event to event and may
 -- be stopped at any moment; a stop leaves the tree that a good prefix of what was executed gives.
-use Rattle.std.specs.Prelude.{◌≡◌, ◌≢◌, ℕ, ◌+◌, ◌<◌, ◌≤◌, ◌⊎◌, Bool, true, false, not, ◌&&◌, ◌||◌, ◌==◌, List, [], ◌∷◌, ◌++◌, length, take, slice_get, option_to_list, Option, None, Some, if◌then◌else◌, bytes_eq}
+use Rattle.std.specs.Prelude.{◌≡◌, ◌≢◌, ℕ, ◌+◌, ◌<◌, ◌≤◌, ◌⊎◌, Bool, true, false, not, ◌&&◌, ◌||◌, ◌==◌, List, [], ◌∷◌, ◌++◌, length, take, find, slice_get, option_to_list, Option, None, Some, if◌then◌else◌, bytes_eq}
 use Rattle.std.specs.List.{IsAmong}
 use Rattle.model.specs.Answer.{Outcome}
 use Rattle.model.specs.Keyed.{at}
 use Rattle.model.specs.Need.{permitted}
 use Rattle.model.specs.Operation.{Argument}
+use Rattle.model.specs.Seats.{HeldReply, Seats, has_seat}
+use Rattle.model.specs.Session.{Slot, SlotState, Free, Running, Kept, Session, Table, is_session, slot_at, held_reply}
 use Rattle.model.specs.Stamp.{stamp, next_stamp}
 use Rattle.model.specs.Step.{alters}
 use Rattle.model.specs.Tree.{Tree}
@@ -68,6 +70,58 @@ is_durable entry =
     && (is_done entry.outcome && not (is_unstable entry.operation)))
     || (is_commit entry.operation && is_done entry.outcome)
 
+-- Replies that seats hold
+
+-- of a request that a slot of a session ran: what a seat is to hold of it
+pub record Stored : Type 0 where
+  pub session : List ℕ
+  pub slot : ℕ
+  pub held : HeldReply
+
+-- what a slot keeps, as a seat holds it
+
+abbrev pub kept_in : Slot → SlotState → Option HeldReply
+kept_in slot Free = None
+kept_in slot Running = None
+kept_in slot (Kept reply) = Some (held_reply reply slot)
+
+abbrev pub kept_of : ℕ → Option Session → Option HeldReply
+kept_of place None = None
+kept_of place (Some session) = kept_in (slot_at session place) (slot_at session place).state
+
+abbrev pub kept_at : List ℕ → ℕ → Table → Option HeldReply
+kept_at id place table = kept_of place (find (is_session id) table.sessions)
+
+-- a turn stores the reply that its slot keeps from then on, where the session has a seat then
+abbrev pub stored_as : List ℕ → ℕ → Option HeldReply → Option Stored
+stored_as id place None = None
+stored_as id place (Some held) = Some (record { session = id; slot = place; held = held })
+
+abbrev pub stored_by : Table → Option (List ℕ × ℕ) → Option Stored
+stored_by table None = None
+stored_by table (Some slot) =
+    if has_seat slot.0 table.seats then stored_as slot.0 slot.1 (kept_at slot.0 slot.1 table)
+    else None
+
+-- the sessions whose seats are gone
+abbrev pub freed_between : (old new : Seats) → List (List ℕ)
+freed_between [] new = []
+freed_between (None ∷ old) new = freed_between old new
+freed_between (Some seat ∷ old) new =
+    if has_seat seat.session new then freed_between old new
+    else seat.session ∷ freed_between old new
+
+abbrev pub stored_of : World → Event → Option Stored
+stored_of world (Arrives connection piece) = None
+stored_of world (Turns connection now) =
+    stored_by (one world connection now).world.table (one world connection now).keeps
+stored_of world (HangsUp connection) = None
+stored_of world (Connects connection) = None
+stored_of world (Takes connection) = None
+
+abbrev pub freed_of : World → Event → List (List ℕ)
+freed_of world event = freed_between world.table.seats (effect_of world event).table.seats
+
 -- What happened, which no part of the server keeps
 
 -- `done` are the executed operations of the run. A reply names those whose results it holds:
@@ -78,6 +132,11 @@ pub record History : Type 0 where
   pub named : ℕ → List ℕ
   pub kept : List ℕ → ℕ → List ℕ
   pub handed_out : List ℕ
+  -- the replies that seats held; the one that was being stored when the device failed; and the
+  -- sessions whose seats were freed
+  pub stored : List Stored
+  pub torn : Option Stored
+  pub freed : List (List ℕ)
 
 abbrev pub no_history : History
 no_history = record {
@@ -85,6 +144,9 @@ no_history = record {
   named = λ connection. [];
   kept = λ session slot. [];
   handed_out = [];
+  stored = [];
+  torn = None;
+  freed = [];
 }
 
 abbrev pub naming : (ℕ → List ℕ) → ℕ → List ℕ → ℕ → List ℕ
@@ -131,6 +193,9 @@ turned_by history world connection turned = record {
       naming_by turned.turn history.named connection (names_after history world connection turned);
   kept = keeping history.kept turned.keeps (names_after history world connection turned);
   handed_out = history.handed_out;
+  stored = history.stored ++ option_to_list (stored_by turned.world.table turned.keeps);
+  torn = history.torn;
+  freed = history.freed ++ freed_between world.table.seats turned.world.table.seats;
 }
 
 abbrev pub taken_by : History → (connection : ℕ) → Option (List ℕ) → History
@@ -155,15 +220,18 @@ done_with history executed = history.done ++ option_to_list executed
 
 -- `recent` are the trees that a stop may leave now, as the volume keeps them: the one flushed last,
 -- and the one after each later change
+-- `held` are the seats that it may leave, each beside each of these trees
 pub record Serving : Type 0 where
   pub world : World
   pub recent : List Tree
+  pub held : List Seats
   pub is_down : Bool
 
-abbrev pub mounted : ServerLimits → (run : ℕ) → Tree → Serving
-mounted limits run start = record {
-  world = mounted_world limits run start;
+abbrev pub mounted : ServerLimits → (run : ℕ) → Tree → Seats → Serving
+mounted limits run start seats = record {
+  world = mounted_world limits run start seats;
   recent = start ∷ [];
+  held = seats ∷ [];
   is_down = false;
 }
 
@@ -183,7 +251,17 @@ IsAfter (Some entry) tree = tree ≡ entry.after
 abbrev pub MayLeave : Serving → Event → Tree → Type 0
 MayLeave serving event tree = IsAmong serving.recent tree ⊎ IsAfter (executed serving event) tree
 
--- an event happens; then, of a durable operation only the tree after it may be left
+-- and of the seats: those from before, or those after it
+abbrev pub IsSeatedAfter : World → Event → (is_down : Bool) → Seats → Type 0
+IsSeatedAfter world event true seats = ⊥
+IsSeatedAfter world event false seats = seats ≡ (effect_of world event).table.seats
+
+abbrev pub MayHold : Serving → Event → Seats → Type 0
+MayHold serving event seats =
+    IsAmong serving.held seats ⊎ IsSeatedAfter serving.world event serving.is_down seats
+
+-- an event happens; then, of a durable operation only the tree after it may be left, and the seats
+-- after it
 pub record Happens (old : Serving) (event : Event) (new : Serving) : Type 0 where
   pub up : old.is_down ≡ false
   pub world : new.world ≡ effect_of old.world event
@@ -191,6 +269,7 @@ pub record Happens (old : Serving) (event : Event) (new : Serving) : Type 0 wher
   pub no_others : (tree : Tree) → IsAmong new.recent tree → MayLeave old event tree
   pub durable : (entry : Entry) → executed old event ≡ Some entry → is_durable entry ≡ true
       → (tree : Tree) → IsAmong new.recent tree → tree ≡ entry.after
+  pub seats : (seats : Seats) → IsAmong new.held seats → seats ≡ new.world.table.seats
 
 -- the device fails in it: the server is down from now on, and no reply tells of the operation under
 -- way
@@ -199,6 +278,7 @@ pub record Fails (old : Serving) (event : Event) (new : Serving) : Type 0 where
   pub world : new.world ≡ old.world
   pub down : new.is_down ≡ true
   pub no_others : (tree : Tree) → IsAmong new.recent tree → MayLeave old event tree
+  pub seats : (seats : Seats) → IsAmong new.held seats → MayHold old event seats
 
 -- a server that is down gives the replies that it has, and does nothing else
 pub record StaysDown (old : Serving) (connection : ℕ) (new : Serving) : Type 0 where
@@ -206,12 +286,16 @@ pub record StaysDown (old : Serving) (connection : ℕ) (new : Serving) : Type 0
   pub world : new.world ≡ takes old.world connection
   pub still_down : new.is_down ≡ true
   pub no_others : (tree : Tree) → IsAmong new.recent tree → IsAmong old.recent tree
+  pub seats : (seats : Seats) → IsAmong new.held seats → IsAmong old.held seats
 
 -- of an operation under way at a failure it isn't known whether it was done: it is the last of
 -- `done`, and no reply names it
 abbrev pub history_failing : History → World → Event → History
-history_failing history world event =
-    record history { done = done_with history (executed_of world event) }
+history_failing history world event = record history {
+  done = done_with history (executed_of world event);
+  torn = stored_of world event;
+  freed = history.freed ++ freed_of world event;
+}
 
 pub data IsRun (start : Serving) : Serving → History → Type 0 where
   Begins : IsRun start start no_history
@@ -261,8 +345,9 @@ pub record IsGoodPrefix (start : Tree) (done : List Entry) (handed_out : List �
 -- Whatever events happen, on whatever connections, and wherever the server is stopped, what a stop
 -- may leave is the tree of a good prefix of the operations that were executed.
 abbrev pub EveryRun : Type 0
-EveryRun = (limits : ServerLimits) (run : ℕ) (start : Tree) (serving : Serving) (history : History)
-    → IsRun (mounted limits run start) serving history → (event : Event) (tree : Tree)
+EveryRun = (limits : ServerLimits) (run : ℕ) (start : Tree) (seats : Seats) (serving : Serving)
+    (history : History)
+    → IsRun (mounted limits run start seats) serving history → (event : Event) (tree : Tree)
     → MayLeave serving event tree
     → IsGoodPrefix start (done_with history (executed serving event)) history.handed_out tree
 
@@ -283,6 +368,7 @@ pub record AreStamped (run : ℕ) (done : List Entry) : Type 0 where
 -- of all that was executed, what a stop takes away and the one under way included
 abbrev pub EveryStamp : Type 0
 EveryStamp =
-    (limits : ServerLimits) (run : ℕ) (start : Tree) (serving : Serving) (history : History)
-    → IsRun (mounted limits run start) serving history → (event : Event)
+    (limits : ServerLimits) (run : ℕ) (start : Tree) (seats : Seats) (serving : Serving)
+    (history : History)
+    → IsRun (mounted limits run start seats) serving history → (event : Event)
     → AreStamped run (done_with history (executed serving event))

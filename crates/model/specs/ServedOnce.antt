@@ -1,6 +1,7 @@
 -- Exactly once, over every run of the whole server: RFC 8881, section 2.10.6.1. The numbers that a
 -- slot of a session ran are those of the SEQUENCE operations that were answered OK, in their order.
 use Rattle.std.specs.Prelude.{ℕ, ◌&&◌, ◌==◌, List, [], ◌∷◌, ◌++◌, Option, None, Some, option_to_list, if◌then◌else◌, bytes_eq}
+use Rattle.model.specs.Seats.{Seats}
 use Rattle.model.specs.Answer.{Outcome}
 use Rattle.model.specs.Operation.{Argument, SequenceArguments}
 use Rattle.model.specs.SessionRuns.{CountsFrom, OthersBetween}
@@ -29,7 +30,7 @@ numbers_in id slot (entry ∷ done) =
 -- 2^32 - 1 others.
 abbrev pub EveryServedSlot : Type 0
 EveryServedSlot =
-    (limits : ServerLimits) (run : ℕ) (start : Tree) (serving : Serving) (history : History)
-    → IsRun (mounted limits run start) serving history → (id : List ℕ) (slot : ℕ)
+    (limits : ServerLimits) (run : ℕ) (start : Tree) (seats : Seats) (serving : Serving) (history : History)
+    → IsRun (mounted limits run start seats) serving history → (id : List ℕ) (slot : ℕ)
     → CountsFrom 0 (numbers_in id slot history.done)
     × OthersBetween (numbers_in id slot history.done)

@@ -9,6 +9,7 @@ use Rattle.model.specs.declared.status.Status.TheVariants as status
 use Rattle.model.specs.Refusal.{Refusals, first_refusal}
 use Rattle.model.specs.Operation.{Channel, ExchangeIdArguments, CreateSessionArguments, SequenceArguments}
 use Rattle.model.specs.Answer.{ExchangeIdAnswer, CreateSessionAnswer, SequenceAnswer}
+use Rattle.model.specs.Seats.{HeldReply, Seat, Seats, no_seats, is_seat_of, seat_of, has_seat, freed, has_free, seated, holding}
 
 -- The state
 
@@ -16,9 +17,12 @@ use Rattle.model.specs.Answer.{ExchangeIdAnswer, CreateSessionAnswer, SequenceAn
 pub record SessionLimits : Type 0 where
   pub clients : ℕ
   pub sessions : ℕ
-  -- slots of a session, and operations of a COMPOUND
+  -- slots of a session, those of one that has a seat, and operations of a COMPOUND
   pub slots : ℕ
+  pub seat_slots : ℕ
   pub operations : ℕ
+  -- whether a session may have a seat
+  pub persistent : Bool
   -- bytes of a request's or a reply's record
   pub record_bytes : ℕ
 
@@ -55,23 +59,30 @@ pub record Session : Type 0 where
   pub slots : List Slot
 
 -- All of it, in one run of the server. Records and sessions stand in the order in which they were
--- made; the serials are those given last.
+-- made; the serials are those given last. The seats are the volume's: a session that has one is
+-- persistent, and a seat whose session is none of this run's is dead.
 pub record Table : Type 0 where
   pub run : ℕ
   pub client_serial : ℕ
   pub session_serial : ℕ
   pub clients : List Client
   pub sessions : List Session
+  pub seats : Seats
 
--- a run begins with nothing
-abbrev pub empty_table : ℕ → Table
-empty_table run = record {
+-- a run begins with the seats that its mount found, and with nothing else
+abbrev pub loaded_table : ℕ → Seats → Table
+loaded_table run seats = record {
   run = run;
   client_serial = 0;
   session_serial = 0;
   clients = [];
   sessions = [];
+  seats = seats;
 }
+
+-- .. where the volume keeps no session
+abbrev pub empty_table : ℕ → Table
+empty_table run = loaded_table run no_seats
 
 -- Words
 
@@ -126,6 +137,13 @@ with_clients clients table = record table { clients = clients }
 
 abbrev pub with_sessions : List Session → Table → Table
 with_sessions sessions table = record table { sessions = sessions }
+
+abbrev pub with_seats : Seats → Table → Table
+with_seats seats table = record table { seats = seats }
+
+-- the seat is one of these sessions'
+abbrev pub is_seat_among : List Session → Seat → Bool
+is_seat_among sessions seat = list_any (is_session seat.session) sessions
 
 -- EXCHANGE_ID (section 18.35)
 
@@ -263,6 +281,21 @@ is_full_of_sessions limits client table =
     nat_le limits.sessions (length (staying client table))
     || nat_le (2 ^ 64 - 1) table.session_serial
 
+-- The seats that give way: those of sessions that end, and the dead ones of the same owner id and
+-- principal
+abbrev pub gives_way : Client → Table → Seat → Bool
+gives_way client table seat =
+    if is_seat_among table.sessions seat then not (is_seat_among (staying client table) seat)
+    else bytes_eq seat.owner client.owner && seat.principal == client.principal
+
+abbrev pub seats_staying : Client → Table → Seats
+seats_staying client table = freed (gives_way client table) table.seats
+
+-- the flag PERSIST is asked of a server that has persistent sessions, and a seat is free then
+abbrev pub persists : SessionLimits → CreateSessionArguments → Client → Table → Bool
+persists limits arguments client table =
+    limits.persistent && has_free (seats_staying client table) && arguments.flags % 2 == 1
+
 abbrev pub create_refusals : SessionLimits → CreateSessionArguments → Client → Table → Refusals
 create_refusals limits arguments client table =
     (not (arguments.sequence == client.sequence), status.SeqMisordered)
@@ -275,6 +308,11 @@ create_refusals limits arguments client table =
     )
     ∷ (is_full_of_sessions limits client table, status.Delay)
     ∷ []
+
+-- a session that has a seat has few slots
+abbrev pub limits_for : SessionLimits → (persists : Bool) → SessionLimits
+limits_for limits false = limits
+limits_for limits true = record limits { slots = min limits.seat_slots limits.slots }
 
 -- the channels that are answered, without RDMA
 abbrev pub fore_channel : SessionLimits → Channel → Channel
@@ -293,8 +331,8 @@ abbrev pub create_session_answer : SessionLimits → CreateSessionArguments → 
 create_session_answer limits arguments client table = record {
   session = session_id client.number (table.session_serial + 1);
   sequence = arguments.sequence;
-  flags = 0;
-  fore = fore_channel limits arguments.fore;
+  flags = if persists limits arguments client table then 1 else 0;
+  fore = fore_channel (limits_for limits (persists limits arguments client table)) arguments.fore;
   back = record arguments.back { rdma_ird = None };
 }
 
@@ -303,8 +341,29 @@ new_session limits arguments client table = record {
   client = client.number;
   serial = table.session_serial + 1;
   max_operations = (fore_channel limits arguments.fore).max_operations;
-  slots = replicate (fore_channel limits arguments.fore).max_requests no_slot;
+  slots =
+      replicate
+      (fore_channel (limits_for limits (persists limits arguments client table)) arguments.fore).max_requests
+      no_slot;
 }
+
+-- its seat, which holds no reply yet
+abbrev pub new_seat : SessionLimits → CreateSessionArguments → Client → Table → Seat
+new_seat limits arguments client table = record {
+  session = session_id client.number (table.session_serial + 1);
+  owner = client.owner;
+  principal = client.principal;
+  slots =
+      replicate
+      (fore_channel (limits_for limits (persists limits arguments client table)) arguments.fore).max_requests
+      None;
+}
+
+abbrev pub seats_after : SessionLimits → CreateSessionArguments → Client → Table → Seats
+seats_after limits arguments client table =
+    if persists limits arguments client table
+    then seated (new_seat limits arguments client table) (seats_staying client table)
+    else seats_staying client table
 
 -- the record is confirmed, counts on, and keeps the result
 abbrev pub confirmed_with : CreateSessionAnswer → Client → Client
@@ -323,6 +382,7 @@ with_new_session limits arguments client table = record table {
       (confirmed_with (create_session_answer limits arguments client table))
       (without_where (is_replaced_by client) table.clients);
   sessions = staying client table ++ new_session limits arguments client table ∷ [];
+  seats = seats_after limits arguments client table;
 }
 
 -- what CREATE_SESSION answers, whose opens end, and the table after it
@@ -371,11 +431,20 @@ create_session limits uid arguments table =
 
 -- DESTROY_SESSION (section 18.37)
 
+-- a session that ends frees its seat; a dead one has nothing but that
+abbrev pub without_seat : List ℕ → Table → Table
+without_seat id table = with_seats (freed (is_seat_of id) table.seats) table
+
 abbrev pub destroy_by : List ℕ → Table → Option Session → Option Status × Table
-destroy_by id table None = (Some status.BadSession, table)
+destroy_by id table None =
+    if has_seat id table.seats then (None, without_seat id table)
+    else (Some status.BadSession, table)
 destroy_by id table (Some session) =
     if is_running session then (Some status.Delay, table)
-    else (None, with_sessions (without_where (is_session id) table.sessions) table)
+    else (
+      None,
+      without_seat id (with_sessions (without_where (is_session id) table.sessions) table),
+    )
 
 -- the refusal, if there is one
 unfoldable pub destroy_session : List ℕ → Table → Option Status × Table
@@ -432,9 +501,24 @@ begin_slot uid count arguments session slot (Kept reply) =
     then (if uid == slot.uid then Replays reply else Refuses status.SeqFalseRetry)
     else begin_new count arguments session slot
 
-abbrev pub begin_by : ℕ → ℕ → SequenceArguments → Option Session → Begun
-begin_by uid count arguments None = Refuses status.BadSession
-begin_by uid count arguments (Some session) =
+-- Of a session of an earlier run nothing but what is held can be had: the held number by the held
+-- uid gives the held result, and all else is refused.
+
+abbrev pub begin_held : ℕ → SequenceArguments → Option HeldReply → Begun
+begin_held uid arguments None = Refuses status.DeadSession
+begin_held uid arguments (Some held) =
+    if arguments.sequence == held.number && uid == held.uid then Replays held.result
+    else Refuses status.DeadSession
+
+abbrev pub begin_dead : ℕ → SequenceArguments → Option Seat → Begun
+begin_dead uid arguments None = Refuses status.BadSession
+begin_dead uid arguments (Some seat) =
+    begin_held uid arguments (slice_index_or seat.slots arguments.slot None)
+
+abbrev pub begin_by : ℕ → ℕ → SequenceArguments → Seats → Option Session → Begun
+begin_by uid count arguments seats None =
+    begin_dead uid arguments (seat_of arguments.session seats)
+begin_by uid count arguments seats (Some session) =
     let slot = slot_at session arguments.slot in
     if nat_lt arguments.slot (length session.slots)
     then begin_slot uid count arguments session slot slot.state
@@ -443,7 +527,7 @@ begin_by uid count arguments (Some session) =
 -- `count` is the COMPOUND's number of operations
 unfoldable pub begin : ℕ → ℕ → SequenceArguments → Table → Begun
 begin uid count arguments table =
-    begin_by uid count arguments (find (is_session arguments.session) table.sessions)
+    begin_by uid count arguments table.seats (find (is_session arguments.session) table.sessions)
 
 abbrev pub with_slot : ℕ → Slot → Session → Session
 with_slot place slot session = record session { slots = slice_set session.slots place slot }
@@ -461,9 +545,20 @@ abbrev pub finished_slot : ℕ → List ℕ → Session → Session
 finished_slot place reply session =
     with_slot place (record (slot_at session place) { state = Kept reply }) session
 
+-- where the session has a seat, that holds the reply
+abbrev pub held_reply : List ℕ → Slot → HeldReply
+held_reply reply slot = record { number = slot.last; uid = slot.uid; result = reply }
+
+abbrev pub held_by : List ℕ → ℕ → List ℕ → Seats → Option Session → Seats
+held_by id place reply seats None = seats
+held_by id place reply seats (Some session) =
+    holding id place (held_reply reply (slot_at session place)) seats
+
 unfoldable pub finish : List ℕ → ℕ → List ℕ → Table → Table
-finish id place reply table =
-    with_sessions (changed_where (is_session id) (finished_slot place reply) table.sessions) table
+finish id place reply table = record table {
+  sessions = changed_where (is_session id) (finished_slot place reply) table.sessions;
+  seats = held_by id place reply table.seats (find (is_session id) table.sessions);
+}
 
 -- A SEQUENCE that runs answers its slot number, and twice the highest slot of the session.
 abbrev pub sequence_answer : SequenceArguments → Session → SequenceAnswer

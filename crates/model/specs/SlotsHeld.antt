@@ -1,6 +1,7 @@
 -- A slot runs exactly where one connection is busy on it: RFC 8881, section 2.10.6.1.
 use Rattle.std.specs.Prelude.{ℕ, ◌≡◌, Bool, true, false, ◌&&◌, List, Option, Some, None}
 use Rattle.std.specs.List.{list_any}
+use Rattle.model.specs.Seats.{Seats}
 use Rattle.model.specs.Keyed.{at}
 use Rattle.model.specs.Runs.{Serving, History, IsRun, mounted, is_slot}
 use Rattle.model.specs.Session.{Session, Table, is_session, is_running_state, slot_at}
@@ -37,5 +38,5 @@ pub record RunsWhereBusy (world : World) : Type 0 where
 -- at each moment of every run of the server
 abbrev pub EveryRunningSlot : Type 0
 EveryRunningSlot =
-    (limits : ServerLimits) (run : ℕ) (start : Tree) (serving : Serving) (history : History)
-    → IsRun (mounted limits run start) serving history → RunsWhereBusy serving.world
+    (limits : ServerLimits) (run : ℕ) (start : Tree) (seats : Seats) (serving : Serving) (history : History)
+    → IsRun (mounted limits run start seats) serving history → RunsWhereBusy serving.world

@@ -1,6 +1,7 @@
 -- Whatever happens, and whenever the server stops: each tree that may be left is one that a later
 -- run may begin with.
 use Rattle.std.specs.Prelude.{ℕ, ◌+◌, ◌<◌, ◌≤◌}
+use Rattle.model.specs.Seats.{Seats}
 use Rattle.model.specs.Fresh.{fresh_tree}
 use Rattle.model.specs.Limits.{Limits}
 use Rattle.model.specs.Stamp.{next_stamp}
@@ -20,8 +21,8 @@ pub record EveryTreeIsSound (limits : ServerLimits) : Type 0 where
   pub first : (run : ℕ) → 0 < run → 1 ≤ limits.volume.nodes
       → limits.volume.aces_set + 5 ≤ limits.volume.aces
       → IsStart limits.volume run fresh_tree
-  pub later : (run : ℕ) (start : Tree) (serving : Serving) (history : History)
+  pub later : (run : ℕ) (start : Tree) (seats : Seats) (serving : Serving) (history : History)
       → limits.volume.aces_set + 5 ≤ limits.volume.aces → IsStart limits.volume run start
-      → IsRun (mounted limits run start) serving history → (event : Event) (tree : Tree)
+      → IsRun (mounted limits run start seats) serving history → (event : Event) (tree : Tree)
       → MayLeave serving event tree
       → (next : ℕ) → run < next → IsStart limits.volume next tree

@@ -4,6 +4,7 @@ use Rattle.std.specs.Prelude.{ℕ, ◌≡◌, ◌≢◌, ◌≤◌, ◌+◌, Lis
 use Rattle.model.specs.Changes.{IsStamped}
 use Rattle.model.specs.Runs.{Event, Serving, History, IsRun, mounted, executed, done_with, before, stamp_in}
 use Rattle.model.specs.SoundRuns.{IsStart}
+use Rattle.model.specs.Seats.{Seats}
 use Rattle.model.specs.Tree.{Tree}
 use Rattle.model.specs.World.{ServerLimits, Entry}
 
@@ -20,7 +21,7 @@ AreGiven run done = (i : ℕ) (entry : Entry) → slice_get done i ≡ Some entr
 -- the operation that is under way included
 abbrev pub EveryStampIsGiven : Type 0
 EveryStampIsGiven =
-    (limits : ServerLimits) (run : ℕ) (start : Tree) (serving : Serving) (history : History)
-    → limits.volume.aces_set + 5 ≤ limits.volume.aces → IsStart limits.volume run start
-    → IsRun (mounted limits run start) serving history → (event : Event)
+    (limits : ServerLimits) (run : ℕ) (start : Tree) (seats : Seats) (serving : Serving)
+    (history : History) → limits.volume.aces_set + 5 ≤ limits.volume.aces → IsStart limits.volume run start
+    → IsRun (mounted limits run start seats) serving history → (event : Event)
     → AreGiven run (done_with history (executed serving event))

@@ -1,6 +1,7 @@
 -- What a stateid that OPEN answered means at each later moment of its run, and in every other run:
 -- RFC 8881, sections 8.2.2 to 8.2.4, 18.2 (CLOSE) and 18.16 (OPEN).
 use Rattle.std.specs.Prelude.{ℕ, ◌+◌, ◌^◌, ◌≡◌, ◌≢◌, ◌<◌, ◌⊎◌, false, true, List, [], ◌∷◌, ◌++◌, length, Option, Some, None, option_to_list, if◌then◌else◌, bytes_eq}
+use Rattle.model.specs.Seats.{Seats}
 use Rattle.model.specs.declared.status.Status.TheVariants as status
 use Rattle.model.specs.Answer.{Answer, Outcome, OpenAnswer}
 use Rattle.model.specs.Context.{current_number}
@@ -22,10 +23,11 @@ pub record WasAnswered (run : ℕ) (entry : Entry) (arguments : OpenArguments)
     (answer : OpenAnswer) (new : Serving) : Type 0 where
   pub limits : ServerLimits
   pub start : Tree
+  pub seats : Seats
   pub old : Serving
   pub history : History
   pub event : Event
-  pub begun : IsRun (mounted limits run start) old history
+  pub begun : IsRun (mounted limits run start seats) old history
   pub happens : Happens old event new
   pub executes : executed old event ≡ Some entry
   pub operation : entry.operation ≡ Argument.Open arguments
@@ -120,7 +122,7 @@ JoinsAreCounted = (accesses : List ℕ) (known : Open) → IsJoinedBy accesses k
 abbrev pub EveryOtherRunRefuses : Type 0
 EveryOtherRunRefuses = (run other : ℕ) (entry : Entry) (arguments : OpenArguments)
     (answer : OpenAnswer) (new : Serving) (limits : ServerLimits) (start : Tree)
-    (serving : Serving) (history : History) (event : Event) (used : Entry)
+    (seats : Seats) (serving : Serving) (history : History) (event : Event) (used : Entry)
     → run < 2 ^ 32 → other < 2 ^ 32 → other ≢ run → WasAnswered run entry arguments answer new
-    → IsRun (mounted limits other start) serving history → executed serving event ≡ Some used
+    → IsRun (mounted limits other start seats) serving history → executed serving event ≡ Some used
     → found used.state.opens used.state.context answer.state ≡ Refused status.BadStateId

@@ -47,4 +47,5 @@ code_of status.TooManyOps = 10070
 code_of status.OpNotInSession = 10071
 code_of status.ClientIdBusy = 10074
 code_of status.SeqFalseRetry = 10076
+code_of status.DeadSession = 10078
 code_of status.NotOnlyOp = 10081

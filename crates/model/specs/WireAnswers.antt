@@ -178,7 +178,8 @@ refusals =
     ∷ status.BadSession ∷ status.BadSlot
     ∷ status.CompleteAlready ∷ status.SeqMisordered ∷ status.SequencePos ∷ status.RepTooBig
     ∷ status.TooManyOps
-    ∷ status.OpNotInSession ∷ status.ClientIdBusy ∷ status.SeqFalseRetry ∷ status.NotOnlyOp ∷ []
+    ∷ status.OpNotInSession ∷ status.ClientIdBusy ∷ status.SeqFalseRetry
+    ∷ status.DeadSession ∷ status.NotOnlyOp ∷ []
 
 -- the refusal of this number
 abbrev pub refusal_of : ℕ → Option Status

@@ -19,6 +19,7 @@ use Rattle.model.specs.Record.{RecordLimits, Front, Partial, Refused, Whole, fro
 use Rattle.model.specs.Refusal.{first_refusal}
 use Rattle.model.specs.Rpc.{CallRead, NoCall, OtherVersion, Calls, read_call, is_call_read, Request, Answers, Runs, request_of, Reply, VersionRefused, Success, Compound, reply_text, compound_text, is_empty}
 use Rattle.model.specs.Served.{is_served, looks_no_further}
+use Rattle.model.specs.Seats.{Seats, has_seat}
 use Rattle.model.specs.Session as sessions
 use Rattle.model.specs.Session.{SessionLimits, Table, Session}
 use Rattle.model.specs.StateIds.{has_opens, without_clients}
@@ -49,6 +50,8 @@ pub record InProgress : Type 0 where
   pub context : Context
   -- the session and the slot that run it
   pub slot : Option (List ℕ × ℕ)
+  -- the status of its last result, once that is there and a seat is to hold the reply
+  pub ended : Option Status
 
 -- what has come of the next record; a whole request, not begun; one that has begun; a reply that is
 -- to be taken; refused for good
@@ -68,15 +71,15 @@ pub record World : Type 0 where
   pub table : Table
   pub connections : Keyed Connection
 
--- a run begins with a tree, and with nothing else
-abbrev pub mounted_world : ServerLimits → (run : ℕ) → Tree → World
-mounted_world limits run tree = record {
+-- a run begins with a tree and the seats beside it, and with nothing else
+abbrev pub mounted_world : ServerLimits → (run : ℕ) → Tree → Seats → World
+mounted_world limits run tree seats = record {
   limits = limits;
   run = run;
   tree = tree;
   changes = 0;
   opens = no_opens;
-  table = sessions.empty_table run;
+  table = sessions.loaded_table run seats;
   connections = [];
 }
 
@@ -294,7 +297,8 @@ in_room world request operation (Replays result session slot) = Replays result s
 
 -- One turn
 
--- nothing to do; one operation ran and more remain; the reply is there
+-- nothing to do; one operation ran, and more remain or a seat is to hold the reply; the reply is
+-- there
 pub data Turn : Type 0 where
   Idle : Turn
   Ran : Turn
@@ -343,7 +347,8 @@ abbrev pub kept_by : Option (List ℕ × ℕ) → (result : List ℕ) → Table 
 kept_by None result table = table
 kept_by (Some slot) result table = sessions.finish slot.0 slot.1 result table
 
--- the last result is there: the reply is made, and its slot keeps it
+-- the reply is made of the results, and its slot keeps it; where the slot's session has a seat,
+-- that holds it first
 abbrev pub ends : World → (number : ℕ) → InProgress → Status → Option Entry → Turned
 ends world number request last executed = record {
   turn = Answered;
@@ -365,13 +370,25 @@ goes_on world number request executed = record {
   replays = None;
 }
 
+-- a seat is to hold the reply: it is made in a turn of its own
+abbrev pub is_to_hold : Option (List ℕ × ℕ) → Seats → Bool
+is_to_hold None seats = false
+is_to_hold (Some slot) seats = has_seat slot.0 seats
+
+-- the last result is there
+abbrev pub closes : World → (number : ℕ) → InProgress → Status → Option Entry → Turned
+closes world number request last executed =
+    if is_to_hold request.slot world.table.seats
+    then goes_on world number (record request { ended = Some last }) executed
+    else ends world number request last executed
+
 -- the first result that is not OK is the last one
 abbrev pub behind : World → (number : ℕ) → InProgress → Outcome → Option Entry → Turned
 behind world number request (Outcome.Refused operation reason) executed =
-    ends world number (with_result request (Outcome.Refused operation reason)) reason executed
+    closes world number (with_result request (Outcome.Refused operation reason)) reason executed
 behind world number request (Outcome.Done answer) executed =
     if is_last request
-    then ends world number (with_result request (Outcome.Done answer)) status.Ok executed
+    then closes world number (with_result request (Outcome.Done answer)) status.Ok executed
     else goes_on world number (with_result request (Outcome.Done answer)) executed
 
 abbrev pub executed_entry : World → InProgress → Argument → Outcome → World → Entry
@@ -411,6 +428,7 @@ in_progress world xid cred compound = record {
   answered = 0;
   results = [];
   slot = None;
+  ended = None;
   context = record { cred = cred; client = 0; run = world.run; current = None; saved = None };
 }
 
@@ -425,12 +443,17 @@ called world number now NoCall = idle world
 called world number now (OtherVersion xid) = replies world number xid VersionRefused
 called world number now (Calls call) = requested world number now call.xid (request_of call)
 
+-- a request that has begun: its next operation, or after the last one the reply
+abbrev pub further : World → (number : ℕ) → (now : ℕ) → InProgress → (ended : Option Status)
+    → Turned
+further world number now request None = operates world number now request (next_operation request)
+further world number now request (Some last) = ends world number request last None
+
 abbrev pub turned : World → (number : ℕ) → (now : ℕ) → Option Connection → Turned
 turned world number now None = idle world
 turned world number now (Some (Quiet bytes)) = idle world
 turned world number now (Some (Waiting request)) = called world number now (read_call request)
-turned world number now (Some (Busy request)) =
-    operates world number now request (next_operation request)
+turned world number now (Some (Busy request)) = further world number now request request.ended
 turned world number now (Some (Replied reply)) = idle world
 turned world number now (Some Closed) = idle world
 
@@ -513,9 +536,10 @@ unfoldable pub hangs_up : World → (number : ℕ) → World
 hangs_up world number =
     if is_busy (at number world.connections) then world else without_connection world number
 
--- the whole of it: at most so many turns, and then the connection goes
+-- the whole of it: at most so many turns, one for each operation and one for the reply, and then the
+-- connection goes
 abbrev pub operations_left : Option Connection → ℕ
-operations_left (Some (Busy request)) = request.count - request.answered
+operations_left (Some (Busy request)) = suc (request.count - request.answered)
 operations_left _ = 0
 
 abbrev pub turns : (most : ℕ) → World → (number : ℕ) → (now : ℕ) → World

@@ -1,7 +1,8 @@
 //! The headline: what users of the server can rely on when it is stopped.
 
-ghost use Rattle.model.specs.RuledOut.{NoSkip, NoEarlyReply, NoTakingBack, NoSecondRun, NoForgetting, NoGap, OneATurn, HangsUpLast, HangUpIsEvents, EachEventHappens};
+ghost use Rattle.model.specs.RuledOut.{NoSkip, NoEarlyReply, NoTakingBack, NoSecondRun, NoForgetting, NoGap, OneATurn, EndsByHolding, HangsUpLast, HangUpIsEvents, EachEventHappens};
 ghost use Rattle.model.specs.Runs.{EveryRun, EveryStamp};
+ghost use Rattle.model.specs.SeatRuns.{EveryReplyIsHeld, EverySeatStays, EveryRunCanFollow, EveryDeadSession, EveryNumberOnce, EveryReplyStaysHeld, EveryReplyIsStored, EveryFreeingIsAsked};
 ghost use Rattle.model.specs.ServedOnce.{EveryServedSlot};
 ghost use Rattle.model.specs.StateIdRuns.{EveryOtherRunRefuses, EveryStateIdGoesOn, JoinsAreCounted};
 
@@ -25,6 +26,7 @@ pub fn ruled_out()
     ensures kept { NoForgetting }
     ensures gap { NoGap }
     ensures one { OneATurn }
+    ensures holding { EndsByHolding }
     ensures hang_up { HangsUpLast }
     ensures events { HangUpIsEvents }
 {}
@@ -57,4 +59,19 @@ pub fn every_stateid_goes_on()
     ensures goes_on { EveryStateIdGoesOn }
     ensures joins { JoinsAreCounted }
     ensures other_run { EveryOtherRunRefuses }
+{}
+
+/// Exactly once over restarts, on sessions that have a seat, over any list of runs and stops: a
+/// reply that was stored is held until the next of its slot is or its seat is freed; a session of
+/// an earlier run is answered by what its seat holds, and runs nothing; so a slot runs a number
+/// again only after the 2^32 - 1 others.
+pub fn every_life()
+    ensures held { EveryReplyIsHeld }
+    ensures stays { EverySeatStays }
+    ensures follows { EveryRunCanFollow }
+    ensures dead { EveryDeadSession }
+    ensures once { EveryNumberOnce }
+    ensures still_held { EveryReplyStaysHeld }
+    ensures stored { EveryReplyIsStored }
+    ensures asked { EveryFreeingIsAsked }
 {}

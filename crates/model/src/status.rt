@@ -49,6 +49,7 @@ pub enum Status {
     OpNotInSession = 10071,
     ClientIdBusy = 10074,
     SeqFalseRetry = 10076,
+    DeadSession = 10078,
     NotOnlyOp = 10081,
 }
 

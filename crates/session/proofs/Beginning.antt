@@ -3,6 +3,7 @@ use Rattle.std.proofs.Common.{◌≡◌, ℕ, Bool, true, false, cond, ◌==◌,
 use Rattle.model.specs.declared.status.Status.{Status}
 use Rattle.model.specs.declared.status.Status.TheVariants as status
 use Rattle.model.specs.Operation.{SequenceArguments}
+use Rattle.model.specs.Seats.{no_seats}
 use Rattle.model.specs.Session.{Begun, Refuses, Replays, Runs, SlotState, Free, Running, Kept, Slot, Session, begin_by, begin_slot, begin_new, slot_at, next_number}
 use Rattle.session.specs.declared.slot.Next.TheVariants as next
 use Rattle.session.specs.Slots.{next_of, kept_reply}
@@ -51,7 +52,7 @@ inside_replays true b reply e = e
 inside_replays false b reply e = cc
 
 -- a retry is answered by the kept reply
-pub replays_kept : (uid count : ℕ) (arguments : SequenceArguments) (session : Session) (reply : List ℕ) → begin_by uid count arguments (Some session) ≡ Replays reply → reply_at arguments.slot session ≡ Some reply
+pub replays_kept : (uid count : ℕ) (arguments : SequenceArguments) (session : Session) (reply : List ℕ) → begin_by uid count arguments no_seats (Some session) ≡ Replays reply → reply_at arguments.slot session ≡ Some reply
 replays_kept uid count arguments session reply e =
     let slot : Slot = slot_at session arguments.slot in
     slot_replays uid count arguments session slot slot.state reply

@@ -1,6 +1,15 @@
 -- How many clients, sessions, slots and operations are served: numbers, and not the constants of
--- the code, so that a constant that is changed is refused.
+-- the code, so that a constant that is changed is refused. No session is persistent.
+use Rattle.std.specs.Prelude.{false}
 use Rattle.model.specs.Session.{SessionLimits}
 
 abbrev pub served : SessionLimits
-served = record { clients = 64; sessions = 32; slots = 8; operations = 16; record_bytes = 16384 }
+served = record {
+  clients = 64;
+  sessions = 32;
+  slots = 8;
+  seat_slots = 2;
+  operations = 16;
+  persistent = false;
+  record_bytes = 16384;
+}

@@ -1,7 +1,8 @@
 -- What the code's client records, sessions and tables stand for.
-use Rattle.std.specs.Prelude.{ℕ, Bool, List, map, Option, None, Some, ◌==◌}
+use Rattle.std.specs.Prelude.{ℕ, Bool, List, [], map, Option, None, Some, ◌==◌}
 use Rattle.std.specs.List.{find, list_any}
 use Rattle.std.specs.Option.{option_map}
+use Rattle.model.specs.Seats.{no_seats}
 use Rattle.model.specs.Session as model
 use Rattle.model.specs.Session.{is_session, slot_at}
 use Rattle.wire.specs.AnswerViews.{create_session_view}
@@ -61,6 +62,7 @@ table_by roll book = record {
   session_serial = book.0;
   clients = roll.2;
   sessions = book.1;
+  seats = no_seats;
 }
 
 unfoldable pub table_of : Table → model.Table

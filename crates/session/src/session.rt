@@ -35,6 +35,7 @@ impl Session {
     ghost use Rattle.std.specs.Prelude.{◌≡◌, ◌≤◌, ◌-◌, Some, IfOk, IfSome, IfErr, length, replicate};
     ghost use Rattle.std.specs.Option.{option_map};
     ghost use Rattle.std.specs.Vec.{vec_len};
+    ghost use Rattle.model.specs.Seats.{no_seats};
     ghost use Rattle.model.specs.Session.{is_session, is_of_clients, is_running, no_slot, begin_by, begin_new, with_slot, finished_slot};
     ghost use Rattle.wire.specs.ArgumentViews.{sequence_view};
     ghost use Rattle.wire.specs.Short.{IsRefusal};
@@ -89,7 +90,7 @@ impl Session {
     /// What SEQUENCE does on it (RFC 8881, section 18.46).
     pub fn next(&self, uid: u32, count: u32, arguments: &SequenceArguments) -> Result<Next, Status>
         ensures next { result ≡ next_of
-            (begin_by uid count (sequence_view arguments.now) (Some (session_of self.now))) }
+            (begin_by uid count (sequence_view arguments.now) no_seats (Some (session_of self.now))) }
         ensures refused { IfErr result IsRefusal }
     {
         let Some(slot) = self.slots.get(arguments.slot as usize) else {

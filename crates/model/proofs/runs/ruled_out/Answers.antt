@@ -1,4 +1,4 @@
-use Rattle.model.proofs.RuledOutLaws.{no_skip, no_early_reply, no_taking_back, no_second_run, no_forgetting, no_gap, one_a_turn, hangs_up_last, hang_up_is_events}
+use Rattle.model.proofs.RuledOutLaws.{no_skip, no_early_reply, no_taking_back, no_second_run, no_forgetting, no_gap, one_a_turn, ends_by_holding, hangs_up_last, hang_up_is_events}
 use Rattle.model.proofs.runs.ruled_out.Goals as goal
 
 pub returns-clause-skip : goal.returns-clause-skip
@@ -27,3 +27,6 @@ returns-clause-events c = hang_up_is_events
 
 pub returns-clause-kept : goal.returns-clause-kept
 returns-clause-kept c = no_forgetting
+
+pub returns-clause-holding : goal.returns-clause-holding
+returns-clause-holding c = ends_by_holding

@@ -1,6 +1,7 @@
 use Rattle.std.proofs.Common.{Some, Ok, refl, sym, ap, ◌∙◌}
 use Rattle.std.specs.Option.{option_map, option_copied}
 use Rattle.std.proofs.lemmas.Result.{err_from_is_err_and}
+use Rattle.model.specs.Seats.{no_seats}
 use Rattle.model.specs.Session.{begin, begin_by, started, Session as Known}
 use Rattle.wire.specs.ArgumentViews.{sequence_view}
 use Rattle.session.specs.Views.{table_of, table_by, roll_of, session_of, reply_kept, reply_in}
@@ -11,7 +12,7 @@ pub returns-in_default-clause-answered : goal.returns-in_default-clause-answered
 unfolding begin table_of
 returns-in_default-clause-answered c =
     let found = sym c.find.ensures ∙ ap (λ r. option_map session_of (option_copied r)) c.in_default.is in
-    (ap (begin_by c.args.uid c.args.count (sequence_view c.args.arguments.now)) found, refl)
+    (ap (begin_by c.args.uid c.args.count (sequence_view c.args.arguments.now) no_seats) found, refl)
 
 pub returns-in_err-next-clause-answered : goal.returns-in_err-next-clause-answered
 unfolding begin table_of
@@ -21,8 +22,8 @@ returns-in_err-next-clause-answered c =
     let found = sym c.find.ensures ∙ ap (λ r. option_map session_of (option_copied r)) c.in-Some.is in
     let p = err_from_is_err_and c.from_residual.result c.from_residual.ensures.1 in
     rw (p.1, p.2) (
-      ap (begin_by c.args.uid c.args.count arguments) found
-          ∙ refuses (begin_by c.args.uid c.args.count arguments (Some session)) c.in_err-next.field-0.0 (sym c.next.ensures.next ∙ c.in_err-next.was),
+      ap (begin_by c.args.uid c.args.count arguments no_seats) found
+          ∙ refuses (begin_by c.args.uid c.args.count arguments no_seats (Some session)) c.in_err-next.field-0.0 (sym c.next.ensures.next ∙ c.in_err-next.was),
       refl,
     )
 
@@ -32,9 +33,9 @@ returns-in-Replays-clause-answered c =
     let arguments = sequence_view c.args.arguments.now in
     let session : Known = session_of c.in-Some.session.now in
     let found = sym c.find.ensures ∙ ap (λ r. option_map session_of (option_copied r)) c.in-Some.is in
-    let next = replays (begin_by c.args.uid c.args.count arguments (Some session)) (sym c.next.ensures.next ∙ c.in_ok-next.was ∙ ap Ok c.in-Replays.is) in (
+    let next = replays (begin_by c.args.uid c.args.count arguments no_seats (Some session)) (sym c.next.ensures.next ∙ c.in_ok-next.was ∙ ap Ok c.in-Replays.is) in (
       next.0,
-      ap (begin_by c.args.uid c.args.count arguments) found ∙ next.1,
+      ap (begin_by c.args.uid c.args.count arguments no_seats) found ∙ next.1,
       ap (reply_in c.args.arguments.now.slot) found ∙ replays_kept c.args.uid c.args.count arguments session next.0 next.1,
       refl,
     )
@@ -45,7 +46,7 @@ returns-clause-answered c =
     let arguments = sequence_view c.args.arguments.now in
     let session : Known = session_of c.in-Some.session.now in
     let found = sym c.find.ensures ∙ ap (λ r. option_map session_of (option_copied r)) c.in-Some.is in
-    let next = runs (begin_by c.args.uid c.args.count arguments (Some session)) (sym c.next.ensures.next ∙ c.in_ok-next.was ∙ ap Ok c.in-Runs.is) in (
+    let next = runs (begin_by c.args.uid c.args.count arguments no_seats (Some session)) (sym c.next.ensures.next ∙ c.in_ok-next.was ∙ ap Ok c.in-Runs.is) in (
       session,
       found,
       (
@@ -59,6 +60,6 @@ returns-clause-answered c =
           flags = 0;
         }) c.highest_slot-highest_slot.ensures,
       ),
-      ap (begin_by c.args.uid c.args.count arguments) found ∙ next,
+      ap (begin_by c.args.uid c.args.count arguments no_seats) found ∙ next,
       ap (table_by (roll_of c.args.self.now.clients)) c.start.ensures,
     )
