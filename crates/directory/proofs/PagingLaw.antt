@@ -12,7 +12,7 @@ use Rattle.directory.proofs.ByStamp.{IsRising, rising_above, rising_by_stamp, af
 
 -- What comes after a cookie is above it, and has what the map has there
 
-after_above : (cookie : ℕ) (entries : Keyed DirEntry) → IsRising entries → IsAbove cookie (after cookie entries)
+pub after_above : (cookie : ℕ) (entries : Keyed DirEntry) → IsRising entries → IsAbove cookie (after cookie entries)
 after_above cookie [] rising = tt
 after_above cookie (entry ∷ rest) rising = elim (cases_lt cookie entry.0) [
   | inl above ↦
@@ -22,7 +22,7 @@ after_above cookie (entry ∷ rest) rising = elim (cases_lt cookie entry.0) [
       subst (IsAbove cookie) (sym (drops cookie entry rest below)) (after_above cookie rest (rising_above rest entry.0 rising))
 ]
 
-at_after : (cookie key : ℕ) (entries : Keyed DirEntry) → cookie < key → at key (after cookie entries) ≡ at key entries
+pub at_after : (cookie key : ℕ) (entries : Keyed DirEntry) → cookie < key → at key (after cookie entries) ≡ at key entries
 at_after cookie key [] above = refl
 at_after cookie key (entry ∷ rest) above = elim (cases_lt cookie entry.0) [
   | inl kept ↦
@@ -95,38 +95,58 @@ rising_pages cookie (page ∷ next ∷ rest) listing =
     above_append cookie page.shown (all_shown (next ∷ rest)) (above_front cookie page.shown listing.0.0 whole)
     (rising_pages (last_cookie cookie page.shown) (next ∷ rest) listing.1)
 
-shown_pages : (cookie : ℕ) (pages : List Page) → IsListing cookie pages → (stamp : ℕ) (entry : DirEntry) → cookie < stamp
-    → AllByRecursion (λ page. at stamp (by_stamp page.records) ≡ Some entry) pages → at stamp (all_shown pages) ≡ Some entry
-shown_pages cookie [] listing stamp entry above there = absurd listing
-shown_pages cookie (page ∷ []) listing stamp entry above there =
-    ap (at stamp) (append-nil page.shown ∙ sym listing) ∙ (at_after cookie stamp (by_stamp page.records) above ∙ there.0)
-shown_pages cookie (page ∷ next ∷ rest) listing stamp entry above there =
+-- something of this kind stands at a key
+abbrev pub Has : (DirEntry → Type 0) → (key : ℕ) → Keyed DirEntry → Type 0
+Has P key entries = (entry : DirEntry) × (at key entries ≡ Some entry) × P entry
+
+pub shown_pages : (P : DirEntry → Type 0) (cookie : ℕ) (pages : List Page) → IsListing cookie pages → (stamp : ℕ) → cookie < stamp
+    → AllByRecursion (λ page. Has P stamp (by_stamp page.records)) pages → Has P stamp (all_shown pages)
+shown_pages P cookie [] listing stamp above there = absurd listing
+shown_pages P cookie (page ∷ []) listing stamp above there = (
+  there.0.0,
+  ap (at stamp) (append-nil page.shown ∙ sym listing) ∙ (at_after cookie stamp (by_stamp page.records) above ∙ there.0.1),
+  there.0.2,
+)
+shown_pages P cookie (page ∷ next ∷ rest) listing stamp above there =
     let whole = subst (IsAbove cookie) listing.0.1 (after_above cookie (by_stamp page.records) (rising_by_stamp page.records)) in
     let others = all_shown (next ∷ rest) in
     elim (cases_lt (last_cookie cookie page.shown) stamp) [
       | inl past ↦
-          at_back stamp page.shown others (at_past cookie stamp page.shown (above_front cookie page.shown listing.0.0 whole) past)
-          ∙ shown_pages (last_cookie cookie page.shown) (next ∷ rest) listing.1 stamp entry past there.1
-      | inr within ↦
-          at_front stamp entry page.shown others
-          (in_front cookie stamp entry page.shown listing.0.0 whole within
-          (ap (at stamp) (sym listing.0.1) ∙ (at_after cookie stamp (by_stamp page.records) above ∙ there.0)))
+          let behind = shown_pages P (last_cookie cookie page.shown) (next ∷ rest) listing.1 stamp past there.1 in (
+            behind.0,
+            at_back stamp page.shown others (at_past cookie stamp page.shown (above_front cookie page.shown listing.0.0 whole) past) ∙ behind.1,
+            behind.2,
+          )
+      | inr within ↦ (
+        there.0.0,
+        at_front stamp there.0.0 page.shown others
+            (in_front cookie stamp there.0.0 page.shown listing.0.0 whole within
+            (ap (at stamp) (sym listing.0.1) ∙ (at_after cookie stamp (by_stamp page.records) above ∙ there.0.1))),
+        there.0.2,
+      )
     ]
+
+-- this very one stands there
+is_it : (entry : DirEntry) (stamp : ℕ) (pages : List Page) → AllByRecursion (λ page. at stamp (by_stamp page.records) ≡ Some entry) pages
+    → AllByRecursion (λ page. Has (λ other. other ≡ entry) stamp (by_stamp page.records)) pages
+is_it entry stamp [] there = tt
+is_it entry stamp (page ∷ pages) there = ((entry, there.0, refl), is_it entry stamp pages there.1)
 
 -- rising keys differ
 
-above_index : (least : ℕ) (entries : Keyed DirEntry) (i : ℕ) (d : Record) → IsAbove least entries → i < length entries → least < (get_or entries i d).0
-above_index least [] i d above within = absurd (omega arith)
-above_index least (entry ∷ rest) zero d above within = above.0
-above_index least (entry ∷ rest) (suc i) d above within =
-    let further : entry.0 < (get_or rest i d).0 = above_index entry.0 rest i d above.1 (omega arith) in omega (arith, further, above.0)
+module _ {A : Type 0} where
+  above_index : (least : ℕ) (entries : Keyed A) (i : ℕ) (d : ℕ × A) → IsAbove least entries → i < length entries → least < (get_or entries i d).0
+  above_index least [] i d above within = absurd (omega arith)
+  above_index least (entry ∷ rest) zero d above within = above.0
+  above_index least (entry ∷ rest) (suc i) d above within =
+      let further : entry.0 < (get_or rest i d).0 = above_index entry.0 rest i d above.1 (omega arith) in omega (arith, further, above.0)
 
-rising_index : (least : ℕ) (entries : Keyed DirEntry) (i j : ℕ) (d : Record) → IsAbove least entries → i < j → j < length entries
-    → (get_or entries i d).0 < (get_or entries j d).0
-rising_index least [] i j d above before within = absurd (omega arith)
-rising_index least (entry ∷ rest) i zero d above before within = absurd (omega arith)
-rising_index least (entry ∷ rest) zero (suc j) d above before within = above_index entry.0 rest j d above.1 (omega arith)
-rising_index least (entry ∷ rest) (suc i) (suc j) d above before within = rising_index entry.0 rest i j d above.1 (omega arith) (omega arith)
+  pub rising_index : (least : ℕ) (entries : Keyed A) (i j : ℕ) (d : ℕ × A) → IsAbove least entries → i < j → j < length entries
+      → (get_or entries i d).0 < (get_or entries j d).0
+  rising_index least [] i j d above before within = absurd (omega arith)
+  rising_index least (entry ∷ rest) i zero d above before within = absurd (omega arith)
+  rising_index least (entry ∷ rest) zero (suc j) d above before within = above_index entry.0 rest j d above.1 (omega arith)
+  rising_index least (entry ∷ rest) (suc i) (suc j) d above before within = rising_index entry.0 rest i j d above.1 (omega arith) (omega arith)
 
 pub every_paging_lem : EveryPaging
 every_paging_lem pages listing = record {
@@ -135,5 +155,7 @@ every_paging_lem pages listing = record {
       let rise : (get_or (all_shown pages) i d).0 < (get_or (all_shown pages) j d).0 = rising_index 0 (all_shown pages) i j d (rising_pages 0 pages listing) before within in
       let one : (get_or (all_shown pages) i d).0 ≡ (get_or (all_shown pages) j d).0 = ap (λ (r : Record). r.0) same in
       omega arith;
-  shown = λ stamp entry above there. shown_pages 0 pages listing stamp entry above there;
+  shown = λ stamp entry above there.
+      let has = shown_pages (λ other. other ≡ entry) 0 pages listing stamp above (is_it entry stamp pages there) in
+      has.1 ∙ ap (λ (e : DirEntry). Some e) has.2;
 }

@@ -2,6 +2,8 @@ pub mod Least
 pub mod Listing
 pub mod Order
 pub mod Reading
+pub mod ReadingExample
+pub mod Readings
 pub mod Records
 pub mod Rest
 pub mod Spelling
