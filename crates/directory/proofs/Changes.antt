@@ -1,4 +1,5 @@
 -- Names that are read, put and removed, as the entries hold them.
+use Rattle.std.specs.Rc.{rc_slice_items}
 use Rattle.std.proofs.Common.{◌≡◌, ◌≢◌, ◌<◌, ◌≤◌, ℕ, List, [], ◌∷◌, ◌++◌, Some, None, length, get_or, set, map, sym, ap, subst, ◌∙◌, arith}
 use Rattle.std.specs.Prelude.{slice_get}
 use Rattle.std.proofs.lemmas.List.{length-map, get_or-map, map-set, map_push}
@@ -14,7 +15,7 @@ none_found entries name p is past =
     entry_of-place name (map record_of entries) ∙ slice_get_past (map record_of entries) (place_of name (map record_of entries)) (omega (arith, length-map entries record_of))
 
 -- the entry at the place has the name
-pub has_name : (entries : List Entry) (name : List ℕ) (p : ℕ) (entry : Entry) → p ≡ place_of name (map record_of entries) → p < length entries → entry ≡ get_or entries p entry → entry.name.items ≡ name
+pub has_name : (entries : List Entry) (name : List ℕ) (p : ℕ) (entry : Entry) → p ≡ place_of name (map record_of entries) → p < length entries → entry ≡ get_or entries p entry → (rc_slice_items entry.name) ≡ name
 has_name entries name p entry is h at =
     let within : place_of name (map record_of entries) < length (map record_of entries) = omega (arith, length-map entries record_of) in
     let there : (get_or (map record_of entries) (place_of name (map record_of entries)) (record_of entry)).1.name ≡ name = named_there name (map record_of entries) (record_of entry) within in
@@ -41,7 +42,7 @@ found_entry entries name p entry is h at =
 -- ---- put, where the name is there
 
 module _ (entries : List Entry) (name : List ℕ) (stamp number p : ℕ) (entry changed : Entry) (is : p ≡ place_of name (map record_of entries)) (h : p < length entries) (at : entry ≡ get_or entries p entry)
-    (change : record_of changed ≡ record_from stamp entry.name.items number) where
+    (change : record_of changed ≡ record_from stamp (rc_slice_items entry.name) number) where
   pub set_records : map record_of (set entries p changed) ≡ set (map record_of entries) p (record_from stamp name number)
   set_records =
       map-set record_of entries p changed

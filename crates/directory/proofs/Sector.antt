@@ -1,4 +1,5 @@
 -- Records in a sector.
+use Rattle.std.specs.Rc.{rc_slice_items}
 use Rattle.directory.specs.declared.fault.RecordsFault.{RecordsFault}
 use Rattle.std.proofs.Common.{Result, Err, ◌≡◌, ◌<◌, ◌≤◌, ◌+◌, ◌-◌, ◌*◌, min, ℕ, zero, suc, List, [], ◌∷◌, ◌++◌, length, get_or, take, drop, map, replicate, refl, sym, ap, ◌∙◌, arith, append_assoc}
 use Rattle.std.specs.List.{flat_map, AllByRecursion}
@@ -99,9 +100,9 @@ pub records_there : (others : List Record) (sector : List ℕ) → sector ≡ di
 unfolding directory_sector
 records_there others sector e = e
 
-pub name_fits : (entries : List Entry) (i : ℕ) (entry : Entry) → AllByRecursion IsRecord (map record_of entries) → i < length entries → entry ≡ get_or entries i entry → length entry.name.items ≤ 255
+pub name_fits : (entries : List Entry) (i : ℕ) (entry : Entry) → AllByRecursion IsRecord (map record_of entries) → i < length entries → entry ≡ get_or entries i entry → length (rc_slice_items entry.name) ≤ 255
 name_fits [] i entry all h is = absurd (omega arith)
-name_fits (e ∷ entries) zero entry all h is = let few : length (get_or (e ∷ entries) 0 entry).name.items ≤ 255 = all.0.few in let same : length entry.name.items ≡ length (get_or (e ∷ entries) 0 entry).name.items = ap (λ (x : Entry). length x.name.items) is in omega arith
+name_fits (e ∷ entries) zero entry all h is = let few : length (rc_slice_items (get_or (e ∷ entries) 0 entry).name) ≤ 255 = all.0.few in let same : length (rc_slice_items entry.name) ≡ length (rc_slice_items (get_or (e ∷ entries) 0 entry).name) = ap (λ (x : Entry). length (rc_slice_items x.name)) is in omega arith
 name_fits (e ∷ entries) (suc i) entry all h is = name_fits entries i entry all.1 (omega arith) is
 
 -- a part of records

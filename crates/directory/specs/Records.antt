@@ -2,6 +2,7 @@
 -- cookie (RFC 8881, section 18.23.3), and the number of its node. As a map from names the order
 -- does not matter, and no two records have one name.
 use Rattle.std.specs.Prelude.{◌≢◌, ◌<◌, ◌≤◌, ◌+◌, ◌^◌, ℕ, Bool, List, [], ◌∷◌, bytes_eq, length, if◌then◌else◌, slice_index_or}
+use Rattle.std.specs.Rc.{rc_slice_items}
 use Rattle.std.specs.List.{swap_remove, AllByRecursion}
 use Rattle.model.specs.Tree.{DirEntry}
 use Rattle.directory.specs.declared.entry.Entry.{Entry}
@@ -13,7 +14,7 @@ abbrev pub record_from : (stamp : ℕ) → (name : List ℕ) → (number : ℕ) 
 record_from stamp name number = (stamp, record { name = name; number = number })
 
 abbrev pub record_of : Entry → Record
-record_of entry = record_from entry.stamp entry.name.items entry.number
+record_of entry = record_from entry.stamp (rc_slice_items entry.name) entry.number
 
 abbrev pub is_named : List ℕ → Record → Bool
 is_named name entry = bytes_eq name entry.1.name

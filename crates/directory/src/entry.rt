@@ -3,12 +3,14 @@
 ghost use Rattle.std.specs.Prelude.{◌≡◌, ◌<◌, ◌^◌, IfOk};
 
 use std::alloc::{AllocError, Global};
+use std::rc::RcSlice;
 
 /// A name, with its stamp and its node.
 #[derive(Drop)]
 pub struct Entry {
-    /// 1 to 255 bytes.
-    pub name: Vec<u8>,
+    /// 1 to 255 bytes, which copies of the entry share: each change of a directory copies its
+    /// names.
+    pub name: RcSlice<u8>,
     /// The stamp of the change that put the name, its cookie.
     pub stamp: u64,
     /// The number of the node that it leads to.
@@ -19,14 +21,32 @@ pub struct Entry {
 }
 
 impl Entry {
-    ghost use Rattle.directory.specs.Records.{record_of};
+    ghost use Rattle.directory.specs.Records.{record_of, record_from};
 
-    /// The same entry once more, in memory of its own.
-    pub fn try_clone(&self, alloc: Global) -> Result<Entry, AllocError>
+    /// An entry of this name's bytes, whatever holds them.
+    pub(crate) fn new(
+        alloc: Global,
+        name: &[u8],
+        stamp: u64,
+        number: u64,
+    ) -> Result<Entry, AllocError>
+        ensures { IfOk result
+            (λ entry. record_of entry ≡ record_from stamp name.now number) }
+    {
+        let name = RcSlice::from_slice(alloc, name)?;
+        Ok(Entry {
+            name,
+            stamp,
+            number,
+        })
+    }
+
+    /// The same entry once more, which shares the name's bytes.
+    pub fn try_clone(&self) -> Result<Entry, AllocError>
         ensures { IfOk result (λ entry. record_of entry ≡ record_of self.now) }
     {
         Ok(Entry {
-            name: Vec::from_slice(alloc, &self.name)?,
+            name: self.name.clone()?,
             stamp: self.stamp,
             number: self.number,
         })

@@ -78,7 +78,7 @@ impl Names {
         }))
     }
 
-    /// The same names once more, in the same records, in memory of their own.
+    /// The same names once more, in the same records. Their bytes are shared.
     pub fn try_clone(&self) -> Result<Names, AllocError>
         ensures { IfOk result (λ names. names ≡ self.now) }
     {
@@ -172,13 +172,9 @@ impl Names {
             if place >= Names::MAX_NAMES {
                 return Err(DirectoryFault::Full);
             }
-            let name = Vec::from_slice(self.alloc, name)?;
+            let entry = Entry::new(self.alloc, name, stamp, number)?;
             self.order.reserve(1)?;
-            self.entries.push(Entry {
-                name,
-                stamp,
-                number,
-            })?;
+            self.entries.push(entry)?;
             order::insert(&mut self.order, Placed { stamp, place });
         }
         Ok(place)
@@ -224,7 +220,7 @@ fn clone_entries(alloc: Global, entries: &[Entry]) -> Result<Vec<Entry>, AllocEr
 {
     let mut copy = Vec::new(alloc);
     for entry in entries {
-        copy.push(entry.try_clone(alloc)?)?;
+        copy.push(entry.try_clone()?)?;
     }
     Ok(copy)
 }
@@ -244,7 +240,8 @@ fn are_records(entries: &[Entry]) -> bool
 fn is_record(entry: &Entry) -> bool
     ensures { IsTrue result ↔ IsRecord (record_of entry.now) }
 {
-    !entry.name.is_empty() && entry.name.len() <= MAX_NAME_BYTES
+    let len = entry.name.len();
+    0 < len && len <= MAX_NAME_BYTES
 }
 
 // Whether no two entries have one name.

@@ -2,6 +2,7 @@
 
 ghost use Rattle.std.specs.Prelude.{◌≡◌, ◌<◌, ◌≤◌, ◌+◌, ◌++◌, ℕ, List, length, drop, take, map, IfOk, IsErrOf};
 ghost use Rattle.std.specs.List.{AllByRecursion};
+ghost use Rattle.std.specs.Rc.{rc_slice_items};
 ghost use Rattle.directory.specs.Records.{Record, record_of, IsRecord};
 ghost use Rattle.directory.specs.Spelling.{record_bytes, directory_sector};
 
@@ -21,7 +22,7 @@ const WIDTH: usize = 272;
 
 fn put_record(sector: &mut [u8; SIZE], at: usize, entry: &Entry)
     requires within { at + WIDTH ≤ SIZE }
-    requires few { length entry.now.name.items ≤ MAX_NAME_BYTES }
+    requires few { length (rc_slice_items entry.now.name) ≤ MAX_NAME_BYTES }
     ensures front { take (at + WIDTH) sector.new
         ≡ take at sector.old ++ record_bytes (record_of entry.now) }
     ensures len { length sector.new ≡ SIZE }
@@ -30,7 +31,7 @@ fn put_record(sector: &mut [u8; SIZE], at: usize, entry: &Entry)
     put_u64(sector, at, entry.number);
     put_u64(sector, at + 8, entry.stamp);
     put_bytes(sector, at + 16, &[len as u8]);
-    put_bytes(sector, at + 17, &entry.name);
+    put_bytes(sector, at + 17, entry.name.as_slice());
     put_zeros(sector, at + 17 + len, MAX_NAME_BYTES - len);
 }
 
@@ -62,12 +63,9 @@ fn entry_at(alloc: Global, sector: &[u8; SIZE], at: usize) -> Result<Entry, Reco
     if len == 0 {
         return Err(RecordsFault::NotRecords);
     }
-    let name = Vec::from_slice(alloc, &sector[at + 17..at + 17 + len])?;
-    Ok(Entry {
-        name,
-        stamp: u64_at(sector, at + 8),
-        number: u64_at(sector, at),
-    })
+    let name = &sector[at + 17..at + 17 + len];
+    let entry = Entry::new(alloc, name, u64_at(sector, at + 8), u64_at(sector, at))?;
+    Ok(entry)
 }
 
 /// The first records.

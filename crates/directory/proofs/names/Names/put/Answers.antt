@@ -46,7 +46,7 @@ invariant_of-self-else-place-len c =
     let is = c.place_in-place.ensures.place ∙ ap (λ es. place_of name (map record_of es)) c.deref.ensures.value in
     let low : place ≤ length entries = subst (λ es. place ≤ length es) c.deref.ensures.value c.place_in-place.ensures.within in
     let past : length entries ≤ place = omega (arith, c.len.ensures, c.self.inside.entries.ok.0) in
-    let made = ap (λ n. record_from c.args.stamp n c.args.number) c.in_ok-name.ensures.items in
+    let made = c.in_ok-entry.ensures in
     record {
       directory = subst (λ es. IsDirectory (map record_of es)) (sym c.in_ok-push.ensures.items)
           (put_push_kept entries name c.args.stamp c.args.number place _ is past made c.self.invariant.directory (omega arith)
@@ -73,7 +73,7 @@ returns-in_ok-push-clause-ok c =
     let is = c.place_in-place.ensures.place ∙ ap (λ es. place_of name (map record_of es)) c.deref.ensures.value in
     let past : length entries ≤ c.place_in-place.result = omega (arith, c.len.ensures, c.self.inside.entries.ok.0) in
     ap (map record_of) c.in_ok-push.ensures.items
-    ∙ put_push entries name c.args.stamp c.args.number c.place_in-place.result _ is past (ap (λ n. record_from c.args.stamp n c.args.number) c.in_ok-name.ensures.items) ∙ ap (λ names. with_record names (record_from c.args.stamp name c.args.number)) c.self.view_is
+    ∙ put_push entries name c.args.stamp c.args.number c.place_in-place.result _ is past c.in_ok-entry.ensures ∙ ap (λ names. with_record names (record_from c.args.stamp name c.args.number)) c.self.view_is
 
 pub returns-then-place-len-clause-found : goal.returns-then-place-len-clause-found
 returns-then-place-len-clause-found c =
