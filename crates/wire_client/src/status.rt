@@ -7,7 +7,7 @@ ghost use Rattle.model.specs.WireAnswers.{refusal_of};
 use model::status::Status;
 
 // Every status but OK, by rising number.
-const REFUSALS: [Status; 43] = [
+const REFUSALS: [Status; 44] = [
     Status::NoEnt,
     Status::Access,
     Status::Exist,
@@ -50,6 +50,7 @@ const REFUSALS: [Status; 43] = [
     Status::OpNotInSession,
     Status::ClientIdBusy,
     Status::SeqFalseRetry,
+    Status::DeadSession,
     Status::NotOnlyOp,
 ];
 
