@@ -9,9 +9,10 @@ use client::{Client, ClientFault};
 use model::acl::{Cred, Gids};
 use std::alloc::Global;
 use wire::{
-    Answer, Argument, Bitmap, Channel, CreateSessionAnswer, CreateSessionArguments,
-    ExchangeIdAnswer, ExchangeIdArguments, StableHow, StateId, WriteArguments,
+    Answer, Argument, Bitmap, CreateSessionAnswer, CreateSessionArguments, ExchangeIdAnswer,
+    ExchangeIdArguments, StableHow, StateId, WriteArguments,
 };
+use wire_client::CHANNEL;
 
 /// How many calls a stream has.
 pub const CALLS: u32 = 32;
@@ -19,16 +20,6 @@ pub const CALLS: u32 = 32;
 pub const DATA_BYTES: usize = 8192;
 /// The filehandle that each call puts.
 const HANDLE: [u8; 8] = [0, 0, 0, 0, 0, 0, 0, 9];
-/// What a session's channels take.
-const CHANNEL: Channel = Channel {
-    header_pad_size: 0,
-    max_request_size: 16_384,
-    max_response_size: 16_384,
-    max_response_size_cached: 16_384,
-    max_operations: 16,
-    max_requests: 8,
-    rdma_ird: None,
-};
 /// The attributes that GETATTR asks for: type, change, size, fsid and fileid; mode, links, owner,
 /// group, space and times.
 pub const ASKED: [u32; 2] = [0x0010_011a, 0x0030_a03a];

@@ -14,20 +14,9 @@ use std::alloc::Global;
 use std::io::{Read, Write};
 use std::net::Net;
 use wire::{
-    Answer, Argument, CallbackSecurity, Channel, CreateSessionArguments, ExchangeIdArguments,
-    Outcome,
+    Answer, Argument, CallbackSecurity, CreateSessionArguments, ExchangeIdArguments, Outcome,
 };
-
-/// What a user asks of both channels of its session.
-const CHANNEL: Channel = Channel {
-    header_pad_size: 0,
-    max_request_size: 16_384,
-    max_response_size: 16_384,
-    max_response_size_cached: 16_384,
-    max_operations: 16,
-    max_requests: 8,
-    rdma_ird: None,
-};
+use wire_client::CHANNEL;
 
 /// Makes a new caller known by this name, and tells its number.
 pub fn hello<S, D, O>(

@@ -8,6 +8,7 @@
 
 mod answers;
 mod argument;
+mod channel;
 mod directory;
 mod file;
 mod laws;
@@ -18,5 +19,6 @@ mod small;
 mod status;
 
 pub use argument::write_argument;
+pub use channel::CHANNEL;
 pub use laws::spelled_arguments_fit;
 pub use outcome::read_outcome;

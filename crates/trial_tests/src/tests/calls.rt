@@ -4,25 +4,13 @@ use super::operation::Operation;
 use std::alloc::Global;
 use std::test::Fail;
 use wire::{
-    Argument, CallbackSecurity, Channel, CreateSessionArguments, ExchangeIdArguments,
-    SequenceArguments,
+    Argument, CallbackSecurity, CreateSessionArguments, ExchangeIdArguments, SequenceArguments,
 };
-use wire_client::write_argument;
+use wire_client::{CHANNEL, write_argument};
 use xdr::{Refusal, Writer};
 
 /// The mark of a record's last fragment.
 const LAST_FRAGMENT: u32 = 1 << 31;
-
-/// What a client asks of both channels of its session.
-const CHANNEL: Channel = Channel {
-    header_pad_size: 0,
-    max_request_size: 16_384,
-    max_response_size: 16_384,
-    max_response_size_cached: 16_384,
-    max_operations: 16,
-    max_requests: 8,
-    rdma_ird: None,
-};
 
 /// Who calls, under which number.
 #[derive(Clone, Copy)]
