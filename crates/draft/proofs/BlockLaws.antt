@@ -12,7 +12,7 @@ use Rattle.extents.specs.Runs.{with_holes}
 use Rattle.layout.specs.Cards.{content_at, byte_at}
 use Rattle.layout.specs.Files.{over}
 use Rattle.layout.specs.Marks.{once_if, times_set, mark_by}
-use Rattle.layout.proofs.FileLaws.{holes-at, over-front, over-past, over-same, filling, writing, writing_on}
+use Rattle.layout.proofs.FileLaws.{holes-at, over-front, over-part, over-past, over-same, filling, writing, writing_on}
 use Rattle.layout.proofs.Frame.{times_set-at, content-kept}
 use Rattle.layout.proofs.MarkProofs.{each_mark}
 use Rattle.layout.proofs.StepLaws.{each_own, others_hold, each_change}
@@ -83,6 +83,48 @@ zeros-are = refl
 length-zero : length zero_sector ≡ 4096
 unfolding zero_sector
 length-zero = length-replicate {A = ℕ} 4096 0
+
+-- what stands under a part does not matter
+over_all : (f g : ℕ → ℕ) (offset : ℕ) (part : List ℕ) (k : ℕ) → ((k < offset) ⊎ (offset + length part ≤ k) → f k ≡ g k) → over f offset part k ≡ over g offset part k
+over_all f g offset part k same = elim (cases_lt k offset) [
+  | inl low ↦ over-front f offset part k low ∙ same (inl low) ∙ sym (over-front g offset part k low)
+  | inr high ↦ elim (cases_lt k (offset + length part)) [
+    | inl within ↦ over-part f offset part k high within ∙ sym (over-part g offset part k high within)
+    | inr past ↦ over-past f offset part k past ∙ same (inr past) ∙ sym (over-past g offset part k past)
+  ]
+]
+
+byte_at-alike : (a b : Image) (blocks : List (Option ℕ)) (k : ℕ) → content_at a (get_or blocks (k / 4096) None) ≡ content_at b (get_or blocks (k / 4096) None) → byte_at a blocks k ≡ byte_at b blocks k
+unfolding byte_at
+byte_at-alike a b blocks k same = ap (λ (bytes : List ℕ). get_or bytes (k % 4096) 0) same
+
+off_block : (block from k : ℕ) (part : List ℕ) → length part ≡ 4096 → from + length part ≤ 4096 → (k < 4096 * block + from) ⊎ (4096 * block + from + length part ≤ k) → k / 4096 ≢ block
+off_block block from k part full within (inl low) e = omega arith
+off_block block from k part full within (inr past) e = omega arith
+
+-- a block that has a sector, all of it: what it held does not matter
+pub writes_full : (first : ℕ) (places : List Bool) (old new : Image) (blocks : List (Option ℕ)) (block sector from : ℕ) (part : List ℕ) → HaveMarks first places blocks → get_or blocks block None ≡ Some sector → length part ≡ 4096
+    → from + length part ≤ 4096 → IsPut old new sector (placed zero_sector from part) → WritesBytes old new blocks blocks (4096 * block + from) part
+writes_full first places old new blocks block sector from part marked is_set full within is =
+    let own = each_own blocks sector in
+    let each = each_mark first places 0 in
+    let once : times_set sector blocks ≤ 1 = omega (arith, marked sector, each.once sector) in
+    let alone = own.once once block is_set in
+    let away = elsewhere old new sector (placed zero_sector from part) is in
+    let mid : Image = put old (record { target = sector; content = zero_sector }) in
+    let mid_is : IsPut old mid sector zero_sector = refl in
+    let zeros : mid sector ≡ zero_sector = here old mid sector zero_sector mid_is in
+    let mid_away = elsewhere old mid sector zero_sector mid_is in
+    let others = others_hold old mid blocks block sector (λ n off some. mid_away n off) alone in
+    λ k.
+    writing mid new blocks block sector from part (record {
+      is_set = is_set;
+      whole = ap length zeros ∙ length-zero;
+      within = within;
+      written = here old new sector (placed zero_sector from part) is ∙ ap (λ (s : List ℕ). placed s from part) (sym zeros);
+      others = others_hold mid new blocks block sector (λ n off some. away n off ∙ sym (mid_away n off)) alone;
+    }) k
+    ∙ over_all (byte_at mid blocks) (byte_at old blocks) (4096 * block + from) part k (λ out. byte_at-alike mid old blocks k (others (k / 4096) (off_block block from k part full within out)))
 
 pub writes_hole : (first : ℕ) (places taken : List Bool) (old new : Image) (blocks : List (Option ℕ)) (block sector from : ℕ) (part : List ℕ) → HaveMarks first places blocks → block < length blocks → get_or blocks block None ≡ None
     → Takes first places taken sector → from + length part ≤ 4096 → IsPut old new sector (placed zero_sector from part) → WritesBytes old new blocks (set blocks block (Some sector)) (4096 * block + from) part

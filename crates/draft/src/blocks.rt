@@ -131,6 +131,11 @@ fn write_block<S: Sectors>(
         (IsErrOf result DraftFault.Device) }
 {
     match blocks.at(part.block) {
+        // A whole sector is not read first.
+        Some(sector) if part.bytes.len() == SECTOR => {
+            write_new(updates, sector, part.from, part.bytes)?;
+            Ok(())
+        }
         Some(sector) => write_over(updates, base, sector, part.from, part.bytes),
         None => {
             let sector = take_sector(places, first, blocks, part.block)?;
