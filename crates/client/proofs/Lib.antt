@@ -9,3 +9,4 @@ pub mod Nexts
 pub mod Elsewhere
 pub mod WholeLaws
 pub mod Worked
+pub mod Lasts

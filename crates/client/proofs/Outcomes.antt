@@ -18,7 +18,7 @@ use Rattle.model.specs.SetAttr.{sets, set_attributes}
 use Rattle.model.specs.State.{current_refusals}
 use Rattle.model.specs.StateIds.{has_opens}
 use Rattle.model.specs.Step.{State, Stepped, effect, does}
-use Rattle.model.specs.World.{World, InProgress, Connection, Quiet, Waiting, Busy, Replied, Closed, HasRun, Gives, Replays, exchanged, created_by, tabled, started_in, begun, reclaimed, state_of, refuses, in_room, has_room, run, result_of, with_result, Turned, Entry, executed_entry, idle, replies, behind, ends, goes_on, is_last, has_run, operates, Next, Refuses, Reads, next_operation, requested, in_progress, called, turned, one}
+use Rattle.model.specs.World.{World, InProgress, Connection, Quiet, Waiting, Busy, Replied, Closed, HasRun, Gives, Replays, exchanged, created_by, tabled, started_in, begun, reclaimed, state_of, refuses, in_room, has_room, run, result_of, with_result, Turned, Entry, executed_entry, idle, replies, behind, ends, goes_on, closes, is_to_hold, further, is_last, has_run, operates, Next, Refuses, Reads, next_operation, requested, in_progress, called, turned, one}
 use Rattle.model.proofs.KeyedLaws.{at-with_other}
 use Rattle.model.proofs.StepCases.{does_cases}
 use Rattle.client.specs.Replies.{number_of}
@@ -53,40 +53,41 @@ module _ (limits : Limits) (state : State) (now : ℕ) where
     | inr not_passed ↦ ap (λ (s : Stepped). number_of s.outcome) not_passed.1
   ]
 
--- the outcome is the operation's, and the connections stay
-abbrev RanWell : World → Argument → HasRun → Type 0
-RanWell world operation (Gives outcome after left) = (number_of outcome ≡ operation_of operation) × (after.connections ≡ world.connections)
-RanWell world operation (Replays result session slot) = Unit {0}
+-- the outcome is the operation's, the connections stay, and the request has not ended where it had not
+abbrev pub RanWell : World → (ended : Option Status) → Argument → HasRun → Type 0
+RanWell world ended operation (Gives outcome after left) =
+    (number_of outcome ≡ operation_of operation) × (after.connections ≡ world.connections) × (left.ended ≡ ended)
+RanWell world ended operation (Replays result session slot) = Unit {0}
 
 module _ (world : World) (request : InProgress) where
-  exchanged_well : (operation : Argument) → operation_of operation ≡ 42 → (r : Result ExchangeIdAnswer Status × Table) → RanWell world operation (exchanged world request r)
-  exchanged_well operation is (Err reason, table) = (sym is, refl)
-  exchanged_well operation is (Ok answer, table) = (sym is, refl)
+  exchanged_well : (operation : Argument) → operation_of operation ≡ 42 → (r : Result ExchangeIdAnswer Status × Table) → RanWell world request.ended operation (exchanged world request r)
+  exchanged_well operation is (Err reason, table) = (sym is, refl, refl)
+  exchanged_well operation is (Ok answer, table) = (sym is, refl, refl)
 
   created_well : (operation : Argument) → operation_of operation ≡ 43 → (o : sessions.CreateSessionOutcome) (answer : Result CreateSessionAnswer Status)
-      → RanWell world operation (created_by world request o answer)
-  created_well operation is o (Err reason) = (sym is, refl)
-  created_well operation is o (Ok answer) = (sym is, refl)
+      → RanWell world request.ended operation (created_by world request o answer)
+  created_well operation is o (Err reason) = (sym is, refl, refl)
+  created_well operation is o (Ok answer) = (sym is, refl, refl)
 
   tabled_well : (operation : Argument) (number : ℕ) (answer : Answer) → number ≡ operation_of operation → number_of (Outcome.Done answer) ≡ operation_of operation
-      → (r : Option Status × Table) → RanWell world operation (tabled world request number answer r)
-  tabled_well operation number answer is done (Some reason, table) = (is, refl)
-  tabled_well operation number answer is done (None, table) = (done, refl)
+      → (r : Option Status × Table) → RanWell world request.ended operation (tabled world request number answer r)
+  tabled_well operation number answer is done (Some reason, table) = (is, refl, refl)
+  tabled_well operation number answer is done (None, table) = (done, refl, refl)
 
-  started_well : (arguments : SequenceArguments) (known : Option Session) → RanWell world (Argument.Sequence arguments) (started_in world request arguments known)
-  started_well arguments None = (refl, refl)
-  started_well arguments (Some session) = (refl, refl)
+  started_well : (arguments : SequenceArguments) (known : Option Session) → RanWell world request.ended (Argument.Sequence arguments) (started_in world request arguments known)
+  started_well arguments None = (refl, refl, refl)
+  started_well arguments (Some session) = (refl, refl, refl)
 
-  begun_well : (arguments : SequenceArguments) (b : sessions.Begun) → RanWell world (Argument.Sequence arguments) (begun world request arguments b)
-  begun_well arguments (sessions.Refuses reason) = (refl, refl)
+  begun_well : (arguments : SequenceArguments) (b : sessions.Begun) → RanWell world request.ended (Argument.Sequence arguments) (begun world request arguments b)
+  begun_well arguments (sessions.Refuses reason) = (refl, refl, refl)
   begun_well arguments (sessions.Replays reply) = tt
   begun_well arguments sessions.Runs = started_well arguments (find (is_session arguments.session) world.table.sessions)
 
-  reclaimed_well : (one_fs : Bool) (refusal : Option Status) → RanWell world (Argument.ReclaimComplete one_fs) (reclaimed world request refusal)
-  reclaimed_well one_fs None = (refl, refl)
-  reclaimed_well one_fs (Some reason) = (refl, refl)
+  reclaimed_well : (one_fs : Bool) (refusal : Option Status) → RanWell world request.ended (Argument.ReclaimComplete one_fs) (reclaimed world request refusal)
+  reclaimed_well one_fs None = (refl, refl, refl)
+  reclaimed_well one_fs (Some reason) = (refl, refl, refl)
 
-  run_well : (now : ℕ) (operation : Argument) → RanWell world operation (run world request now operation)
+  pub run_well : (now : ℕ) (operation : Argument) → RanWell world request.ended operation (run world request now operation)
   unfolding run
   run_well now (Argument.ExchangeId arguments) =
       exchanged_well (Argument.ExchangeId arguments) refl (sessions.exchange_id world.limits.sessions (has_opens world.opens) request.context.cred.uid arguments world.table)
@@ -99,15 +100,15 @@ module _ (world : World) (request : InProgress) where
   run_well now (Argument.ReclaimComplete true) = reclaimed_well true (first_refusal (current_refusals (state_of world request)))
   run_well now (Argument.ReclaimComplete false) =
       tabled_well (Argument.ReclaimComplete false) 58 Answer.ReclaimComplete refl refl (sessions.reclaim_complete request.context.client world.table)
-  run_well now operation = (does_numbered world.limits.volume (state_of world request) now operation, refl)
+  run_well now operation = (does_numbered world.limits.volume (state_of world request) now operation, refl, refl)
 
-  in_room_well : (operation : Argument) (ran : HasRun) → RanWell world operation ran → RanWell world operation (in_room world request (operation_of operation) ran)
+  pub in_room_well : (operation : Argument) (ran : HasRun) → RanWell world request.ended operation ran → RanWell world request.ended operation (in_room world request (operation_of operation) ran)
   in_room_well operation (Gives (Outcome.Refused number reason) after left) well = well
   in_room_well operation (Gives (Outcome.Done answer) after left) well = by_room (has_room world request (Outcome.Done answer))
     where
-      by_room : (b : Bool) → RanWell world operation (cond b (Gives (Outcome.Done answer) after left) (refuses world request (operation_of operation) status.RepTooBig))
+      by_room : (b : Bool) → RanWell world request.ended operation (cond b (Gives (Outcome.Done answer) after left) (refuses world request (operation_of operation) status.RepTooBig))
       by_room true = well
-      by_room false = (refl, refl)
+      by_room false = (refl, refl, refl)
   in_room_well operation (Replays result session slot) well = tt
 
 -- One turn
@@ -154,12 +155,16 @@ module _ (old : World) (number : ℕ) where
     either_well true x y first second = first
     either_well false x y first second = second
 
-    behind_well : (request : InProgress) (outcome : Outcome) → TurnWell old number (behind world number request outcome executed)
-    behind_well request (Outcome.Refused operation reason) = ends_well (with_result request (Outcome.Refused operation reason)) reason
-    behind_well request (Outcome.Done answer) =
-        either_well (is_last request) _ _ (ends_well (with_result request (Outcome.Done answer)) status.Ok) (goes_well (with_result request (Outcome.Done answer)))
+    closes_well : (request : InProgress) (last : Status) → TurnWell old number (closes world number request last executed)
+    closes_well request last =
+        either_well (is_to_hold request.slot world.table.seats) _ _ (goes_well (record request { ended = Some last })) (ends_well request last)
 
-  has_run_well : (request : InProgress) (operation : Argument) (ran : HasRun) → RanWell old operation ran → TurnWell old number (has_run old number request operation ran)
+    behind_well : (request : InProgress) (outcome : Outcome) → TurnWell old number (behind world number request outcome executed)
+    behind_well request (Outcome.Refused operation reason) = closes_well (with_result request (Outcome.Refused operation reason)) reason
+    behind_well request (Outcome.Done answer) =
+        either_well (is_last request) _ _ (closes_well (with_result request (Outcome.Done answer)) status.Ok) (goes_well (with_result request (Outcome.Done answer)))
+
+  has_run_well : (request : InProgress) (operation : Argument) (ran : HasRun) → RanWell old request.ended operation ran → TurnWell old number (has_run old number request operation ran)
   has_run_well request operation (Gives outcome after left) well =
       behind_well after well.1 (Some (executed_entry old request operation outcome after)) well.0 left outcome
   has_run_well request operation (Replays result session slot) well = record {
@@ -183,11 +188,15 @@ module _ (old : World) (number : ℕ) where
   called_well now (OtherVersion xid) = replies_well xid VersionRefused
   called_well now (Calls call) = requested_well now call.xid (request_of call)
 
+  further_well : (now : ℕ) (request : InProgress) (ended : Option Status) → TurnWell old number (further old number now request ended)
+  further_well now request None = operates_well now request (next_operation request)
+  further_well now request (Some last) = ends_well old refl None tt request last
+
   turned_well : (now : ℕ) (connection : Option Connection) → TurnWell old number (turned old number now connection)
   turned_well now None = idle_well
   turned_well now (Some (Quiet bytes)) = idle_well
   turned_well now (Some (Waiting bytes)) = called_well now (read_call bytes)
-  turned_well now (Some (Busy request)) = operates_well now request (next_operation request)
+  turned_well now (Some (Busy request)) = further_well now request request.ended
   turned_well now (Some (Replied reply)) = idle_well
   turned_well now (Some Closed) = idle_well
 

@@ -7,29 +7,31 @@ use Rattle.std.proofs.lemmas.Bool.{eq-eqb}
 use Rattle.std.proofs.lemmas.Option.{same_Some}
 use Rattle.model.specs.declared.status.Status.{Status}
 use Rattle.model.specs.declared.status.Status.TheVariants as status
-use Rattle.model.specs.Answer.{Outcome}
+use Rattle.model.specs.Answer.{Answer, Outcome}
 use Rattle.model.specs.Keyed.{at}
 use Rattle.model.specs.Operation.{Argument, operation_of}
 use Rattle.model.specs.Record.{framed}
 use Rattle.model.specs.Results.{compound_result, AreResults}
 use Rattle.model.specs.Rpc.{CallRead, NoCall, OtherVersion, Calls, Request, Answers, Runs, Success, is_empty, read_call, request_of, reply_text}
-use Rattle.model.specs.RuledOut.{IsOutcome, IsBehind, HasOneMore, IsAnswered, IsRepeated, IsOneFurther, request_at, request_in, request_by}
+use Rattle.model.specs.RuledOut.{IsOutcome, IsBehind, HasOneMore, HasLast, IsAnswered, IsRepeated, IsOneFurther, request_at, request_in, request_by, with_operations}
 use Rattle.model.specs.Runs.{Event, effect_of, is_done}
 use Rattle.model.specs.Status.{code_of}
 use Rattle.model.specs.Tree.{Tree}
 use Rattle.model.specs.WireArguments.{argument}
 use Rattle.model.specs.World as worlds
-use Rattle.model.specs.World.{World, InProgress, Connection, Quiet, Waiting, Busy, Replied, Closed, Entry, Next, Refuses, Reads, next_operation, in_progress, with_result, result_of, one, arrives}
+use Rattle.model.specs.World.{World, InProgress, Connection, Quiet, Waiting, Busy, Replied, Closed, Entry, Next, Refuses, Reads, next_operation, in_progress, with_result, result_of, Turned, one, arrives}
+use Rattle.model.proofs.KeyedLaws.{at-with_same}
 use Rattle.model.proofs.ResultLaws.{one_more}
-use Rattle.model.proofs.RuledOutLaws.{one_a_turn}
+use Rattle.model.proofs.RuledOutLaws.{one_a_turn, ends_by_holding}
 use Rattle.client.specs.Client.{Client, Sent}
 use Rattle.client.specs.Replies.{Gives, number_of, status_of, is_ok, ending, reply_read, reply_to, reply_to_sent}
 use Rattle.client.specs.Requests.{operations_text, credential_text, record_text, new_record}
 use Rattle.client.specs.Joined.{compound_sent}
-use Rattle.client.specs.Whole.{IsElsewhere, IsAnsweredBy, Elsewhere, Goes_on, Ends, EveryExchange}
+use Rattle.client.specs.Whole.{IsElsewhere, IsAnsweredBy, Elsewhere, Goes_on, Ends, Holds, EveryExchange}
 use Rattle.client.proofs.Elsewhere.{IsAsked, connection_stays}
 use Rattle.client.proofs.Ending.{none_left, goes_on}
 use Rattle.client.proofs.JoinedLaws.{every_record_is_asked, every_reply_is_told}
+use Rattle.client.proofs.Lasts.{IsRefusal, ended_at_end}
 use Rattle.client.proofs.Nexts.{IsNext, next_is}
 use Rattle.client.proofs.Outcomes.{EntryNumbered, one_well}
 
@@ -183,14 +185,14 @@ module _ (xid : ℕ) (tag : List ℕ) where
         ok : is_ok given ≡ true
         some : 0 < length left
 
-      further_done : (after : InProgress) → at number turned.world.connections ≡ Some (Busy after)
+      further_done : (after : InProgress) → at number turned.world.connections ≡ Some (Busy after) → after.ended ≡ None
           → (more : HasOneMore world request (next_operation request) turned after) → IsFurther (Outcome.Done more.answer)
-      further_done after busy more =
+      further_done after busy none more =
           let results = one_more request done (Outcome.Done more.answer) on.results in
           record {
             stands = (
               after,
-              ap (request_at turned.world) busy,
+              ap (request_at turned.world) busy ∙ ap (with_operations after) none,
               record {
                 xid_is = more.xid ∙ on.xid_is;
                 tag_is = more.tag ∙ on.tag_is;
@@ -203,20 +205,62 @@ module _ (xid : ℕ) (tag : List ℕ) where
             some = omega (arith, more.others, on.count, on.results.answered);
           }
 
-      further : (after : InProgress) (given : Outcome) → at number turned.world.connections ≡ Some (Busy after) → Came given → IsFurther given
-      further after given busy came =
-          let more : HasOneMore world request (next_operation request) turned after =
-          subst (IsOneFurther world request (next_operation request) turned) busy (one_a_turn world number now request asks) in
-          subst IsFurther (same_outcome world request turned.executed turned.world.tree (next_operation request) (Outcome.Done more.answer) given more.executes came)
-          (further_done after busy more)
+      done_is_done : (answer : Answer) (next : Next) → IsOutcome world request next (Outcome.Done answer) turned.executed turned.world.tree → IsRefusal turned.executed → ⊥
+      done_is_done answer (Refuses operation reason) is refusal = let never : ⊥ = cc (is.0) in never
+      done_is_done answer (Reads operation rest) is refusal = let never : ⊥ = cc (subst IsRefusal is refusal) in never
 
-      -- it is the last one
+      -- it has not ended
+      more_open : (after : InProgress) → at number turned.world.connections ≡ Some (Busy after) → HasOneMore world request (next_operation request) turned after
+          → (ended : Option Status) → after.ended ≡ ended → after.ended ≡ None
+      more_open after busy more None is = is
+      more_open after busy more (Some last) is = elim (ended_at_end world number now request after last asks busy is) [
+        | inl all ↦ absurd (more.others (sym more.answered ∙ (all ∙ more.count)))
+        | inr refusal ↦ absurd (done_is_done more.answer (next_operation request) more.executes refusal)
+      ]
+
+      -- none is left, and the reply is to be held
+
+      record IsLast (after : InProgress) (given : Outcome) : Type 0 where
+        ended : after.ended ≡ Some (worlds.status_of given)
+        xid_is : after.xid ≡ xid
+        tag_is : after.tag ≡ tag
+        results : AreResults after (done ++ given ∷ [])
+        ends : ending (map operation_of (asked ∷ left)) (given ∷ []) ≡ Some (worlds.status_of given)
+
+      none_left_behind : (given : Outcome) → Came given → (is_done given ≡ false) ⊎ (request.answered + 1 ≡ request.count)
+          → ending (map operation_of (asked ∷ left)) (given ∷ []) ≡ Some (worlds.status_of given)
+      none_left_behind given came last =
+          let why : (is_done given ≡ false) ⊎ (length left ≡ 0) =
+          elim last [ inl not_done ↦ inl not_done | inr last ↦ inr (omega (arith, last, on.count, on.results.answered)) ] in
+          last_told asked left given (numbered given came) why ∙ ap (λ (s : Status). Some s) (same_status given)
+
+      last_done : (after : InProgress) (last : HasLast world request (next_operation request) turned after) → IsLast after last.outcome
+      last_done after last =
+          let results = one_more request done last.outcome on.results in
+          record {
+            ended = last.ended;
+            xid_is = last.xid ∙ on.xid_is;
+            tag_is = last.tag ∙ on.tag_is;
+            results = record { answered = last.answered ∙ results.answered; spelled = last.results ∙ results.spelled };
+            ends = none_left_behind last.outcome last.executes last.last;
+          }
+
+      further : (after : InProgress) (given : Outcome) → at number turned.world.connections ≡ Some (Busy after) → Came given → IsFurther given ⊎ IsLast after given
+      further after given busy came =
+          let so : HasOneMore world request (next_operation request) turned after ⊎ HasLast world request (next_operation request) turned after =
+          subst (IsOneFurther world request (next_operation request) turned) busy (one_a_turn world number now request asks) in
+          elim so [
+            | inl more ↦ inl (subst IsFurther (same_outcome world request turned.executed turned.world.tree (next_operation request) (Outcome.Done more.answer) given more.executes came)
+                (further_done after busy (more_open after busy more after.ended refl) more))
+            | inr last ↦ inr (subst (IsLast after) (same_outcome world request turned.executed turned.world.tree (next_operation request) last.outcome given last.executes came)
+                (last_done after last))
+          ]
+
+      -- it is the last one, and the reply is there
 
       ended_so : (reply : List ℕ) (answered : IsAnswered world request (next_operation request) turned reply) → IsEnd done (asked ∷ left) (answered.outcome ∷ []) reply
       ended_so reply answered =
           let given = answered.outcome in
-          let why : (is_done given ≡ false) ⊎ (length left ≡ 0) =
-          elim (answered.last) [ inl not_done ↦ inl not_done | inr last ↦ inr (omega (arith, last, on.count, on.results.answered)) ] in
           record {
             request = with_result request given;
             last = worlds.status_of given;
@@ -224,7 +268,7 @@ module _ (xid : ℕ) (tag : List ℕ) where
             tag_is = on.tag_is;
             results = one_more request done given on.results;
             few = omega arith;
-            ends = last_told asked left given (numbered given answered.executes) why ∙ ap (λ (s : Status). Some s) (same_status given);
+            ends = none_left_behind given answered.executes answered.last;
             says = answered.says;
           }
 
@@ -239,6 +283,37 @@ module _ (xid : ℕ) (tag : List ℕ) where
             | inr repeated ↦ let never : ⊥ = cc (repeated.slot, none) in absurd never
           ]
 
+    -- The reply is to be held
+
+    not_asked : (world : World) (going request : InProgress) (last : Status) → at number world.connections ≡ Some (Busy going) → going.ended ≡ Some last
+        → request_at world (at number world.connections) ≡ Some request → ⊥
+    not_asked world going request last there ended asks =
+        let none : request_at world (at number world.connections) ≡ None = ap (request_at world) there ∙ ap (with_operations going) ended in
+        let never : ⊥ = cc (asks, none) in never
+
+    held_reply : (world : World) (now : ℕ) (going : InProgress) (last : Status) (reply : List ℕ) → at number world.connections ≡ Some (Busy going) → going.ended ≡ Some last
+        → at number (one world number now).world.connections ≡ Some (Replied reply) → reply ≡ framed (reply_text going.xid (Success (result_of going last)))
+    held_reply world now going last reply there ended replied =
+        let made = ap (λ (t : Turned). at number t.world.connections) (ends_by_holding world number now going last there ended) in
+        ap reply_in (sym replied ∙ (made ∙ at-with_same world.connections number (Replied (framed (reply_text going.xid (Success (result_of going last)))))))
+      where
+        reply_in : Option Connection → List ℕ
+        reply_in (Some (Replied bytes)) = bytes
+        reply_in _ = reply
+
+    record IsHeld (going : InProgress) (last : Status) (outcomes : List Outcome) (reply : List ℕ) : Type 0 where
+      no_more : outcomes ≡ []
+      says : reply ≡ framed (reply_text going.xid (Success (result_of going last)))
+
+    held : (world : World) (outcomes : List Outcome) (reply : List ℕ) → IsAnsweredBy number world outcomes reply → (going : InProgress) (last : Status)
+        → at number world.connections ≡ Some (Busy going) → going.ended ≡ Some last → IsHeld going last outcomes reply
+    held world outcomes reply (Elsewhere event apart later) going last there ended =
+        held (effect_of world event) outcomes reply later going last (connection_stays world number (Busy going) event there tt apart) ended
+    held world _ reply (Goes_on now request after first asks busy came later) going last there ended = absurd (not_asked world going request last there ended asks)
+    held world _ reply (Ends now request first asks replied none came) going last there ended = absurd (not_asked world going request last there ended asks)
+    held world _ reply (Holds now other status there_too ended_too replied) going last there ended =
+        record { no_more = refl; says = held_reply world now going last reply there ended replied }
+
     -- All of it
 
     same_request : (world : World) (request : InProgress) (done : List Outcome) (left : List Argument) → request_at world (at number world.connections) ≡ Some request
@@ -252,22 +327,37 @@ module _ (xid : ℕ) (tag : List ℕ) where
     whole world _ reply (Goes_on {outcomes = outcomes} now request after first asks busy came later) done [] some fits stands = absurd (omega arith)
     whole world _ reply (Goes_on {outcomes = outcomes} now request after first asks busy came later) done (asked ∷ left) some fits stands =
         let on = same_request world request done (asked ∷ left) asks stands in
-        let more = further world now request asks done asked left on fits.0 after first busy came in
         let is = numbered world now request asks done asked left on fits.0 first came in
-        let end = whole (one world number now).world outcomes reply later (done ++ first ∷ []) left more.some fits.1 more.stands in
-        record {
-          request = end.request;
-          last = end.last;
-          xid_is = end.xid_is;
-          tag_is = end.tag_is;
-          results = subst (AreResults end.request) (append_assoc done (first ∷ []) outcomes) end.results;
-          few = omega (arith, end.few);
-          ends = goes_on (operation_of asked) (map operation_of left) first outcomes (some_told (map operation_of left) outcomes end.last end.ends) is more.ok ∙ end.ends;
-          says = end.says;
-        }
+        elim (further world now request asks done asked left on fits.0 after first busy came) [
+          | inl more ↦
+              let end = whole (one world number now).world outcomes reply later (done ++ first ∷ []) left more.some fits.1 more.stands in
+              record {
+                request = end.request;
+                last = end.last;
+                xid_is = end.xid_is;
+                tag_is = end.tag_is;
+                results = subst (AreResults end.request) (append_assoc done (first ∷ []) outcomes) end.results;
+                few = omega (arith, end.few);
+                ends = goes_on (operation_of asked) (map operation_of left) first outcomes (some_told (map operation_of left) outcomes end.last end.ends) is more.ok ∙ end.ends;
+                says = end.says;
+              }
+          | inr last ↦
+              let end = held (one world number now).world outcomes reply later after (worlds.status_of first) busy last.ended in
+              subst (λ (others : List Outcome). IsEnd done (asked ∷ left) (first ∷ others) reply) (sym end.no_more) (record {
+                request = after;
+                last = worlds.status_of first;
+                xid_is = last.xid_is;
+                tag_is = last.tag_is;
+                results = last.results;
+                few = omega arith;
+                ends = last.ends;
+                says = end.says;
+              })
+        ]
     whole world _ reply (Ends now request last asks there none came) done [] some fits stands = absurd (omega arith)
     whole world _ reply (Ends now request last asks there none came) done (asked ∷ left) some fits stands =
         ended world now request asks done asked left (same_request world request done (asked ∷ left) asks stands) fits.0 reply last there none came
+    whole world _ reply (Holds now request last there ended replied) done left some fits stands = absurd (not_asked world request stands.0 last there ended stands.1)
 
 told : (client : Client) (sent : Sent) (message reply : List ℕ) (outcomes : List Outcome) (last : Status) → client.sent ≡ Some sent → reply ≡ framed message
     → reply_read client.tag sent (framed message) ≡ Gives outcomes last → reply_to client reply ≡ Gives outcomes last

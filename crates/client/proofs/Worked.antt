@@ -1,9 +1,8 @@
 -- What the definitions compute to of the exchange that is worked out by hand.
-use Rattle.std.proofs.Common.{◌≡◌, ◌<◌, ℕ, Bool, true, false, List, [], ◌∷◌, length, get_or, Option, Some, None, inl, inr, refl, sym, ap, subst, cond, ◌∙◌, arith, nat_lt}
+use Rattle.std.proofs.Common.{◌≡◌, ◌<◌, ℕ, Bool, true, false, List, [], ◌∷◌, length, get_or, Some, None, inl, inr, refl, sym, ap, subst, cond, ◌∙◌, arith, nat_lt}
 use Rattle.std.specs.List.{list_all}
 use Rattle.std.proofs.lemmas.Bool.{cases_lt, ltb-true, true≢false}
 use Rattle.std.proofs.lemmas.List.{get_or_past}
-use Rattle.std.proofs.lemmas.Option.{same_Some}
 use Rattle.std.proofs.lemmas.List.Folds.{list_all_at}
 use Rattle.xdr.specs.Forms.{padded, padded_at, counted, counted_at, each_at, elements, elements_at}
 use Rattle.xdr.specs.Grammar.{number, number_at}
@@ -13,21 +12,22 @@ use Rattle.model.specs.Answer.{Answer, Outcome}
 use Rattle.model.specs.Keyed.{at}
 use Rattle.model.specs.Operation.{Argument, SequenceArguments, operation_of}
 use Rattle.model.specs.Record.{framed}
-use Rattle.model.specs.Rpc.{CallRead, NoCall, OtherVersion, Calls, Request, Answers, Runs, Success, words, read_call, reply_text, compound_text, request_of}
+use Rattle.model.specs.Rpc.{Success, words, reply_text, compound_text}
 use Rattle.model.specs.RpcGrammar.{read_reply}
-use Rattle.model.specs.RuledOut.{IsOutcome, request_at, request_in, request_by}
+use Rattle.model.specs.RuledOut.{IsOutcome, request_at}
 use Rattle.model.specs.Runs.{Connects}
 use Rattle.model.specs.Session.{Running, session_id, begin, started}
 use Rattle.model.specs.Step.{refusals, effect, does}
 use Rattle.model.specs.WireAnswers.{outcome_at}
 use Rattle.model.specs.WireArguments.{arguments_at}
-use Rattle.model.specs.World.{World, InProgress, Connection, Quiet, Waiting, Busy, Replied, Closed, Gives, Next, Reads, Turned, next_operation, run, in_progress, outcome_text, one, arrives, connects, with_connection, with_result, result_of, state_of, has_room, in_room, refuses, executed_entry, goes_on, ends, behind, has_run, operates, requested as request_runs, called, turned}
+use Rattle.model.specs.World.{World, InProgress, Quiet, Waiting, Replied, Gives, Next, Reads, Turned, next_operation, run, in_progress, outcome_text, one, arrives, connects, with_connection, with_result, result_of, state_of, has_room, in_room, refuses, executed_entry, goes_on, ends, behind, has_run, operates}
 use Rattle.client.specs.ExchangeExample.{ExchangeExample, caller, session, asking, client, operations, call, table, world, outcomes, reply}
 use Rattle.client.specs.Joined.{CanBeSent, IsWithin, compound_sent}
 use Rattle.client.specs.Replies.{Gives as Tells, message_of, reply_read, reply_to}
 use Rattle.client.specs.Requests.{head_text, operations_text, call_text, credential_text, record_text, requested}
 use Rattle.client.specs.Whole.{IsAnsweredBy, Elsewhere, Goes_on, Ends, IsExchange}
 use Rattle.client.proofs.JoinedLaws.{text, waits, after_is}
+use Rattle.client.proofs.Lasts.{one_operates}
 
 all_bytes : (bytes : List ℕ) → list_all (λ b. nat_lt b 256) bytes ≡ true → IsBytes bytes
 all_bytes bytes all i = elim (cases_lt i (length bytes)) [
@@ -67,31 +67,6 @@ within =
     subst (IsWithin world) (sym text_is) (record { size = omega (arith, size); short = omega (arith, size); fragments = omega arith })
 
 -- What a turn comes to, by what it reads
-
-one_operates : (world : World) (number now : ℕ) (request : InProgress) → request_at world (at number world.connections) ≡ Some request
-    → one world number now ≡ operates world number now request (next_operation request)
-unfolding one
-one_operates world number now request asks = by_connection (at number world.connections) asks
-  where
-    begins : (going : InProgress) → Some going ≡ Some request → operates world number now going (next_operation going) ≡ operates world number now request (next_operation request)
-    begins going same = ap (λ (r : InProgress). operates world number now r (next_operation r)) (same_Some going request same)
-
-    by_request : (xid : ℕ) (asked : Request) → request_by world xid asked ≡ Some request → request_runs world number now xid asked ≡ operates world number now request (next_operation request)
-    by_request xid (Answers answer) same = let never : ⊥ = cc same in absurd never
-    by_request xid (Runs cred compound) same = begins (in_progress world xid cred compound) same
-
-    by_call : (read : CallRead) → request_in world read ≡ Some request → called world number now read ≡ operates world number now request (next_operation request)
-    by_call NoCall same = let never : ⊥ = cc same in absurd never
-    by_call (OtherVersion xid) same = let never : ⊥ = cc same in absurd never
-    by_call (Calls one) same = by_request one.xid (request_of one) same
-
-    by_connection : (connection : Option Connection) → request_at world connection ≡ Some request → turned world number now connection ≡ operates world number now request (next_operation request)
-    by_connection None same = let never : ⊥ = cc same in absurd never
-    by_connection (Some (Quiet bytes)) same = let never : ⊥ = cc same in absurd never
-    by_connection (Some (Waiting bytes)) same = by_call (read_call bytes) same
-    by_connection (Some (Busy going)) same = begins going same
-    by_connection (Some (Replied answer)) same = let never : ⊥ = cc same in absurd never
-    by_connection (Some Closed) same = let never : ⊥ = cc same in absurd never
 
 module _ (world : World) (number now : ℕ) (request : InProgress) (operation : Argument) (rest : List ℕ) (given : Outcome) (after : World) (left : InProgress)
     (asks : request_at world (at number world.connections) ≡ Some request) (reads : next_operation request ≡ Reads operation rest)

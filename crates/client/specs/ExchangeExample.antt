@@ -8,6 +8,7 @@ use Rattle.model.specs.Fresh.{fresh_tree}
 use Rattle.model.specs.Limits.{limits_of}
 use Rattle.model.specs.Operation.{Argument}
 use Rattle.model.specs.Rpc.{words}
+use Rattle.model.specs.Seats.{no_seats}
 use Rattle.model.specs.Session.{Table, no_slot}
 use Rattle.model.specs.World.{World, ServerLimits, Quiet, mounted_world}
 use Rattle.client.specs.Client.{Client, Session}
@@ -43,7 +44,15 @@ call = words
 abbrev pub limits : ServerLimits
 limits = record {
   volume = limits_of 256 16;
-  sessions = record { clients = 1; sessions = 1; slots = 1; operations = 8; record_bytes = 1024 };
+  sessions = record {
+    clients = 1;
+    sessions = 1;
+    slots = 1;
+    seat_slots = 1;
+    operations = 8;
+    persistent = false;
+    record_bytes = 1024;
+  };
   records = record { bytes = 1024; fragments = 1 };
   connections = 2;
   reply_bytes = 1024;
@@ -68,11 +77,15 @@ table = record {
       ∷ [];
   sessions =
       record { client = 4294967297; serial = 1; max_operations = 8; slots = no_slot ∷ [] } ∷ [];
+  seats = no_seats;
 }
 
 abbrev pub world : World
 world =
-    record (mounted_world limits 1 fresh_tree) { table = table; connections = (0, Quiet []) ∷ [] }
+    record (mounted_world limits 1 fresh_tree no_seats) {
+      table = table;
+      connections = (0, Quiet []) ∷ [];
+    }
 
 -- what is answered
 abbrev pub outcomes : List Outcome

@@ -26,7 +26,8 @@ IsElsewhere number (Connects connection) = ⊤
 IsElsewhere number (Takes connection) = connection ≡ number → ⊥
 
 -- The turns of a connection, with whatever else happens between: the outcomes of the operations of
--- its request, one a turn, and the reply. A reply that a slot keeps has no outcome of its own.
+-- its request, one a turn, and the reply, there with the last of them, or in a turn of its own where
+-- a seat holds it first. A reply that a slot keeps has no outcome of its own.
 pub data IsAnsweredBy (number : ℕ) : World → List Outcome → (reply : List ℕ) → Type 0 where
   Elsewhere : {world : World} {outcomes : List Outcome} {reply : List ℕ} (event : Event)
       → IsElsewhere number event → IsAnsweredBy number (effect_of world event) outcomes reply
@@ -46,6 +47,10 @@ pub data IsAnsweredBy (number : ℕ) : World → List Outcome → (reply : List 
       → IsOutcome world request (next_operation request) last (one world number now).executed
       (one world number now).world.tree
       → IsAnsweredBy number world (last ∷ []) reply
+  Holds : {world : World} {reply : List ℕ} (now : ℕ) (request : InProgress) (last : Status)
+      → at number world.connections ≡ Some (Busy request) → request.ended ≡ Some last
+      → at number (one world number now).world.connections ≡ Some (Replied reply)
+      → IsAnsweredBy number world [] reply
 
 -- The client's record holds these operations, arrives, and is answered by these outcomes. What is
 -- sent and what is answered has a spelling, and the reply is one fragment.
