@@ -1,11 +1,11 @@
 #!/usr/bin/env bash
-# Tries programs that drop a record and look afterwards at what was read of it: at an argument, and at
-# a call's request. Neither may compile, since both borrow the record. With the record dropped last
-# both compile and pass their test, so nothing else refuses them. What the compiler says of each is
-# compared with kept_argument.expected. The last line is 'as expected'; else the difference is told, and
-# the status is 1.
+# Tries programs that drop a record and look afterwards at what was read of it: at an argument, and
+# at a call's request. Neither may compile, since both borrow the record. With the record dropped
+# last both compile and pass their test, so nothing else refuses them. What the compiler says of
+# each is compared with kept_argument.expected. The last line is 'as expected'; else the difference
+# is told, and the status is 1.
 #
-# scripts/kept_argument.sh: wants the toolchain's rt. Three programs, half a minute each.
+# scripts/kept_argument.sh: wants the toolchain's rt. Three programs, two minutes together.
 set -u
 top=$(realpath "$(dirname "$0")/..")
 expected=$top/scripts/kept_argument.expected

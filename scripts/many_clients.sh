@@ -1,7 +1,7 @@
 #!/usr/bin/env bash
-# Many connections of one server: a million requests from 16 at once, each beside a small model, over
-# connections that are reset at random places; 10,000 connections in turn; peers that misbehave. What
-# holds is compared with many_clients/expected.txt.
+# Many connections of one server: a million requests from 16 at once, each beside a small model,
+# over connections that are reset at random places; 10,000 connections in turn; peers that
+# misbehave. What holds is compared with many_clients/expected.txt.
 #
 # scripts/many_clients.sh [NFS41D [NFS41]]: by default what 'rt run' has built in crates/nfs41d and
 # in crates/nfs41. The volume lies in memory. REQUESTS is how many requests (1000000), SEED what

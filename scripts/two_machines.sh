@@ -1,8 +1,8 @@
 #!/usr/bin/env bash
-# Two machines mount one volume at once and work on one tree: emulated ones with Debian's own kernel,
-# so that the machine at hand needs no NFS client of its own. One of them is cut off in the middle
-# and comes back, and the server is killed and started again beneath both. What they saw is compared
-# with two_machines/expected.txt.
+# Two machines mount one volume at once and work on one tree: emulated ones with Debian's own
+# kernel, so that the machine at hand needs no NFS client of its own. The emulator of one is killed
+# in the middle, which ends its connection, and it comes back; the server is killed and started
+# again beneath both. What they saw is compared with two_machines/expected.txt.
 #
 # scripts/two_machines.sh [NFS41D [NFS41]]: by default what 'rt run' has built in crates/nfs41d and
 # in crates/nfs41. PORT is the port that is served (one that the system picks), LIMIT for how many

@@ -1,6 +1,7 @@
 //! A client that works in a directory of its own, beside its model of it: every reply has to be the
-//! model's. Since each change of a node gives it another change attribute, which the model knows, a
-//! request that ran twice would show.
+//! model's. A request that ran twice would show by the names, the opens and the change attributes
+//! of directories. Of a WRITE or a new size it would show only where both replies were read, since
+//! the change attribute of a file may rise by any number.
 
 use crate::choices::Choices;
 use crate::link::{Link, Tally};
