@@ -26,6 +26,7 @@ pub mod Telling
 pub mod Tellings
 pub mod Trees
 pub mod Turning
+pub mod Unseated
 pub mod VerdictLaws
 pub mod VolumeLaws
 pub mod WriteLaws

@@ -1,5 +1,5 @@
 -- What a result leaves, whole or spelled.
-use Rattle.std.proofs.Common.{◌≡◌, ℕ, ◌+◌, ◌≤◌, Bool, true, false, not, ◌&&◌, List, ◌++◌, length, refl, sym, ap, ap₂, subst, ◌∙◌, arith, length-append, nat_le, leb-true}
+use Rattle.std.proofs.Common.{◌≡◌, ℕ, ◌+◌, ◌≤◌, Bool, true, false, not, ◌&&◌, List, ◌++◌, length, Option, refl, sym, ap, ap₂, subst, ◌∙◌, arith, length-append, nat_le, leb-true}
 use Rattle.std.specs.Global.{Vec}
 use Rattle.std.specs.Int.{w32}
 use Rattle.xdr.specs.Forms.{counted}
@@ -10,9 +10,12 @@ use Rattle.model.specs.Answer.{Answer, Outcome, Done, Refused}
 use Rattle.model.specs.Record.{framed}
 use Rattle.model.specs.Rpc.{Success, reply_text}
 use Rattle.model.specs.Runs.{is_done}
+use Rattle.model.specs.Seats.{no_seats}
 use Rattle.model.specs.Session.{Table}
 use Rattle.model.specs.WireAnswers as answers
-use Rattle.model.specs.World.{InProgress, is_last, kept_by, outcome_text, reply_with, result_of, status_of, with_result}
+use Rattle.model.specs.World.{World, InProgress, Entry, Turned, Answered, Replied, closes, is_last, kept_by, outcome_text, reply_with, result_of, status_of, with_connection, with_result, with_table}
+use Rattle.model.specs.declared.status.Status.{Status}
+use Rattle.model.specs.declared.status.Status.TheVariants as status
 use Rattle.wire.specs.OutcomeView.{outcome_view}
 use Rattle.compound.specs.Operates.{HasRoom, HasRoomFor, Spells, spelled_text}
 use Rattle.compound.specs.Told.{CanBeTold, Tells, is_ok, last_told, reply_told, told_status, told_text, with_told}
@@ -24,6 +27,7 @@ use Rattle.compound.specs.declared.told.Told.{Told}
 use Rattle.compound.specs.declared.told.Told.TheVariants as told
 use Rattle.compound.proofs.Replies.{reply_length, room_length, spelled_short}
 use Rattle.compound.proofs.Resuming.{goes_on}
+use Rattle.compound.proofs.Unseated.{closes_unseated}
 
 -- its spelling is the definition's
 
@@ -118,22 +122,35 @@ goes_on_told table asked request result outcome progress ok more pushed is =
 
 -- else the reply is there
 
-ends_by : (old new : Table) (asked : Asked) (request : InProgress) (outcome : Outcome) (reply : Vec ℕ) → (is_done outcome && not (is_last request)) ≡ false
+-- a turn that ends the request, where there are no seats
+closes_by : (old new : Table) (request : InProgress) (last : Status) (reply : Vec ℕ) → old.seats ≡ no_seats
+    → reply.items ≡ framed (reply_text request.xid (Success (result_of request last))) → new ≡ kept_by request.slot (result_of request last) old
+    → (world : World) (number : ℕ) (executed : Option Entry) → world.table ≡ old
+    → ((closes world number request last executed).turn ≡ Answered)
+    × ((closes world number request last executed).world ≡ with_connection (with_table world new) number (Replied reply.items))
+closes_by old new request last reply none reply_is kept world number executed here =
+    let closed = closes_unseated world number request last executed (ap (λ (table : Table). table.seats) here ∙ none) in (
+      ap (λ (one : Turned). one.turn) closed,
+      ap (λ (one : Turned). one.world) closed ∙ rw (reply_is, kept, ← here) refl,
+    )
+
+ends_by : (old new : Table) (asked : Asked) (request : InProgress) (outcome : Outcome) (reply : Vec ℕ) → old.seats ≡ no_seats → (is_done outcome && not (is_last request)) ≡ false
     → reply.items ≡ framed (reply_text request.xid (Success (result_of (with_result request outcome) (status_of outcome))))
     → new ≡ kept_by request.slot (result_of (with_result request outcome) (status_of outcome)) old
     → StandsAfter old new asked request outcome (stepped.Answered reply)
-ends_by old new asked request (Refused n reason) reply ends reply_is kept = λ world number executed here. rw (reply_is, kept, ← here) (refl, refl)
-ends_by old new asked request (Done answer) reply ends reply_is kept = λ world number executed here. rw (is_end (is_last request) ends, reply_is, kept, ← here) (refl, refl)
+ends_by old new asked request (Refused n reason) reply none ends reply_is kept = closes_by old new (with_result request (Refused n reason)) reason reply none reply_is kept
+ends_by old new asked request (Done answer) reply none ends reply_is kept = λ world number executed here.
+    rw (is_end (is_last request) ends) (closes_by old new (with_result request (Done answer)) status.Ok reply none reply_is kept world number executed here)
   where
     is_end : (last : Bool) → (true && not last) ≡ false → last ≡ true
     is_end true is = refl
     is_end false is = absurd cc
 
-pub ends_told : (old new : Table) (asked : Asked) (request : InProgress) (result : Told) (outcome : Outcome) (reply : Vec ℕ) → (is_ok result && not (is_last request)) ≡ false
+pub ends_told : (old new : Table) (asked : Asked) (request : InProgress) (result : Told) (outcome : Outcome) (reply : Vec ℕ) → old.seats ≡ no_seats → (is_ok result && not (is_last request)) ≡ false
     → reply.items ≡ framed (reply_told request result) → new ≡ kept_by request.slot (last_told request result) old → Tells result outcome
     → StandsAfter old new asked request outcome (stepped.Answered reply)
-ends_told old new asked request result outcome reply ends reply_is kept is =
+ends_told old new asked request result outcome reply none ends reply_is kept is =
     let last = last_is request result outcome is in
-    ends_by old new asked request outcome reply (ap (λ (b : Bool). b && not (is_last request)) (sym (ok_is result outcome is)) ∙ ends)
+    ends_by old new asked request outcome reply none (ap (λ (b : Bool). b && not (is_last request)) (sym (ok_is result outcome is)) ∙ ends)
     (reply_is ∙ ap (λ (bytes : List ℕ). framed (reply_text request.xid (Success bytes))) last)
     (kept ∙ ap (λ (bytes : List ℕ). kept_by request.slot bytes old) last)

@@ -1,10 +1,11 @@
 -- A turn of a request, by what its next operation gave.
-use Rattle.std.proofs.Common.{◌≡◌, ℕ, Bool, true, false, if◌then◌else◌, List, Option, Some, refl, ap, ◌∙◌}
+use Rattle.std.proofs.Common.{◌≡◌, ℕ, Bool, true, false, if◌then◌else◌, List, Option, Some, None, refl, sym, ap, ◌∙◌}
 use Rattle.model.specs.Answer as model
 use Rattle.model.specs.Operation.{Argument}
 use Rattle.model.specs.Tree.{Tree}
 use Rattle.model.specs.World as turns
-use Rattle.model.specs.World.{World, InProgress, HasRun, Entry, Turned, Reads, next_operation, operates, has_run, behind, ends, goes_on, with_result, is_last, executed_entry}
+use Rattle.model.specs.World.{World, InProgress, HasRun, Entry, Turned, Refuses, Reads, next_operation, operates, has_run, behind, closes, ends, goes_on, is_to_hold, with_result, is_last, executed_entry}
+use Rattle.model.specs.declared.status.Status.{Status}
 use Rattle.model.specs.declared.status.Status.TheVariants as status
 use Rattle.wire.specs.OutcomeView.{outcome_view}
 use Rattle.compound.specs.Operates.{Operates, GivesIn, run_in_room, tree_by, left_by}
@@ -14,6 +15,7 @@ use Rattle.compound.specs.Steps.{stepped_on}
 use Rattle.compound.specs.Turns.{Turns, TurnsTo}
 use Rattle.compound.specs.declared.operated.Operated.{Operated}
 use Rattle.compound.specs.declared.operated.Operated.TheVariants as operated
+use Rattle.compound.proofs.Rooms.{state_same}
 
 -- an operation that was read: the turn is what its run makes
 pub read_turn : (world : World) (number now : ℕ) (request : InProgress) (operation : Argument) (rest : List ℕ) (ran : HasRun)
@@ -47,6 +49,17 @@ turns_read now old new request operation rest (operated.Replays slot) next ran =
   λ world number served. read_turn world number now request operation rest _ next (ran.3 world rest served),
 )
 
+-- one that is refused before it is run
+pub turns_refused : (now : ℕ) (old : SharedState) (request : InProgress) (rest : List ℕ) (operation : ℕ) (reason : Status)
+    → next_operation request ≡ Refuses operation reason → request.rest ≡ rest
+    → TurnsTo now old old request (with_rest request rest) (model.Refused operation reason)
+turns_refused now old request rest operation reason next same = λ world number served. (
+  None,
+  ap (operates world number now request) next
+      ∙ (ap (λ (before : World). behind before number request (model.Refused operation reason) None) (sym (state_same world old served))
+      ∙ ap (λ (bytes : List ℕ). behind (with_state world old) number (with_rest request bytes) (model.Refused operation reason) None) same),
+)
+
 -- The tree after a turn
 
 either : (test : Bool) (one other : Turned) (tree : Tree) → one.world.tree ≡ tree → other.world.tree ≡ tree
@@ -54,12 +67,20 @@ either : (test : Bool) (one other : Turned) (tree : Tree) → one.world.tree ≡
 either true one other tree first second = first
 either false one other tree first second = second
 
+closes_tree : (world : World) (number : ℕ) (request : InProgress) (last : Status) (executed : Option Entry)
+    → (closes world number request last executed).world.tree ≡ world.tree
+closes_tree world number request last executed =
+    either (is_to_hold request.slot world.table.seats) (goes_on world number (record request { ended = Some last }) executed)
+    (ends world number request last executed) world.tree refl refl
+
 behind_tree : (world : World) (number : ℕ) (request : InProgress) (outcome : model.Outcome) (executed : Option Entry)
     → (behind world number request outcome executed).world.tree ≡ world.tree
-behind_tree world number request (model.Refused operation reason) executed = refl
+behind_tree world number request (model.Refused operation reason) executed =
+    closes_tree world number (with_result request (model.Refused operation reason)) reason executed
 behind_tree world number request (model.Done answer) executed =
-    either (is_last request) (ends world number (with_result request (model.Done answer)) status.Ok executed)
-    (goes_on world number (with_result request (model.Done answer)) executed) world.tree refl refl
+    either (is_last request) (closes world number (with_result request (model.Done answer)) status.Ok executed)
+    (goes_on world number (with_result request (model.Done answer)) executed) world.tree
+    (closes_tree world number (with_result request (model.Done answer)) status.Ok executed) refl
 
 pub run_tree : (world : World) (number : ℕ) (request : InProgress) (operation : Argument) (ran : HasRun)
     → (has_run world number request operation ran).world.tree ≡ tree_by world ran

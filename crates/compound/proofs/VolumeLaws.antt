@@ -1,5 +1,5 @@
 -- What operations and turns do to a file system, by the definition.
-use Rattle.std.proofs.Common.{◌≡◌, ◌≤◌, ℕ, Bool, true, false, ◌&&◌, ◌||◌, if◌then◌else◌, List, length, nat_le, Option, Some, None, Result, Ok, Err, refl, ap, ◌∙◌, arith}
+use Rattle.std.proofs.Common.{◌≡◌, ℕ, Bool, true, false, ◌&&◌, ◌||◌, if◌then◌else◌, List, length, nat_le, Option, Some, None, Result, Ok, Err, refl, ap, ◌∙◌}
 use Rattle.std.specs.Result.{IsErrAnd}
 use Rattle.volume.specs.Changes.{Given, Done}
 use Rattle.fs.specs.Changes.{Changes}
@@ -14,7 +14,7 @@ use Rattle.model.specs.Runs.{is_durable, is_commit}
 use Rattle.model.specs.Step.{State, alters, does, effect, refused, unless_refused}
 use Rattle.model.specs.Tree.{Tree}
 use Rattle.model.specs.World as turns
-use Rattle.model.specs.World.{World, InProgress, HasRun, Entry, Turned, Reads, Refuses, next_operation, operates, has_run, behind, ends, goes_on, with_result, is_last, executed_entry, run, in_room, stepped, state_of, reply_with}
+use Rattle.model.specs.World.{World, InProgress, HasRun, Entry, Turned, Reads, Refuses, next_operation, operates, has_run, behind, closes, ends, goes_on, is_to_hold, with_result, is_last, executed_entry, run, in_room, stepped, state_of, reply_with}
 use Rattle.model.specs.declared.status.Status.{Status}
 use Rattle.model.specs.declared.status.Status.TheVariants as status
 use Rattle.fs.specs.Operations.{MakesTree, new_directory}
@@ -156,12 +156,20 @@ either : (test : Bool) (one other : Turned) (executed : Option Entry) → one.ex
 either true one other executed first second = first
 either false one other executed first second = second
 
+closes_executed : (world : World) (number : ℕ) (request : InProgress) (last : Status) (executed : Option Entry)
+    → (closes world number request last executed).executed ≡ executed
+closes_executed world number request last executed =
+    either (is_to_hold request.slot world.table.seats) (goes_on world number (record request { ended = Some last }) executed)
+    (ends world number request last executed) executed refl refl
+
 behind_executed : (world : World) (number : ℕ) (request : InProgress) (outcome : model.Outcome) (executed : Option Entry)
     → (behind world number request outcome executed).executed ≡ executed
-behind_executed world number request (model.Refused operation reason) executed = refl
+behind_executed world number request (model.Refused operation reason) executed =
+    closes_executed world number (with_result request (model.Refused operation reason)) reason executed
 behind_executed world number request (model.Done answer) executed =
-    either (is_last request) (ends world number (with_result request (model.Done answer)) status.Ok executed)
-    (goes_on world number (with_result request (model.Done answer)) executed) executed refl refl
+    either (is_last request) (closes world number (with_result request (model.Done answer)) status.Ok executed)
+    (goes_on world number (with_result request (model.Done answer)) executed) executed
+    (closes_executed world number (with_result request (model.Done answer)) status.Ok executed) refl
 
 run_executed : (world : World) (number : ℕ) (request : InProgress) (operation : Argument) (ran : HasRun)
     → (has_run world number request operation ran).executed ≡ executed_by world request operation ran
@@ -189,7 +197,9 @@ read_gives state request now operation rest next after lasting gives =
 pub refused_turn : (state : SharedState) (request : InProgress) (now number : ℕ) (reason : Status) → next_operation request ≡ Refuses number reason → (after : Tree) (lasting : Bool)
     → TurnGives state (λ world number. stepped_on world number now request) after lasting → lasting ≡ false
 refused_turn state request now number reason next after lasting gives =
-    gives.lasting_is ∙ ap (λ n. lasts (operates gives.world gives.number now request n).executed) next
+    gives.lasting_is
+    ∙ (ap (λ n. lasts (operates gives.world gives.number now request n).executed) next
+    ∙ ap lasts (behind_executed gives.world gives.number request (model.Refused number reason) None))
 
 -- turns that are the same in each such world
 pub same_turns : (state : SharedState) (turn other : World → (number : ℕ) → Turned) → ((world : World) (number : ℕ) → HasState world state → other world number ≡ turn world number)

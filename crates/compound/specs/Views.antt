@@ -44,7 +44,7 @@ context_of cred progress = record {
   saved = option_map place_of progress.saved;
 }
 
--- a COMPOUND that is so far
+-- a COMPOUND that is so far. It has not ended: there is no seat that is to hold its reply first.
 abbrev pub resumed : Asked → Progress → InProgress
 resumed asked progress = record {
   xid = asked.xid;
@@ -55,6 +55,7 @@ resumed asked progress = record {
   results = progress.results.bytes;
   context = context_of asked.cred progress;
   slot = option_map slot_of progress.slot;
+  ended = None;
 }
 
 -- operations are left, the next one stands within their bytes, and the reply has room for the

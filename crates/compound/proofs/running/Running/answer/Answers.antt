@@ -7,6 +7,7 @@ use Rattle.compound.specs.Told.{is_ok, told_text}
 use Rattle.compound.specs.Views.{in_progress_of, asked_of}
 use Rattle.compound.proofs.Resuming.{fits_by}
 use Rattle.compound.proofs.Tellings.{ends_told, goes_on_told, ok_room, told_short}
+use Rattle.compound.proofs.Unseated.{table_unseated}
 use Rattle.compound.proofs.running.Running.answer.Goals.{else-is_ok-via-then-is_ok+else-not-is_last, else-is_ok-via-else-is_ok}
 use Rattle.compound.proofs.running.Running.answer.Goals as goal
 
@@ -64,5 +65,5 @@ returns-clause-stands c =
           ap (λ (a : Bool). a && not (is_last request)) (sym c.is_ok.ensures ∙ w.if-is_ok.false)
     ] in
     λ outcome is.
-    ends_told (table_of c.args.table.now) (table_of c.end.new.table) (asked_of c.args.self) request c.args.told outcome c.end.result ends
+    ends_told (table_of c.args.table.now) (table_of c.end.new.table) (asked_of c.args.self) request c.args.told outcome c.end.result (table_unseated c.args.table.now) ends
     c.end.ensures.reply c.end.ensures.kept is

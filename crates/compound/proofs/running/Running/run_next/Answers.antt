@@ -1,13 +1,14 @@
-use Rattle.std.proofs.Common.{◌≡◌, refl, sym, subst, arith}
+use Rattle.std.proofs.Common.{◌≡◌, refl, sym, subst}
 use Rattle.std.specs.Prelude.{drop}
 use Rattle.session.specs.Views.{table_of}
 use Rattle.wire.specs.ArgumentView.{argument_view}
 use Rattle.compound.specs.Operates.{IsAnswered, IsKept}
 use Rattle.compound.specs.States.{shared_of}
+use Rattle.compound.specs.Turns.{Turns}
 use Rattle.compound.specs.Views.{in_progress_of}
 use Rattle.compound.proofs.Firsts.{first_alone}
 use Rattle.compound.proofs.Refusals.{refused_spelled}
-use Rattle.compound.proofs.Turning.{turns_read}
+use Rattle.compound.proofs.Turning.{turns_read, turns_refused}
 use Rattle.compound.proofs.VolumeLaws.{read_gives, refused_turn}
 use Rattle.compound.specs.declared.fault.Fault.TheVariants as fault
 use Rattle.fs.proofs.ChangeLaws.{changes_by}
@@ -21,6 +22,16 @@ returns-in_ok-done-in-Reads-clause-turns g c = λ keeps.
     turns_read c.args.now (shared_of c.args.fs.now c.args.table.now c.args.opens.now) (shared_of c.operate.new.fs c.operate.new.table c.operate.new.opens) (in_progress_of c.args.self.now)
     (argument_view c.in-Reads.argument) (drop c.in-Reads.position c.args.self.now.compound.operations.now) c.in_ok-done-in-Reads.done next
     (c.in_ok-done-in-Reads.ensures.gives keeps)
+
+pub returns-in-Refuses-clause-turns : goal.returns-in-Refuses-clause-turns
+unfolding in_progress_of
+returns-in-Refuses-clause-turns g c = λ keeps.
+    let request = in_progress_of c.args.self.now in
+    let rest = drop c.args.self.now.progress.position c.args.self.now.compound.operations.now in
+    let state = shared_of c.args.fs.now c.args.table.now c.args.opens.now in
+    let next = rw c.in-Refuses.is at c.in_ok-operation.ensures.ok in
+    subst (Turns c.args.now state state request rest) (sym c.refused.ensures.gives)
+    (turns_refused c.args.now state request rest c.in-Refuses.operation c.in-Refuses.status next refl)
 
 pub returns-in-Refuses-clause-answered : goal.returns-in-Refuses-clause-answered
 returns-in-Refuses-clause-answered g c =
