@@ -9,7 +9,7 @@ mod number;
 mod rows;
 mod run;
 
-use run::run;
+use run::{run, run_again};
 use std::env;
 use std::process::ExitCode;
 
@@ -31,7 +31,8 @@ fn main(rt: HostRuntime) -> ExitCode {
 fn play_words(rt: &HostRuntime) -> anyhow::Result<bool> {
     let words: Vec<String> = env::args(rt)?.skip(1).collect(rt.alloc())?;
     match words.as_slice() {
+        [again, records, file] if again.as_str() == "again" => run_again(rt, records, file),
         [records, files @ ..] => run(rt, records, files),
-        [] => anyhow::bail!("usage: test_player RECORDS FILE .."),
+        [] => anyhow::bail!("usage: test_player RECORDS FILE .. | again RECORDS FILE"),
     }
 }

@@ -7,10 +7,11 @@ mod line;
 mod player;
 mod records;
 mod row;
+mod served;
 mod sheet;
 mod sockets;
 mod step;
 
-pub use player::{Place, play};
+pub use player::{Patience, Place, play};
 pub use row::Row;
 pub use sheet::Sheet;

@@ -2,7 +2,7 @@
 
 use crate::cases::{self, Case};
 use crate::difference::Differs;
-use crate::rows::{self, Place, Row, Sheet};
+use crate::rows::{self, Patience, Place, Row, Sheet};
 use anyhow::{Result, anyhow, ensure};
 use std::fs;
 use std::rt::Files;
@@ -20,7 +20,11 @@ pub fn run(rt: &HostRuntime, shared: &str, files: &[String]) -> Result<bool> {
         let went = if file.ends_with(CASES) {
             run_cases(rt, file, &text)?
         } else {
-            run_rows(rt, (shared, &records), (file, &text))?
+            play_rows(
+                rt,
+                file,
+                read_rows(rt, (shared, &records), (file, &text))?.rows(),
+            )?
         };
         if !went {
             as_written = false;
@@ -36,12 +40,26 @@ fn read_text<R: Files + AllocGlobal>(rt: &R, file: &str) -> Result<String> {
     }
 }
 
-/// Plays the rows of a file once the whole file has a form. Each file is its name and its text.
-fn run_rows(
+/// Plays the rows of one file, each on the server itself, with one more try of each call that is
+/// refused for want of memory. A line is told before each. Whether all went as written.
+pub fn run_again(rt: &HostRuntime, shared: &str, file: &str) -> Result<bool> {
+    let (records, text) = (read_text(rt, shared)?, read_text(rt, file)?);
+    let sheet = read_rows(rt, (shared, &records), (file, &text))?;
+    let mut as_written = true;
+    for row in sheet.rows() {
+        println!(rt; "{file}: {}", row.name)?;
+        let outcome = rows::play(rt, row, Place::Server, Patience::Once);
+        as_written &= tell_again(rt, file, row.name, outcome)?;
+    }
+    Ok(as_written)
+}
+
+/// The rows of a file, once the whole file has a form. Each file is its name and its text.
+fn read_rows<'a>(
     rt: &HostRuntime,
-    (shared, records): (&str, &str),
-    (file, text): (&str, &str),
-) -> Result<bool> {
+    (shared, records): (&str, &'a str),
+    (file, text): (&str, &'a str),
+) -> Result<Sheet<'a>> {
     let mut sheet = Sheet::new(rt.alloc());
     if let Err(misread) = sheet.read(rt.alloc(), records) {
         return Err(anyhow!("{shared}:{misread}"));
@@ -51,7 +69,7 @@ fn run_rows(
         "{shared}: a row among the shared records"
     );
     match sheet.read(rt.alloc(), text) {
-        Ok(()) => play_rows(rt, file, sheet.rows()),
+        Ok(()) => Ok(sheet),
         Err(misread) => Err(anyhow!("{file}:{misread}")),
     }
 }
@@ -71,7 +89,8 @@ fn play_row(rt: &HostRuntime, file: &str, row: &Row<'_>) -> Result<bool> {
     let mut as_written = true;
     for (place, told) in [(Place::Server, ""), (Place::Sockets, ", over sockets")] {
         if row.is_of(place) {
-            as_written &= tell(rt, file, row.name, told, rows::play(rt, row, place))?;
+            let outcome = rows::play(rt, row, place, Patience::None);
+            as_written &= tell(rt, file, row.name, told, outcome.map(|_| ()))?;
         }
     }
     Ok(as_written)
@@ -112,5 +131,21 @@ fn tell<R: Print>(
             println!(rt; "{file}: {name}{place}: {differs}")?;
             Ok(false)
         }
+    }
+}
+
+/// Tells how a row went, and how many calls came again. Whether it went as written.
+fn tell_again<R: Print>(
+    rt: &R,
+    file: &str,
+    name: &str,
+    outcome: std::result::Result<u32, Differs>,
+) -> Result<bool> {
+    match outcome {
+        Ok(again) => {
+            println!(rt; "{file}: {name}: ok, {again} again")?;
+            Ok(true)
+        }
+        Err(differs) => tell(rt, file, name, "", Err(differs)),
     }
 }

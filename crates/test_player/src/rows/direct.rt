@@ -2,217 +2,160 @@
 
 use super::call::{Call, in_order};
 use super::player::{Arrival, CONNECTIONS, Stage, new_volume};
+use super::served::Served;
 use super::step::Step;
 use crate::difference::{Answer, Difference, expect, expect_reply};
-use disk::MemDevice;
-use server::{Server, ServerFault, Turn};
-use server_drivers as drivers;
+use server::{ServerFault, Turn};
 use std::alloc::Global;
 use std::cmp::Ordering;
 
 /// More turns than a record takes.
 const MAX_TURNS: u32 = 32;
 
-/// A server of a volume in memory.
+/// A server of a volume in memory, with the connections that a row begins with.
 #[derive(Drop)]
 pub struct Direct {
-    server: Server<MemDevice>,
+    served: Served,
     arrival: Arrival,
 }
 
 impl Stage for Direct {
     fn begin(rt: &HostRuntime, arrival: Arrival) -> Result<Direct, Difference> {
         let alloc = rt.alloc();
-        Ok(Direct {
-            server: mount(alloc, new_volume(alloc)?)?,
-            arrival,
-        })
+        let device = new_volume(alloc, arrival.patience)?;
+        let served = connect(Served::mount(alloc, device, arrival.patience)?)?;
+        Ok(Direct { served, arrival })
     }
 
     fn take(self, rt: &HostRuntime, step: &Step) -> Result<Direct, Difference> {
         let alloc = rt.alloc();
         let Direct {
-            mut server,
+            mut served,
             arrival,
         } = self;
         match step {
-            Step::Restarts => server = mount(alloc, drivers::into_device(server))?,
+            Step::Restarts => served = connect(served.mount_anew(alloc)?)?,
             Step::Meets(calls) => {
-                meet(alloc, &mut server, &in_order(alloc, calls, arrival.order)?)?;
+                meet(alloc, &mut served, &in_order(alloc, calls, arrival.order)?)?;
             }
-            _ => act(alloc, &mut server, step)?,
+            _ => act(alloc, &mut served, step)?,
         }
-        Ok(Direct { server, arrival })
+        Ok(Direct { served, arrival })
     }
 
     /// Each step looks at what is left over of it.
-    fn end(self) -> Result<(), Difference> {
-        Ok(())
+    fn end(self) -> Result<u32, Difference> {
+        Ok(self.served.again())
     }
 }
 
-/// Mounts a device, and makes the connections.
-fn mount(alloc: Global, device: MemDevice) -> Result<Server<MemDevice>, Difference> {
-    let mut server = drivers::mount(alloc, device)?;
+/// Makes the connections.
+fn connect(mut served: Served) -> Result<Served, Difference> {
     for connection in 0..CONNECTIONS {
-        expect(Answer::Connected(connection), connected(&mut server))?;
+        expect(Answer::Connected(connection), served.connected())?;
     }
-    Ok(server)
+    Ok(served)
 }
 
-fn act(alloc: Global, server: &mut Server<MemDevice>, step: &Step) -> Result<(), Difference> {
+fn act(alloc: Global, served: &mut Served, step: &Step) -> Result<(), Difference> {
     match step {
-        Step::Feeds { connection, record } => feed(server, *connection, record),
-        Step::Drips { connection, record } => drip(server, *connection, record),
-        Step::Sends { connection, record } => send(server, *connection, record),
-        Step::Runs { connection } => turn(server, *connection, Turn::Ran),
+        Step::Feeds { connection, record } => feed(served, *connection, record),
+        Step::Drips { connection, record } => drip(served, *connection, record),
+        Step::Sends { connection, record } => send(served, *connection, record),
+        Step::Runs { connection } => turn(served, *connection, Turn::Ran),
         Step::Ends {
             connection,
             turns,
             reply,
-        } => end(alloc, server, *connection, *turns, reply),
+        } => end(alloc, served, *connection, *turns, reply),
         Step::Asks(call) => {
-            feed(server, call.connection, &call.record)?;
-            end(alloc, server, call.connection, call.turns, &call.reply)
+            feed(served, call.connection, &call.record)?;
+            end(alloc, served, call.connection, call.turns, &call.reply)
         }
-        Step::Closes { connection, record } => close(server, *connection, record),
-        _ => change_connections(server, step),
-    }
-}
-
-fn change_connections(server: &mut Server<MemDevice>, step: &Step) -> Result<(), Difference> {
-    match step {
+        Step::Closes { connection, record } => close(served, *connection, record),
         Step::Connects { connection } => {
-            expect(Answer::Connected(*connection), connected(server))
+            expect(Answer::Connected(*connection), served.connected())
         }
-        Step::IsFull => expect(Answer::Refused(ServerFault::Full), connected(server)),
-        Step::HangsUp { connection } => expect(Answer::HungUp, hung_up(server, *connection)),
-        Step::Lacks { connection } => lack(server, *connection),
-        _ => Ok(()),
-    }
-}
-
-fn connected(server: &mut Server<MemDevice>) -> Answer {
-    match drivers::connect(server) {
-        Ok(connection) => Answer::Connected(connection),
-        Err(fault) => Answer::Refused(fault),
-    }
-}
-
-fn hung_up(server: &mut Server<MemDevice>, connection: usize) -> Answer {
-    match drivers::hangup(server, connection) {
-        Ok(()) => Answer::HungUp,
-        Err(fault) => Answer::Refused(fault),
-    }
-}
-
-fn fed(server: &mut Server<MemDevice>, connection: usize, piece: &[u8]) -> Answer {
-    match drivers::feed(server, connection, piece) {
-        Ok(taken) => Answer::Took(taken),
-        Err(fault) => Answer::Refused(fault),
-    }
-}
-
-fn turned(server: &mut Server<MemDevice>, connection: usize) -> Answer {
-    match drivers::turn(server, connection) {
-        Ok(done) => Answer::Turned(done),
-        Err(fault) => Answer::Refused(fault),
-    }
-}
-
-/// Whether a reply is given.
-fn replied(server: &mut Server<MemDevice>, connection: usize) -> Answer {
-    match drivers::take_output(server, connection) {
-        Ok(Some(_)) => Answer::Reply,
-        Ok(None) => Answer::NoReply,
-        Err(fault) => Answer::Refused(fault),
+        Step::IsFull => expect(Answer::Refused(ServerFault::Full), served.connected()),
+        Step::HangsUp { connection } => expect(Answer::HungUp, served.hung_up(*connection)),
+        Step::Lacks { connection } => lack(served, *connection),
+        // These are taken above, or are no steps of the server itself.
+        Step::Meets(_) | Step::Restarts | Step::Waits { .. } => Ok(()),
     }
 }
 
 /// Hands in a record, which is taken whole.
-fn feed(
-    server: &mut Server<MemDevice>,
-    connection: usize,
-    record: &[u8],
-) -> Result<(), Difference> {
-    expect(Answer::Took(record.len()), fed(server, connection, record))
+fn feed(served: &mut Served, connection: usize, record: &[u8]) -> Result<(), Difference> {
+    expect(Answer::Took(record.len()), served.fed(connection, record))
 }
 
 /// Hands in a record byte by byte, each after a turn that is idle.
-fn drip(
-    server: &mut Server<MemDevice>,
-    connection: usize,
-    record: &[u8],
-) -> Result<(), Difference> {
+fn drip(served: &mut Served, connection: usize, record: &[u8]) -> Result<(), Difference> {
     for byte in record {
-        turn(server, connection, Turn::Idle)?;
-        feed(server, connection, &[*byte])?;
+        turn(served, connection, Turn::Idle)?;
+        feed(served, connection, &[*byte])?;
     }
     Ok(())
 }
 
 /// Hands in a record, which is answered or closes the connection.
-fn send(
-    server: &mut Server<MemDevice>,
-    connection: usize,
-    record: &[u8],
-) -> Result<(), Difference> {
-    match fed(server, connection, record) {
+fn send(served: &mut Served, connection: usize, record: &[u8]) -> Result<(), Difference> {
+    match served.fed(connection, record) {
         Answer::Refused(ServerFault::Closed) => Ok(()),
         got => {
             expect(Answer::Took(record.len()), got)?;
-            answer(server, connection)
+            answer(served, connection)
         }
     }
 }
 
 /// Runs the request up to its reply.
-fn answer(server: &mut Server<MemDevice>, connection: usize) -> Result<(), Difference> {
-    let mut got = turned(server, connection);
+fn answer(served: &mut Served, connection: usize) -> Result<(), Difference> {
+    let mut got = served.turned(connection);
     for _ in 1..MAX_TURNS {
         if got != Answer::Turned(Turn::Ran) {
             break;
         }
-        got = turned(server, connection);
+        got = served.turned(connection);
     }
     expect(Answer::Turned(Turn::Answered), got)?;
-    expect(Answer::Reply, replied(server, connection))
+    expect(Answer::Reply, served.replied(connection))
 }
 
 /// Gives a turn, which does what is wanted.
-fn turn(server: &mut Server<MemDevice>, connection: usize, wanted: Turn) -> Result<(), Difference> {
-    expect(Answer::Turned(wanted), turned(server, connection))
+fn turn(served: &mut Served, connection: usize, wanted: Turn) -> Result<(), Difference> {
+    expect(Answer::Turned(wanted), served.turned(connection))
 }
 
 /// Runs so many operations, of which the last one gives this reply.
 fn end(
     alloc: Global,
-    server: &mut Server<MemDevice>,
+    served: &mut Served,
     connection: usize,
     turns: u32,
     reply: &[u8],
 ) -> Result<(), Difference> {
     for _ in 1..turns {
-        turn(server, connection, Turn::Ran)?;
+        turn(served, connection, Turn::Ran)?;
     }
-    turn(server, connection, Turn::Answered)?;
-    match drivers::take_output(server, connection) {
+    turn(served, connection, Turn::Answered)?;
+    match served.reply(connection) {
         Ok(Some(got)) => expect_reply(alloc, reply, got)?,
         Ok(None) => expect(Answer::Reply, Answer::NoReply)?,
         Err(fault) => expect(Answer::Reply, Answer::Refused(fault))?,
     }
-    expect(Answer::NoReply, replied(server, connection))
+    expect(Answer::NoReply, served.replied(connection))
 }
 
 /// Hands in records one after the other, and then has the turns of their connections alternate.
-fn meet(alloc: Global, server: &mut Server<MemDevice>, calls: &[&Call]) -> Result<(), Difference> {
+fn meet(alloc: Global, served: &mut Served, calls: &[&Call]) -> Result<(), Difference> {
     let mut most = 0;
     for call in calls {
-        feed(server, call.connection, &call.record)?;
+        feed(served, call.connection, &call.record)?;
         most = call.turns.max(most);
     }
     for number in 0..most {
-        go_round(alloc, server, calls, number.saturating_add(1))?;
+        go_round(alloc, served, calls, number.saturating_add(1))?;
     }
     Ok(())
 }
@@ -220,14 +163,14 @@ fn meet(alloc: Global, server: &mut Server<MemDevice>, calls: &[&Call]) -> Resul
 /// The turn of this number of each connection.
 fn go_round(
     alloc: Global,
-    server: &mut Server<MemDevice>,
+    served: &mut Served,
     calls: &[&Call],
     number: u32,
 ) -> Result<(), Difference> {
     for call in calls {
         match call.turns.cmp(&number) {
-            Ordering::Greater => turn(server, call.connection, Turn::Ran)?,
-            Ordering::Equal => end(alloc, server, call.connection, 1, &call.reply)?,
+            Ordering::Greater => turn(served, call.connection, Turn::Ran)?,
+            Ordering::Equal => end(alloc, served, call.connection, 1, &call.reply)?,
             Ordering::Less => {}
         }
     }
@@ -235,24 +178,20 @@ fn go_round(
 }
 
 /// Hands in bytes that close the connection, which stays so.
-fn close(
-    server: &mut Server<MemDevice>,
-    connection: usize,
-    record: &[u8],
-) -> Result<(), Difference> {
+fn close(served: &mut Served, connection: usize, record: &[u8]) -> Result<(), Difference> {
     let closed = Answer::Refused(ServerFault::Closed);
-    expect(closed, fed(server, connection, record))?;
-    expect(closed, fed(server, connection, &[]))?;
-    expect(closed, fed(server, connection, &[1]))?;
-    expect(closed, turned(server, connection))?;
-    expect(Answer::NoReply, replied(server, connection))
+    expect(closed, served.fed(connection, record))?;
+    expect(closed, served.fed(connection, &[]))?;
+    expect(closed, served.fed(connection, &[1]))?;
+    expect(closed, served.turned(connection))?;
+    expect(Answer::NoReply, served.replied(connection))
 }
 
 /// Each call of a connection that is not there is refused.
-fn lack(server: &mut Server<MemDevice>, connection: usize) -> Result<(), Difference> {
+fn lack(served: &mut Served, connection: usize) -> Result<(), Difference> {
     let none = Answer::Refused(ServerFault::NoConnection);
-    expect(none, fed(server, connection, &[]))?;
-    expect(none, turned(server, connection))?;
-    expect(none, replied(server, connection))?;
-    expect(none, hung_up(server, connection))
+    expect(none, served.fed(connection, &[]))?;
+    expect(none, served.turned(connection))?;
+    expect(none, served.replied(connection))?;
+    expect(none, served.hung_up(connection))
 }

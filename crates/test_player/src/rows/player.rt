@@ -6,6 +6,7 @@ use super::sockets::Sockets;
 use super::step::Step;
 use crate::difference::{Difference, Differs};
 use disk::MemDevice;
+use server::FormatFault;
 use server_drivers as drivers;
 use std::alloc::Global;
 
@@ -29,9 +30,19 @@ pub enum Place {
     Sockets,
 }
 
-/// How records that meet arrive.
+/// What is done where a call is refused for want of memory.
+#[derive(Clone, Copy, PartialEq, Eq)]
+pub enum Patience {
+    /// It is another answer than the row has.
+    None,
+    /// It is made once more.
+    Once,
+}
+
+/// How records that meet arrive, and how a refusal is taken.
 #[derive(Clone, Copy)]
 pub struct Arrival {
+    pub patience: Patience,
     /// The number of their order.
     pub order: usize,
     /// How many bytes of one come before some of the next.
@@ -45,40 +56,47 @@ pub trait Stage: Sized + Drop {
 
     fn take(self, rt: &HostRuntime, step: &Step) -> Result<Self, Difference>;
 
-    /// Nothing is left over.
-    fn end(self) -> Result<(), Difference>;
+    /// Nothing is left over. How many calls came again.
+    fn end(self) -> Result<u32, Difference>;
 }
 
-/// Plays a row in each order in which records that meet arrive.
-pub fn play(rt: &HostRuntime, row: &Row<'_>, place: Place) -> Result<(), Differs> {
+/// Plays a row in each order in which records that meet arrive. How many calls came again.
+pub fn play(
+    rt: &HostRuntime,
+    row: &Row<'_>,
+    place: Place,
+    patience: Patience,
+) -> Result<u32, Differs> {
+    let mut again = 0_u32;
     for order in 0..row.orders {
-        match place {
-            Place::Server => play_on::<Direct>(
-                rt,
-                row,
-                Arrival {
-                    order,
-                    piece: WHOLE,
-                },
-            )?,
-            Place::Sockets => play_in_pieces(rt, row, order)?,
-        }
+        let arrival = Arrival {
+            patience,
+            order,
+            piece: WHOLE,
+        };
+        let more = match place {
+            Place::Server => play_on::<Direct>(rt, row, arrival)?,
+            Place::Sockets => play_in_pieces(rt, row, arrival)?,
+        };
+        again = again.saturating_add(more);
     }
-    Ok(())
+    Ok(again)
 }
 
 /// Plays a row over sockets, in pieces of each size where records meet.
-fn play_in_pieces(rt: &HostRuntime, row: &Row<'_>, order: usize) -> Result<(), Differs> {
+fn play_in_pieces(rt: &HostRuntime, row: &Row<'_>, arrival: Arrival) -> Result<u32, Differs> {
+    let mut again = 0_u32;
     for piece in PIECES {
-        play_on::<Sockets>(rt, row, Arrival { order, piece })?;
+        let more = play_on::<Sockets>(rt, row, Arrival { piece, ..arrival })?;
+        again = again.saturating_add(more);
         if row.orders == 1 {
             break;
         }
     }
-    Ok(())
+    Ok(again)
 }
 
-fn play_on<S: Stage>(rt: &HostRuntime, row: &Row<'_>, arrival: Arrival) -> Result<(), Differs> {
+fn play_on<S: Stage>(rt: &HostRuntime, row: &Row<'_>, arrival: Arrival) -> Result<u32, Differs> {
     let mut line = 0;
     let mut stage = placed(line, S::begin(rt, arrival))?;
     for step in row.steps.iter() {
@@ -96,8 +114,12 @@ fn placed<T: Drop>(line: u32, outcome: Result<T, Difference>) -> Result<T, Diffe
 }
 
 /// A new volume.
-pub fn new_volume(alloc: Global) -> Result<MemDevice, Difference> {
+pub fn new_volume(alloc: Global, patience: Patience) -> Result<MemDevice, Difference> {
     let mut device = MemDevice::new(alloc, SECTORS)?;
-    drivers::format(alloc, &mut device, NODES)?;
+    let mut told = drivers::format(alloc, &mut device, NODES);
+    if patience == Patience::Once && told.err() == Some(FormatFault::Memory) {
+        told = drivers::format(alloc, &mut device, NODES);
+    }
+    told?;
     Ok(device)
 }

@@ -44,6 +44,7 @@ impl<'a> Row<'a> {
     pub fn add(&mut self, line: u32, step: Step) -> Result<(), Fault> {
         Ok(self.steps.push(Placed { line, step })?)
     }
+
     /// Has a call meet those right above it.
     pub fn meet(&mut self, alloc: Global, line: u32, call: Call) -> Result<(), Fault> {
         if let Some(

@@ -54,7 +54,7 @@ pub struct Sockets {
 
 impl Stage for Sockets {
     fn begin(rt: &HostRuntime, arrival: Arrival) -> Result<Sockets, Difference> {
-        Sockets::over(rt, new_volume(rt.alloc())?, arrival)
+        Sockets::over(rt, new_volume(rt.alloc(), arrival.patience)?, arrival)
     }
 
     fn take(mut self, rt: &HostRuntime, step: &Step) -> Result<Sockets, Difference> {
@@ -69,14 +69,15 @@ impl Stage for Sockets {
         Ok(self)
     }
 
-    fn end(mut self) -> Result<(), Difference> {
+    /// The loop makes calls again by itself.
+    fn end(mut self) -> Result<u32, Difference> {
         if self.pace == Pace::Goes {
             self.settle()?;
         }
         for (_, peer) in self.peers.iter() {
             expect_none(self.clock.1, peer)?;
         }
-        Ok(())
+        Ok(0)
     }
 }
 
@@ -117,8 +118,12 @@ impl Sockets {
                 self.end_with(call.connection, &call.reply)
             }
             Step::Meets(calls) => self.meet(calls),
-            // The server itself is asked for these.
-            _ => Ok(()),
+            // These are taken above, or the server itself is asked for them.
+            Step::Connects { .. }
+            | Step::Restarts
+            | Step::Runs { .. }
+            | Step::IsFull
+            | Step::Lacks { .. } => Ok(()),
         }
     }
 

@@ -1,0 +1,129 @@
+//! A server as a row is played on it, and the calls that come again for want of memory.
+
+use super::player::Patience;
+use crate::difference::{Answer, Difference};
+use disk::MemDevice;
+use server::{MountFault, Server, ServerFault};
+use server_drivers as drivers;
+use std::alloc::Global;
+
+/// A server of a volume in memory.
+#[derive(Drop)]
+pub struct Served {
+    server: Server<MemDevice>,
+    patience: Patience,
+    /// How many calls came again.
+    again: u32,
+}
+
+impl Served {
+    /// Mounts a device.
+    pub fn mount(
+        alloc: Global,
+        device: MemDevice,
+        patience: Patience,
+    ) -> Result<Served, Difference> {
+        let (server, again) = match Server::mount(alloc, device) {
+            Ok(server) => (server, 0),
+            Err(unmounted) => match (unmounted.fault, patience) {
+                (MountFault::Memory, Patience::Once) => (
+                    drivers::mount(alloc, unmounted.device)?,
+                    1,
+                ),
+                (fault, _) => return Err(fault.into()),
+            },
+        };
+        Ok(Served {
+            server,
+            patience,
+            again,
+        })
+    }
+
+    /// Mounts its device anew.
+    pub fn mount_anew(self, alloc: Global) -> Result<Served, Difference> {
+        let Served {
+            server,
+            patience,
+            again,
+        } = self;
+        let mut served = Served::mount(alloc, drivers::into_device(server), patience)?;
+        served.again = served.again.saturating_add(again);
+        Ok(served)
+    }
+
+    /// How many calls came again.
+    pub fn again(&self) -> u32 {
+        self.again
+    }
+
+    pub fn connected(&mut self) -> Answer {
+        let mut told = drivers::connect(&mut self.server);
+        if self.comes_again(told.err()) {
+            told = drivers::connect(&mut self.server);
+        }
+        match told {
+            Ok(connection) => Answer::Connected(connection),
+            Err(fault) => Answer::Refused(fault),
+        }
+    }
+
+    pub fn hung_up(&mut self, connection: usize) -> Answer {
+        let mut told = drivers::hangup(&mut self.server, connection);
+        if self.comes_again(told.err()) {
+            told = drivers::hangup(&mut self.server, connection);
+        }
+        match told {
+            Ok(()) => Answer::HungUp,
+            Err(fault) => Answer::Refused(fault),
+        }
+    }
+
+    pub fn fed(&mut self, connection: usize, piece: &[u8]) -> Answer {
+        let mut told = drivers::feed(&mut self.server, connection, piece);
+        if self.comes_again(told.err()) {
+            told = drivers::feed(&mut self.server, connection, piece);
+        }
+        match told {
+            Ok(taken) => Answer::Took(taken),
+            Err(fault) => Answer::Refused(fault),
+        }
+    }
+
+    pub fn turned(&mut self, connection: usize) -> Answer {
+        let mut told = drivers::turn(&mut self.server, connection);
+        if self.comes_again(told.err()) {
+            told = drivers::turn(&mut self.server, connection);
+        }
+        match told {
+            Ok(done) => Answer::Turned(done),
+            Err(fault) => Answer::Refused(fault),
+        }
+    }
+
+    /// The reply, which takes no memory.
+    pub fn reply(&mut self, connection: usize) -> Result<Option<Vec<u8>>, ServerFault> {
+        drivers::take_output(&mut self.server, connection)
+    }
+
+    /// Whether a reply is given.
+    pub fn replied(&mut self, connection: usize) -> Answer {
+        match self.reply(connection) {
+            Ok(Some(_)) => Answer::Reply,
+            Ok(None) => Answer::NoReply,
+            Err(fault) => Answer::Refused(fault),
+        }
+    }
+
+    /// Whether a call that was answered so is made once more.
+    fn comes_again(&mut self, fault: Option<ServerFault>) -> bool {
+        let is_again = matches!(
+            (fault, self.patience),
+            (Some(ServerFault::Memory), Patience::Once)
+        );
+        if is_again {
+            self.again = self.again.saturating_add(1);
+        }
+        is_again
+    }
+}
