@@ -96,7 +96,7 @@ module _ (old : Draft) (place size : ℕ) (was : Card) (known : IsKnown old) (th
     can_be_cut = record {
       room = omega (arith, known.small, len);
       within = in_table old.nodes (mark_by first old.places) (cards_of old) place was known.cards there;
-      fits = fields_fit was.fields size is_card.fits few;
+      fits = fields_fit was.form was.fields size is_card.fits few;
       marked = λ n. omega (arith, marks n, once n);
     }
 

@@ -1,6 +1,7 @@
 -- What is known of a draft's cards, and what a change of one of them leaves.
 use Rattle.std.proofs.Common.{◌≡◌, ◌≤◌, ◌<◌, ◌+◌, ◌^◌, ◌⊎◌, ℕ, zero, suc, Bool, List, [], ◌∷◌, Option, Some, None, length, get_or, set, refl, sym, ap, ◌∙◌, arith, subst, inl, inr}
 use Rattle.disk.specs.Moments.{Image}
+use Rattle.inode.specs.declared.node.Form.{Form}
 use Rattle.inode.specs.Fields.{Fields, IsInode}
 use Rattle.model.specs.declared.node.NodeKind.{NodeKind}
 use Rattle.model.specs.declared.node.NodeKind.TheVariants as kind
@@ -95,8 +96,8 @@ content_of_directory card directory names = subst (λ (k : NodeKind). HasContent
 
 -- ---- the fields of a card that is to be laid
 
-pub fields_fit : (fields : Fields) (size : ℕ) → IsInode fields → size < 2 ^ 64 → IsInode (fields_with (record fields { size = size }) 0 [])
-fields_fit fields size fits small = record {
+pub fields_fit : (form : Form) (fields : Fields) (size : ℕ) → IsInode form fields → size < 2 ^ 64 → IsInode form (fields_with (record fields { size = size }) 0 [])
+fields_fit form fields size fits small = record {
   number = fits.number;
   owner = fits.owner;
   group = fits.group;

@@ -82,7 +82,7 @@ module _ (old : Draft) (place : ℕ) (was : Card) (known : IsKnown old) (there :
   can_lay_names mid_places blocks names len few marked = record {
     room = omega (arith, known.small, len);
     within = in_table old.nodes (mark_by first old.places) (cards_of old) place was known.cards there;
-    fits = (let is = directory_is in fields_fit was.fields (length names) is.fits (omega arith));
+    fits = (let is = directory_is in fields_fit was.form was.fields (length names) is.fits (omega arith));
     marked = marked;
   }
 

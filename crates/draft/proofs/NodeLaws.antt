@@ -49,7 +49,7 @@ unfolding bytes_in
 new_of image form fields kind.File = refl
 new_of image form fields kind.Directory = refl
 
-module _ (nodes place : ℕ) (old new : Image) (mark : ℕ → ℕ) (cards : List (Option Card)) (form : Form) (fields : Fields) (within : place < nodes) (laid : AreLaid nodes old mark cards) (free : IsFree cards place) (fits : IsInode (new_card form fields).fields)
+module _ (nodes place : ℕ) (old new : Image) (mark : ℕ → ℕ) (cards : List (Option Card)) (form : Form) (fields : Fields) (within : place < nodes) (laid : AreLaid nodes old mark cards) (free : IsFree cards place) (fits : IsInode form (new_card form fields).fields)
     (some : 0 < fields.number) (fresh : HasNot cards fields.number) (is : IsPut old new (148 + place) (inode_sector form (new_card form fields).fields)) where
   node : HoldsNode new place (new_card form fields)
   node = record {
@@ -113,7 +113,7 @@ module _ (old new : Draft) (place : ℕ) (card : Card) (known : IsKnown old) (fr
 
   is_known : IsCard card
   is_known = subst IsCard (sym is_new.is) (record {
-    fits = subst (λ (c : Card). IsInode c.fields) is_new.is is_new.fits;
+    fits = subst (λ (c : Card). IsInode c.form c.fields) is_new.is is_new.fits;
     number = is_new.number;
     each_run = tt;
     run_count = refl;
@@ -143,7 +143,7 @@ module _ (old new : Draft) (place : ℕ) (card : Card) (known : IsKnown old) (fr
       let is : IsPut (image_of base old) (image_of base new) (148 + place) (inode_sector fresh_card.form fresh_card.fields) =
       subst (λ (one : Card). IsPut (image_of base old) (image_of base new) (148 + place) (inode_sector one.form one.fields)) is_new.is (put base) in
       let gives = make_gives old.nodes place (image_of base old) (image_of base new) (mark_by first old.places) (cards_of old) card.form card.fields in_it draft.laid free
-      (subst (λ (one : Card). IsInode one.fields) is_new.is is_new.fits) is_new.number fresh is in
+      (subst (λ (one : Card). IsInode one.form one.fields) is_new.is is_new.fits) is_new.number fresh is in
       made base size old new place (Some card) (PutNode card.fields.number (new_node card)) draft same (ap length places) cards
       (subst (λ (p : List Bool). AreLaid old.nodes (image_of base new) (mark_by first p) (set (cards_of old) place (Some card))) (sym places)
       (subst (λ (one : Card). AreLaid old.nodes (image_of base new) (mark_by first old.places) (set (cards_of old) place (Some one))) (sym is_new.is) gives.laid))
@@ -218,7 +218,7 @@ module _ (old new : Draft) (place : ℕ) (was is : Card) (known : IsKnown old) (
 
 -- ---- a node shows something else
 
-module _ (old new : Draft) (place : ℕ) (was : Card) (shown : Shown) (known : IsKnown old) (there : get_or (cards_of old) place None ≡ Some was) (fits : IsInode (fields_showing was.fields shown)) (same : new.nodes ≡ old.nodes) (places : new.places ≡ old.places)
+module _ (old new : Draft) (place : ℕ) (was : Card) (shown : Shown) (known : IsKnown old) (there : get_or (cards_of old) place None ≡ Some was) (fits : IsInode was.form (fields_showing was.fields shown)) (same : new.nodes ≡ old.nodes) (places : new.places ≡ old.places)
     (cards : cards_of new ≡ set (cards_of old) place (Some (showing shown was)))
     (put : (image : Image) → IsPut (applied old.updates image) (applied new.updates image) (148 + place) (inode_sector was.form (fields_showing was.fields shown))) where
   was_known : IsCard was

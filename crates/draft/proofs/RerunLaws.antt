@@ -2,6 +2,7 @@
 use Rattle.std.proofs.Common.{◌≡◌, ◌≤◌, ◌<◌, ◌+◌, ◌/◌, ◌^◌, ℕ, Bool, List, [], ◌∷◌, length, arith, inl, inr}
 use Rattle.std.proofs.lemmas.Bool.{cases_lt}
 use Rattle.std.specs.List.{AllByRecursion}
+use Rattle.inode.specs.declared.node.Form.{Form}
 use Rattle.inode.specs.Fields.{Fields, IsInode, IsRunSector}
 use Rattle.layout.specs.Marks.{times}
 use Rattle.layout.specs.Marks.{mark_by}
@@ -10,8 +11,8 @@ use Rattle.layout.proofs.NumberLaws.{once-here}
 use Rattle.draft.specs.Laying.{Follow, AreMarked, AreOnce, fields_with}
 use Rattle.draft.proofs.NumberLaws.{are_once}
 
-pub fields-fit : (fields : Fields) (runs : ℕ) (numbers : List ℕ) → IsInode fields → runs ≤ 4500 → length numbers ≡ (runs + 499) / 500 → AllByRecursion IsRunSector numbers → IsInode (fields_with fields runs numbers)
-fields-fit fields runs numbers fit few long each = record {
+pub fields-fit : (form : Form) (fields : Fields) (runs : ℕ) (numbers : List ℕ) → IsInode form fields → runs ≤ 4500 → length numbers ≡ (runs + 499) / 500 → AllByRecursion IsRunSector numbers → IsInode form (fields_with fields runs numbers)
+fields-fit form fields runs numbers fit few long each = record {
   number = fit.number;
   owner = fit.owner;
   group = fit.group;

@@ -75,7 +75,7 @@ module _ (old : Draft) (place end : ℕ) (was : Card) (known : IsKnown old) (the
     can_be_laid = record {
       room = omega (arith, known.small, gets.len);
       within = in_table old.nodes (mark_by first old.places) (cards_of old) place was known.cards there;
-      fits = fields_fit was.fields (max was.fields.size end) is_card.fits (omega (arith, few, can.low));
+      fits = fields_fit was.form was.fields (max was.fields.size end) is_card.fits (omega (arith, few, can.low));
       marked = λ n. omega (arith, marks n, once n, gets.more n, grown_named n);
     }
 

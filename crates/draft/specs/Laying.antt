@@ -55,14 +55,14 @@ pub record IsRerun (was is : Card) : Type 0 where
   pub runs : AreRunsOf is.runs is.blocks
   pub each_run : AllByRecursion IsRun is.runs
   pub run_count : length is.runs ≡ is.fields.runs
-  pub fits : IsInode is.fields
+  pub fits : IsInode is.form is.fields
 
 -- a card can be laid at a place: but for its runs its fields have a spelling, and its run sectors
 -- are marked
 pub record CanBeLaid (nodes place : ℕ) (places : List Bool) (card : Card) : Type 0 where
   pub room : 148 + nodes + length places < 2 ^ 32
   pub within : place < nodes
-  pub fits : IsInode (fields_with card.fields 0 [])
+  pub fits : IsInode card.form (fields_with card.fields 0 [])
   pub marked : AreMarked (148 + nodes) places card.fields.run_sectors
 
 -- runs of its blocks that have a spelling

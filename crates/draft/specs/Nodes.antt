@@ -23,7 +23,7 @@ new_card form fields = record {
 pub record IsNewCard (card : Card) : Type 0 where
   pub is : card ≡ new_card card.form card.fields
   pub number : 0 < card.fields.number
-  pub fits : IsInode card.fields
+  pub fits : IsInode card.form card.fields
 
 abbrev pub no_content : NodeKind → Content
 no_content kind.File = File []
@@ -64,4 +64,4 @@ pub record HasNode (cards : List (Option Card)) (place : ℕ) : Type 0 where
 pub record CanShow (cards : List (Option Card)) (place : ℕ) (shown : Shown) : Type 0 where
   pub card : Card
   pub there : slice_index_or cards place None ≡ Some card
-  pub fits : IsInode (fields_showing card.fields shown)
+  pub fits : IsInode card.form (fields_showing card.fields shown)

@@ -44,7 +44,7 @@ fn lay_runs(updates: &mut Updates, numbers: &[u32], runs: &[Run]) -> Result<(), 
 /// Writes a node's sector and its run sectors.
 fn lay_node(updates: &mut Updates, sector: u32, card: &Card) -> Result<(), AllocError>
     // A card that has a spelling, in sectors that are apart
-    requires fits { IsInode card.now.fields }
+    requires fits { IsInode card.now.form card.now.fields }
     requires count { length card.now.runs ≡ card.now.fields.runs }
     requires once { AreOnce card.now.fields.run_sectors }
     requires apart { times sector card.now.fields.run_sectors ≡ 0 }

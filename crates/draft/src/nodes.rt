@@ -31,7 +31,7 @@ pub struct Shown {
 
 /// Writes a node's sector.
 pub(crate) fn put_node(updates: &mut Updates, place: u32, card: &Card) -> Result<(), AllocError>
-    requires fits { IsInode card.now.fields }
+    requires fits { IsInode card.now.form card.now.fields }
     requires small { NODES + place < 2 ^ 32 }
     ensures image { OnOk result ((image : Image) → IsPut (applied updates.old image)
         (applied updates.new image) (NODES + place) (inode_sector card.now.form card.now.fields)) }

@@ -19,6 +19,7 @@ use Rattle.edits.proofs.PlaceLaws.{put_forms, IsThere, there_is, outline_put, ou
 use Rattle.inode.specs.declared.node.Form.{Form}
 use Rattle.inode.specs.declared.node.Form.TheVariants.{One}
 use Rattle.inode.specs.Fields.{Fields, IsInode}
+use Rattle.inode.proofs.Parts.{least_entries}
 use Rattle.layout.specs.Cards.{Card, node_of, node_with, content_of, bytes_in}
 use Rattle.layout.specs.Known.{IsCard}
 use Rattle.layout.specs.Marks.{mark_by}
@@ -116,7 +117,7 @@ node_showing shown card = ap (node_with (fields_showing card.fields shown))
     same kind.Directory = refl
 
 -- and it has a spelling, where its entries have one
-pub shown_fits : (card : Card) (shown : declared_shown.Shown) → IsCard card → AreEntries (shown_of shown).acl → IsInode (fields_showing card.fields (shown_of shown))
+pub shown_fits : (card : Card) (shown : declared_shown.Shown) → IsCard card → AreEntries (shown_of shown).acl → IsInode card.form (fields_showing card.fields (shown_of shown))
 shown_fits card shown is entries =
     let ranges = shown.in_range in
     let fits = is.fits in
@@ -130,7 +131,7 @@ shown_fits card shown is entries =
       runs = fits.runs;
       run_sectors = fits.run_sectors;
       each_run_sector = fits.each_run_sector;
-      acl = entries.few;
+      acl = omega (arith, entries.few, least_entries card.form);
       each_ace = entries.each;
     }
 
@@ -161,8 +162,8 @@ node_fresh kind.File number shown = ap (λ (bytes : List ℕ). node_with (fresh_
 node_fresh kind.Directory number shown = refl
 
 -- and it has a spelling
-pub fresh_fits : (of : NodeKind) (number : ℕ) (shown : declared_shown.Shown) → number < 2 ^ 64 → AreEntries (shown_of shown).acl → IsInode (fresh_fields of number (shown_of shown))
-fresh_fits of number shown fits entries =
+pub fresh_fits : (form : Form) (of : NodeKind) (number : ℕ) (shown : declared_shown.Shown) → number < 2 ^ 64 → AreEntries (shown_of shown).acl → IsInode form (fresh_fields of number (shown_of shown))
+fresh_fits form of number shown fits entries =
     let ranges = shown.in_range in
     record {
       number = fits;
@@ -174,7 +175,7 @@ fresh_fits of number shown fits entries =
       runs = omega arith;
       run_sectors = omega arith;
       each_run_sector = tt;
-      acl = entries.few;
+      acl = omega (arith, entries.few, least_entries form);
       each_ace = entries.each;
     }
 

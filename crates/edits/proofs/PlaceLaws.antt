@@ -10,7 +10,6 @@ use Rattle.directory.specs.Listing.{by_stamp}
 use Rattle.layout.specs.Cards.{Card, node_of, content_of}
 use Rattle.layout.specs.ChangeLaws.{IsOwnNumber, IsSameNumber}
 use Rattle.layout.specs.Known.{AreCards}
-use Rattle.inode.specs.declared.node.Form.TheVariants.{One}
 use Rattle.layout.specs.Laid.{AreNumbered}
 use Rattle.layout.specs.Stands.{version_1, HaveForms}
 use Rattle.layout.proofs.Answering.{tree-has}
@@ -159,9 +158,9 @@ none_forms cards place forms other card there = elim (cases_eq other place) [
     gone : (found : Option Card) → found ≡ None → found ≡ Some card → ⊥
     gone found none some = cc
 
-pub put_forms : (cards : List (Option Card)) (place : ℕ) (card : Card) → place < length cards → card.form ≡ One → HaveForms version_1 cards → HaveForms version_1 (set cards place (Some card))
+pub put_forms : (cards : List (Option Card)) (place : ℕ) (card : Card) → place < length cards → card.form ≡ version_1.form place → HaveForms version_1 cards → HaveForms version_1 (set cards place (Some card))
 put_forms cards place card within one forms other it there = elim (cases_eq other place) [
-  | inl e ↦ ap (λ (c : Card). c.form) (sym (some_is (sym (get_or-set_same cards place (Some card) None within) ∙ ap (λ (p : ℕ). get_or (set cards place (Some card)) p None) (sym e) ∙ there))) ∙ one
+  | inl e ↦ ap (λ (c : Card). c.form) (sym (some_is (sym (get_or-set_same cards place (Some card) None within) ∙ ap (λ (p : ℕ). get_or (set cards place (Some card)) p None) (sym e) ∙ there))) ∙ one ∙ ap (λ (p : ℕ). version_1.form p) (sym e)
   | inr off ↦ forms other it (sym (get_or-set_other cards place other (Some card) None off) ∙ there)
 ]
   where

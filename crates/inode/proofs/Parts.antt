@@ -8,9 +8,16 @@ use Rattle.sector.specs.Placed.{Reads}
 use Rattle.sector.specs.Records.{length-records}
 use Rattle.inode.specs.declared.node.Form.{Form}
 use Rattle.inode.specs.declared.node.Form.TheVariants.{One}
-use Rattle.inode.specs.Fields.{Fields, IsInode}
+use Rattle.inode.specs.Fields.{Fields, IsInode, most_entries}
 use Rattle.inode.specs.Spelling.{inode_sector, kind_byte, nine, number_bytes, ace_bytes, acl_bytes}
 use Rattle.inode.proofs.EntryLemmas.{numbers_wide}
+
+-- each form has room for 40 entries, and none for more than are kept in memory
+pub least_entries : (form : Form) → 40 ≤ most_entries form
+least_entries One = omega arith
+
+pub stored_entries : (form : Form) → most_entries form ≤ 40
+stored_entries One = omega arith
 
 -- after the run sectors, and after the entries
 abbrev pub rest_of_numbers : Fields → List ℕ
@@ -27,31 +34,31 @@ pub count_there : (form : Form) (fields : Fields) (sector : List ℕ) → sector
 unfolding inode_sector
 count_there One fields sector e = ap (λ (s : List ℕ). get_or s 5 0) e
 
-pub runs_there : (form : Form) (fields : Fields) (sector : List ℕ) → sector ≡ inode_sector form fields → IsInode fields → (n : ℕ) → Reads 2 sector 6 n → n ≡ fields.runs
+pub runs_there : (form : Form) (fields : Fields) (sector : List ℕ) → sector ≡ inode_sector form fields → IsInode form fields → (n : ℕ) → Reads 2 sector 6 n → n ≡ fields.runs
 unfolding inode_sector
 runs_there One fields sector e fits n reads = reads fields.runs (drop 8 (inode_sector One fields)) (omega (arith, fits.runs)) (ap (drop 6) e)
 
-pub number_there : (form : Form) (fields : Fields) (sector : List ℕ) → sector ≡ inode_sector form fields → IsInode fields → (n : ℕ) → Reads 8 sector 8 n → n ≡ fields.number
+pub number_there : (form : Form) (fields : Fields) (sector : List ℕ) → sector ≡ inode_sector form fields → IsInode form fields → (n : ℕ) → Reads 8 sector 8 n → n ≡ fields.number
 unfolding inode_sector
 number_there One fields sector e fits n reads = reads fields.number (drop 16 (inode_sector One fields)) fits.number (ap (drop 8) e)
 
-pub owner_there : (form : Form) (fields : Fields) (sector : List ℕ) → sector ≡ inode_sector form fields → IsInode fields → (n : ℕ) → Reads 4 sector 16 n → n ≡ fields.owner
+pub owner_there : (form : Form) (fields : Fields) (sector : List ℕ) → sector ≡ inode_sector form fields → IsInode form fields → (n : ℕ) → Reads 4 sector 16 n → n ≡ fields.owner
 unfolding inode_sector
 owner_there One fields sector e fits n reads = reads fields.owner (drop 20 (inode_sector One fields)) fits.owner (ap (drop 16) e)
 
-pub group_there : (form : Form) (fields : Fields) (sector : List ℕ) → sector ≡ inode_sector form fields → IsInode fields → (n : ℕ) → Reads 4 sector 20 n → n ≡ fields.group
+pub group_there : (form : Form) (fields : Fields) (sector : List ℕ) → sector ≡ inode_sector form fields → IsInode form fields → (n : ℕ) → Reads 4 sector 20 n → n ≡ fields.group
 unfolding inode_sector
 group_there One fields sector e fits n reads = reads fields.group (drop 24 (inode_sector One fields)) fits.group (ap (drop 20) e)
 
-pub change_there : (form : Form) (fields : Fields) (sector : List ℕ) → sector ≡ inode_sector form fields → IsInode fields → (n : ℕ) → Reads 8 sector 24 n → n ≡ fields.change
+pub change_there : (form : Form) (fields : Fields) (sector : List ℕ) → sector ≡ inode_sector form fields → IsInode form fields → (n : ℕ) → Reads 8 sector 24 n → n ≡ fields.change
 unfolding inode_sector
 change_there One fields sector e fits n reads = reads fields.change (drop 32 (inode_sector One fields)) fits.change (ap (drop 24) e)
 
-pub time_there : (form : Form) (fields : Fields) (sector : List ℕ) → sector ≡ inode_sector form fields → IsInode fields → (n : ℕ) → Reads 8 sector 32 n → n ≡ fields.time_modify
+pub time_there : (form : Form) (fields : Fields) (sector : List ℕ) → sector ≡ inode_sector form fields → IsInode form fields → (n : ℕ) → Reads 8 sector 32 n → n ≡ fields.time_modify
 unfolding inode_sector
 time_there One fields sector e fits n reads = reads fields.time_modify (drop 40 (inode_sector One fields)) fits.time_modify (ap (drop 32) e)
 
-pub size_there : (form : Form) (fields : Fields) (sector : List ℕ) → sector ≡ inode_sector form fields → IsInode fields → (n : ℕ) → Reads 8 sector 40 n → n ≡ fields.size
+pub size_there : (form : Form) (fields : Fields) (sector : List ℕ) → sector ≡ inode_sector form fields → IsInode form fields → (n : ℕ) → Reads 8 sector 40 n → n ≡ fields.size
 unfolding inode_sector
 size_there One fields sector e fits n reads = reads fields.size (drop 48 (inode_sector One fields)) fits.size (ap (drop 40) e)
 
@@ -73,7 +80,7 @@ length-nine numbers few =
     let whole : length (nine numbers ++ replicate 44 0) ≡ length (nine numbers) + 44 = length-append (nine numbers) (replicate 44 0) in
     omega arith
 
-pub acl_there : (form : Form) (fields : Fields) (sector : List ℕ) → sector ≡ inode_sector form fields → IsInode fields → drop 128 sector ≡ flat_map ace_bytes fields.acl ++ rest_of_acl fields
+pub acl_there : (form : Form) (fields : Fields) (sector : List ℕ) → sector ≡ inode_sector form fields → IsInode form fields → drop 128 sector ≡ flat_map ace_bytes fields.acl ++ rest_of_acl fields
 acl_there form fields sector e fits =
     let few : length fields.run_sectors ≤ 9 = omega (arith, fits.runs, fits.run_sectors) in
     sym (drop-drop 80 48 sector) ∙ ap (drop 80) (behind_head form fields sector e)

@@ -13,7 +13,7 @@ use Rattle.sector.specs.Records.{records_at_front, records-back}
 use Rattle.inode.specs.declared.node.Form.TheVariants.{One}
 use Rattle.inode.specs.Fields.{Fields, IsInode, IsAce, IsRunSector, id_of}
 use Rattle.inode.specs.Spelling.{inode_sector, kind_byte, ace_kind_byte, who_byte, number_bytes, ace_bytes}
-use Rattle.inode.specs.Reading.{fields_in, kind_of_byte, ace_kind_of_byte, who_of_byte, ace_in, run_sector_in, FieldsReadBack, OneNode}
+use Rattle.inode.specs.Reading.{fields_in, form_in, kind_of_byte, ace_kind_of_byte, who_of_byte, ace_in, run_sector_in, FieldsReadBack, FormReadsBack, OneNode}
 use Rattle.inode.proofs.Parts.{run_sectors_there, acl_there, rest_of_numbers, rest_of_acl, same_fields}
 use Rattle.inode.proofs.EntryLemmas.{same_ace, aces_wide, numbers_wide}
 
@@ -41,11 +41,11 @@ ace-back ace rest is = same_ace (ace_kind_of_byte (ace_kind_byte ace.kind)) ace.
 number-back : (number : ℕ) (rest : List ℕ) → IsRunSector number → run_sector_in (number_bytes number ++ rest) ≡ number
 number-back number rest is = from_be_bytes-to_be_bytes_4 number is.fits
 
-runs_there : (fields : Fields) → IsInode fields → from_be_bytes w16 (drop 6 (inode_sector One fields)) ≡ fields.runs
+runs_there : (fields : Fields) → IsInode One fields → from_be_bytes w16 (drop 6 (inode_sector One fields)) ≡ fields.runs
 unfolding inode_sector
 runs_there fields is = from_be_bytes-to_be_bytes_2 fields.runs (omega (arith, is.runs))
 
-module _ (fields : Fields) (is : IsInode fields) where
+module _ (fields : Fields) (is : IsInode One fields) where
   run_sectors-back : records_at_front run_sector_in 4 ((from_be_bytes w16 (drop 6 (inode_sector One fields)) + 499) / 500) (drop 48 (inode_sector One fields)) ≡ fields.run_sectors
   run_sectors-back =
       let counted : (from_be_bytes w16 (drop 6 (inode_sector One fields)) + 499) / 500 ≡ length fields.run_sectors = ap (λ (n : ℕ). (n + 499) / 500) (runs_there fields is) ∙ sym is.run_sectors in
@@ -64,5 +64,11 @@ fields-back One fields is =
     (from_be_bytes-to_be_bytes_4 fields.group is.group) (from_be_bytes-to_be_bytes_8 fields.change is.change) (from_be_bytes-to_be_bytes_8 fields.time_modify is.time_modify)
     (from_be_bytes-to_be_bytes_8 fields.size is.size) (runs_there fields is) (run_sectors-back fields is) (acl-back fields is)
 
+pub form-back : FormReadsBack
+form-back One fields = refl
+
 pub one_node : OneNode
-one_node form a b is other same = sym (fields-back form a is) ∙ ap fields_in same ∙ fields-back form b other
+one_node one other a b is_one is_other same = (
+  sym (form-back one a) ∙ ap form_in same ∙ form-back other b,
+  sym (fields-back one a is_one) ∙ ap fields_in same ∙ fields-back other b is_other,
+)

@@ -5,6 +5,8 @@ use Rattle.model.specs.declared.node.NodeKind.{NodeKind}
 use Rattle.model.specs.declared.acl.Ace.{Ace}
 use Rattle.model.specs.declared.acl.Who.{Who}
 use Rattle.model.specs.declared.acl.Who.TheVariants as who
+use Rattle.inode.specs.declared.node.Form.{Form}
+use Rattle.inode.specs.declared.node.Form.TheVariants.{One}
 use Rattle.inode.specs.declared.node.Inode.{Inode}
 
 pub record Fields : Type 0 where
@@ -52,9 +54,13 @@ pub record IsRunSector (sector : ℕ) : Type 0 where
   pub some : 0 < sector
   pub fits : sector < 2 ^ 32
 
--- What has a spelling: numbers that fit, up to 40 entries, and one run sector for each 500 runs,
--- rounded up, at most nine.
-pub record IsInode (fields : Fields) : Type 0 where
+-- the most entries that a form has room for
+abbrev pub most_entries : Form → ℕ
+most_entries One = 40
+
+-- What has a spelling in a form: numbers that fit, no more entries than the form has room for, and
+-- one run sector for each 500 runs, rounded up, at most nine.
+pub record IsInode (form : Form) (fields : Fields) : Type 0 where
   pub number : fields.number < 2 ^ 64
   pub owner : fields.owner < 2 ^ 32
   pub group : fields.group < 2 ^ 32
@@ -64,5 +70,5 @@ pub record IsInode (fields : Fields) : Type 0 where
   pub runs : fields.runs ≤ 4500
   pub run_sectors : length fields.run_sectors ≡ (fields.runs + 499) / 500
   pub each_run_sector : AllByRecursion IsRunSector fields.run_sectors
-  pub acl : length fields.acl ≤ 40
+  pub acl : length fields.acl ≤ most_entries form
   pub each_ace : AllByRecursion IsAce fields.acl

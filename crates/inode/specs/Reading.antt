@@ -1,5 +1,6 @@
 -- What a sector says of a node, whatever its bytes: nothing is tested. Of a sector that a node's
--- fields are spelled in they are these fields, so a sector spells one node at most.
+-- fields are spelled in, in whatever form, they are this form and these fields: so a sector spells
+-- one node at most, in one form.
 use Rattle.std.specs.Prelude.{◌≡◌, ◌==◌, ◌+◌, ◌/◌, ℕ, List, drop, slice_index, if◌then◌else◌}
 use Rattle.std.specs.Int.{w16, w32, w64, from_be_bytes}
 use Rattle.model.specs.declared.node.NodeKind.{NodeKind}
@@ -11,6 +12,7 @@ use Rattle.model.specs.declared.acl.Who.{Who}
 use Rattle.model.specs.declared.acl.Who.TheVariants as who
 use Rattle.sector.specs.Records.{records_at_front}
 use Rattle.inode.specs.declared.node.Form.{Form}
+use Rattle.inode.specs.declared.node.Form.TheVariants.{One}
 use Rattle.inode.specs.Fields.{Fields, IsInode}
 use Rattle.inode.specs.Spelling.{inode_sector}
 
@@ -37,6 +39,10 @@ ace_in bytes = record {
   who = who_of_byte (slice_index bytes 1) (from_be_bytes w32 (drop 8 bytes));
 }
 
+-- the form that a sector says
+abbrev pub form_in : List ℕ → Form
+form_in sector = One
+
 abbrev pub run_sector_in : List ℕ → ℕ
 run_sector_in bytes = from_be_bytes w32 bytes
 
@@ -58,9 +64,13 @@ fields_in sector = record {
 
 abbrev pub FieldsReadBack : Type 0
 FieldsReadBack =
-    (form : Form) (fields : Fields) → IsInode fields → fields_in (inode_sector form fields) ≡ fields
+    (form : Form) (fields : Fields) → IsInode form fields
+    → fields_in (inode_sector form fields) ≡ fields
+
+abbrev pub FormReadsBack : Type 0
+FormReadsBack = (form : Form) (fields : Fields) → form_in (inode_sector form fields) ≡ form
 
 abbrev pub OneNode : Type 0
 OneNode =
-    (form : Form) (a b : Fields) → IsInode a → IsInode b → inode_sector form a ≡ inode_sector form b
-    → a ≡ b
+    (one other : Form) (a b : Fields) → IsInode one a → IsInode other b
+    → inode_sector one a ≡ inode_sector other b → (one ≡ other) × (a ≡ b)

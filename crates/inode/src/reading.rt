@@ -89,12 +89,12 @@ fn acl_in(alloc: Global, sector: &[u8; SIZE], count: usize) -> Result<Acl, Inode
 
 /// The inode that would stand in a sector, whatever stands in the bytes between its fields.
 fn inode_in(alloc: Global, sector: &[u8; SIZE]) -> Result<Inode, InodeFault>
-    ensures fits { IfOk result (λ inode. IsInode (fields_of inode)) }
-    ensures only { (form : Form) (fields : Fields) → IsInode fields
+    ensures fits { IfOk result (λ inode. (form : Form) → IsInode form (fields_of inode)) }
+    ensures only { (form : Form) (fields : Fields) → IsInode form fields
         → sector.now ≡ inode_sector form fields
         → IfOk result (λ inode. fields_of inode ≡ fields) }
     ensures err { IsErrOf result InodeFault.NotInode → (form : Form) (fields : Fields)
-        → IsInode fields
+        → IsInode form fields
         → sector.now ≡ inode_sector form fields → ⊥ }
 {
     let Some(kind) = kind_from(sector[4]) else {
@@ -130,9 +130,9 @@ fn inode_in(alloc: Global, sector: &[u8; SIZE]) -> Result<Inode, InodeFault>
 /// `NotInode` exactly where no inode has them: whatever is read is written again, and has to give
 /// each byte back.
 pub fn from_sector(alloc: Global, form: Form, sector: &[u8; SIZE]) -> Result<Inode, InodeFault>
-    ensures fits { IfOk result (λ inode. IsInode (fields_of inode)) }
+    ensures fits { IfOk result (λ inode. IsInode form (fields_of inode)) }
     ensures found { IfOk result (λ inode. sector.now ≡ inode_sector form (fields_of inode)) }
-    ensures not_inode { IsErrOf result InodeFault.NotInode → (fields : Fields) → IsInode fields
+    ensures not_inode { IsErrOf result InodeFault.NotInode → (fields : Fields) → IsInode form fields
         → ¬ (sector.now ≡ inode_sector form fields) }
 {
     let inode = inode_in(alloc, sector)?;

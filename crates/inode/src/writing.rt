@@ -79,7 +79,7 @@ fn put_entries(aces: &[Ace], sector: &mut [u8; SIZE])
 
 /// Writes the sector of a node, each byte of it.
 pub fn to_sector(inode: &Inode, form: Form, sector: &mut [u8; SIZE])
-    requires { IsInode (fields_of inode.now) }
+    requires { IsInode form (fields_of inode.now) }
     ensures { sector.new ≡ inode_sector form (fields_of inode.now) }
 {
     put_head(inode, form, sector);

@@ -19,12 +19,12 @@ use Rattle.directory.specs.Records.{Record, IsRecord}
 use Rattle.directory.specs.Spelling.{directory_sector}
 use Rattle.directory.specs.Reading.{records_in}
 use Rattle.extents.specs.Reading.{runs_in}
-use Rattle.inode.specs.Reading.{fields_in}
+use Rattle.inode.specs.Reading.{fields_in, form_in}
 use Rattle.layout.specs.CardLaws.{CardReadsBack, CardsReadBack, OnlyCard, OnlyCards}
-use Rattle.layout.specs.Cards.{Card, node_sector, content_at, runs_through, names_through, names_from, blocks_by, block_count, form_in, card_by, card_with, card_from, card_in, cards_in}
+use Rattle.layout.specs.Cards.{Card, node_sector, content_at, runs_through, names_through, names_from, blocks_by, block_count, card_by, card_with, card_from, card_in, cards_in}
 use Rattle.layout.specs.Laid.{AreRunSectors, runs_of_sector, names_of_block, HoldsContent, HoldsCard, HoldsPlace}
 use Rattle.layout.specs.Stands.{IsLaid}
-use Rattle.inode.proofs.ReadBack.{fields-back}
+use Rattle.inode.proofs.ReadBack.{fields-back, form-back}
 use Rattle.extents.proofs.ReadBack.{runs-back}
 use Rattle.directory.proofs.ReadBack.{records-back}
 
@@ -87,9 +87,6 @@ same_card image card runs blocks a b c = rw (a, b, c) refl
 starts : (form : Form) (fields : Fields) → get_or (inode_sector form fields) 0 0 ≡ 78
 unfolding inode_sector
 starts One fields = refl
-
-form-back : (form : Form) (fields : Fields) → form_in (inode_sector form fields) ≡ form
-form-back One fields = refl
 
 module _ (image : Image) (place : ℕ) (card : Card) (holds : HoldsCard image place card) where
   from-back : card_from image card.form card.fields ≡ card

@@ -9,6 +9,7 @@ use Rattle.disk.specs.Calls.{zero_sector}
 use Rattle.model.specs.Keyed.{with}
 use Rattle.freemap.specs.Places.{bit_of, bit_in}
 use Rattle.inode.specs.Fields.{IsInode}
+use Rattle.inode.proofs.Parts.{least_entries}
 use Rattle.model.specs.Fresh.{fresh_tree}
 use Rattle.model.specs.Limits.{limits_of}
 use Rattle.model.specs.Stamp.{stamp}
@@ -60,7 +61,7 @@ module _ (version : Version) (size nodes : ℕ) (image : Image) (formatted : IsF
   some : 0 < nodes
   some = let parts = sized_parts size nodes formatted.sized in omega (arith, parts.some)
 
-  fits : IsInode root_fields
+  fits : IsInode (version.form 0) root_fields
   fits = record {
     number = omega arith;
     owner = omega arith;
@@ -71,7 +72,7 @@ module _ (version : Version) (size nodes : ℕ) (image : Image) (formatted : IsF
     runs = omega arith;
     run_sectors = refl;
     each_run_sector = tt;
-    acl = omega arith;
+    acl = omega (arith, least_entries (version.form 0));
     each_ace = (record { flags = omega arith; mask = omega arith; id = omega arith }, tt);
   }
 

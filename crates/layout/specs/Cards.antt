@@ -10,9 +10,8 @@ use Rattle.model.specs.Charge.{blocks_of}
 use Rattle.model.specs.Keyed.{with}
 use Rattle.model.specs.Tree.{Tree, Node, Content, File, Directory}
 use Rattle.inode.specs.declared.node.Form.{Form}
-use Rattle.inode.specs.declared.node.Form.TheVariants.{One}
 use Rattle.inode.specs.Fields.{Fields}
-use Rattle.inode.specs.Reading.{fields_in}
+use Rattle.inode.specs.Reading.{fields_in, form_in}
 use Rattle.extents.specs.declared.run.Run.{Run}
 use Rattle.extents.specs.Reading.{runs_in}
 use Rattle.extents.specs.Runs.{sector_by}
@@ -71,10 +70,6 @@ blocks_by runs count = map (sector_by runs) (range_with_len 0 count)
 abbrev pub names_from : Image → NodeKind → (size : ℕ) → List (Option ℕ) → List Record
 names_from image kind.File size blocks = []
 names_from image kind.Directory size blocks = names_through image size blocks
-
--- the form of a node's sector
-abbrev pub form_in : List ℕ → Form
-form_in sector = One
 
 abbrev pub card_by : Image → Form → Fields → List Run → List (Option ℕ) → Card
 card_by image form fields runs blocks = record {

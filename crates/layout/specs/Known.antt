@@ -25,7 +25,7 @@ HasContent kind.File card = card.names ≡ []
 HasContent kind.Directory card = HasNames card
 
 pub record IsCard (card : Card) : Type 0 where
-  pub fits : IsInode card.fields
+  pub fits : IsInode card.form card.fields
   pub number : 0 < card.fields.number
   pub each_run : AllByRecursion IsRun card.runs
   pub run_count : length card.runs ≡ card.fields.runs

@@ -54,7 +54,7 @@ HoldsContent image kind.Directory card = HoldsNames image card
 
 -- the node's sector and its run sectors, and how its blocks stand in runs
 pub record HoldsNode (image : Image) (place : ℕ) (card : Card) : Type 0 where
-  pub fits : IsInode card.fields
+  pub fits : IsInode card.form card.fields
   pub number : 0 < card.fields.number
   pub sector : image (node_sector place) ≡ inode_sector card.form card.fields
   pub each_run : AllByRecursion IsRun card.runs

@@ -6,6 +6,7 @@ use Rattle.disk.specs.Moments.{Image}
 use Rattle.model.specs.declared.node.NodeKind.{NodeKind}
 use Rattle.model.specs.declared.node.NodeKind.TheVariants as kind
 use Rattle.model.specs.Tree.{Tree}
+use Rattle.inode.specs.declared.node.Form.{Form}
 use Rattle.inode.specs.Fields.{Fields, IsInode}
 use Rattle.extents.specs.declared.run.Run.{Run}
 use Rattle.extents.specs.Runs.{AreRising, AreRunsOf}
@@ -21,8 +22,8 @@ AreRising-prop from count (run ∷ runs) =
 pub AreRunsOf-prop : (runs : List Run) (blocks : List (Option ℕ)) → IsProp (AreRunsOf runs blocks)
 AreRunsOf-prop runs blocks = Prim.hlevel (props, AreRising-prop)
 
-pub IsInode-prop : (fields : Fields) → IsProp (IsInode fields)
-IsInode-prop fields = Prim.hlevel props
+pub IsInode-prop : (form : Form) (fields : Fields) → IsProp (IsInode form fields)
+IsInode-prop form fields = Prim.hlevel props
 
 HoldsNode-prop : (image : Image) (place : ℕ) (card : Card) → IsProp (HoldsNode image place card)
 HoldsNode-prop image place card = Prim.hlevel (props, IsInode-prop, AreRunsOf-prop)

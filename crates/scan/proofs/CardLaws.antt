@@ -48,7 +48,7 @@ one_runs word image sectors count a b w first second enough = ext_get_or no_run 
 one_blocks : (runs : List Run) (a b : List (Option ℕ)) → AreRunsOf runs a → AreRunsOf runs b → length a ≡ length b → a ≡ b
 one_blocks runs a b first second long = ext_get_or None a b long (λ k h. first.same k ∙ sym (second.same k))
 
-pub same_blocks : (word : Type 0) (image : Image) (fields : Fields) (runs others : List Run) (a b : List (Option ℕ)) → word → IsInode fields → FindsBlocks word image fields runs a → FindsBlocks word image fields others b → a ≡ b
+pub same_blocks : (word : Type 0) (image : Image) (fields : Fields) (runs others : List Run) (a b : List (Option ℕ)) → word → IsInode One fields → FindsBlocks word image fields runs a → FindsBlocks word image fields others b → a ≡ b
 same_blocks word image fields runs others a b w fits first second =
     let same : runs ≡ others = one_runs word image fields.run_sectors fields.runs runs others w first.in_sectors second.in_sectors fits.run_sectors in
     one_blocks others a b (subst (λ (l : List Run). AreRunsOf l a) same first.laid) second.laid (first.count ∙ sym second.count)
@@ -104,12 +104,12 @@ module _ (word : Type 0) (image : Image) (place first : ℕ) (places : List Bool
       → CanMark first places (λ n. named_by n card) → ⊥
   none_there none None found can = not_both (image (node_sector place)) fields (found w) (node.spelled w)
   none_there none (Some card) found can =
-      none card (one_node One card.fields fields found.node.fits node.fits (sym (found.node.spelled w) ∙ node.spelled w)) found.rest (λ n. omega (arith, can n, named-is n card))
+      none card (one_node One One card.fields fields found.node.fits node.fits (sym (found.node.spelled w) ∙ node.spelled w)).1 found.rest (λ n. omega (arith, can n, named-is n card))
 
 pub same_find : (word : Type 0) (image : Image) (numbers others : List ℕ) (count more : ℕ) (runs : List Run) → numbers ≡ others → count ≡ more → FindsRuns word image numbers count runs → FindsRuns word image others more runs
 same_find word image numbers others count more runs a b found = subst (λ (n : ℕ). FindsRuns word image others n runs) b (subst (λ (l : List ℕ). FindsRuns word image l count runs) a found)
 
-pub content_there : (word : Type 0) (image other : Image) (fields : Fields) (card : Card) (runs : List Run) (blocks : List (Option ℕ)) → word → image ≡ other → IsInode fields → card.fields ≡ fields → FindsRest word image card → FindsBlocks word image fields runs blocks
+pub content_there : (word : Type 0) (image other : Image) (fields : Fields) (card : Card) (runs : List Run) (blocks : List (Option ℕ)) → word → image ≡ other → IsInode One fields → card.fields ≡ fields → FindsRest word image card → FindsBlocks word image fields runs blocks
     → FindsContent word other fields.kind fields.size blocks card.names
 content_there word image other fields card runs blocks w moved fits same found read =
     let there = subst (λ (f : Fields). FindsBlocks word image f card.runs card.blocks) same found.in_blocks in

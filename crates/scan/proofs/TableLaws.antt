@@ -8,6 +8,7 @@ use Rattle.disk.specs.Moments.{Image}
 use Rattle.freemap.specs.Places.{bit_from}
 use Rattle.inode.specs.declared.node.Form.{Form}
 use Rattle.inode.specs.declared.node.Form.TheVariants.{One}
+use Rattle.inode.specs.Fields.{IsInode}
 use Rattle.inode.specs.Spelling.{inode_sector}
 use Rattle.model.specs.declared.node.NodeKind.{NodeKind}
 use Rattle.model.specs.declared.node.NodeKind.TheVariants as kind
@@ -36,7 +37,7 @@ place_held word image place (Some card) w found =
     let blocks = rest.in_blocks in
     record {
       node = record {
-        fits = found.node.fits;
+        fits = subst (λ (form : Form). IsInode form card.fields) (sym (form_is card.form)) found.node.fits;
         number = found.node.number;
         sector = found.node.spelled w ∙ ap (λ (form : Form). inode_sector form card.fields) (sym (form_is card.form));
         each_run = blocks.in_sectors.each;
@@ -58,7 +59,7 @@ place_known word image place (Some card) found =
     let rest = found.rest in
     let blocks = rest.in_blocks in
     record {
-      fits = found.node.fits;
+      fits = subst (λ (form : Form). IsInode form card.fields) (sym (form_is card.form)) found.node.fits;
       number = found.node.number;
       each_run = blocks.in_sectors.each;
       run_count = blocks.in_sectors.count_is;
@@ -75,7 +76,7 @@ pub place_found : (word : Type 0) (image : Image) (place : ℕ) (card : Option C
 place_found word image place None few holds = λ w. holds
 place_found word image place (Some card) few holds = record {
   node = record {
-    fits = holds.node.fits;
+    fits = subst (λ (form : Form). IsInode form card.fields) (form_is card.form) holds.node.fits;
     number = holds.node.number;
     spelled = λ w. holds.node.sector ∙ ap (λ (form : Form). inode_sector form card.fields) (form_is card.form);
   };

@@ -8,7 +8,7 @@ use Rattle.inode.specs.Spelling.{inode_sector}
 
 -- a node's sector
 pub record FindsNode (word : Type 0) (content : List ℕ) (fields : Fields) : Type 0 where
-  pub fits : IsInode fields
+  pub fits : IsInode One fields
   pub number : 0 < fields.number
   pub spelled : word → content ≡ inode_sector One fields
 

@@ -3,6 +3,7 @@
 ghost use Rattle.std.specs.Prelude.{◌≡◌, ◌<◌, ◌+◌, ◌^◌, ℕ, List, Option, Some, length};
 ghost use Rattle.std.specs.Prelude.{replicate, false, IfOk, IsErrOf, None, IsTrue, ◌↔◌};
 ghost use Rattle.extents.specs.declared.run.Run.{Run};
+ghost use Rattle.inode.specs.declared.node.Form.TheVariants.{One};
 ghost use Rattle.inode.specs.Fields.{fields_of, IsInode};
 ghost use Rattle.layout.specs.Cards as layout;
 ghost use Rattle.layout.specs.Health.{Reads};
@@ -42,7 +43,7 @@ fn read_blocks<S: Sectors>(
     first: u32,
     inode: &Inode,
 ) -> Result<Laid, ScanFault>
-    requires fits { IsInode (fields_of inode.now) }
+    requires fits { IsInode One (fields_of inode.now) }
     requires size { first + length places.old ≡ S.size (S.kept sectors.old) }
     ensures found { IfOk result (λ laid. FindsBlocks S.keeps_word (S.image (S.kept sectors.old))
         (fields_of inode.now) laid.runs.items laid.blocks) }
@@ -79,7 +80,7 @@ fn read_card<S: Sectors>(
     first: u32,
     inode: Inode,
 ) -> Result<Card, ScanFault>
-    requires fits { IsInode (fields_of inode) }
+    requires fits { IsInode One (fields_of inode) }
     requires size { first + length places.old ≡ S.size (S.kept sectors.old) }
     ensures fields { IfOk result (λ card. card.fields ≡ fields_of inode) }
     ensures found { IfOk result (FindsRest S.keeps_word (S.image (S.kept sectors.old))) }

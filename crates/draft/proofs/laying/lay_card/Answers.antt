@@ -12,12 +12,12 @@ module _ (c : goal.After-lay_node-arg-1) where
   marked : AreMarked (148 + c.args.nodes) c.give_numbers.new.places c.give_numbers.new.numbers.items
   marked = follow-marked _ _ _ _ _ c.give_numbers.ensures.marks was
 
-  fits : IsInode (fields_with (fields_of c.card.inside.inode) c.len-2.result c.give_numbers.new.numbers.items)
+  fits : IsInode c.card.inside.form (fields_with (fields_of c.card.inside.inode) c.len-2.result c.give_numbers.new.numbers.items)
   fits =
-      let before = subst (λ (card : layout.Card). IsInode (fields_with card.fields 0 [])) (sym c.card.view_is) c.requires.can.fits in
+      let before = subst (λ (card : layout.Card). IsInode card.form (fields_with card.fields 0 [])) (sym c.card.view_is) c.requires.can.fits in
       let has = ap (λ (card : layout.Card). length card.fields.run_sectors) c.card.view_is in
       let least = c.give_numbers.ensures.least (omega (arith, has, c.requires.enough, c.len.ensures)) in
-      fields-fit (fields_with (fields_of c.card.inside.inode) 0 []) c.len-2.result c.give_numbers.new.numbers.items before
+      fields-fit c.card.inside.form (fields_with (fields_of c.card.inside.inode) 0 []) c.len-2.result c.give_numbers.new.numbers.items before
       (omega (arith, c.len-2.ensures, c.requires.runs.few)) (omega (arith, c.len-2.ensures, c.len.ensures, c.give_numbers.ensures.most, least))
       (numbers-fit (148 + c.args.nodes) c.give_numbers.new.places c.give_numbers.new.numbers.items (omega arith) (omega (arith, c.give_numbers.ensures.len, c.requires.can.room)) marked)
 

@@ -1,7 +1,7 @@
 use Rattle.std.proofs.Common.{arith, ap, Err}
 use Rattle.std.proofs.lemmas.Result.{err_from_is_err_and}
 use Rattle.inode.proofs.EntryLemmas.{some_is, err_is}
-use Rattle.inode.proofs.Parts.{kind_there, count_there, runs_there, number_there, owner_there, group_there, change_there, time_there, size_there, run_sectors_there, acl_there, same_fields, rest_of_numbers, rest_of_acl}
+use Rattle.inode.proofs.Parts.{stored_entries, kind_there, count_there, runs_there, number_there, owner_there, group_there, change_there, time_there, size_there, run_sectors_there, acl_there, same_fields, rest_of_numbers, rest_of_acl}
 use Rattle.inode.proofs.reading.inode_in.Goals as goal
 
 pub returns-in_default-clause-err : goal.returns-in_default-clause-err
@@ -10,7 +10,7 @@ returns-in_default-clause-err c = λ is form fields fits e.
 
 pub returns-then-aces-gt-MAX_STORED-clause-err : goal.returns-then-aces-gt-MAX_STORED-clause-err
 returns-then-aces-gt-MAX_STORED-clause-err c = λ is form fields fits e.
-    let count = count_there form fields c.args.sector.now e in omega (arith, fits.acl)
+    let count = count_there form fields c.args.sector.now e in omega (arith, fits.acl, stored_entries form)
 
 pub returns-then-runs-gt-MAX_RUNS-clause-err : goal.returns-then-runs-gt-MAX_RUNS-clause-err
 returns-then-runs-gt-MAX_RUNS-clause-err c = λ is form fields fits e.

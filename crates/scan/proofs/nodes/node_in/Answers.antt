@@ -11,7 +11,7 @@ use Rattle.scan.proofs.SectorLaws.{zero-is, zero-all, not_inode}
 use Rattle.scan.proofs.nodes.node_in.Goals as goal
 
 -- what is no node's, and not zero, is no place's
-not_place : (content : List ℕ) (fields : Option Fields) → (AreZeroFrom content 0 → ⊥) → ((fields : Fields) → IsInode fields → 0 < fields.number → content ≡ inode_sector One fields → ⊥) → FindsFields (Unit {0}) content fields → ⊥
+not_place : (content : List ℕ) (fields : Option Fields) → (AreZeroFrom content 0 → ⊥) → ((fields : Fields) → IsInode One fields → 0 < fields.number → content ≡ inode_sector One fields → ⊥) → FindsFields (Unit {0}) content fields → ⊥
 not_place content None other none found = other (zero-all content 0 (found tt))
 not_place content (Some fields) other none found = none fields found.fits found.number (found.spelled tt)
 
@@ -25,6 +25,6 @@ returns-in_err-inode-clause-damaged c = λ is fields found.
 pub returns-then-inode-eq0-clause-damaged : goal.returns-then-inode-eq0-clause-damaged
 returns-then-inode-eq0-clause-damaged c = λ is fields found.
     not_place c.args.content.now fields (λ zeros. false≢true (sym c.if-is_zero_from.false ∙ c.is_zero_from.ensures.zero.1 zeros)) (λ other fits some spelled.
-    let same = one_node One other (fields_of c.in_ok-inode.inode) fits c.in_ok-inode.ensures.fits (sym spelled ∙ c.in_ok-inode.ensures.found) in
+    let same = (one_node One One other (fields_of c.in_ok-inode.inode) fits c.in_ok-inode.ensures.fits (sym spelled ∙ c.in_ok-inode.ensures.found)).1 in
     let number = ap (λ (f : Fields). f.number) same in
     omega (arith, c.if-inode-eq0.true)) found

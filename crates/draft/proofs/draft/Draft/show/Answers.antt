@@ -14,8 +14,8 @@ module _ (c : goal.In_ok-put_card) where
   abbrev was : Card
   was = c.in_ok-card.card
 
-  fits : IsInode (fields_showing was.fields (shown_of c.args.shown))
-  fits = subst (λ (one : Card). IsInode (fields_showing one.fields (shown_of c.args.shown))) (same_card c.args.self.now.cards.cards c.args.place c.requires.node.card was c.requires.node.there c.in_ok-card.ensures.card) c.requires.node.fits
+  fits : IsInode was.form (fields_showing was.fields (shown_of c.args.shown))
+  fits = subst (λ (one : Card). IsInode one.form (fields_showing one.fields (shown_of c.args.shown))) (same_card c.args.self.now.cards.cards c.args.place c.requires.node.card was c.requires.node.there c.in_ok-card.ensures.card) c.requires.node.fits
 
   put : (image : Image) → IsPut (applied c.args.self.now.updates image) (applied c.put_node.new.updates image) (148 + c.args.place) (inode_sector was.form (fields_showing was.fields (shown_of c.args.shown)))
   put image = subst (λ (one : Card). IsPut (applied c.args.self.now.updates image) (applied c.put_node.new.updates image) (148 + c.args.place) (inode_sector one.form (fields_showing one.fields (shown_of c.args.shown)))) c.card.view_is (c.in_ok-put_node.ensures.image image)
