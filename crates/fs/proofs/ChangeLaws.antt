@@ -1,9 +1,10 @@
 -- What calls do to a file system.
-use Rattle.std.proofs.Common.{ℕ, Bool}
+use Rattle.std.proofs.Common.{ℕ, Bool, inl, inr, ⊎_elim}
 use Rattle.model.specs.Tree.{Tree}
 use Rattle.fs.specs.Changes.{Changes}
 use Rattle.fs.specs.FileSystem.{FileSystem}
 use Rattle.volume.specs.Changes.{Given, Ending, Done, Nothing, Broken, EndsAs}
+use Rattle.volume.specs.Shown.{ShowsAs}
 
 -- what the definition says may be said otherwise
 module _ (keeps_word : Type 0) (given other : Given) (weaker : (after : Tree) (lasts : Bool) → other after lasts → given after lasts)
@@ -11,7 +12,14 @@ module _ (keeps_word : Type 0) (given other : Given) (weaker : (after : Tree) (l
   ends_by : (ending : Ending) → EndsAs keeps_word given old.volume new.volume before after ending → EndsAs keeps_word other old.volume new.volume before after ending
   ends_by Done ends = record { still_up = ends.still_up; leaves = λ keeps tree lasts is. ends.leaves keeps tree lasts (weaker tree lasts is) }
   ends_by Nothing ends = ends
-  ends_by Broken ends = ends
+  ends_by Broken ends = record {
+    down = ends.down;
+    cause = ends.cause;
+    shows = ⊎_elim
+        (λ (same : ShowsAs old.volume.tree new.volume.tree). inl same)
+        (λ (each : (tree : Tree) (lasts : Bool) → given tree lasts → ShowsAs tree new.volume.tree). inr (λ tree lasts is. each tree lasts (weaker tree lasts is)))
+        ends.shows;
+  }
 
   pub changes_by : (ending : Ending) → Changes keeps_word given old new before after ending → Changes keeps_word other old new before after ending
   changes_by ending changes = record {

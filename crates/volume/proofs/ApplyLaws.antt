@@ -6,6 +6,7 @@ use Rattle.std.specs.Prelude.{Err}
 use Rattle.disk.specs.Cause.{IsCounted}
 use Rattle.disk.specs.declared.update.Update.{Update}
 use Rattle.disk.specs.Moments.{Image, applied}
+use Rattle.edits.proofs.BlankLaws.{each_outline}
 use Rattle.journal.specs.Calls.{IsSafe, HasApplied, list_with}
 use Rattle.journal.specs.Log.{Log, IsSettled, Moved, contents, applied_all, Answers}
 use Rattle.journal.specs.Settled.{AreSame}
@@ -180,7 +181,11 @@ module _ (keeps_word : Type 0) (limits : Limits) (run : ℕ) (cards is : List (O
     later = later;
     none = λ other. absurd (other refl);
     moments = moments;
-    ends = record { down = down; cause = counted };
+    ends = record {
+      down = down;
+      cause = counted;
+      shows = inl (each_outline (contents new) cards ∙ sym (each_outline (contents old) cards));
+    };
   }
 
 -- The journal refuses it

@@ -5,10 +5,13 @@ use Rattle.std.specs.List.{IsAmong}
 use Rattle.std.specs.Prelude.{Result, Ok, Err, IfErr, IsErrOf}
 use Rattle.disk.specs.Cause.{IsCounted}
 use Rattle.disk.specs.Moments.{Image}
+use Rattle.edits.specs.Outlines.{blanked}
 use Rattle.disk.proofs.MomentLemmas.{AddsOnly-join, AddsOnly-weaken}
 use Rattle.model.specs.Tree.{Tree}
 use Rattle.volume.specs.Changes.{Ending, Done, Nothing, Broken, IsTree, Changes, ending_of}
+use Rattle.volume.specs.Formed.{Shows}
 use Rattle.volume.specs.Held.{Held, IsSameVolume, StandsForOne, MayAdd, AddsTrees}
+use Rattle.volume.specs.Shown.{ShowsAs}
 use Rattle.volume.specs.Stands.{StandsFor}
 use Rattle.volume.specs.declared.fault.VolumeFault.{VolumeFault}
 use Rattle.volume.specs.declared.fault.VolumeFault.TheVariants as faults
@@ -25,7 +28,7 @@ counted_later before between after later counted = elim counted [
 
 module _ (keeps_word : Type 0) (was between now : Held) (after : Tree) (first middle last : ℕ)
     (change : Changes keeps_word (λ tree lasts. (tree ≡ after) × (lasts ≡ false)) was between first middle Done)
-    (shows : keeps_word → between.tree ≡ after) where
+    (shown : Shows keeps_word after between.tree) where
   abbrev Flushes : Ending → Type 0
   Flushes ending = Changes keeps_word (IsTree between.tree) between now middle last ending
 
@@ -45,7 +48,7 @@ module _ (keeps_word : Type 0) (was between now : Held) (after : Tree) (first mi
       )
 
   same_as : (tree : Tree) → keeps_word → tree ≡ after → between.tree ≡ tree
-  same_as tree k is = shows k ∙ sym is
+  same_as tree k is = shown.tree_is k ∙ sym is
 
   moments : (ending : Ending) → Flushes ending → keeps_word → (tree : Tree) (lasts : Bool) → tree ≡ after → AddsTrees was tree now.history
   moments ending flush k tree lasts is recent ready =
@@ -88,13 +91,24 @@ module _ (keeps_word : Type 0) (was between now : Held) (after : Tree) (first mi
     };
   }
 
+  -- a flush shows what was shown before it
+  shows_between : ShowsAs between.tree now.tree ⊎ ((tree : Tree) (lasts : Bool) → tree ≡ between.tree → ShowsAs tree now.tree) → ShowsAs between.tree now.tree
+  shows_between either = ⊎_elim
+      (λ (same : ShowsAs between.tree now.tree). same)
+      (λ (each : (tree : Tree) (lasts : Bool) → tree ≡ between.tree → ShowsAs tree now.tree). each between.tree false refl)
+      either
+
   pub keep_broken : Flushes Broken → Changes keeps_word (IsTree after) was now first last Broken
   keep_broken flush = record {
     same = same_volume Broken flush;
     later = omega (arith, change.later, flush.later);
     none = λ other. absurd (other refl);
     moments = moments Broken flush;
-    ends = record { down = flush.ends.down; cause = counted_later first middle last change.later flush.ends.cause };
+    ends = record {
+      down = flush.ends.down;
+      cause = counted_later first middle last change.later flush.ends.cause;
+      shows = inr (λ tree lasts is. shows_between flush.ends.shows ∙ shown.outline ∙ ap blanked (sym is));
+    };
   }
 
   -- a flush is refused for the device alone, where the change answered
@@ -123,7 +137,14 @@ unchanged keeps_word was now after first last Broken never change = record {
   later = change.later;
   none = change.none;
   moments = λ k tree lasts is. change.moments k tree false (is, refl);
-  ends = change.ends;
+  ends = record {
+    down = change.ends.down;
+    cause = change.ends.cause;
+    shows = ⊎_elim
+        (λ (same : ShowsAs was.tree now.tree). inl same)
+        (λ (each : (tree : Tree) (lasts : Bool) → (tree ≡ after) × (lasts ≡ false) → ShowsAs tree now.tree). inr (λ tree lasts is. each tree false (is, refl)))
+        change.ends.shows;
+  };
 }
 
 -- which is where it was refused

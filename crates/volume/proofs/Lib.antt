@@ -19,6 +19,7 @@ pub mod ParentLaws
 pub mod ReadLaws
 pub mod RemountLaws
 pub mod ServeLaws
+pub mod ShownLaws
 pub mod SoundLaws
 pub mod StandLaws
 pub mod SuperblockLaws

@@ -8,6 +8,7 @@ use Rattle.std.proofs.lemmas.Bool.{false_from_ne_true}
 use Rattle.disk.specs.Cause.{IsCounted}
 use Rattle.disk.specs.Moments.{Image}
 use Rattle.disk.proofs.MomentLemmas.{AddsOnly-weaken}
+use Rattle.edits.proofs.BlankLaws.{each_outline}
 use Rattle.journal.specs.Calls.{IsSafe, HasFlushed}
 use Rattle.journal.specs.Log.{Log, IsSettled, StandsForFront, contents, applied_all, AddsFronts, Answers}
 use Rattle.journal.specs.Settled.{AreSame}
@@ -150,7 +151,11 @@ module _ (keeps_word : Type 0) (limits : Limits) (run : ℕ) (cards : List (Opti
       later = later;
       none = λ other. absurd (other refl);
       moments = λ k tree lasts of. flush_adds limits run cards old new tree (safe.moments k);
-      ends = record { down = down; cause = counted };
+      ends = record {
+        down = down;
+        cause = counted;
+        shows = inl (each_outline (contents new) cards ∙ sym (each_outline (contents old) cards));
+      };
     }
 
     pub flush_nothing : (given : Given) → after ≡ before → new ≡ old → Changes keeps_word given was is before after Nothing

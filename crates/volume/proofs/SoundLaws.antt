@@ -112,7 +112,7 @@ edited_bytes (declared.SetSize file size ∷ edits) parts tree are = edited_byte
 
 -- What a tree is, it is with zeros for the bytes of its files
 
-above_blanked : (least : ℕ) (tree : Tree) → IsAbove least (blanked tree) → IsAbove least tree
+pub above_blanked : (least : ℕ) (tree : Tree) → IsAbove least (blanked tree) → IsAbove least tree
 above_blanked least [] above = tt
 above_blanked least (entry ∷ rest) above = (above.0, above_blanked entry.0 rest above.1)
 

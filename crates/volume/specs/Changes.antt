@@ -1,12 +1,13 @@
 -- What a call does to a volume: said once, for each call of this crate and of those above it that
 -- may change the tree.
-use Rattle.std.specs.Prelude.{ℕ, Bool, true, false, List, Result, Ok, Err, ◌≡◌, ◌≤◌}
+use Rattle.std.specs.Prelude.{ℕ, Bool, true, false, List, Result, Ok, Err, ◌≡◌, ◌≤◌, ◌⊎◌}
 use Rattle.std.specs.List.{IsAmong}
 use Rattle.disk.specs.Cause.{IsCounted}
 use Rattle.model.specs.Tree.{Tree}
 use Rattle.volume.specs.declared.fault.VolumeFault.{VolumeFault}
 use Rattle.volume.specs.declared.fault.VolumeFault.TheVariants as fault
 use Rattle.volume.specs.Held.{Held, IsSameVolume, IsRecent, MayAdd, AddsTrees}
+use Rattle.volume.specs.Shown.{ShowsAs}
 
 -- how a call ends: it answered, it left all as it was, or the device failed in it
 pub data Ending : Type 0 where
@@ -53,16 +54,20 @@ pub record HasAnswered (keeps_word : Type 0) (given : Given) (old new : Held) : 
   pub leaves : keeps_word → (after : Tree) (lasts : Bool) → given after lasts
       → LeavesTrees old new after lasts
 
--- it is down, and what it shows from now on is left open; and the device counted a failure
-pub record HasBroken (old new : Held) (failed_before failed_after : ℕ) : Type 0 where
+-- it is down, and the device counted a failure; and on any device it shows what it showed before
+-- the call, or the tree after it
+pub record HasBroken (given : Given) (old new : Held) (failed_before failed_after : ℕ)
+    : Type 0 where
   pub down : new.is_down ≡ true
   pub cause : IsCounted failed_before failed_after
+  pub shows : ShowsAs old.tree new.tree
+      ⊎ ((after : Tree) (lasts : Bool) → given after lasts → ShowsAs after new.tree)
 
 abbrev pub EndsAs : (keeps_word : Type 0) → Given → (old new : Held) → (before after : ℕ)
     → Ending → Type 0
 EndsAs keeps_word given old new before after Done = HasAnswered keeps_word given old new
 EndsAs keeps_word given old new before after Nothing = new ≡ old
-EndsAs keeps_word given old new before after Broken = HasBroken old new before after
+EndsAs keeps_word given old new before after Broken = HasBroken given old new before after
 
 -- how often the device has failed stands before and after
 pub record Changes (keeps_word : Type 0) (given : Given) (old new : Held)

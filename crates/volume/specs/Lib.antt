@@ -16,6 +16,7 @@ pub mod Parents
 pub mod Reading
 pub mod Refusals
 pub mod Remounts
+pub mod Shown
 pub mod Stands
 pub mod Superblock
 pub mod Views

@@ -55,7 +55,7 @@ impl<D: Device> Volume<D> {
     ghost use Rattle.volume.specs.Views.{held_of};
 
     /// The number of the directory that has a node's name: 0 of the root, and of a number that no
-    /// node has.
+    /// node has. It is answered where the volume is down too, as [`Volume::node`] is.
     pub fn parent(&self, number: u64) -> u64
         ensures { result ≡ parent_of (held_of self.now).tree number }
     {
@@ -63,7 +63,8 @@ impl<D: Device> Volume<D> {
     }
 
     /// Whether a node is the upper one or stands below it, which a rename moves no directory to. At
-    /// most as many steps as there are nodes.
+    /// most as many steps as there are nodes. It is answered where the volume is down too, as
+    /// [`Volume::node`] is.
     pub fn is_below(&self, upper: u64, number: u64) -> bool
         ensures { result ≡ is_below (held_of self.now).tree upper number }
     {

@@ -24,16 +24,18 @@ impl From<DraftFault> for VolumeFault {
 
 #[tactic(auto, unfolding(crate::specs::Views::held_of, crate::specs::Views::volume_failures))]
 impl<D: Device> Volume<D> {
-    ghost use Rattle.std.specs.Prelude.{◌≡◌, ◌↔◌, true, false, OnOk, IsErrOf};
+    ghost use Rattle.std.specs.Prelude.{◌≡◌, ◌↔◌, true, false, OnOk, OnErr, IsErrOf};
     ghost use Rattle.edits.specs.Edits.{AreDoable};
     ghost use Rattle.model.specs.Charge.{fits};
     ghost use Rattle.volume.specs.Changes.{IsTree, ending_of};
     ghost use Rattle.volume.specs.Edits.{IsChange, IsEdited, edited_by};
     ghost use Rattle.volume.specs.Formed.{Shows};
+    ghost use Rattle.volume.specs.Shown.{ShowsAs};
     ghost use Rattle.volume.specs.Views.{held_of, Alters};
 
     /// Whether the tree after edits has room: what [`Volume::change`] asks first. Each must be one
-    /// that can be done in the tree that those before it give.
+    /// that can be done in the tree that those before it give. It is answered where the volume is
+    /// down too, as [`Volume::node`] is.
     pub fn fits(&self, edits: &[Edit<'_>]) -> bool
         requires { AreDoable (held_of self.now).tree edits.now }
         ensures { result ≡ fits (held_of self.now).limits
@@ -49,7 +51,7 @@ impl<D: Device> Volume<D> {
     ///
     /// [`VolumeFault::Down`], then [`VolumeFault::NoSpace`] exactly where the tree after all of
     /// the edits would not fit; [`VolumeFault::Memory`]; [`VolumeFault::Device`] where the device
-    /// failed.
+    /// failed. None of them changes what is shown of the tree.
     pub fn change(&mut self, edits: Vec<Edit<'_>>) -> Result<(), VolumeFault>
         requires { IsChange (held_of self.old) edits.items }
         ensures volume { Alters self.old self.new
@@ -57,6 +59,7 @@ impl<D: Device> Volume<D> {
         ensures shows { OnOk result (Shows D.keeps_word
             (edited_by (held_of self.old) edits.entry.items) (held_of self.new).tree) }
         // Refused
+        ensures stays { OnErr result (ShowsAs (held_of self.old).tree (held_of self.new).tree) }
         ensures down { IsErrOf result VolumeFault.Down ↔ ((held_of self.old).is_down ≡ true) }
         ensures no_space { (held_of self.old).is_down ≡ false
             → IsErrOf result VolumeFault.NoSpace ↔ (fits (held_of self.old).limits

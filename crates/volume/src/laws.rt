@@ -3,6 +3,7 @@
 ghost use Rattle.std.specs.Prelude.{◌≡◌, ◌<◌, ◌^◌, ℕ};
 ghost use Rattle.volume.specs.Fronts.{KeepsFronts, AppliedRecent};
 ghost use Rattle.volume.specs.Remounts.{EveryRemount, StillStands};
+ghost use Rattle.volume.specs.Shown.{AnswersByShown};
 ghost use Rattle.volume.specs.Stands.{OneTreeStands};
 ghost use Rattle.volume.specs.Superblock.{superblock, word};
 
@@ -28,6 +29,13 @@ pub fn one_tree_stands()
 pub fn every_remount()
     ensures next { EveryRemount }
     ensures stands { StillStands }
+{}
+
+/// What a volume answers without its device: the same of two trees that differ in the bytes of files
+/// alone.
+#[tactic(auto, using(crate::proofs::ShownLaws::answers_by_shown))]
+pub fn answers_by_shown()
+    ensures { AnswersByShown }
 {}
 
 /// A journal that holds unflushed changes.

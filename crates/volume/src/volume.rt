@@ -28,7 +28,8 @@ use std::num::NonZeroUsize;
 /// A mounted volume.
 ///
 /// Everything but the bytes of files is in memory: what is asked of nodes and names touches no
-/// device.
+/// device. So it is answered on a volume that is down too, by the tree before the call in which the
+/// device failed or by the one after it.
 #[derive(Drop)]
 pub struct Volume<D: Device> {
     pub(crate) alloc: Global,
@@ -183,7 +184,7 @@ impl<D: Device> Volume<D> {
         self.store.journal.into_device()
     }
 
-    /// The limits of the volume.
+    /// The limits of the volume. They stay as they are, also where it is down.
     pub fn limits(&self) -> &Limits
         ensures limits { result.now ≡ (held_of self.now).limits }
         ensures sized { result.now
@@ -192,14 +193,15 @@ impl<D: Device> Volume<D> {
         &self.limits
     }
 
-    /// Whether the device failed: the volume is neither read nor changed from then on.
+    /// Whether the device failed: nothing is read from it or written to it from then on.
     pub fn is_down(&self) -> bool
         ensures { result ≡ (held_of self.now).is_down }
     {
         self.store.journal.is_down()
     }
 
-    /// The node of this number: all of it but the bytes of a file.
+    /// The node of this number: all of it but the bytes of a file. Where the volume is down, that of
+    /// the tree before the call that failed or after it.
     pub fn node(&self, number: u64) -> Option<&Card>
         ensures some { IfSome result (λ card. IsNodeOf (held_of self.now).tree number card.now) }
         ensures none { IfNone result (at number (held_of self.now).tree ≡ None) }

@@ -2,6 +2,7 @@ use Rattle.std.proofs.Common.{◌≡◌, ◌≤◌, ◌+◌, ◌∙◌, ℕ, fal
 use Rattle.std.specs.Prelude.{IsTrue, Err}
 use Rattle.edits.specs.declared.edit.Edit.{Edit}
 use Rattle.edits.specs.Outcomes.{cards_after}
+use Rattle.edits.proofs.BlankLaws.{each_outline}
 use Rattle.journal.specs.Calls.{IsSafe, HasApplied}
 use Rattle.journal.specs.Journal.{log_of, failures_of}
 use Rattle.journal.specs.Layout.{AreTargets, targets}
@@ -91,6 +92,15 @@ returns-in_err-apply-clause-volume g c =
     (subst (λ (log : Log). Answers {T = Unit {0}} log new (failures_of volume.store.journal) (failures_of c.apply.new.self) (Err fault)) same
     (subst (λ (n : ℕ). Answers {T = Unit {0}} mid new n (failures_of c.apply.new.self) (Err fault)) failed c.in_err-apply.ensures.answers))
     c.in_err-apply.ensures.refuses)
+
+pub returns-in_err-apply-clause-stays : goal.returns-in_err-apply-clause-stays
+unfolding held_of
+returns-in_err-apply-clause-stays g c =
+    let volume = c.args.self.now in
+    let old : Log = log_of volume.store.journal in
+    let new : Log = log_of c.apply.new.self in
+    let told = told_err c.from_residual-in_err-apply.result (fault_of c.in_err-apply.field-0.0) c.from_residual-in_err-apply.ensures.1 in
+    rw told (each_outline (contents new) volume.table ∙ sym (each_outline (contents old) volume.table))
 
 pub invariant_of-self-2 : goal.invariant_of-self-2
 unfolding held_of

@@ -15,4 +15,4 @@ pub returns-clause-volume : goal.returns-clause-volume
 returns-clause-volume g c =
     keep_flushed g.D.Device.keeps_word (held_of c.args.self.now) (held_of c.change.new.self) (held_of c.flush.new.self) (edited_by (held_of c.args.self.now) c.args.edits.items)
     (volume_failures c.args.self.now) (volume_failures c.change.new.self) (volume_failures c.flush.new.self)
-    c.in_ok-change.ensures.volume (λ k. c.in_ok-change.ensures.shows.tree_is k) c.flush.result c.flush.ensures.volume c.flush.ensures.down c.flush.ensures.refuses
+    c.in_ok-change.ensures.volume c.in_ok-change.ensures.shows c.flush.result c.flush.ensures.volume c.flush.ensures.down c.flush.ensures.refuses

@@ -1,0 +1,89 @@
+-- What is answered of a tree without the bytes of its files does not depend on them.
+use Rattle.std.proofs.Common.{◌≡◌, ℕ, zero, suc, Bool, List, [], ◌∷◌, Option, Some, None, length, refl, sym, ap, ap₂, ◌∙◌}
+use Rattle.std.specs.Prelude.{if◌then◌else◌, nat_lt, ◌==◌, option_map}
+use Rattle.std.specs.List.{list_any}
+use Rattle.std.proofs.lemmas.Option.{same_Some}
+use Rattle.edits.specs.Outlines.{blank, blank_node, blanked, zeros}
+use Rattle.edits.proofs.BlankLaws.{at-blanked, length-blanked, length-zeros}
+use Rattle.edits.proofs.FitLaws.{fits_alike}
+use Rattle.layout.specs.Cards.{Card}
+use Rattle.model.specs.declared.node.NodeKind.{NodeKind}
+use Rattle.model.specs.declared.node.NodeKind.TheVariants as kind
+use Rattle.model.specs.Ancestors.{parent_of, ancestors_in, is_below}
+use Rattle.model.specs.Keyed.{at}
+use Rattle.model.specs.Tree.{Tree, Node, Content, File, Directory, root, bytes_of, names_of}
+use Rattle.model.specs.WellFormed.{links_from, links_in}
+use Rattle.volume.specs.Nodes.{IsNodeOf, ShowsContent}
+use Rattle.volume.specs.Shown.{ShowsAs, AnswersByShown}
+
+-- Parents and ancestors
+
+links-blanked : (number : ℕ) (node : Node) → links_from number (blank_node node) ≡ links_from number node
+links-blanked number node = by_content node.content
+  where
+    by_content : (content : Content) → links_in number (names_of (blank content)) ≡ links_in number (names_of content)
+    by_content (File bytes) = refl
+    by_content (Directory names) = refl
+
+pub parent-blanked : (tree : Tree) (number : ℕ) → parent_of (blanked tree) number ≡ parent_of tree number
+parent-blanked [] number = refl
+parent-blanked (entry ∷ rest) number =
+    ap₂ (λ (n other : ℕ). if nat_lt 0 n then entry.0 else other) (links-blanked number entry.1) (parent-blanked rest number)
+
+ancestors-blanked : (steps : ℕ) (tree : Tree) (number : ℕ) → ancestors_in steps (blanked tree) number ≡ ancestors_in steps tree number
+ancestors-blanked zero tree number = refl
+ancestors-blanked (suc steps) tree number = ap (λ (l : List ℕ). number ∷ (if number == root then [] else l))
+    (ap (ancestors_in steps (blanked tree)) (parent-blanked tree number) ∙ ancestors-blanked steps tree (parent_of tree number))
+
+pub below-blanked : (tree : Tree) (upper number : ℕ) → is_below (blanked tree) upper number ≡ is_below tree upper number
+below-blanked tree upper number = ap (list_any (λ (of : ℕ). of == upper))
+    (ap (λ (n : ℕ). ancestors_in n (blanked tree) number) (length-blanked tree) ∙ ancestors-blanked (length tree) tree number)
+
+-- Nodes
+
+-- a content of the same blank is shown by the same cards
+content_alike : (of : NodeKind) (card : Card) (content other : Content) → blank other ≡ blank content → ShowsContent of card content → ShowsContent of card other
+content_alike kind.File card content (File bytes) alike shown = record {
+  bytes = bytes;
+  file = refl;
+  size_is = sym (length-zeros (length bytes)) ∙ ap (λ (c : Content). length (bytes_of c)) (alike ∙ ap blank shown.file) ∙ length-zeros (length shown.bytes) ∙ shown.size_is;
+}
+content_alike kind.File card content (Directory names) alike shown = absurd (let file = shown.file in cc)
+content_alike kind.Directory card (Directory names) (Directory others) alike shown = alike ∙ shown
+content_alike kind.Directory card (Directory names) (File bytes) alike shown = absurd (cc)
+content_alike kind.Directory card (File bytes) other alike shown = absurd (cc)
+
+module _ (tree shown : Tree) (alike : ShowsAs tree shown) where
+  found_alike : (number : ℕ) → option_map blank_node (at number shown) ≡ option_map blank_node (at number tree)
+  found_alike number = sym (at-blanked shown number) ∙ ap (at number) alike ∙ at-blanked tree number
+
+  none_alike : (number : ℕ) (found : Option Node) → at number shown ≡ found → at number tree ≡ None → found ≡ None
+  none_alike number None is none = refl
+  none_alike number (Some node) is none = absurd (let same = found_alike number in cc)
+
+  module _ (number : ℕ) (card : Card) (is : IsNodeOf tree number card) where
+    node_alike : (found : Option Node) → at number shown ≡ found → IsNodeOf shown number card
+    node_alike None there = absurd (let same = found_alike number in let stands = is.there in cc)
+    node_alike (Some node) there =
+        let same : blank_node node ≡ blank_node is.node = same_Some (blank_node node) (blank_node is.node)
+        (sym (ap (option_map blank_node) there) ∙ found_alike number ∙ ap (option_map blank_node) is.there) in
+        record {
+          number_is = is.number_is;
+          node = node;
+          there = there;
+          owner = ap (λ (n : Node). n.owner) same ∙ is.owner;
+          group = ap (λ (n : Node). n.group) same ∙ is.group;
+          acl = ap (λ (n : Node). n.acl) same ∙ is.acl;
+          change = ap (λ (n : Node). n.change) same ∙ is.change;
+          time_modify = ap (λ (n : Node). n.time_modify) same ∙ is.time_modify;
+          content = content_alike card.fields.kind card is.node.content node.content (ap (λ (n : Node). n.content) same) is.content;
+        }
+
+pub answers_by_shown : AnswersByShown
+answers_by_shown tree shown alike = record {
+  node = λ number card is. node_alike tree shown alike number card is (at number shown) refl;
+  none = λ number none. none_alike tree shown alike number (at number shown) refl none;
+  parent = λ number. sym (parent-blanked shown number) ∙ ap (λ (t : Tree). parent_of t number) alike ∙ parent-blanked tree number;
+  below = λ upper number. sym (below-blanked shown upper number) ∙ ap (λ (t : Tree). is_below t upper number) alike ∙ below-blanked tree upper number;
+  fits = λ limits edits. fits_alike limits tree shown edits alike;
+}

@@ -1,0 +1,29 @@
+-- What a volume shows of its tree: all but the bytes of its files. What is asked of it without its
+-- device is answered by that.
+use Rattle.std.specs.Prelude.{◌≡◌, ℕ, List, None}
+use Rattle.edits.specs.Outlines.{blanked}
+use Rattle.layout.specs.Cards.{Card}
+use Rattle.model.specs.declared.limits.Limits.{Limits}
+use Rattle.model.specs.Ancestors.{is_below, parent_of}
+use Rattle.model.specs.Charge.{fits}
+use Rattle.model.specs.Edit.{Edit, edited}
+use Rattle.model.specs.Keyed.{at}
+use Rattle.model.specs.Tree.{Tree}
+use Rattle.volume.specs.Nodes.{IsNodeOf}
+
+-- it is shown as this tree is
+abbrev pub ShowsAs : Tree → Tree → Type 0
+ShowsAs tree shown = blanked shown ≡ blanked tree
+
+-- the calls of a volume answer the same of both
+pub record AnswerAlike (tree shown : Tree) : Type 0 where
+  pub node : (number : ℕ) (card : Card) → IsNodeOf tree number card → IsNodeOf shown number card
+  pub none : (number : ℕ) → at number tree ≡ None → at number shown ≡ None
+  pub parent : (number : ℕ) → parent_of shown number ≡ parent_of tree number
+  pub below : (upper number : ℕ) → is_below shown upper number ≡ is_below tree upper number
+  pub fits : (limits : Limits) (edits : List Edit)
+      → fits limits (edited edits shown) ≡ fits limits (edited edits tree)
+
+-- The law
+abbrev pub AnswersByShown : Type 0
+AnswersByShown = (tree shown : Tree) → ShowsAs tree shown → AnswerAlike tree shown
