@@ -12,14 +12,14 @@ use Rattle.edits.specs.Parts.{PartsAreBytes}
 use Rattle.layout.specs.Cards.{Card, tree_of}
 use Rattle.layout.specs.Known.{AreCards}
 use Rattle.layout.specs.Marks.{mark_by}
-use Rattle.layout.specs.Stands.{version_1, HaveForms, IsLaid}
+use Rattle.layout.specs.Stands.{current, HaveForms, IsLaid}
 use Rattle.model.specs.Edit.{edited}
 use Rattle.model.specs.Tree.{Tree}
 
 -- the cards of a whole volume, and the places of its data region, used as the cards name them
 pub record IsWholeVolume (size : ℕ) (table : List (Option Card)) (places : List Bool) : Type 0 where
   pub cards : AreCards (length table) (mark_by (148 + length table) places) table
-  pub forms : HaveForms version_1 table
+  pub forms : HaveForms current table
   pub size_is : size ≡ 148 + length table + length places
   pub few : size ≤ 65536
 
@@ -35,7 +35,7 @@ cards_after table outcome = changed table outcome.changes
 -- the sectors hold the outcome's cards and marks, and show the tree with the edits
 pub record LaysEdited (base : Image) (size : ℕ) (table : List (Option Card)) (edits : List Edit)
     (outcome : Outcome) : Type 0 where
-  pub laid : IsLaid version_1 size (length table) (applied outcome.updates.items base)
+  pub laid : IsLaid current size (length table) (applied outcome.updates.items base)
       (cards_after table outcome)
   pub tree_is : tree_of (applied outcome.updates.items base) (cards_after table outcome)
       ≡ edited (edits_of edits) (tree_of base table)
@@ -51,7 +51,7 @@ pub record ComesTo (word : Type 0) (base : Image) (size : ℕ) (table : List (Op
   pub outline : outline_of (cards_after table outcome)
       ≡ blanked (edited (edits_of edits) (outline_of table))
   -- each card keeps its form, and the edits' numbers alone are new
-  pub forms : HaveForms version_1 (cards_after table outcome)
+  pub forms : HaveForms current (cards_after table outcome)
   pub made : AreMade table (cards_after table outcome) (made_by edits)
   -- the updates are those of a transaction, and few
   pub targets : AreTargets size outcome.updates.items
@@ -59,5 +59,5 @@ pub record ComesTo (word : Type 0) (base : Image) (size : ℕ) (table : List (Op
   -- what the edits put are bytes
   pub bytes : PartsAreBytes edits
   -- where the sectors keep their word and held the volume, the updates leave one
-  pub lays : word → IsLaid version_1 size (length table) base table
+  pub lays : word → IsLaid current size (length table) base table
       → LaysEdited base size table edits outcome

@@ -24,6 +24,10 @@ pub record Version : Type 0 where
 abbrev pub version_1 : Version
 version_1 = record { number = 1; form = λ place. One; spare = λ sector. zero_sector }
 
+-- the version that volumes are made in and served in
+abbrev pub current : Version
+current = version_1
+
 -- each node has its place's form
 abbrev pub HaveForms : Version → List (Option Card) → Type 0
 HaveForms version cards =

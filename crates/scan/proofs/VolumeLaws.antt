@@ -8,7 +8,7 @@ use Rattle.layout.specs.Cards.{Card}
 use Rattle.layout.specs.Known.{AreCards}
 use Rattle.layout.specs.Laid.{AreLaid, AreNumbered}
 use Rattle.layout.specs.Marks.{named, mark_in, mark_by}
-use Rattle.layout.specs.Stands.{version_1, IsLaid}
+use Rattle.layout.specs.Stands.{current, IsLaid}
 use Rattle.layout.proofs.CardLaws.{cards-back}
 use Rattle.layout.proofs.MarkProofs.{mark-back, each_mark, marks_laid}
 use Rattle.scan.specs.Cards.{FindsPlace, IsFound, CanHold}
@@ -19,7 +19,7 @@ use Rattle.scan.proofs.TableLaws.{form_is, place_held, place_known, place_found,
 
 -- Cards that are laid can be held
 
-pub laid_can : (word : Type 0) (image : Image) (size nodes count : ℕ) (cards : List (Option Card)) → size ≡ 148 + nodes + count → IsLaid version_1 size nodes image cards → AreFew cards → CanHold word image nodes count cards
+pub laid_can : (word : Type 0) (image : Image) (size nodes count : ℕ) (cards : List (Option Card)) → size ≡ 148 + nodes + count → IsLaid current size nodes image cards → AreFew cards → CanHold word image nodes count cards
 laid_can word image size nodes count cards sized laid few = record {
   many = laid.laid.count;
   each = λ place h. place_found word image place (get_or cards place None) (λ card is. few place card is) (laid.laid.held place h);
@@ -66,7 +66,7 @@ module _ (nodes : ℕ) (image : Image) (places : List Bool) (marks : (n : ℕ) �
   part_bits (suc (suc part)) h = absurd (omega arith)
 
 -- of cards that are laid the marks that were made are those of the bitmap
-pub same_marks : (word : Type 0) (image : Image) (size nodes count : ℕ) (cards others : List (Option Card)) (places : List Bool) → word → IsFound word image nodes count cards places → CanHold word image nodes count others → IsLaid version_1 size nodes image others
+pub same_marks : (word : Type 0) (image : Image) (size nodes count : ℕ) (cards others : List (Option Card)) (places : List Bool) → word → IsFound word image nodes count cards places → CanHold word image nodes count others → IsLaid current size nodes image others
     → (n : ℕ) → mark_in nodes image n ≡ mark_by (148 + nodes) places n
 same_marks word image size nodes count cards others places w found can laid n =
     sym (laid.laid.marks n) ∙ ap (named n) (sym (one_table word image nodes count cards others places w found can)) ∙ sym (found.marks n)

@@ -6,7 +6,7 @@ use Rattle.layout.specs.Cards.{Card, cards_in}
 use Rattle.model.specs.Tree.{Tree}
 use Rattle.layout.specs.Known.{AreCards}
 use Rattle.layout.specs.Marks.{mark_by}
-use Rattle.layout.specs.Stands.{version_1, HaveForms, IsLaid, Stands}
+use Rattle.layout.specs.Stands.{current, HaveForms, IsLaid, Stands}
 
 -- no node has more blocks than a file may have
 abbrev pub AreFew : List (Option Card) → Type 0
@@ -19,13 +19,13 @@ AreFew cards = (place : ℕ) (card : Card) → slice_index_or cards place None �
 pub record IsRead (word : Type 0) (size nodes : ℕ) (image : Image) (cards : List (Option Card))
     (places : List Bool) : Type 0 where
   pub known : AreCards nodes (mark_by (148 + nodes) places) cards
-  pub forms : HaveForms version_1 cards
+  pub forms : HaveForms current cards
   pub few : AreFew cards
   pub size_is : size ≡ 148 + nodes + length places
-  pub laid : word → IsLaid version_1 size nodes image cards
+  pub laid : word → IsLaid current size nodes image cards
   pub read : word → cards ≡ cards_in nodes image
 
 -- where a volume stands for a tree, the cards that are read of it are so few
 abbrev pub StandsIsFew : Type 0
 StandsIsFew = (size nodes : ℕ) (image : Image) (run : ℕ) (tree : Tree)
-    → Stands version_1 size nodes image run tree → AreFew (cards_in nodes image)
+    → Stands current size nodes image run tree → AreFew (cards_in nodes image)

@@ -5,7 +5,7 @@ ghost use Rattle.std.specs.Prelude.{IsTrue};
 ghost use Rattle.freemap.specs.Places.{Shows};
 ghost use Rattle.layout.specs.Cards as layout;
 ghost use Rattle.layout.specs.Health.{Reads};
-ghost use Rattle.layout.specs.Stands.{version_1, IsLaid};
+ghost use Rattle.layout.specs.Stands.{current, IsLaid};
 ghost use Rattle.layout.specs.Superblock.{is_size};
 ghost use Rattle.scan.specs.Sectors.{AreBits, AreSpare};
 ghost use Rattle.scan.specs.Volumes.{IsRead, AreFew};
@@ -92,7 +92,7 @@ pub fn read_volume<S: Sectors>(
     // Refused
     ensures damaged { S.keeps_word → IsErrOf result ScanFault.Damaged
         → (cards : List (Option layout.Card))
-        → IsLaid version_1 size nodes (S.image (S.kept sectors.old)) cards → ¬ AreFew cards }
+        → IsLaid current size nodes (S.image (S.kept sectors.old)) cards → ¬ AreFew cards }
     // It only reads
     ensures kept { S.kept sectors.new ≡ S.kept sectors.old }
     ensures health { Reads (S.health sectors.old) (S.health sectors.new)

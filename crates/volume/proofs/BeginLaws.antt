@@ -6,7 +6,7 @@ use Rattle.disk.specs.Moments.{Image, History}
 use Rattle.journal.specs.Log.{Log, applied_all, contents}
 use Rattle.layout.specs.Cards.{Card, tree_of, cards_in}
 use Rattle.layout.specs.MarkLaws.{SeesSame}
-use Rattle.layout.specs.Stands.{version_1}
+use Rattle.layout.specs.Stands.{current}
 use Rattle.layout.proofs.MarkProofs.{kept_alone}
 use Rattle.model.specs.declared.limits.Limits.{Limits}
 use Rattle.model.specs.Tree.{Tree}
@@ -24,8 +24,8 @@ use Rattle.volume.proofs.StandLaws.{sized}
 -- where the sectors from 98 on are the same, so are the cards and the tree
 module _ (size nodes run : ℕ) (a b : Image) (cards : List (Option Card)) (same : (n : ℕ) → 98 ≤ n → n < size → b n ≡ a n)
     (read : cards ≡ cards_in nodes a) where
-  sees : Stands size nodes a run (tree_of a cards) → SeesSame version_1 size nodes a b (cards_in nodes a)
-  sees stands = let parts = sized size nodes stands.sized in kept_alone version_1 size nodes a b (cards_in nodes a) (omega (arith, parts.room)) stands.laid same
+  sees : Stands size nodes a run (tree_of a cards) → SeesSame current size nodes a b (cards_in nodes a)
+  sees stands = let parts = sized size nodes stands.sized in kept_alone current size nodes a b (cards_in nodes a) (omega (arith, parts.room)) stands.laid same
 
   read_on : Stands size nodes a run (tree_of a cards) → cards ≡ cards_in nodes b
   read_on stands = read ∙ sym (sees stands).same_cards

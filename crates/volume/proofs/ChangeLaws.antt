@@ -25,7 +25,7 @@ use Rattle.layout.specs.Cards.{Card, tree_of, cards_in}
 use Rattle.layout.specs.Known.{AreCards}
 use Rattle.layout.specs.Laid.{AreNumbered}
 use Rattle.layout.specs.Marks.{mark_by}
-use Rattle.layout.specs.Stands.{version_1, IsLaid}
+use Rattle.layout.specs.Stands.{current, IsLaid}
 use Rattle.layout.proofs.CardLaws.{cards-back, only_cards}
 use Rattle.model.specs.declared.limits.Limits.{Limits}
 use Rattle.model.specs.Charge.{fits}
@@ -101,10 +101,10 @@ module _ (word : Type 0) (k : word) (nodes run : ℕ) (log : Log) (cards : List 
 
   behind_stands : cards ≡ cards_in nodes image → Stands log.size nodes image run (tree_of image cards) → StandsWith nodes run log outcome.updates.items is after
   behind_stands read stands =
-      let here : IsLaid version_1 log.size (length cards) image cards = subst (λ (n : ℕ). IsLaid version_1 log.size n image cards) (sym count)
-      (subst (IsLaid version_1 log.size nodes image) (sym read) stands.laid) in
+      let here : IsLaid current log.size (length cards) image cards = subst (λ (n : ℕ). IsLaid current log.size n image cards) (sym count)
+      (subst (IsLaid current log.size nodes image) (sym read) stands.laid) in
       let lays : LaysEdited image log.size cards edits outcome = comes.lays k here in
-      let laid : IsLaid version_1 log.size nodes now is = subst (λ (n : ℕ). IsLaid version_1 log.size n now is) count lays.laid in
+      let laid : IsLaid current log.size nodes now is = subst (λ (n : ℕ). IsLaid current log.size n now is) count lays.laid in
       let back : cards_in nodes now ≡ is = cards-back now nodes is laid.laid.count laid.laid.held in
       record {
         read = sym back;
@@ -116,7 +116,7 @@ module _ (word : Type 0) (k : word) (nodes run : ℕ) (log : Log) (cards : List 
               sized = stands.sized;
               counted = stands.counted;
               first = applied-other outcome.updates.items image 0 (not_first log.size outcome.updates.items comes.targets) ∙ stands.first;
-              laid = only_cards version_1 log.size nodes now is laid;
+              laid = only_cards current log.size nodes now is laid;
               tree_is = sym lays.tree_is ∙ ap (tree_of now) (sym back);
               well_formed = both.0;
               before = both.1;

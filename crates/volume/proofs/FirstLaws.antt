@@ -5,7 +5,7 @@ use Rattle.std.proofs.lemmas.Nat.{from_be_bytes-to_be_bytes_4}
 use Rattle.volume.specs.declared.superblock.Verdict.TheVariants.{NotVolume, Worn, Damaged, Sound}
 use Rattle.std.proofs.lemmas.Bool.{eq-eqb, and_parts, and_left, and_right, lt-leb, eqb-false, cond-true}
 use Rattle.std.specs.Cmp.Lexicographic.{bytes_decides}
-use Rattle.layout.specs.Stands.{version_1}
+use Rattle.layout.specs.Stands.{current}
 use Rattle.layout.specs.Superblock as layout
 use Rattle.layout.specs.Superblock.{is_size, magic}
 use Rattle.volume.specs.Superblock.{is_volume, verdict, last_run, superblock, word}
@@ -23,7 +23,7 @@ word_sectors : (sectors nodes run : ℕ) → sectors < 2 ^ 32 → word 12 (super
 unfolding word layout.superblock
 word_sectors sectors nodes run fits = from_be_bytes-to_be_bytes_4 sectors fits
 
-word_version : (sectors nodes run : ℕ) → word 8 (superblock sectors nodes run) ≡ version_1.number
+word_version : (sectors nodes run : ℕ) → word 8 (superblock sectors nodes run) ≡ current.number
 unfolding word layout.superblock
 word_version sectors nodes run = refl
 
@@ -59,7 +59,7 @@ sound_parts sectors sector sound = parts (is_volume sectors sector) _ _ sound
 size_of : (sectors : ℕ) (sector : List ℕ) → is_volume sectors sector ≡ true → IsTrue (is_size sectors (word 16 sector))
 unfolding is_volume
 size_of sectors sector volume =
-    (and_parts ((starts_with eqb sector magic && eqb (word 8 sector) version_1.number) && eqb (word 12 sector) sectors) (is_size sectors (word 16 sector)) volume).1
+    (and_parts ((starts_with eqb sector magic && eqb (word 8 sector) current.number) && eqb (word 12 sector) sectors) (is_size sectors (word 16 sector)) volume).1
 
 pub sound_size : (sectors : ℕ) (sector : List ℕ) → verdict sectors sector ≡ Sound → IsTrue (is_size sectors (word 16 sector))
 sound_size sectors sector sound = size_of sectors sector (sound_parts sectors sector sound).0
@@ -77,7 +77,7 @@ few_sectors sectors nodes few = and_left _ _ (and_left _ _ (and_left _ _ (and_le
 none_on_few : (sectors : ℕ) (sector : List ℕ) → sectors < 256 → is_volume sectors sector ≡ false
 unfolding is_volume
 none_on_few sectors sector few =
-    and_right ((starts_with eqb sector magic && eqb (word 8 sector) version_1.number) && eqb (word 12 sector) sectors) (is_size sectors (word 16 sector))
+    and_right ((starts_with eqb sector magic && eqb (word 8 sector) current.number) && eqb (word 12 sector) sectors) (is_size sectors (word 16 sector))
     (few_sectors sectors (word 16 sector) few)
 
 pub not_volume_on_few : (sectors : ℕ) (sector : List ℕ) → sectors < 256 → verdict sectors sector ≡ NotVolume

@@ -11,7 +11,7 @@ use Rattle.journal.specs.Settled.{Settles}
 use Rattle.journal.proofs.Images.{put_other}
 use Rattle.journal.proofs.Lists.{targets_of-Fit}
 use Rattle.layout.specs.FreshLaws.{IsFresh}
-use Rattle.layout.specs.Stands.{version_1}
+use Rattle.layout.specs.Stands.{current}
 use Rattle.layout.specs.Superblock.{is_size}
 use Rattle.layout.proofs.Formatted.{fresh_stands}
 use Rattle.model.specs.Fresh.{fresh_tree}
@@ -30,7 +30,7 @@ zeros_at sectors nodes n some other =
     ∙ ap (λ (b : Bool). let content : List ℕ = if b then superblock sectors nodes 0 else zero_sector in content) (ne_eqb n 0 (λ e. omega (arith, e, some)))
 
 module _ (sectors nodes : ℕ) (size : IsTrue (is_size sectors nodes)) where
-  is_fresh : IsFresh version_1 sectors nodes (new_volume sectors nodes)
+  is_fresh : IsFresh current sectors nodes (new_volume sectors nodes)
   is_fresh = record {
     sized = size;
     first = refl;
@@ -41,7 +41,7 @@ module _ (sectors nodes : ℕ) (size : IsTrue (is_size sectors nodes)) where
   }
 
   stands : Stands sectors nodes (new_volume sectors nodes) 0 fresh_tree
-  stands = fresh_stands version_1 sectors nodes (new_volume sectors nodes) is_fresh
+  stands = fresh_stands current sectors nodes (new_volume sectors nodes) is_fresh
 
   pub root_fits : AreTargets sectors (targets (root_update ∷ []))
   root_fits = let parts = sized sectors nodes size in targets_of-Fit sectors (148 ∷ []) (omega arith, omega (arith, parts.some, parts.room), tt, tt)

@@ -9,7 +9,7 @@ use Rattle.disk.specs.Moments.{Image, IsSector}
 use Rattle.layout.specs.Cards.{Card, tree_of, cards_in}
 use Rattle.layout.specs.Laid.{AreLaid, HoldsPlace, HoldsCard, HoldsContent}
 use Rattle.layout.specs.Marks.{mark_in}
-use Rattle.layout.specs.Stands.{version_1, IsLaid}
+use Rattle.layout.specs.Stands.{current, IsLaid}
 use Rattle.layout.specs.Superblock.{is_size}
 use Rattle.model.specs.declared.limits.Limits.{Limits}
 use Rattle.model.specs.declared.node.NodeKind.{NodeKind}
@@ -34,7 +34,7 @@ use Rattle.volume.specs.Superblock.{superblock}
 abbrev HoldsSectors : (size : ℕ) → Image → Type 0
 HoldsSectors size image = (n : ℕ) → n < size → IsSector (image n)
 
-module _ (size nodes run : ℕ) (image : Image) (cards : List (Option Card)) (laid : IsLaid version_1 size nodes image cards)
+module _ (size nodes run : ℕ) (image : Image) (cards : List (Option Card)) (laid : IsLaid current size nodes image cards)
     (read : cards ≡ cards_in nodes image) (sectors : HoldsSectors size image) where
   marked_bytes : HoldBytes image (mark_in nodes image)
   marked_bytes n marked = elim (cases_lt n size) [
@@ -51,7 +51,7 @@ module _ (size nodes run : ℕ) (image : Image) (cards : List (Option Card)) (la
         sized = sized;
         counted = counted;
         first = first;
-        laid = subst (IsLaid version_1 size nodes image) read laid;
+        laid = subst (IsLaid current size nodes image) read laid;
         tree_is = ap (tree_of image) read;
         well_formed = ∣ both.0 ∣₁;
         before = both.1;

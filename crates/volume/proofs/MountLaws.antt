@@ -7,7 +7,7 @@ use Rattle.journal.specs.Commit.{AddsEither}
 use Rattle.journal.specs.Settled.{Settles, AreSame}
 use Rattle.journal.proofs.Images.{put_same, put_other}
 use Rattle.layout.specs.Cards.{tree_of, cards_in}
-use Rattle.layout.specs.Stands.{version_1, IsLaid}
+use Rattle.layout.specs.Stands.{current, IsLaid}
 use Rattle.layout.proofs.MarkProofs.{kept_alone}
 use Rattle.model.specs.Stamp.{stamp}
 use Rattle.model.specs.Tree.{Tree}
@@ -37,12 +37,12 @@ module _ (sectors nodes run : ℕ) (base : Image) (counted : run + 1 < 2 ^ 32) w
   pub raised_stands : (tree : Tree) → Stands sectors nodes base run tree → Stands sectors nodes raised (run + 1) tree
   raised_stands tree stands =
       let parts = sized sectors nodes stands.sized in
-      let same = kept_alone version_1 sectors nodes base raised (cards_in nodes base) (omega (arith, parts.room)) stands.laid (λ n above below. others n above) in
+      let same = kept_alone current sectors nodes base raised (cards_in nodes base) (omega (arith, parts.room)) stands.laid (λ n above below. others n above) in
       record {
         sized = stands.sized;
         counted = counted;
         first = put_same base (first_update sectors nodes (run + 1)) 0 refl;
-        laid = subst (IsLaid version_1 sectors nodes raised) (sym same.same_cards) same.laid;
+        laid = subst (IsLaid current sectors nodes raised) (sym same.same_cards) same.laid;
         tree_is = stands.tree_is ∙ (sym same.same_tree ∙ ap (tree_of raised) (sym same.same_cards));
         well_formed = stands.well_formed;
         before = before-later (stamp (run + 1) 0) (stamp (run + 1 + 1) 0) tree (omega arith) stands.before;

@@ -4,7 +4,7 @@ use Rattle.std.proofs.Math.Logic.{∥∥₁_elim}
 use Rattle.std.proofs.Props.{props}
 use Rattle.disk.specs.Moments.{Image}
 use Rattle.journal.proofs.Recovers.{settles_once}
-use Rattle.layout.specs.Stands.{version_1}
+use Rattle.layout.specs.Stands.{current}
 use Rattle.layout.proofs.FirstLaws.{one_tree}
 use Rattle.model.specs.Tree.{Tree}
 use Rattle.volume.specs.Stands.{Stands, IsBase, IsOne, OneTreeStands}
@@ -23,7 +23,7 @@ one_base sectors nodes run other_nodes other_run tree other image left right =
     let small : sectors < 2 ^ 32 = omega (arith, few.most) in
     let here : Stands sectors nodes right.base run tree =
     stands_same sectors nodes left.base right.base run tree (settles_once sectors image left.base right.base small left.settles right.settles) left.stands in
-    let same = one_tree version_1 version_1 sectors sectors nodes other_nodes run other_run right.base tree other here right.stands in
+    let same = one_tree current current sectors sectors nodes other_nodes run other_run right.base tree other here right.stands in
     record { tree_is = same.tree_is; nodes_are = same.nodes_are; run_is = same.run_is }
 
 pub one_tree_stands : OneTreeStands

@@ -14,7 +14,7 @@ use Rattle.journal.specs.Log.{Log, IsSettled, StandsForFront, contents, applied_
 use Rattle.journal.specs.Settled.{AreSame}
 use Rattle.layout.specs.Cards.{Card, tree_of, cards_in}
 use Rattle.layout.specs.MarkLaws.{SeesSame}
-use Rattle.layout.specs.Stands.{version_1}
+use Rattle.layout.specs.Stands.{current}
 use Rattle.layout.proofs.MarkProofs.{kept_alone}
 use Rattle.model.specs.declared.limits.Limits.{Limits}
 use Rattle.model.specs.Tree.{Tree}
@@ -32,10 +32,10 @@ use Rattle.volume.proofs.StandLaws.{sized, stands_same}
 
 module _ (nodes run : ℕ) (cards : List (Option Card)) (old new : Log) (same : AreSame old.size (contents old) (contents new)) where
   sees : Stands old.size nodes (contents old) run (tree_of (contents old) cards)
-      → SeesSame version_1 old.size nodes (contents old) (contents new) (cards_in nodes (contents old))
+      → SeesSame current old.size nodes (contents old) (contents new) (cards_in nodes (contents old))
   sees stands =
       let parts = sized old.size nodes stands.sized in
-      kept_alone version_1 old.size nodes (contents old) (contents new) (cards_in nodes (contents old)) (omega (arith, parts.room)) stands.laid
+      kept_alone current old.size nodes (contents old) (contents new) (cards_in nodes (contents old)) (omega (arith, parts.room)) stands.laid
       (λ n above below. sym (same n (inr above, below)))
 
   -- the same tree is seen

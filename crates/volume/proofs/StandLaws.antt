@@ -3,7 +3,7 @@ use Rattle.std.proofs.Common.{ℕ, ◌≤◌, inl, inr, refl, rules, arith, sym}
 use Rattle.std.specs.Prelude.{IsTrue}
 use Rattle.disk.specs.Moments.{Image}
 use Rattle.journal.specs.Settled.{AreSame}
-use Rattle.layout.specs.Stands.{version_1}
+use Rattle.layout.specs.Stands.{current}
 use Rattle.layout.specs.Superblock.{is_size}
 use Rattle.layout.proofs.FirstLaws.{Sized, sized_parts}
 use Rattle.layout.proofs.MarkProofs.{stands_alone}
@@ -21,5 +21,5 @@ pub stands_same : (sectors nodes : ℕ) (a b : Image) (run : ℕ) (tree : Tree) 
     → Stands sectors nodes a run tree → Stands sectors nodes b run tree
 stands_same sectors nodes a b run tree same stands =
     let enough : 256 ≤ sectors = large sectors nodes stands.sized in
-    stands_alone version_1 sectors nodes a b run tree stands (sym (same 0 (inl refl, omega (arith, enough))))
+    stands_alone current sectors nodes a b run tree stands (sym (same 0 (inl refl, omega (arith, enough))))
     (λ n above below. sym (same n (inr above, below)))

@@ -4,7 +4,7 @@ use Rattle.journal.specs.Log.{Log, IsSettled, contents}
 use Rattle.layout.specs.Cards.{Card, tree_of, cards_in}
 use Rattle.layout.specs.Known.{AreCards}
 use Rattle.layout.specs.Marks.{mark_by}
-use Rattle.layout.specs.Stands.{version_1, HaveForms}
+use Rattle.layout.specs.Stands.{current, HaveForms}
 use Rattle.volume.specs.Stands.{Stands}
 
 -- on any device: cards, and the set of places that they name, which are those of the whole data
@@ -12,7 +12,7 @@ use Rattle.volume.specs.Stands.{Stands}
 pub record IsKnown (sectors nodes : ℕ) (cards : List (Option Card)) (places : List Bool)
     : Type 0 where
   pub are_cards : AreCards nodes (mark_by (148 + nodes) places) cards
-  pub forms : HaveForms version_1 cards
+  pub forms : HaveForms current cards
   pub whole : sectors ≡ 148 + nodes + length places
 
 -- on a device that keeps its word, as long as it did not fail: the cards are those of the sectors,

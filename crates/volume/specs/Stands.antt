@@ -3,12 +3,12 @@ use Rattle.std.specs.Prelude.{ℕ, ◌≡◌}
 use Rattle.disk.specs.Moments.{Image}
 use Rattle.journal.specs.Settled.{Settles}
 use Rattle.layout.specs.Stands as layout
-use Rattle.layout.specs.Stands.{version_1}
+use Rattle.layout.specs.Stands.{current}
 use Rattle.model.specs.Tree.{Tree}
 
 -- the sectors of a volume of version 1 that was mounted `run` times
 abbrev pub Stands : (sectors nodes : ℕ) → Image → (run : ℕ) → Tree → Type 0
-Stands sectors nodes image run tree = layout.Stands version_1 sectors nodes image run tree
+Stands sectors nodes image run tree = layout.Stands current sectors nodes image run tree
 
 -- what a map settles to, and for what that stands
 pub record IsBase (sectors nodes run : ℕ) (tree : Tree) (image : Image) : Type 0 where

@@ -2,7 +2,7 @@
 use Rattle.std.specs.Prelude.{◌==◌, ◌&&◌, ◌-◌, ◌^◌, ℕ, Bool, not, List, drop, nat_eq, bytes_eq, if◌then◌else◌}
 use Rattle.std.specs.List.{starts_with}
 use Rattle.std.specs.Int.{w32, from_be_bytes}
-use Rattle.layout.specs.Stands.{version_1}
+use Rattle.layout.specs.Stands.{current}
 use Rattle.layout.specs.Superblock as layout
 use Rattle.layout.specs.Superblock.{magic, is_size}
 use Rattle.volume.specs.declared.superblock.Verdict.{Verdict}
@@ -10,7 +10,7 @@ use Rattle.volume.specs.declared.superblock.Verdict.TheVariants.{NotVolume, Worn
 
 -- the first sector of a volume of version 1
 abbrev pub superblock : (sectors nodes run : ℕ) → List ℕ
-superblock sectors nodes run = layout.superblock version_1.number sectors nodes run
+superblock sectors nodes run = layout.superblock current.number sectors nodes run
 
 -- the number in the four bytes from place i
 unfoldable pub word : (i : ℕ) → List ℕ → ℕ
@@ -23,7 +23,7 @@ last_run = 2 ^ 32 - 1
 -- the first sector of a volume of this version on a device of this many sectors
 unfoldable pub is_volume : (sectors : ℕ) → List ℕ → Bool
 is_volume sectors sector =
-    starts_with nat_eq sector magic && (word 8 sector == version_1.number)
+    starts_with nat_eq sector magic && (word 8 sector == current.number)
     && (word 12 sector == sectors) && is_size sectors (word 16 sector)
 
 -- what a mount makes of sector 0

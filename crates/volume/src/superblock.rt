@@ -2,7 +2,7 @@
 
 ghost use Rattle.std.specs.Prelude.{◌≡◌, length, take};
 ghost use Rattle.layout.specs.Superblock.{is_size, fields};
-ghost use Rattle.layout.specs.Stands.{version_1};
+ghost use Rattle.layout.specs.Stands.{current};
 ghost use Rattle.volume.specs.Superblock.{is_volume, verdict, superblock, word};
 
 use disk::SECTOR;
@@ -36,7 +36,7 @@ pub fn is_volume_size(sectors: u32, nodes: u32) -> bool
 
 /// Writes the fields of the first sector.
 fn put_fields(sector: &mut [u8; SECTOR], sectors: u32, nodes: u32, run: u32)
-    ensures front { take 24 sector.new ≡ fields version_1.number sectors nodes run }
+    ensures front { take 24 sector.new ≡ fields current.number sectors nodes run }
     ensures len { length sector.new ≡ SECTOR }
 {
     put_bytes(sector, 0, &MAGIC);
