@@ -1,5 +1,5 @@
 -- A checkpoint between two calls: the machine is as it was, and a stop leaves what it might have left.
-use Rattle.std.proofs.Common.{◌≡◌, ◌⊎◌, Bool, List, ◌∷◌, refl, sym, ap, ◌∙◌, subst, inl, inr, ⊎_elim, true, false}
+use Rattle.std.proofs.Common.{◌≡◌, ◌⊎◌, List, ◌∷◌, refl, sym, ap, ◌∙◌, subst, inl, inr, ⊎_elim, true, false}
 use Rattle.std.specs.List.{IsAmong}
 use Rattle.disk.specs.Moments.{History, AddsOnly}
 use Rattle.disk.proofs.MomentLemmas.{AddsOnly-weaken}
@@ -16,7 +16,7 @@ use Rattle.model.specs.Session.{Table}
 use Rattle.model.specs.Tree.{Tree}
 use Rattle.model.specs.World.{World, Connection}
 use Rattle.server.specs.Seen.{Checkpoints, Breaks}
-use Rattle.server.specs.Views.{world_by}
+use Rattle.server.specs.Views.{world_by, serving_by}
 use Rattle.server.proofs.Moves.{broken_leaves}
 use Rattle.server.proofs.ServedTurns.{broken}
 
@@ -45,7 +45,7 @@ module _ (old new : FileSystem) (table : Table) (opens : Opens) (connections : K
   kept_world trees = keeps_world new.volume.tree ∙ ap (λ (tree : Tree). record (world_by (shared old table opens) connections) { tree = tree }) trees
 
   abbrev serving_of : FileSystem → List Tree → Serving
-  serving_of files recent = record { world = world_by (shared files table opens) connections; recent = recent; is_down = files.volume.is_down }
+  serving_of files recent = serving_by (world_by (shared files table opens) connections) recent files.volume.is_down
 
   abbrev Kept : (recent left : List Tree) → Type 0
   Kept recent left =
@@ -56,8 +56,8 @@ module _ (old new : FileSystem) (table : Table) (opens : Opens) (connections : K
       → AddsTrees old.volume old.volume.tree new.volume.history → (recent : List Tree) → IsRecent old.volume recent → Kept recent recent
   checkpointed trees up still_up keeps adds recent ready = record {
     serving =
-        ap (λ (world : World). record { world = world; recent = recent; is_down = new.volume.is_down }) (kept_world trees)
-        ∙ ap (λ (down : Bool). record { world = world_by (shared old table opens) connections; recent = recent; is_down = down }) (still_up ∙ sym up);
+        ap (λ (world : World). serving_by world recent new.volume.is_down) (kept_world trees)
+        ∙ ap (serving_by (world_by (shared old table opens) connections) recent) (still_up ∙ sym up);
     moves = λ event. record {
       moments = keeping_moments (serving_of old recent) old.volume new.volume.history ready adds event;
       leaves = (keeps recent ready).leaves;
@@ -70,11 +70,7 @@ module _ (old new : FileSystem) (table : Table) (opens : Opens) (connections : K
   pub checkpoint_fails : old.volume.is_down ≡ false → new.volume.is_down ≡ true → AddsTrees old.volume old.volume.tree new.volume.history
       → (event : Event) (recent : List Tree) → IsRecent old.volume recent → (after : List Tree)
       × Breaks (record { serving = serving_of old recent; volume = old.volume }) event (record {
-        serving = record {
-          world = record (world_by (shared new table opens) connections) { tree = old.volume.tree };
-          recent = after;
-          is_down = new.volume.is_down;
-        };
+        serving = serving_by (record (world_by (shared new table opens) connections) { tree = old.volume.tree }) after new.volume.is_down;
         volume = new.volume;
       })
   checkpoint_fails up down adds event recent ready = (
@@ -88,6 +84,7 @@ module _ (old new : FileSystem) (table : Table) (opens : Opens) (connections : K
             (λ (first : tree ≡ old.volume.tree). subst (λ (one : Tree). IsAmong recent one) (sym first) ready.newest)
             (λ (rest : IsAmong recent tree). rest)
             (among_more old.volume.tree recent tree left));
+        seats = λ seats left. inl left;
       };
       moves = record {
         moments = keeping_moments (serving_of old recent) old.volume new.volume.history ready adds event;

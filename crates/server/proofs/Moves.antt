@@ -18,12 +18,13 @@ use Rattle.volume.specs.Held.{Held, IsSameVolume, StandsForOne, LeavesOne, IsRec
 use Rattle.volume.specs.Stands.{StandsFor}
 use Rattle.model.specs.Runs.{Serving, Event, MayLeave, executed_of, effect_of}
 use Rattle.model.specs.Opens.{Opens, no_opens}
+use Rattle.model.specs.Seats.{no_seats}
 use Rattle.model.specs.Tree.{Tree}
 use Rattle.model.specs.Keyed.{Keyed}
 use Rattle.model.specs.Session.{Table, empty_table}
 use Rattle.model.specs.World.{World, Connection, mounted_world}
 use Rattle.server.specs.Headline.{IsMounted}
-use Rattle.server.specs.Views.{world_by, server_limits}
+use Rattle.server.specs.Views.{world_by, server_limits, serving_by}
 use Rattle.server.specs.Seen.{Seen, LeavesNow, Moves, Said, told, Does}
 use Rattle.server.proofs.Worlds.{happened_quietly, among_rest}
 use Rattle.disk.proofs.MomentLemmas.{AddsOnly-same}
@@ -73,13 +74,13 @@ broken_leaves held after_held after recent is adds same image left = ⊎_elim
     ((adds recent is).added (moment held.history) image (omega arith) (inl left))
 
 -- a call that does an event without the device
-pub does_quietly : (held : Held) (old new : World) (down : Bool) (event : Event) (said : Said) → executed_of old event ≡ None → down ≡ false → new ≡ effect_of old event → said ≡ told old event
-    → (recent : List Tree) → IsRecent held recent → (after : List Tree)
-    × Does (record { serving = record { world = old; recent = recent; is_down = down }; volume = held }) event said (record { serving = record { world = new; recent = after; is_down = down }; volume = held })
-does_quietly held old new down event said none up is says recent ready = (
+pub does_quietly : (held : Held) (old new : World) (down : Bool) (event : Event) (said : Said) → executed_of old event ≡ None → down ≡ false → new ≡ effect_of old event
+    → new.table.seats ≡ no_seats → said ≡ told old event → (recent : List Tree) → IsRecent held recent → (after : List Tree)
+    × Does (record { serving = serving_by old recent down; volume = held }) event said (record { serving = serving_by new after down; volume = held })
+does_quietly held old new down event said none up is none_seated says recent ready = (
   recent,
   record {
-    happens = happened_quietly old new recent down down event none up up is;
+    happens = happened_quietly old new recent down down event none up up is none_seated;
     says = says;
     moves = moves_none _ _ event held ready.leaves;
     ready = ready;
@@ -88,7 +89,7 @@ does_quietly held old new down event said none up is says recent ready = (
 
 -- the world of a server that was just mounted
 pub world_mounted : (fs : FileSystem) (table : Table) (opens : Opens) (connections : Keyed Connection) → table ≡ empty_table fs.volume.run → opens ≡ no_opens → connections ≡ [] → fs.changes ≡ 0
-    → world_by (shared fs table opens) connections ≡ mounted_world (server_limits fs.volume.limits) fs.volume.run fs.volume.tree
+    → world_by (shared fs table opens) connections ≡ mounted_world (server_limits fs.volume.limits) fs.volume.run fs.volume.tree no_seats
 world_mounted fs table opens connections tables none_open none changes =
     ap₂ (λ (t : Table) (o : Opens). world_by (shared fs t o) connections) tables none_open
     ∙ (ap (λ (k : Keyed Connection). world_by (shared fs (empty_table fs.volume.run) no_opens) k) none
@@ -97,11 +98,11 @@ world_mounted fs table opens connections tables none_open none changes =
 -- a server that was just mounted
 pub mounted_by : (fs : FileSystem) (table : Table) (opens : Opens) (connections : Keyed Connection) → table ≡ empty_table fs.volume.run → opens ≡ no_opens → connections ≡ [] → fs.changes ≡ 0 → fs.volume.is_down ≡ false → Holds fs.volume
     → ∥ IsStart fs.volume.limits fs.volume.run fs.volume.tree ∥₁ → fs.volume.limits.aces_set + 5 ≤ fs.volume.limits.aces
-    → IsMounted fs.volume.run fs.volume.tree (record { serving = record { world = world_by (shared fs table opens) connections; recent = fs.volume.tree ∷ []; is_down = fs.volume.is_down }; volume = fs.volume })
+    → IsMounted fs.volume.run fs.volume.tree (record { serving = serving_by (world_by (shared fs table opens) connections) (fs.volume.tree ∷ []) fs.volume.is_down; volume = fs.volume })
 mounted_by fs table opens connections tables none_open none changes up holds starts room = record {
   serves =
-      ap (λ (w : World). record { world = w; recent = fs.volume.tree ∷ []; is_down = fs.volume.is_down }) (world_mounted fs table opens connections tables none_open none changes)
-      ∙ ap (λ (b : Bool). record { world = mounted_world (server_limits fs.volume.limits) fs.volume.run fs.volume.tree; recent = fs.volume.tree ∷ []; is_down = b }) up;
+      ap (λ (w : World). serving_by w (fs.volume.tree ∷ []) fs.volume.is_down) (world_mounted fs table opens connections tables none_open none changes)
+      ∙ ap (λ (b : Bool). serving_by (mounted_world (server_limits fs.volume.limits) fs.volume.run fs.volume.tree no_seats) (fs.volume.tree ∷ []) b) up;
   counted = refl;
   begins = refl;
   starts = starts;
@@ -122,8 +123,8 @@ pub limits_room : (sectors : ℕ) (held : Held) → held.limits ≡ limits_of se
 limits_room sectors held limits = subst (λ (l : Limits). l.aces_set + 5 ≤ l.aces) (sym limits) (omega arith)
 
 pub same_seen : (old new : World) (recent : List Tree) (old_held new_held : Held) → new ≡ old → new_held ≡ old_held
-    → (let one : Seen = record { serving = record { world = old; recent = recent; is_down = old_held.is_down }; volume = old_held } in one)
-    ≡ record { serving = record { world = new; recent = recent; is_down = new_held.is_down }; volume = new_held }
+    → (let one : Seen = record { serving = serving_by old recent old_held.is_down; volume = old_held } in one)
+    ≡ record { serving = serving_by new recent new_held.is_down; volume = new_held }
 same_seen old new recent old_held new_held worlds volumes =
-    ap (λ (w : World). let one : Seen = record { serving = record { world = w; recent = recent; is_down = old_held.is_down }; volume = old_held } in one) (sym worlds)
-    ∙ ap (λ (h : Held). let one : Seen = record { serving = record { world = new; recent = recent; is_down = h.is_down }; volume = h } in one) (sym volumes)
+    ap (λ (w : World). let one : Seen = record { serving = serving_by w recent old_held.is_down; volume = old_held } in one) (sym worlds)
+    ∙ ap (λ (h : Held). let one : Seen = record { serving = serving_by new recent h.is_down; volume = h } in one) (sym volumes)

@@ -2,6 +2,7 @@ use Rattle.std.proofs.Common.{◌≡◌, ℕ, List, ◌∷◌, Option, Some, Non
 use Rattle.std.specs.List.{IsAmong}
 use Rattle.volume.proofs.RemountLaws.{seen_left}
 use Rattle.model.specs.Answer.{Answer, Outcome}
+use Rattle.model.specs.declared.status.Status.{Status}
 use Rattle.model.specs.declared.status.Status.TheVariants as status
 use Rattle.model.specs.Keyed.{at}
 use Rattle.model.specs.Operation.{Argument, operation_of}
@@ -9,7 +10,7 @@ use Rattle.model.specs.Rpc.{CallRead, NoCall, OtherVersion, Calls, Request, Answ
 use Rattle.model.specs.Runs as runs
 use Rattle.model.specs.Tree.{Tree}
 use Rattle.model.specs.World as world
-use Rattle.model.specs.World.{World, Idle, InProgress, Next, Refuses, Reads, HasRun, Gives, Replays, Entry, Connection, Quiet, Waiting, Busy, Replied, Closed, one, turned, called, operates, behind, has_run, is_last, next_operation, in_room, run}
+use Rattle.model.specs.World.{World, Idle, InProgress, Next, Refuses, Reads, HasRun, Gives, Replays, Entry, Connection, Quiet, Waiting, Busy, Replied, Closed, one, turned, called, further, operates, behind, closes, has_run, is_last, is_to_hold, next_operation, in_room, run}
 use Rattle.disk.specs.Moments.{seen}
 use Rattle.server.specs.RunLaws.{IsReady, HangUpIsCalls, NeverEmpty, IsIdle, OnlyIdle}
 use Rattle.server.specs.Seen.{Seen, Call, Did, IsServed, IsTurned, Stays}
@@ -39,14 +40,22 @@ never_empty run start first last calls mounted served none =
 
 -- A step is not idle
 
+holds_or_ends : (old : World) (number : ℕ) (request : InProgress) (last : Status) (executed : Option Entry) (b : Bool)
+    → (cond b (world.goes_on old number (record request { ended = Some last }) executed) (world.ends old number request last executed)).turn ≡ Idle → ⊥
+holds_or_ends old number request last executed true idle = let never : ⊥ = cc in never
+holds_or_ends old number request last executed false idle = let never : ⊥ = cc in never
+
+closes_runs : (old : World) (number : ℕ) (request : InProgress) (last : Status) (executed : Option Entry) → (closes old number request last executed).turn ≡ Idle → ⊥
+closes_runs old number request last executed idle = holds_or_ends old number request last executed (is_to_hold request.slot old.table.seats) idle
+
 ends_or_goes : (old : World) (number : ℕ) (request : InProgress) (answer : Answer) (executed : Option Entry) (b : Bool)
-    → (cond b (world.ends old number (world.with_result request (Outcome.Done answer)) status.Ok executed)
+    → (cond b (closes old number (world.with_result request (Outcome.Done answer)) status.Ok executed)
     (world.goes_on old number (world.with_result request (Outcome.Done answer)) executed)).turn ≡ Idle → ⊥
-ends_or_goes old number request answer executed true idle = let never : ⊥ = cc in never
+ends_or_goes old number request answer executed true idle = closes_runs old number (world.with_result request (Outcome.Done answer)) status.Ok executed idle
 ends_or_goes old number request answer executed false idle = let never : ⊥ = cc in never
 
 behind_runs : (old : World) (number : ℕ) (request : InProgress) (outcome : Outcome) (executed : Option Entry) → (behind old number request outcome executed).turn ≡ Idle → ⊥
-behind_runs old number request (Outcome.Refused operation reason) executed idle = let never : ⊥ = cc in never
+behind_runs old number request (Outcome.Refused operation reason) executed idle = closes_runs old number (world.with_result request (Outcome.Refused operation reason)) reason executed idle
 behind_runs old number request (Outcome.Done answer) executed idle = ends_or_goes old number request answer executed (is_last request) idle
 
 has_runs : (old : World) (number : ℕ) (request : InProgress) (operation : Argument) (ran : HasRun) → (has_run old number request operation ran).turn ≡ Idle → ⊥
@@ -68,11 +77,15 @@ calls_run old number now NoCall idle = refl
 calls_run old number now (OtherVersion xid) idle = let never : ⊥ = cc in absurd never
 calls_run old number now (Calls call) idle = absurd (requests_run old number now call.xid (request_of call) idle)
 
+further_runs : (old : World) (number now : ℕ) (request : InProgress) (ended : Option Status) → (further old number now request ended).turn ≡ Idle → ⊥
+further_runs old number now request None idle = operates_runs old number now request (next_operation request) idle
+further_runs old number now request (Some last) idle = let never : ⊥ = cc in never
+
 turns_run : (old : World) (number now : ℕ) (connection : Option Connection) → (turned old number now connection).turn ≡ Idle → IsIdle connection
 turns_run old number now None idle = tt
 turns_run old number now (Some (Quiet bytes)) idle = tt
 turns_run old number now (Some (Waiting request)) idle = calls_run old number now (read_call request) idle
-turns_run old number now (Some (Busy request)) idle = operates_runs old number now request (next_operation request) idle
+turns_run old number now (Some (Busy request)) idle = further_runs old number now request request.ended idle
 turns_run old number now (Some (Replied reply)) idle = tt
 turns_run old number now (Some Closed) idle = tt
 

@@ -16,7 +16,7 @@ use Rattle.model.specs.World as world
 use Rattle.model.specs.World.{one, with_connection}
 use Rattle.server.specs.declared.turn.Turn.{Turn}
 use Rattle.server.specs.Connections.{Turns, IsRising, HasGoneOn, turn_view}
-use Rattle.server.specs.Views.{world_by, server_limits}
+use Rattle.server.specs.Views.{world_by, server_limits, serving_by}
 use Rattle.server.proofs.Turning.{one_is}
 use Rattle.server.proofs.Worlds.{may_leave_from}
 
@@ -85,13 +85,13 @@ gives_one state connections number now before is =
 -- what a stop within it may leave
 pub turning_moments : (state : SharedState) (old : Keyed world.Connection) (number now : ℕ) (recent : List Tree) (new : History) → IsRecent state.files.volume recent → state.files.volume.is_down ≡ false
     → AddsTrees state.files.volume (one (world_by state old) number now).world.tree new
-    → AddsOnly (StandsForOne state.files.volume (MayLeave (record { world = world_by state old; recent = recent; is_down = state.files.volume.is_down }) (runs.Turns number now))) state.files.volume.history new
+    → AddsOnly (StandsForOne state.files.volume (MayLeave (serving_by (world_by state old) recent state.files.volume.is_down) (runs.Turns number now))) state.files.volume.history new
 turning_moments state old number now recent new is up moments =
-    AddsOnly-weaken _ (StandsForOne state.files.volume (MayLeave (record { world = world_by state old; recent = recent; is_down = state.files.volume.is_down }) (runs.Turns number now))) state.files.volume.history new
+    AddsOnly-weaken _ (StandsForOne state.files.volume (MayLeave (serving_by (world_by state old) recent state.files.volume.is_down) (runs.Turns number now))) state.files.volume.history new
     (λ image found. (found.0, either found.0 found.1, found.2)) (moments recent is)
   where
     either : (tree : Tree) → MayAdd recent (one (world_by state old) number now).world.tree tree
-        → MayLeave (record { world = world_by state old; recent = recent; is_down = state.files.volume.is_down }) (runs.Turns number now) tree
+        → MayLeave (serving_by (world_by state old) recent state.files.volume.is_down) (runs.Turns number now) tree
     either tree (inl stays) = inl stays
-    either tree (inr goes) = subst (MayLeave (record { world = world_by state old; recent = recent; is_down = state.files.volume.is_down }) (runs.Turns number now)) (sym goes)
+    either tree (inr goes) = subst (MayLeave (serving_by (world_by state old) recent state.files.volume.is_down) (runs.Turns number now)) (sym goes)
         (may_leave_from (world_by state old) recent state.files.volume.is_down (runs.Turns number now) is.newest up)

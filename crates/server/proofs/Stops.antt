@@ -5,7 +5,6 @@ use Rattle.std.proofs.Props.{props}
 use Rattle.disk.specs.Moments.{Image, History, LeftSince, moment, seen}
 use Rattle.model.specs.Fresh.{fresh_tree}
 use Rattle.model.specs.Tree.{Tree}
-use Rattle.volume.specs.declared.fault.MountFault.TheVariants as mounts
 use Rattle.volume.specs.MountAnswers.{NoTree}
 use Rattle.volume.specs.Held.{Held, IsSameVolume}
 use Rattle.volume.specs.Stands.{StandsFor, IsBase}
@@ -17,6 +16,7 @@ use Rattle.model.proofs.StampLaws.{every_stamp}
 use Rattle.model.specs.StampRuns.{AreGiven}
 use Rattle.model.specs.Runs as runs
 use Rattle.model.specs.Runs.{Serving, Event, Takes, MayLeave, IsRun, AreStamped, history_after, history_failing, effect_of, mounted}
+use Rattle.model.specs.Seats.{no_seats}
 use Rattle.model.specs.World.{World}
 use Rattle.volume.proofs.RemountLaws.{seen_left, rests_left, lasting, served_good}
 use Rattle.volume.proofs.OneTree.{Tree-set}
@@ -112,7 +112,7 @@ every_stop stopped image left =
     (subst (λ (r : ℕ). StandsFor old.volume.sectors old.volume.limits.nodes r found.0 image) (all.same.run ∙ stopped.mounted.counted) found.2)) in
     record {
       tree = found.0;
-      good = every_run (server_limits first.volume.limits) stopped.run stopped.start old.serving history
+      good = every_run (server_limits first.volume.limits) stopped.run stopped.start no_seats old.serving history
           (subst (λ (s : Serving). IsRun s old.serving history) stopped.mounted.serves all.run) stopped.event found.0 found.1;
       stands = stands;
       no_other = λ nodes run other others.
@@ -217,7 +217,7 @@ stamped_within stopped =
     let old = stopped.old in
     let history = history_of first.serving.world stopped.calls in
     let all = joined first old stopped.calls stopped.mounted.ready.leaves stopped.served in
-    every_stamp (server_limits first.volume.limits) stopped.run stopped.start old.serving history
+    every_stamp (server_limits first.volume.limits) stopped.run stopped.start no_seats old.serving history
     (subst (λ (s : Serving). IsRun s old.serving history) stopped.mounted.serves all.run) stopped.event
 
 given_within : (stopped : Stopped) → ∥ AreGiven stopped.run (executed_in stopped) ∥₁
@@ -227,7 +227,7 @@ given_within stopped =
     let history = history_of first.serving.world stopped.calls in
     let all = joined first old stopped.calls stopped.mounted.ready.leaves stopped.served in
     ∥∥₁_map stopped.mounted.starts (λ starts.
-    every_stamp_is_given (server_limits first.volume.limits) stopped.run stopped.start old.serving history stopped.mounted.room starts
+    every_stamp_is_given (server_limits first.volume.limits) stopped.run stopped.start no_seats old.serving history stopped.mounted.room starts
     (subst (λ (s : Serving). IsRun s old.serving history) stopped.mounted.serves all.run) stopped.event)
 
 pub every_stamping : EveryStamping

@@ -3,6 +3,11 @@ use Rattle.std.proofs.Common.{◌≡◌, ℕ, false, List, [], ◌∷◌, Option
 use Rattle.std.proofs.lemmas.Bool.{cases_order}
 use Rattle.std.proofs.lemmas.Option.{same_Some}
 use Rattle.compound.specs.States.{SharedState, HasState, with_state}
+use Rattle.compound.specs.Steps.{Steps, stepped_on, turn_by, connection_by}
+use Rattle.compound.specs.Views.{Asked, asked_of, in_progress_of}
+use Rattle.compound.specs.declared.running.Running.{Running}
+use Rattle.compound.specs.declared.step.Stepped.{Stepped}
+use Rattle.compound.specs.declared.step.Stepped.TheVariants as stepped
 use Rattle.compound.specs.declared.fault.Fault.{Fault}
 use Rattle.compound.specs.Volumes.{TurnGives}
 use Rattle.compound.proofs.VolumeLaws.{same_turns, idle_turns}
@@ -19,6 +24,7 @@ use Rattle.model.specs.World as world
 use Rattle.model.specs.World.{World, Connection, Turned, Waiting, Busy, Replied, one, called, turned, idle, is_busy, with_connection}
 use Rattle.rpc.specs.Assembly.{Assembly, Gathers, Holds, Refuses, connection_of}
 use Rattle.server.specs.Connections.{IsRising, Leads, Turns, HasGoneOn, turn_view}
+use Rattle.server.specs.Stages.{left_by}
 use Rattle.server.specs.declared.turn.Turn.{Turn}
 use Rattle.server.specs.declared.turn.Turn.TheVariants as turn
 
@@ -113,6 +119,27 @@ no_record_comes now (Refuses fault) none world number = refl
 pub waiting_comes : (now : ℕ) (before : Connection) (request : List ℕ) → before ≡ Waiting request
     → (world : World) (number : ℕ) → turned world number now (Some before) ≡ called world number now (read_call request)
 waiting_comes now before request is world number = rw is refl
+
+-- a request that has begun goes on with its next operation: none of the code has ended before its reply is there
+pub running_comes : (now : ℕ) (running : Running) (world : World) (number : ℕ)
+    → turned world number now (Some (Busy (in_progress_of running))) ≡ stepped_on world number now (in_progress_of running)
+unfolding in_progress_of
+running_comes now running world number = refl
+
+left_is : (asked : Asked) (done : Stepped) → connection_by asked done ≡ left_by (Some asked) done
+left_is asked (stepped.Ran progress) = refl
+left_is asked (stepped.Answered reply) = refl
+
+pub running_leads : (now : ℕ) (running : Running) (done : Stepped) (before after : Connection) (old new : SharedState) (asked : Option Asked) (turn : world.Turn)
+    → before ≡ Busy (in_progress_of running) → asked ≡ Some (asked_of running) → after ≡ left_by asked done → turn ≡ turn_by done
+    → Steps now old new (asked_of running) (in_progress_of running) done → Leads (λ w n. turned w n now (Some before)) old new after turn
+running_leads now running done before after old new asked turn is asks left did steps = λ world number served.
+    let comes = ap (λ (b : Connection). turned world number now (Some b)) is ∙ running_comes now running world number in
+    let step = steps world number served in
+    let here : connection_by (asked_of running) done ≡ after = left_is (asked_of running) done ∙ sym (left ∙ ap (λ (a : Option Asked). left_by a done) asks) in (
+      ap (λ (t : Turned). t.turn) comes ∙ (step.0 ∙ sym did),
+      ap (λ (t : Turned). t.world) comes ∙ (step.1 ∙ ap (λ (c : Connection). with_connection (with_state world new) number c) here),
+    )
 
 -- A connection whose request has not begun may become anything
 

@@ -5,7 +5,8 @@ use Rattle.std.proofs.lemmas.Bool.{cases_eq}
 use Rattle.model.specs.Keyed.{Keyed, at, with, without}
 use Rattle.model.specs.Record.{RecordLimits, Front, Partial, Refused, Whole, front}
 use Rattle.model.specs.Rpc.{is_call_read, read_call}
-use Rattle.model.specs.Runs.{Serving, Event, Happens, Fails, StaysDown, MayLeave, effect_of, executed_of, executed_by}
+use Rattle.model.specs.Runs.{Event, Happens, Fails, StaysDown, MayLeave, effect_of, executed_of, executed_by}
+use Rattle.model.specs.Seats.{Seats, no_seats}
 use Rattle.model.specs.Tree.{Tree}
 use Rattle.model.specs.World as world
 use Rattle.model.specs.World.{World, Quiet, Closed, arrives, arrives_at, arrived, takes, without_reply, connects, can_connect, connection_changed, with_connection, hangs_up, is_busy}
@@ -16,43 +17,27 @@ use Rattle.volume.specs.Changes.{Leaves}
 use Rattle.volume.specs.Held.{Held}
 use Rattle.model.proofs.RuledOutLaws.{each_event_happens, dropped}
 use Rattle.model.proofs.RunLaws.{EntryFits, event_fits}
-use Rattle.model.proofs.Headline.{only_start}
 use Rattle.rpc.specs.Assembly.{record_limits}
 use Rattle.slab.specs.Slab.{Slab, slab_len, Updates}
 use Rattle.server.specs.declared.connection.Connection.{Connection}
 use Rattle.server.specs.Connections.{IsOfRun, connections_of, connection_view}
 use Rattle.server.proofs.SlabLaws.{with_slot, grew, grew_count}
-use Rattle.server.specs.Views.{world_by}
+use Rattle.server.specs.Views.{world_by, serving_by}
 
 -- Events
 
--- a server whose file system is up, before and after
-abbrev served : World → Serving
-served world = record { world = world; recent = world.tree ∷ []; is_down = false }
+-- a volume has no seats
+only_none : (seats : Seats) → IsAmong (no_seats ∷ []) seats → seats ≡ no_seats
+only_none seats among = by_place among.0 among.1.0 among.1.1
+  where
+    by_place : (place : ℕ) → place < length (no_seats ∷ []) → seats ≡ get_or (no_seats ∷ []) place seats → seats ≡ no_seats
+    by_place zero less e = e
+    by_place (suc place) less e = absurd (omega arith)
 
--- an event happens as soon as the world is what the event makes of it
-happened : (old new : World) (event : Event) → new ≡ effect_of old event → Happens (served old) event (served new)
-happened old new event is =
-    let made = each_event_happens (served old) event refl (0, (omega arith, refl)) in
-    let same : made.0.world.tree ≡ new.tree = ap (λ (w : World). w.tree) (made.1.world ∙ sym is) in
-    record {
-      up = refl;
-      world = is;
-      still_up = refl;
-      no_others = λ tree left. made.1.no_others tree (subst (IsAmong made.0.recent) (same ∙ sym (only_start new.tree tree left)) made.2);
-      durable = λ entry e lasts tree left. made.1.durable entry e lasts tree (subst (IsAmong made.0.recent) (same ∙ sym (only_start new.tree tree left)) made.2);
-    }
-
--- what a stop within the event may leave: the tree after it
-may_leave_after : (old : World) (event : Event) → MayLeave (served old) event (effect_of old event).tree
-may_leave_after old event =
-    let made = each_event_happens (served old) event refl (0, (omega arith, refl)) in
-    subst (MayLeave (served old) event) (ap (λ (w : World). w.tree) made.1.world) (made.1.no_others made.0.world.tree made.2)
-
--- an event that executes nothing leaves them
+-- an event that executes nothing leaves the trees
 pub happened_quietly : (old new : World) (recent : List Tree) (old_down new_down : Bool) (event : Event) → executed_of old event ≡ None → old_down ≡ false → new_down ≡ false → new ≡ effect_of old event
-    → Happens (record { world = old; recent = recent; is_down = old_down }) event (record { world = new; recent = recent; is_down = new_down })
-happened_quietly old new recent old_down new_down event none up still is = record {
+    → new.table.seats ≡ no_seats → Happens (serving_by old recent old_down) event (serving_by new recent new_down)
+happened_quietly old new recent old_down new_down event none up still is none_seated = record {
   up = up;
   world = is;
   still_up = still;
@@ -60,31 +45,33 @@ happened_quietly old new recent old_down new_down event none up still is = recor
   durable = λ entry e lasts tree left.
       let done : executed_of old event ≡ Some entry = subst (λ (b : Bool). executed_by old event b ≡ Some entry) up e in
       let never : ⊥ = cc in absurd never;
+  seats = λ seats left. only_none seats left ∙ sym none_seated;
 }
 
 pub may_leave_from : (old : World) (recent : List Tree) (down : Bool) (event : Event) → IsAmong recent old.tree → down ≡ false
-    → MayLeave (record { world = old; recent = recent; is_down = down }) event (effect_of old event).tree
+    → MayLeave (serving_by old recent down) event (effect_of old event).tree
 may_leave_from old recent down event newest up =
-    subst (λ (b : Bool). MayLeave (record { world = old; recent = recent; is_down = b }) event (effect_of old event).tree) (sym up) (
-    let made = each_event_happens (record { world = old; recent = recent; is_down = false }) event refl newest in
-    subst (MayLeave (record { world = old; recent = recent; is_down = false }) event) (ap (λ (w : World). w.tree) made.1.world) (made.1.no_others made.0.world.tree made.2))
+    subst (λ (b : Bool). MayLeave (serving_by old recent b) event (effect_of old event).tree) (sym up) (
+    let made = each_event_happens (serving_by old recent false) event refl newest in
+    subst (MayLeave (serving_by old recent false) event) (ap (λ (w : World). w.tree) made.1.world) (made.1.no_others made.0.world.tree made.2))
 
 -- an event that leaves a stop some of the trees before and the one after it, and after what has to last that one alone
 pub happened_leaving : (held : Held) (old new : World) (recent left : List Tree) (old_down new_down : Bool) (event : Event) → IsAmong recent old.tree → old_down ≡ false → new_down ≡ false
-    → new ≡ effect_of old event → Leaves held (effect_of old event).tree (lasts (executed_of old event)) recent left
-    → Happens (record { world = old; recent = recent; is_down = old_down }) event (record { world = new; recent = left; is_down = new_down })
-happened_leaving held old new recent left old_down new_down event newest up still is leaves = record {
+    → new ≡ effect_of old event → new.table.seats ≡ no_seats → Leaves held (effect_of old event).tree (lasts (executed_of old event)) recent left
+    → Happens (serving_by old recent old_down) event (serving_by new left new_down)
+happened_leaving held old new recent left old_down new_down event newest up still is none_seated leaves = record {
   up = up;
   world = is;
   still_up = still;
   no_others = λ tree among. elim (leaves.no_others tree among) [
     | inl stays ↦ inl stays
-    | inr behind ↦ subst (MayLeave (record { world = old; recent = recent; is_down = old_down }) event) (sym behind) (may_leave_from old recent old_down event newest up)
+    | inr behind ↦ subst (MayLeave (serving_by old recent old_down) event) (sym behind) (may_leave_from old recent old_down event newest up)
   ];
   durable = λ entry e durable tree among.
       let done : executed_of old event ≡ Some entry = subst (λ (b : Bool). executed_by old event b ≡ Some entry) up e in
       let fits : EntryFits old.tree (effect_of old event).tree (Some entry) = subst (EntryFits old.tree (effect_of old event).tree) done (event_fits old event) in
       leaves.durable (ap lasts done ∙ durable) tree among ∙ fits.1;
+  seats = λ seats among. only_none seats among ∙ sym none_seated;
 }
 
 among_more : (more : Tree) (recent : List Tree) (tree : Tree) → IsAmong (more ∷ recent) tree → (tree ≡ more) ⊎ IsAmong recent tree
@@ -98,59 +85,26 @@ pub among_rest : (more : Tree) (recent : List Tree) (tree : Tree) → IsAmong re
 among_rest more recent tree among = (suc among.0, (omega (arith, among.1.0), among.1.1))
 
 pub failed_from : (old new : World) (recent : List Tree) (old_down new_down : Bool) (event : Event) → IsAmong recent old.tree → old_down ≡ false → new_down ≡ true → new ≡ old
-    → Fails (record { world = old; recent = recent; is_down = old_down }) event (record { world = new; recent = (effect_of old event).tree ∷ recent; is_down = new_down })
+    → Fails (serving_by old recent old_down) event (serving_by new ((effect_of old event).tree ∷ recent) new_down)
 failed_from old new recent old_down new_down event newest up down is = record {
   up = up;
   world = is;
   down = down;
   no_others = λ tree left. elim (among_more (effect_of old event).tree recent tree left) [
-    | inl first ↦ subst (MayLeave (record { world = old; recent = recent; is_down = old_down }) event) (sym first) (may_leave_from old recent old_down event newest up)
+    | inl first ↦ subst (MayLeave (serving_by old recent old_down) event) (sym first) (may_leave_from old recent old_down event newest up)
     | inr rest ↦ inl rest
   ];
-}
-
-abbrev pub with_tree : World → Bool → Serving
-with_tree world is_down = record { world = world; recent = world.tree ∷ []; is_down = is_down }
-
-pub happens : (old new : World) (old_down new_down : Bool) (event : Event) → old_down ≡ false → new_down ≡ false → new ≡ effect_of old event
-    → Happens (with_tree old old_down) event (with_tree new new_down)
-happens old new old_down new_down event up still is =
-    subst (λ (b : Bool). Happens (with_tree old b) event (with_tree new new_down)) (sym up)
-    (subst (λ (b : Bool). Happens (with_tree old false) event (with_tree new b)) (sym still) (happened old new event is))
-
-pub may_leave : (old : World) (down : Bool) (event : Event) → down ≡ false → MayLeave (with_tree old down) event (effect_of old event).tree
-may_leave old down event up = subst (λ (b : Bool). MayLeave (with_tree old b) event (effect_of old event).tree) (sym up) (may_leave_after old event)
-
-pub may_stay : (old : World) (down : Bool) (event : Event) → MayLeave (with_tree old down) event old.tree
-may_stay old down event = inl (0, (omega arith, refl))
-
-among_two : (first second tree : Tree) → IsAmong (first ∷ second ∷ []) tree → (tree ≡ first) ⊎ (tree ≡ second)
-among_two first second tree among = by_place among.0 among.1.0 among.1.1
-  where
-    by_place : (place : ℕ) → place < length (first ∷ second ∷ []) → tree ≡ get_or (first ∷ second ∷ []) place tree → (tree ≡ first) ⊎ (tree ≡ second)
-    by_place zero less e = inl e
-    by_place (suc zero) less e = inr e
-    by_place (suc (suc place)) less e = absurd (omega arith)
-
-pub fails : (old new : World) (old_down new_down : Bool) (event : Event) → old_down ≡ false → new_down ≡ true → new ≡ old
-    → Fails (with_tree old old_down) event (record { world = new; recent = old.tree ∷ (effect_of old event).tree ∷ []; is_down = new_down })
-fails old new old_down new_down event up down is = record {
-  up = up;
-  world = is;
-  down = down;
-  no_others = λ tree left. elim (among_two old.tree (effect_of old event).tree tree left) [
-    | inl first ↦ subst (MayLeave (with_tree old old_down) event) (sym first) (may_stay old old_down event)
-    | inr second ↦ subst (MayLeave (with_tree old old_down) event) (sym second) (may_leave old old_down event up)
-  ];
+  seats = λ seats left. inl left;
 }
 
 pub stays_down : (old new : World) (old_down new_down : Bool) (recent : List Tree) (connection : ℕ) → old_down ≡ true → new_down ≡ true → new ≡ takes old connection
-    → StaysDown (record { world = old; recent = recent; is_down = old_down }) connection (record { world = new; recent = recent; is_down = new_down })
+    → StaysDown (serving_by old recent old_down) connection (serving_by new recent new_down)
 stays_down old new old_down new_down recent connection was down is = record {
   down = was;
   world = is;
   still_down = down;
   no_others = λ tree left. left;
+  seats = λ seats left. left;
 }
 
 -- What they make of a world

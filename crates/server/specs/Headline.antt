@@ -3,6 +3,7 @@ use Rattle.std.specs.Prelude.{ℕ, List, [], ◌∷◌, slice_get, Some, ◌≡�
 use Rattle.disk.specs.Moments.{Image, History, LeftSince, at_rest, moment, seen}
 use Rattle.model.specs.Fresh.{fresh_tree}
 use Rattle.model.specs.Runs.{Event, IsGoodPrefix, AreStamped, mounted, executed, done_with, before, stamp_in}
+use Rattle.model.specs.Seats.{no_seats}
 use Rattle.model.specs.SoundRuns.{IsStart}
 use Rattle.model.specs.StampRuns.{AreGiven}
 use Rattle.model.specs.Tree.{Tree}
@@ -20,9 +21,9 @@ use Rattle.server.specs.declared.server.Server.{Server}
 use Rattle.disk.specs.declared.device.Device.{Ghosts}
 
 -- a server that was just mounted, and begins a run with this tree, which is well formed and from
--- before its stamps: a stop now leaves it
+-- before its stamps, and with no seats: a stop now leaves it
 pub record IsMounted (run : ℕ) (start : Tree) (first : Seen) : Type 0 where
-  pub serves : first.serving ≡ mounted (server_limits first.volume.limits) run start
+  pub serves : first.serving ≡ mounted (server_limits first.volume.limits) run start no_seats
   pub counted : first.volume.run ≡ run
   pub begins : first.volume.tree ≡ start
   pub starts : ∥ IsStart first.volume.limits run start ∥₁

@@ -1,5 +1,5 @@
 -- What contracts see of a server: its world, and what stands on its device.
-use Rattle.std.specs.Prelude.{ℕ, List, Option, ◌≡◌}
+use Rattle.std.specs.Prelude.{ℕ, Bool, List, [], ◌∷◌, Option, ◌≡◌}
 use Rattle.std.specs.Global.{Vec}
 use Rattle.std.specs.Option.{option_map}
 use Rattle.compound.specs.States.{SharedState, most_reply_bytes, shared_of}
@@ -8,6 +8,7 @@ use Rattle.fs.specs.FileSystem.{FileSystem}
 use Rattle.fs.specs.Views.{fs_of, fs_failures}
 use Rattle.model.specs.declared.limits.Limits.{Limits}
 use Rattle.model.specs.Runs.{Serving, Event}
+use Rattle.model.specs.Seats.{no_seats}
 use Rattle.model.specs.Tree.{Tree}
 use Rattle.model.specs.World as world
 use Rattle.model.specs.World.{World, ServerLimits, mounted_world}
@@ -56,23 +57,29 @@ files_of server = fs_of server.fs
 unfoldable pub volume_of : {D : Type 0} {g : Ghosts D} → Server D g → Held
 volume_of server = (fs_of server.fs).volume
 
--- it has the tree of its volume, and neither a client nor a connection
+-- it has the tree of its volume, and no client, session or seat, and no connection
 abbrev pub BeginsEmpty : {D : Type 0} {g : Ghosts D} → Server D g → Type 0
 BeginsEmpty server = world_of server
     ≡ mounted_world (server_limits (volume_of server).limits) (volume_of server).run
-    (volume_of server).tree
+    (volume_of server).tree no_seats
 
 -- how often the device has failed
 unfoldable pub failures_of : {D : Type 0} {g : Ghosts D} → Server D g → ℕ
 failures_of server = fs_failures server.fs
 
--- the server as the machine of the headline has it: a stop may leave these trees now
-abbrev pub serving : {D : Type 0} {g : Ghosts D} → Server D g → List Tree → Serving
-serving server recent = record {
-  world = world_of server;
+-- the machine of the headline: a stop may leave these trees now. A volume has no seats beside its
+-- tree, before a call and after it.
+abbrev pub serving_by : World → List Tree → (is_down : Bool) → Serving
+serving_by world recent is_down = record {
+  world = world;
   recent = recent;
-  is_down = (volume_of server).is_down;
+  held = no_seats ∷ [];
+  is_down = is_down;
 }
+
+-- the server as that machine
+abbrev pub serving : {D : Type 0} {g : Ghosts D} → Server D g → List Tree → Serving
+serving server recent = serving_by (world_of server) recent (volume_of server).is_down
 
 -- the same with the volume below it
 abbrev pub seen_with : {D : Type 0} {g : Ghosts D} → Server D g → List Tree → Seen
@@ -82,11 +89,8 @@ seen_with server recent = record { serving = serving server recent; volume = vol
 -- tree that it had
 abbrev pub seen_down : {D : Type 0} {g : Ghosts D} → Server D g → Tree → List Tree → Seen
 seen_down server tree recent = record {
-  serving = record {
-    world = record (world_of server) { tree = tree };
-    recent = recent;
-    is_down = (volume_of server).is_down;
-  };
+  serving =
+      serving_by (record (world_of server) { tree = tree }) recent (volume_of server).is_down;
   volume = volume_of server;
 }
 

@@ -9,6 +9,7 @@ use Rattle.session.specs.Views.{table_of}
 use Rattle.server.specs.Connections.{connections_of, connection_view, IsOfRun}
 use Rattle.server.specs.Seen.{Gave}
 use Rattle.server.specs.Views.{world_of, volume_of}
+use Rattle.compound.proofs.Unseated.{table_unseated}
 use Rattle.server.proofs.Moves.{moves_none, does_quietly}
 use Rattle.server.proofs.SlabLaws.{stands, stands_none, wrote, wrote_count}
 use Rattle.server.proofs.Worlds.{AllOfRun, all_of_run_with, taken_of_run, took, stays_down}
@@ -38,7 +39,7 @@ returns-in-Some-clause-ok g c =
     λ keeps up. does_quietly (fs_of s.fs).volume _ _ _ (runs.Takes c.args.conn) _ refl up
     (took (shared_of s.fs s.table s.opens) (connections_of s.connections) _ c.args.conn (connection_view before) (connection_view after)
     there (wrote s.connections c.args.conn before after c.in-Some.ensures.value) c.take_output.ensures.left)
-    (ap Gave (c.take_output.ensures.given ∙ ap reply_in (sym there)))
+    (table_unseated s.table) (ap Gave (c.take_output.ensures.given ∙ ap reply_in (sym there)))
 
 pub returns-in-Some-clause-down : goal.returns-in-Some-clause-down
 unfolding world_of volume_of

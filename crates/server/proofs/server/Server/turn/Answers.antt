@@ -14,6 +14,7 @@ use Rattle.server.specs.Views.{world_of, volume_of, failures_of, world_by}
 use Rattle.compound.proofs.QuietLaws.{left_all, broken≢done}
 use Rattle.model.proofs.KeyedLaws.{at-with_other}
 use Rattle.model.specs.Keyed.{at}
+use Rattle.compound.proofs.Unseated.{table_unseated}
 use Rattle.server.proofs.Moves.{broken_leaves}
 use Rattle.server.proofs.Refusals.{told_by, device_told, turn_refused}
 use Rattle.server.proofs.SlabLaws.{stands, stands_none, wrote, wrote_count, rewrote, numbers_rise}
@@ -164,7 +165,7 @@ returns-clause-ok g c =
     let left = volume.ends.leaves keeps _ _ gives recent ready in (
       left.0,
       record {
-        happens = happened_leaving (fs_of c.turn.new.fs).volume _ _ recent left.0 _ _ (runs.Turns c.args.conn c.args.now) ready.newest up volume.ends.still_up made.1 left.1;
+        happens = happened_leaving (fs_of c.turn.new.fs).volume _ _ recent left.0 _ _ (runs.Turns c.args.conn c.args.now) ready.newest up volume.ends.still_up made.1 (table_unseated c.turn.new.table) left.1;
         says = ap Turned made.0;
         moves = record {
           moments = turning_moments (shared_of s.fs s.table s.opens) (connections_of s.connections) c.args.conn c.args.now recent _ ready up (volume.moments keeps _ _ gives);
