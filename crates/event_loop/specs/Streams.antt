@@ -1,5 +1,5 @@
 -- What a step of a peer writes: of what was left of a reply, and of the replies that the server gives.
-use Rattle.std.specs.Prelude.{ℕ, List, [], ◌∷◌, ◌++◌, ◌==◌, ◌≡◌, ◌⊎◌, if◌then◌else◌, Option, Some, None, false}
+use Rattle.std.specs.Prelude.{ℕ, List, [], ◌∷◌, ◌++◌, ◌==◌, ◌≡◌, ◌⊎◌, if◌then◌else◌, Option, Some, None, Result, IfOk, false}
 use Rattle.std.specs.Global.{Vec}
 use Rattle.std.specs.Io.KnownBytes.{Appends}
 use Rattle.disk.specs.declared.device.Device.{Ghosts}
@@ -9,6 +9,9 @@ use Rattle.server.specs.Seen.{Call, Did, Gave, IsServed}
 use Rattle.server.specs.Views.{seen_with, volume_of}
 use Rattle.server.specs.declared.server.Server.{Server}
 use Rattle.volume.specs.Held.{IsRecent}
+use Rattle.event_loop.specs.declared.pace.Pace.{Pace}
+use Rattle.event_loop.specs.declared.pace.Pace.TheVariants as paces
+use Rattle.event_loop.specs.declared.peer.Peer.{Peer}
 use Rattle.event_loop.specs.declared.peer.Stage.{Stage}
 use Rattle.event_loop.specs.declared.peer.Stage.TheVariants as stages
 
@@ -68,3 +71,19 @@ pub record Sends {D : Type 0} {g : Ghosts D} (keeps : Type 0) (old new : Server 
   pub given : List ℕ
   pub goes : Goes keeps old new connection given
   pub writes : Writes before after left given rest
+
+-- and so is this one, from one state of it to another
+abbrev pub SendsTo : {D S : Type 0} {g : Ghosts D} → (keeps : Type 0)
+    → (gone : S → Option (List ℕ)) → (old new : Server D g) → (before after : Peer S) → Type 0
+SendsTo keeps gone old new before after =
+    Sends keeps old new before.conn (gone before.stream) (gone after.stream)
+    (unsent before.stage) (unsent after.stage)
+
+-- Sleep
+
+-- the system tells when a read gives something again, or a write takes something
+abbrev pub IsTold : {S : Type 0} → Peer S → Type 0
+IsTold peer = (peer.can_read ≡ false) ⊎ (peer.can_write ≡ false)
+
+abbrev pub SleepsTold : {S Refused : Type 0} → Peer S → Result Pace Refused → Type 0
+SleepsTold peer result = IfOk result (λ pace. pace ≡ paces.Sleeps → IsTold peer)

@@ -77,8 +77,8 @@ impl From<Refused> for Parting {
 }
 
 impl<S: Stream + Drop> Peer<S> {
-    ghost use Rattle.std.specs.Prelude.{◌≡◌, ◌⊎◌, [], false, IfOk};
-    ghost use Rattle.event_loop.specs.Streams.{Sends, Writes, unsent};
+    ghost use Rattle.std.specs.Prelude.{◌≡◌, ◌⊎◌, [], IfOk};
+    ghost use Rattle.event_loop.specs.Streams.{IsTold, SleepsTold, SendsTo, Writes, unsent};
 
     /// A peer over this connection of the server.
     pub fn new(conn: usize, stream: S, inbox: Inbox, now: Instant) -> Peer<S> {
@@ -134,11 +134,9 @@ impl<S: Stream + Drop> Peer<S> {
     where
         D: Device,
         C: Clock,
-        ensures asleep { IfOk result (λ step. step ≡ Step.Stays Pace.Sleeps
-            → (self.new.can_read ≡ false) ⊎ (self.new.can_write ≡ false)) }
-        ensures sent { (self.new.stage ≡ Stage.Ends) ⊎ Sends D.keeps_word server.old server.new
-            self.old.conn (S.gone self.old.stream) (S.gone self.new.stream)
-            (unsent self.old.stage) (unsent self.new.stage) }
+        ensures asleep { IfOk result (λ step. step ≡ Step.Stays Pace.Sleeps → IsTold self.new) }
+        ensures sent { (self.new.stage ≡ Stage.Ends)
+            ⊎ SendsTo D.keeps_word S.gone server.old server.new self.old self.new }
     {
         match self.advance(server, clock, now) {
             Ok(pace) => Ok(Step::Stays(pace)),
@@ -157,11 +155,8 @@ impl<S: Stream + Drop> Peer<S> {
     where
         D: Device,
         C: Clock,
-        ensures asleep { IfOk result (λ pace. pace ≡ Pace.Sleeps
-            → (self.new.can_read ≡ false) ⊎ (self.new.can_write ≡ false)) }
-        ensures sent { Sends D.keeps_word server.old server.new self.old.conn
-            (S.gone self.old.stream) (S.gone self.new.stream)
-            (unsent self.old.stage) (unsent self.new.stage) }
+        ensures asleep { SleepsTold self.new result }
+        ensures sent { SendsTo D.keeps_word S.gone server.old server.new self.old self.new }
     {
         match self.stage {
             Stage::Gathers => self.gather(server, clock, now),
@@ -182,11 +177,8 @@ impl<S: Stream + Drop> Peer<S> {
         D: Device,
         C: Clock,
         requires { unsent self.old.stage ≡ [] }
-        ensures asleep { IfOk result (λ pace. pace ≡ Pace.Sleeps
-            → (self.new.can_read ≡ false) ⊎ (self.new.can_write ≡ false)) }
-        ensures sent { Sends D.keeps_word server.old server.new self.old.conn
-            (S.gone self.old.stream) (S.gone self.new.stream)
-            (unsent self.old.stage) (unsent self.new.stage) }
+        ensures asleep { SleepsTold self.new result }
+        ensures sent { SendsTo D.keeps_word S.gone server.old server.new self.old self.new }
     {
         if self.inbox.is_empty() {
             return self.receive(server, clock, now);
@@ -206,11 +198,8 @@ impl<S: Stream + Drop> Peer<S> {
         C: Clock,
         requires empty { self.old.inbox ≡ [] }
         requires none_left { unsent self.old.stage ≡ [] }
-        ensures asleep { IfOk result (λ pace. pace ≡ Pace.Sleeps
-            → (self.new.can_read ≡ false) ⊎ (self.new.can_write ≡ false)) }
-        ensures sent { Sends D.keeps_word server.old server.new self.old.conn
-            (S.gone self.old.stream) (S.gone self.new.stream)
-            (unsent self.old.stage) (unsent self.new.stage) }
+        ensures asleep { SleepsTold self.new result }
+        ensures sent { SendsTo D.keeps_word S.gone server.old server.new self.old self.new }
     {
         if !self.can_read {
             return Ok(Pace::Sleeps);
@@ -236,11 +225,8 @@ impl<S: Stream + Drop> Peer<S> {
         D: Device,
         C: Clock,
         requires { unsent self.old.stage ≡ [] }
-        ensures asleep { IfOk result (λ pace. pace ≡ Pace.Sleeps
-            → (self.new.can_read ≡ false) ⊎ (self.new.can_write ≡ false)) }
-        ensures sent { Sends D.keeps_word server.old server.new self.old.conn
-            (S.gone self.old.stream) (S.gone self.new.stream)
-            (unsent self.old.stage) (unsent self.new.stage) }
+        ensures asleep { SleepsTold self.new result }
+        ensures sent { SendsTo D.keeps_word S.gone server.old server.new self.old self.new }
     {
         let taken = calls::feed(server, self.conn, self.inbox.bytes())?;
         self.inbox.consume(taken);
@@ -260,11 +246,8 @@ impl<S: Stream + Drop> Peer<S> {
         D: Device,
         C: Clock,
         requires { unsent self.old.stage ≡ [] }
-        ensures asleep { IfOk result (λ pace. pace ≡ Pace.Sleeps
-            → (self.new.can_read ≡ false) ⊎ (self.new.can_write ≡ false)) }
-        ensures sent { Sends D.keeps_word server.old server.new self.old.conn
-            (S.gone self.old.stream) (S.gone self.new.stream)
-            (unsent self.old.stage) (unsent self.new.stage) }
+        ensures asleep { SleepsTold self.new result }
+        ensures sent { SendsTo D.keeps_word S.gone server.old server.new self.old self.new }
     {
         match calls::turn(server, self.conn, moment(clock)?)? {
             Turn::Idle => {
@@ -282,11 +265,8 @@ impl<S: Stream + Drop> Peer<S> {
         now: Instant,
     ) -> Result<Pace, Parting>
         requires { unsent self.old.stage ≡ [] }
-        ensures asleep { IfOk result (λ pace. pace ≡ Pace.Sleeps
-            → (self.new.can_read ≡ false) ⊎ (self.new.can_write ≡ false)) }
-        ensures sent { Sends D.keeps_word server.old server.new self.old.conn
-            (S.gone self.old.stream) (S.gone self.new.stream)
-            (unsent self.old.stage) (unsent self.new.stage) }
+        ensures asleep { SleepsTold self.new result }
+        ensures sent { SendsTo D.keeps_word S.gone server.old server.new self.old self.new }
     {
         self.has_half = false;
         self.stage = Stage::Gathers;
@@ -302,8 +282,7 @@ impl<S: Stream + Drop> Peer<S> {
 
     /// Sends what the peer takes of its reply.
     fn reply(&mut self, now: Instant) -> Result<Pace, Parting>
-        ensures asleep { IfOk result (λ pace. pace ≡ Pace.Sleeps
-            → (self.new.can_read ≡ false) ⊎ (self.new.can_write ≡ false)) }
+        ensures asleep { SleepsTold self.new result }
         ensures sent { Writes (S.gone self.old.stream) (S.gone self.new.stream)
             (unsent self.old.stage) [] (unsent self.new.stage) }
         ensures conn { self.new.conn ≡ self.old.conn }
@@ -329,8 +308,7 @@ impl<S: Stream + Drop> Peer<S> {
 
     /// What a read, in `Gathers`, or a write, in `Replies`, that failed leaves to do.
     fn bear(&mut self, error: &io::Error) -> Result<Pace, Parting>
-        ensures asleep { IfOk result (λ pace. pace ≡ Pace.Sleeps
-            → (self.new.can_read ≡ false) ⊎ (self.new.can_write ≡ false)) }
+        ensures asleep { SleepsTold self.new result }
         ensures same { (self.new.stage ≡ self.old.stage) × (self.new.stream ≡ self.old.stream)
             × (self.new.conn ≡ self.old.conn) }
     {
