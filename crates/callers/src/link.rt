@@ -11,6 +11,7 @@ use disk::Device;
 use fs::{Checked, Fs};
 use server::{Server, Turn};
 use std::alloc::Global;
+use std::num::NonZeroUsize;
 use wire::Argument;
 
 /// Makes the device a new volume.
@@ -26,6 +27,18 @@ pub fn check<D: Device>(alloc: Global, device: &mut D) -> Result<Checked, Refuse
 /// Mounts the device's volume.
 pub fn mount<D: Device>(alloc: Global, device: D) -> Result<Server<D>, Refused> {
     match Server::mount(alloc, device) {
+        Ok(server) => Ok(server),
+        Err(unmounted) => Err(unmounted.fault.into()),
+    }
+}
+
+/// Mounts the device's volume, with so many of its sectors in memory.
+pub fn mount_cached<D: Device>(
+    alloc: Global,
+    device: D,
+    cached: NonZeroUsize,
+) -> Result<Server<D>, Refused> {
+    match Server::mount_cached(alloc, device, cached) {
         Ok(server) => Ok(server),
         Err(unmounted) => Err(unmounted.fault.into()),
     }

@@ -15,6 +15,7 @@ use slab::Slab;
 use std::alloc::Global;
 use std::io::Write;
 use std::net::Net;
+use std::num::NonZeroUsize;
 use std::time::{Clock, Duration, Instant};
 use system::moment;
 
@@ -34,6 +35,10 @@ const QUIET_MILLIS: u64 = 1;
 const PATIENCE_SECONDS: u64 = 60;
 
 const GLANCE_SECONDS: u64 = 1;
+
+/// How many of the device's sectors are kept in memory, 16 MB: sixteen peers work on more than a
+/// journal keeps by itself.
+const CACHED_SECTORS: usize = 4096;
 
 /// Mounts the device's volume, tells the door's address, and serves until the device, the clock or
 /// the system's telling of changes fails. Where no peer has been there for `forget_after`, a new run
@@ -103,7 +108,7 @@ impl<D: Device> Hub<D> {
         let poll = Poll::new(rt)?;
         door.register(&poll, DOOR)?;
         Ok(Hub {
-            server: link::mount(rt.alloc(), device)?,
+            server: mounted(rt.alloc(), device)?,
             poll,
             events,
             door,
@@ -143,7 +148,7 @@ impl<D: Device> Hub<D> {
             ..
         } = self;
         Ok(Hub {
-            server: link::mount(alloc, server.into_device())?,
+            server: mounted(alloc, server.into_device())?,
             poll,
             events,
             door,
@@ -379,4 +384,9 @@ fn taken_in(door: &mut Door, poll: &Poll, token: Token) -> Option<TcpStream> {
 /// Whether the stream has ended or failed, which the next read or write tells.
 fn is_broken(event: &Event) -> bool {
     event.is_error() || event.is_read_closed() || event.is_write_closed()
+}
+
+fn mounted<D: Device>(alloc: Global, device: D) -> Result<Server<D>, Refused> {
+    let cached = NonZeroUsize::new(CACHED_SECTORS).unwrap_or(NonZeroUsize::MIN);
+    link::mount_cached(alloc, device, cached)
 }

@@ -9,7 +9,7 @@ use Rattle.server.specs.Connections.{connections_of}
 use Rattle.server.specs.Views.{world_of, volume_of, failures_of}
 use Rattle.opens.specs.Views.{opens_of}
 use Rattle.server.proofs.Moves.{mounted_by, world_mounted, found_start, limits_room}
-use Rattle.server.proofs.server.Server.mount.Goals as goal
+use Rattle.server.proofs.server.Server.mount_with.Goals as goal
 
 pub returns-clause-begins : goal.returns-clause-begins
 unfolding world_of volume_of connections_of
@@ -41,4 +41,4 @@ returns-in-Err-clause-gives_back g c = record {
 pub returns-in_err-fs-clause-gives_back : goal.returns-in_err-fs-clause-gives_back
 returns-in_err-fs-clause-gives_back g c =
     let told = told_err c.from_residual.result c.in_err-fs.field-0.0 c.from_residual.ensures.1 in
-    rw told (rw c.in_err-fs.was at c.mount.ensures.gives_back)
+    rw told (rw c.in_err-fs.was at c.mount_files.ensures.gives_back)
