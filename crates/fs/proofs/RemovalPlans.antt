@@ -9,6 +9,7 @@ use Rattle.draft.specs.Nodes.{shown_of}
 use Rattle.edits.specs.declared.edit.Edit.{Edit}
 use Rattle.edits.specs.declared.edit.Edit.TheVariants as edit
 use Rattle.edits.specs.Edits.{AreEntries, AreDoable, edits_of}
+use Rattle.inode.proofs.Parts.{stored_entries}
 use Rattle.layout.specs.Cards.{Card}
 use Rattle.layout.specs.Known.{IsCard}
 use Rattle.model.specs.declared.acl.Ace.{Ace}
@@ -53,7 +54,7 @@ pub change_shown : (tree : Tree) (number : ℕ) (card : Card) (is : IsNodeOf tre
 change_shown tree number card is = ap change_of is.there ∙ is.change
 
 pub entries_shown : (card : Card) (fit : IsCard card) (shown : Shown) (stamp now : ℕ) → shown_of shown ≡ shown_by card.fields stamp now → AreEntries (shown_of shown).acl
-entries_shown card fit shown stamp now is = subst (λ (s : model.Shown). AreEntries s.acl) (sym is) (record { few = fit.fits.acl; each = fit.fits.each_ace })
+entries_shown card fit shown stamp now is = subst (λ (s : model.Shown). AreEntries s.acl) (sym is) (record { few = omega (arith, fit.fits.acl, stored_entries card.form); each = fit.fits.each_ace })
 
 module _ (fs : FileSystem) (formed : MayStand fs.volume fs.changes) (counted : fs.changes < 2 ^ 32) (limited : fs.volume.limits ≡ limits_of fs.volume.sectors fs.volume.limits.nodes)
     (cred : Cred) (now number : ℕ) (card : Card) (spelled : Bor (List ℕ)) (entry_stamp target : ℕ) (node : IsNodeOf fs.volume.tree number card) (fit_card : IsCard card)

@@ -10,6 +10,7 @@ use Rattle.edits.specs.declared.edit.Edit.{Edit}
 use Rattle.edits.specs.declared.edit.Edit.TheVariants as edit
 use Rattle.edits.specs.Doing.{updates_of_all}
 use Rattle.edits.specs.Edits.{AreEntries, AreDoable, edits_of, size_of}
+use Rattle.inode.proofs.Parts.{stored_entries}
 use Rattle.layout.specs.Cards.{Card}
 use Rattle.layout.specs.Known.{IsCard}
 use Rattle.model.specs.declared.acl.Ace.{Ace}
@@ -217,7 +218,7 @@ module _ (fs : FileSystem) (formed : MayStand fs.volume fs.changes) (counted : f
     (
       record {
         there = ap is_some put_there;
-        entries = subst (λ (s : model.Shown). AreEntries s.acl) (sym shown_is) (record { few = fit_card.fits.acl; each = fit_card.fits.each_ace });
+        entries = subst (λ (s : model.Shown). AreEntries s.acl) (sym shown_is) (record { few = omega (arith, fit_card.fits.acl, stored_entries card.form); each = fit_card.fits.each_ace });
       },
       tt,
     ),

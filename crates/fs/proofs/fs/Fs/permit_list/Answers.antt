@@ -13,7 +13,3 @@ returns-then-has_other_verifier-clause-tests g c = search rules
 pub returns-then-not-may_read_lists-clause-tests : goal.returns-then-not-may_read_lists-clause-tests
 unfolding fs_of
 returns-then-not-may_read_lists-clause-tests g c = search rules
-
-pub returns-clause-tests : goal.returns-clause-tests
-unfolding fs_of
-returns-clause-tests g c = search rules
