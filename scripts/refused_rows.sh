@@ -38,7 +38,7 @@ verdict() {
         *': ok, 1 again') echo again ;;
         *': ok, 0 again') echo unseen ;;
         *'no memory'*) echo own ;;
-        *'Refused(Device)'* | *'no device: '*) echo record ;;
+        *'Refused(Device)'* | *'no device: '* | *'ted: Device') echo record ;;
         *) printf 'other %s, allocation %s: %s\n' "$ROW" "$1" "$told" ;;
     esac
     rm -f "count.$1"
