@@ -19,11 +19,11 @@ use Rattle.model.specs.Need.{permitted}
 use Rattle.model.specs.Record.{front_from, fragment, behind_header, framed}
 use Rattle.model.specs.Rpc.{words, read_call, request_of, reply_text, compound_text}
 use Rattle.model.specs.WireArguments.{arguments_at}
-use Rattle.model.specs.Seats.{no_seats}
+use Rattle.model.specs.Seats.{Seat, Seats, no_seats}
 use Rattle.model.specs.Session.{exchange_id, create_session, destroy_session, destroy_client_id, reclaim_complete, begin, started, finish, session_id}
 use Rattle.model.specs.StateIds as stateids
 use Rattle.model.specs.Step.{does, effect, refusals}
-use Rattle.model.specs.Tree.{root, names_at}
+use Rattle.model.specs.Tree.{Tree, root, names_at}
 use Rattle.model.specs.World.{World, ServerLimits, mounted_world, one, arrives, takes, connects, hung_up, hangs_up, turns, reply_at, Turn, Idle, Ran, Answered, next_operation, run, outcome_text}
 
 abbrev limits : ServerLimits
@@ -35,10 +35,14 @@ limits = record {
   reply_bytes = 16368;
 }
 
--- a fresh server with two connections
-fresh : World
+-- a server in a run, with two connections; a fresh one
+mounted : (run : ℕ) → Tree → Seats → World
 unfolding connects
-fresh = connects (connects (mounted_world limits 1 fresh_tree []) 0) 1
+mounted run tree seats = connects (connects (mounted_world limits run tree seats) 0) 1
+
+fresh : World
+unfolding mounted
+fresh = mounted 1 fresh_tree []
 
 -- a record of one fragment; the words of it
 abbrev record_of : List ℕ → List ℕ
@@ -94,14 +98,23 @@ greeted : World
 unfolding fresh behind
 greeted = behind 1 fresh 0 exchange_call
 
--- CREATE_SESSION of it with 8 slots: session 00000001 00000001 00000000 00000001
-abbrev channel : List ℕ
-channel = 0 ∷ 16384 ∷ 16384 ∷ 16384 ∷ 16 ∷ 8 ∷ 0 ∷ []
+-- CREATE_SESSION with 8 slots, by a client of a run: its session is RUN CLIENT 00000000 SERIAL
+abbrev channel : (slots : ℕ) → List ℕ
+channel slots = 0 ∷ 16384 ∷ 16384 ∷ 16384 ∷ 16 ∷ slots ∷ 0 ∷ []
 
+abbrev create_by : (uid run client sequence flags : ℕ) → List ℕ
+create_by uid run client sequence flags =
+    compound 3 uid 1 (43 ∷ run ∷ client ∷ sequence ∷ flags ∷ (channel 8 ++ (channel 8 ++ (0 ∷ 1 ∷ 0 ∷ []))))
+
+abbrev created : (run client serial sequence flags slots : ℕ) → List ℕ
+created run client serial sequence flags slots =
+    compound_reply 3 0 1 (43 ∷ 0 ∷ run ∷ client ∷ 0 ∷ serial ∷ sequence ∷ flags ∷ (channel slots ++ channel 8))
+
+-- session 00000001 00000001 00000000 00000001
 abbrev create_session_call : List ℕ
-create_session_call = compound 3 7 1 (43 ∷ 1 ∷ 1 ∷ 1 ∷ 0 ∷ (channel ++ (channel ++ (0 ∷ 1 ∷ 0 ∷ []))))
+create_session_call = create_by 7 1 1 1 0
 
-creates_session : answer 1 greeted 0 create_session_call ≡ Some (compound_reply 3 0 1 (43 ∷ 0 ∷ 1 ∷ 1 ∷ 0 ∷ 1 ∷ 1 ∷ 0 ∷ (channel ++ channel)))
+creates_session : answer 1 greeted 0 create_session_call ≡ Some (created 1 1 1 1 0 8)
 unfolding greeted answer
 creates_session = refl
 
@@ -119,14 +132,15 @@ make_directory letters = 6 ∷ 2 ∷ 1 ∷ letters ∷ 2 ∷ 0 ∷ 2 ∷ 4 ∷ 0
 abbrev make_call : (uid : ℕ) → List ℕ
 make_call uid = compound 9 uid 4 (begin_on 0 1 ++ (24 ∷ (make_directory 0x61000000 ++ (10 ∷ []))))
 
-abbrev make_reply : List ℕ
-make_reply = words (
+-- .. in a session with this highest slot
+abbrev make_reply : (highest : ℕ) → List ℕ
+make_reply highest = words (
     0x80000094 ∷ 9 ∷ 1 ∷ 0 ∷ 0 ∷ 0 ∷ 0 ∷ 0 ∷ 0 ∷ 4 ∷ 0x35 ∷ 0
-    ∷ 1 ∷ 1 ∷ 0 ∷ 1 ∷ 1 ∷ 0 ∷ 7 ∷ 7 ∷ 0 ∷ 0x18 ∷ 0 ∷ 6
+    ∷ 1 ∷ 1 ∷ 0 ∷ 1 ∷ 1 ∷ 0 ∷ highest ∷ highest ∷ 0 ∷ 0x18 ∷ 0 ∷ 6
     ∷ 0 ∷ 1 ∷ 0 ∷ 1 ∷ 1 ∷ 1 ∷ 2 ∷ 0 ∷ 2 ∷ 0xa ∷ 0 ∷ 8
     ∷ 1 ∷ 1 ∷ [])
 
-make : answer 4 opened 0 (make_call 7) ≡ Some make_reply
+make : answer 4 opened 0 (make_call 7) ≡ Some (make_reply 7)
 unfolding opened answer
 make = refl
 
@@ -160,7 +174,7 @@ made : World
 unfolding opened behind
 made = behind 4 opened 0 (make_call 7)
 
-retry : answer 1 made 1 (make_call 7) ≡ Some make_reply
+retry : answer 1 made 1 (make_call 7) ≡ Some (make_reply 7)
 unfolding made answer
 retry = refl
 
@@ -389,33 +403,25 @@ read_behind = refl
 -- On a volume with five seats, all free: a persistent session has two slots
 
 seated_fresh : World
-unfolding connects
-seated_fresh = connects (connects (mounted_world limits 1 fresh_tree no_seats) 0) 1
+unfolding mounted
+seated_fresh = mounted 1 fresh_tree no_seats
 
 seated_greeted : World
 unfolding seated_fresh behind
 seated_greeted = behind 1 seated_fresh 0 exchange_call
 
-abbrev persist_call : List ℕ
-persist_call = compound 3 7 1 (43 ∷ 1 ∷ 1 ∷ 1 ∷ 1 ∷ (channel ++ (channel ++ (0 ∷ 1 ∷ 0 ∷ []))))
+abbrev persist_call : (sequence : ℕ) → List ℕ
+persist_call sequence = create_by 7 1 1 sequence 1
 
-persists : answer 1 seated_greeted 0 persist_call
-    ≡ Some (compound_reply 3 0 1 (43 ∷ 0 ∷ 1 ∷ 1 ∷ 0 ∷ 1 ∷ 1 ∷ 1 ∷ (0 ∷ 16384 ∷ 16384 ∷ 16384 ∷ 16 ∷ 2 ∷ 0 ∷ channel)))
+persists : answer 1 seated_greeted 0 (persist_call 1) ≡ Some (created 1 1 1 1 1 2)
 unfolding seated_greeted answer
 persists = refl
 
 seated_opened : World
 unfolding seated_greeted behind
-seated_opened = behind 1 seated_greeted 0 persist_call
+seated_opened = behind 1 seated_greeted 0 (persist_call 1)
 
 -- SEQUENCE, PUTROOTFH, CREATE "a", GETFH: each operation a turn that answers Ran, and one more makes the reply
-abbrev seated_reply : List ℕ
-seated_reply = words (
-    0x80000094 ∷ 9 ∷ 1 ∷ 0 ∷ 0 ∷ 0 ∷ 0 ∷ 0 ∷ 0 ∷ 4 ∷ 0x35 ∷ 0
-    ∷ 1 ∷ 1 ∷ 0 ∷ 1 ∷ 1 ∷ 0 ∷ 1 ∷ 1 ∷ 0 ∷ 0x18 ∷ 0 ∷ 6
-    ∷ 0 ∷ 1 ∷ 0 ∷ 1 ∷ 1 ∷ 1 ∷ 2 ∷ 0 ∷ 2 ∷ 0xa ∷ 0 ∷ 8
-    ∷ 1 ∷ 1 ∷ [])
-
 seated_waiting : World
 unfolding seated_opened comes
 seated_waiting = comes seated_opened 0 (make_call 7)
@@ -428,7 +434,7 @@ seated_fifth : next_turn (turned 4 seated_waiting 0) 0 ≡ Answered
 unfolding seated_waiting next_turn
 seated_fifth = refl
 
-seated_make : answer 5 seated_opened 0 (make_call 7) ≡ Some seated_reply
+seated_make : answer 5 seated_opened 0 (make_call 7) ≡ Some (make_reply 1)
 unfolding seated_opened answer
 seated_make = refl
 
@@ -443,10 +449,10 @@ seated_made = behind 5 seated_opened 0 (make_call 7)
 
 -- after a restart the retry has the same reply and makes nothing; the next number, and another caller, find a dead session
 restarted : World → World
-unfolding connects
-restarted world = connects (connects (mounted_world limits 2 world.tree world.table.seats) 0) 1
+unfolding mounted
+restarted world = mounted 2 world.tree world.table.seats
 
-retry_later : answer 1 (restarted seated_made) 1 (make_call 7) ≡ Some seated_reply
+retry_later : answer 1 (restarted seated_made) 1 (make_call 7) ≡ Some (make_reply 1)
 unfolding seated_made restarted answer
 retry_later = refl
 
@@ -477,13 +483,143 @@ unfolding ran_only restarted
 made_once = refl
 
 -- DESTROY_SESSION frees the seat of a dead session: after it the session is unknown
-abbrev free_call : List ℕ
-free_call = compound 13 7 1 (44 ∷ 1 ∷ 1 ∷ 0 ∷ 1 ∷ [])
-
-destroys_dead : answer 1 (restarted seated_made) 1 free_call ≡ Some (compound_reply 13 0 1 (44 ∷ 0 ∷ []))
+destroys_dead : answer 1 (restarted seated_made) 1 destroy_call ≡ Some (compound_reply 11 0 1 (44 ∷ 0 ∷ []))
 unfolding seated_made restarted answer
 destroys_dead = refl
 
-unknown_then : answer 1 (behind 1 (restarted seated_made) 1 free_call) 1 (make_call 7) ≡ Some (compound_reply 9 10052 1 (53 ∷ 10052 ∷ []))
+unknown_then : answer 1 (behind 1 (restarted seated_made) 1 destroy_call) 1 (make_call 7) ≡ Some (compound_reply 9 10052 1 (53 ∷ 10052 ∷ []))
 unfolding seated_made restarted behind answer
 unknown_then = refl
+
+-- Five sessions of one client take the five seats: the sixth is as if PERSIST was not asked for, by another client too
+abbrev persisting : World → (sequence : ℕ) → World
+persisting world sequence = behind 1 world 0 (persist_call sequence)
+
+four : World
+unfolding seated_opened behind
+four = fold persisting seated_opened (2 ∷ 3 ∷ 4 ∷ [])
+
+fifth_session : answer 1 four 0 (persist_call 5) ≡ Some (created 1 1 5 5 1 2)
+unfolding four answer
+fifth_session = refl
+
+five : World
+unfolding four behind
+five = persisting four 5
+
+abbrev seat_of : (run client serial : ℕ) → Option Seat
+seat_of run client serial =
+    Some (record { session = words (run ∷ client ∷ 0 ∷ serial ∷ []); owner = 0x63 ∷ 0x6c ∷ []; principal = 7; slots = None ∷ None ∷ [] })
+
+abbrev behind_first : Seats
+behind_first = seat_of 1 1 2 ∷ seat_of 1 1 3 ∷ seat_of 1 1 4 ∷ seat_of 1 1 5 ∷ []
+
+five_seats : five.table.seats ≡ seat_of 1 1 1 ∷ behind_first
+unfolding five
+five_seats = refl
+
+sixth_session : answer 1 five 0 (persist_call 6) ≡ Some (created 1 1 6 6 0 8)
+unfolding five answer
+sixth_session = refl
+
+sixth_has_none : (behind 1 five 0 (persist_call 6)).table.seats ≡ seat_of 1 1 1 ∷ behind_first
+unfolding five behind
+sixth_has_none = refl
+
+-- EXCHANGE_ID by a caller, of an owner of two letters: `cl` or `cm`
+abbrev exchange_by : (uid letters verifier : ℕ) → List ℕ
+exchange_by uid letters verifier = compound 2 uid 1 (42 ∷ 0x1020304 ∷ verifier ∷ 2 ∷ letters ∷ 0 ∷ 0 ∷ 0 ∷ [])
+
+abbrev greeted_by : (uid letters verifier : ℕ) → World → World
+greeted_by uid letters verifier world = behind 1 world 0 (exchange_by uid letters verifier)
+
+sixth_of_another : answer 1 (greeted_by 7 0x636d0000 0x5060708 five) 0 (create_by 7 1 2 1 1) ≡ Some (created 1 2 6 1 0 8)
+unfolding five behind answer
+sixth_of_another = refl
+
+-- a session that is destroyed frees its seat, and the sixth takes it
+one_freed : World
+unfolding five behind
+one_freed = behind 1 five 0 destroy_call
+
+sixth_takes : answer 1 one_freed 0 (persist_call 6) ≡ Some (created 1 1 6 6 1 2)
+unfolding one_freed answer
+sixth_takes = refl
+
+sixth_seats : (persisting one_freed 6).table.seats ≡ seat_of 1 1 6 ∷ behind_first
+unfolding one_freed behind
+sixth_seats = refl
+
+-- the client starts again, with another verifier: its first session ends the five, whose seats give way
+client_again : World
+unfolding five behind
+client_again = greeted_by 7 0x636c0000 0x5060709 five
+
+ends_five : answer 1 client_again 0 (create_by 7 1 2 1 1) ≡ Some (created 1 2 6 1 1 2)
+unfolding client_again answer
+ends_five = refl
+
+five_gave_way : (behind 1 client_again 0 (create_by 7 1 2 1 1)).table.seats ≡ seat_of 1 2 6 ∷ None ∷ None ∷ None ∷ None ∷ []
+unfolding client_again behind
+five_gave_way = refl
+
+-- the server starts again: the five are dead, and give way to their owner id by their principal
+dead_five : World
+unfolding five restarted
+dead_five = restarted five
+
+owner_again : World
+unfolding dead_five behind
+owner_again = greeted_by 7 0x636c0000 0x5060708 dead_five
+
+dead_give_way : answer 1 owner_again 0 (create_by 7 2 1 1 1) ≡ Some (created 2 1 1 1 1 2)
+unfolding owner_again answer
+dead_give_way = refl
+
+dead_gave_way : (behind 1 owner_again 0 (create_by 7 2 1 1 1)).table.seats ≡ seat_of 2 1 1 ∷ None ∷ None ∷ None ∷ None ∷ []
+unfolding owner_again behind
+dead_gave_way = refl
+
+-- .. where none is asked for too; the dead session is unknown from then on
+none_taken : (behind 1 owner_again 0 (create_by 7 2 1 1 0)).table.seats ≡ no_seats
+unfolding owner_again behind
+none_taken = refl
+
+unknown_behind : answer 1 (behind 1 owner_again 0 (create_by 7 2 1 1 0)) 1 (make_call 7) ≡ Some (compound_reply 9 10052 1 (53 ∷ 10052 ∷ []))
+unfolding owner_again behind answer
+unknown_behind = refl
+
+-- .. and not where CREATE_SESSION is refused, here with the number 2, nor by EXCHANGE_ID alone
+refused_frees_none : (behind 1 owner_again 0 (create_by 7 2 1 2 1)).table.seats ≡ seat_of 1 1 1 ∷ behind_first
+unfolding owner_again behind
+refused_frees_none = refl
+
+-- the kept answer takes no second seat
+kept_takes_none : (behind 1 (behind 1 owner_again 0 (create_by 7 2 1 1 1)) 0 (create_by 7 2 1 1 1)).table.seats ≡ seat_of 2 1 1 ∷ None ∷ None ∷ None ∷ None ∷ []
+unfolding owner_again behind
+kept_takes_none = refl
+
+-- they give way to no other owner id, and to no other principal
+other_owner : World
+unfolding dead_five behind
+other_owner = greeted_by 7 0x636d0000 0x5060708 dead_five
+
+none_for_owner : answer 1 other_owner 0 (create_by 7 2 1 1 1) ≡ Some (created 2 1 1 1 0 8)
+unfolding other_owner answer
+none_for_owner = refl
+
+owner_frees_none : (behind 1 other_owner 0 (create_by 7 2 1 1 1)).table.seats ≡ seat_of 1 1 1 ∷ behind_first
+unfolding other_owner behind
+owner_frees_none = refl
+
+other_principal : World
+unfolding dead_five behind
+other_principal = greeted_by 8 0x636c0000 0x5060708 dead_five
+
+none_for_principal : answer 1 other_principal 0 (create_by 8 2 1 1 1) ≡ Some (created 2 1 1 1 0 8)
+unfolding other_principal answer
+none_for_principal = refl
+
+principal_frees_none : (behind 1 other_principal 0 (create_by 8 2 1 1 1)).table.seats ≡ seat_of 1 1 1 ∷ behind_first
+unfolding other_principal behind
+principal_frees_none = refl
