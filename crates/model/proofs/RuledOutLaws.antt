@@ -127,9 +127,10 @@ record IsSameRequest (request left : InProgress) : Type 0 where
   answered : left.answered ≡ request.answered
   results : left.results ≡ request.results
   rest : left.rest ≡ request.rest
+  ended : left.ended ≡ request.ended
 
 same_request : (request : InProgress) → IsSameRequest request request
-same_request request = record { xid = refl; tag = refl; count = refl; answered = refl; results = refl; rest = refl }
+same_request request = record { xid = refl; tag = refl; count = refl; answered = refl; results = refl; rest = refl; ended = refl }
 
 -- the operation is a SEQUENCE, to which this slot keeps this result
 record IsReplayed (world : World) (request : InProgress) (operation : Argument) (result session : List ℕ) (slot : ℕ) : Type 0 where
@@ -164,7 +165,7 @@ tabled_keeps world request operation number answer (None, table) = same_request 
 started_in_keeps : (world : World) (request : InProgress) (arguments : SequenceArguments) (known : Option Session)
     → Keeps world request (Argument.Sequence arguments) (started_in world request arguments known)
 started_in_keeps world request arguments None = same_request request
-started_in_keeps world request arguments (Some session) = record { xid = refl; tag = refl; count = refl; answered = refl; results = refl; rest = refl }
+started_in_keeps world request arguments (Some session) = record { xid = refl; tag = refl; count = refl; answered = refl; results = refl; rest = refl; ended = refl }
 
 begun_keeps : (world : World) (request : InProgress) (arguments : SequenceArguments) (begins : Begun)
     → begin request.context.cred.uid request.count arguments world.table ≡ begins → Keeps world request (Argument.Sequence arguments) (begun world request arguments begins)
@@ -186,7 +187,7 @@ run_keeps world request now (Argument.DestroyClientId client) = tabled_keeps wor
 run_keeps world request now (Argument.Sequence arguments) = begun_keeps world request arguments _ refl
 run_keeps world request now (Argument.ReclaimComplete true) = reclaimed_keeps world request _ _
 run_keeps world request now (Argument.ReclaimComplete false) = tabled_keeps world request _ 58 _ _
-run_keeps world request now operation = record { xid = refl; tag = refl; count = refl; answered = refl; results = refl; rest = refl }
+run_keeps world request now operation = record { xid = refl; tag = refl; count = refl; answered = refl; results = refl; rest = refl; ended = refl }
 
 either_keeps : (world : World) (request : InProgress) (operation : Argument) (b : Bool) (x y : HasRun) → Keeps world request operation x → Keeps world request operation y
     → Keeps world request operation (cond b x y)
@@ -210,9 +211,12 @@ record HasCome (old : World) (request : InProgress) (next : Next) (left : InProg
   executes : IsOutcome old request next outcome entry world.tree
   behind : is_done outcome ≡ true → IsBehind next rest
 
-module _ (old : World) (request : InProgress) (next : Next) (number : ℕ) where
+abbrev FurtherBy : World → InProgress → Next → ℕ → Turned → Type 0
+FurtherBy old request next number turned = IsOneFurther old request next turned (at number turned.world.connections)
+
+module _ (old : World) (request : InProgress) (next : Next) (number : ℕ) (going : request.ended ≡ None) where
   abbrev Further : Turned → Type 0
-  Further turned = IsOneFurther old request next turned (at number turned.world.connections)
+  Further = FurtherBy old request next number
 
   same_reply : (left : InProgress) (rest : List ℕ) (outcome : Outcome) → IsSameRequest (record request { rest = rest }) left
       → framed (reply_with left outcome) ≡ framed (reply_with request outcome)
@@ -233,6 +237,7 @@ module _ (old : World) (request : InProgress) (next : Next) (number : ℕ) where
         tag = same.tag;
         count = same.count;
         others = λ last. eqb-false (left.answered + 1) left.count more (ap (λ (n : ℕ). n + 1) same.answered ∙ last ∙ sym same.count);
+        ended = same.ended ∙ going;
       }))
 
   ends_further : (left : InProgress) (world : World) (outcome : Outcome) (entry : Option Entry) → HasCome old request next left world outcome entry
@@ -280,12 +285,13 @@ module _ (old : World) (request : InProgress) (next : Next) (number : ℕ) where
       (inr (ap (λ (n : ℕ). n + 1) (sym come.same.answered) ∙ eqb-true (left.answered + 1) left.count last ∙ come.same.count)))
       (λ more. busy_further left world answer entry come more)
 
-has_run_further : (world : World) (request : InProgress) (number : ℕ) (operation : Argument) (rest : List ℕ) (ran : HasRun) → Keeps world (record request { rest = rest }) operation ran
-    → Further world request (Reads operation rest) number (has_run world number (record request { rest = rest }) operation ran)
-has_run_further world request number operation rest (Gives outcome after left) keeps =
-    behind_further world request (Reads operation rest) number left after outcome (Some (executed_entry world request operation outcome after))
+has_run_further : (world : World) (request : InProgress) (number : ℕ) (operation : Argument) (rest : List ℕ) (ran : HasRun) → request.ended ≡ None
+    → Keeps world (record request { rest = rest }) operation ran
+    → FurtherBy world request (Reads operation rest) number (has_run world number (record request { rest = rest }) operation ran)
+has_run_further world request number operation rest (Gives outcome after left) going keeps =
+    behind_further world request (Reads operation rest) number going left after outcome (Some (executed_entry world request operation outcome after))
     (record { rest = rest; same = keeps; executes = refl; behind = λ done. refl })
-has_run_further world request number operation rest (Replays result session slot) keeps =
+has_run_further world request number operation rest (Replays result session slot) going keeps =
     let reply : List ℕ = framed (reply_text request.xid (Success result)) in
     subst (IsOneFurther world request (Reads operation rest) (has_run world number (record request { rest = rest }) operation (Replays result session slot)))
     (sym (at-with_same world.connections number (Replied reply)))
@@ -300,43 +306,43 @@ has_run_further world request number operation rest (Replays result session slot
       says = refl;
     }))
 
-operates_further : (world : World) (number now : ℕ) (request : InProgress) (next : Next) → Further world request next number (operates world number now request next)
-operates_further world number now request (Refuses operation reason) =
-    behind_further world request (Refuses operation reason) number request world (Outcome.Refused operation reason) None
+operates_further : (world : World) (number now : ℕ) (request : InProgress) (next : Next) → request.ended ≡ None → FurtherBy world request next number (operates world number now request next)
+operates_further world number now request (Refuses operation reason) going =
+    behind_further world request (Refuses operation reason) number going request world (Outcome.Refused operation reason) None
     (record { rest = request.rest; same = same_request request; executes = (refl, refl); behind = λ done. absurd (false≢true done) })
-operates_further world number now request (Reads operation rest) =
-    has_run_further world request number operation rest _
+operates_further world number now request (Reads operation rest) going =
+    has_run_further world request number operation rest _ going
     (in_room_keeps world (record request { rest = rest }) operation _ (run_keeps world (record request { rest = rest }) now operation))
 
-begun_further : (world : World) (number now : ℕ) (request one : InProgress) → Some one ≡ Some request
-    → Further world request (next_operation request) number (operates world number now one (next_operation one))
-begun_further world number now request one is =
+begun_further : (world : World) (number now : ℕ) (request one : InProgress) → one.ended ≡ None → Some one ≡ Some request
+    → FurtherBy world request (next_operation request) number (operates world number now one (next_operation one))
+begun_further world number now request one going is =
     let same : one ≡ request = cc in
-    subst (λ (r : InProgress). Further world r (next_operation r) number (operates world number now one (next_operation one))) same
-    (operates_further world number now one (next_operation one))
+    subst (λ (r : InProgress). FurtherBy world r (next_operation r) number (operates world number now one (next_operation one))) same
+    (operates_further world number now one (next_operation one) going)
 
 requested_further : (world : World) (number now xid : ℕ) (request : InProgress) (asked : Request) → request_by world xid asked ≡ Some request
-    → Further world request (next_operation request) number (requested world number now xid asked)
+    → FurtherBy world request (next_operation request) number (requested world number now xid asked)
 requested_further world number now xid request (Answers reply) is = let never : ⊥ = cc in absurd never
-requested_further world number now xid request (calls.Runs cred compound) is = begun_further world number now request (in_progress world xid cred compound) is
+requested_further world number now xid request (calls.Runs cred compound) is = begun_further world number now request (in_progress world xid cred compound) refl is
 
 called_further : (world : World) (number now : ℕ) (request : InProgress) (call : CallRead) → request_in world call ≡ Some request
-    → Further world request (next_operation request) number (called world number now call)
+    → FurtherBy world request (next_operation request) number (called world number now call)
 called_further world number now request NoCall is = let never : ⊥ = cc in absurd never
 called_further world number now request (OtherVersion xid) is = let never : ⊥ = cc in absurd never
 called_further world number now request (Calls call) is = requested_further world number now call.xid request (request_of call) is
 
-ended_further : (world : World) (number now : ℕ) (request one : InProgress) (ended : Option Status) → with_operations one ended ≡ Some request
-    → Further world request (next_operation request) number (further world number now one ended)
-ended_further world number now request one None is = begun_further world number now request one is
-ended_further world number now request one (Some last) is = let never : ⊥ = cc in absurd never
+ended_further : (world : World) (number now : ℕ) (request one : InProgress) (ended : Option Status) → one.ended ≡ ended → with_operations one ended ≡ Some request
+    → FurtherBy world request (next_operation request) number (further world number now one ended)
+ended_further world number now request one None going is = begun_further world number now request one going is
+ended_further world number now request one (Some last) ended is = let never : ⊥ = cc in absurd never
 
 turned_further : (world : World) (number now : ℕ) (request : InProgress) (connection : Option Connection) → request_at world connection ≡ Some request
-    → Further world request (next_operation request) number (turned world number now connection)
+    → FurtherBy world request (next_operation request) number (turned world number now connection)
 turned_further world number now request None is = let never : ⊥ = cc in absurd never
 turned_further world number now request (Some (Quiet bytes)) is = let never : ⊥ = cc in absurd never
 turned_further world number now request (Some (Waiting bytes)) is = called_further world number now request (read_call bytes) is
-turned_further world number now request (Some (Busy one)) is = ended_further world number now request one one.ended is
+turned_further world number now request (Some (Busy one)) is = ended_further world number now request one one.ended refl is
 turned_further world number now request (Some (Replied reply)) is = let never : ⊥ = cc in absurd never
 turned_further world number now request (Some Closed) is = let never : ⊥ = cc in absurd never
 

@@ -107,6 +107,7 @@ pub record HasOneMore (world : World) (request : InProgress) (next : Next) (turn
   pub tag : after.tag ≡ request.tag
   pub count : after.count ≡ request.count
   pub others : request.answered + 1 ≢ request.count
+  pub ended : after.ended ≡ None
 
 -- the reply with its result after the others
 pub record IsAnswered (world : World) (request : InProgress) (next : Next) (turned : Turned)
