@@ -3,8 +3,8 @@ use Rattle.std.proofs.Common.{◌≡◌, ℕ, zero, suc, ◌<◌, ◌⊎◌, inl
 use Rattle.std.specs.List.{IsAmong}
 use Rattle.std.proofs.lemmas.Bool.{true≢false, false_from_ne_true}
 use Rattle.std.proofs.lemmas.Slice.Eq.{bytes_eq-Decides}
-use Rattle.model.specs.Runs.{freed_between}
-use Rattle.model.specs.SeatRuns.{AreApart}
+use Rattle.model.specs.Runs.{Stored, freed_between}
+use Rattle.model.specs.SeatRuns.{AreApart, HoldsFrom}
 use Rattle.model.specs.Seats.{HeldReply, Seat, Seats, this_or, seat_of, has_seat, held_in, held_at, freed_if, freed, seated, with_held, holds_if, holding}
 
 pub bytes_apart : (a b : List ℕ) → (a ≡ b → ⊥) → bytes_eq a b ≡ false
@@ -236,6 +236,19 @@ seat_holds id place seats held e = by_option (seat_of id seats) refl
     by_option : (o : Option Seat) → seat_of id seats ≡ o → (seat : Seat) × (seat_of id seats ≡ Some seat)
     by_option None is = nothing (sym (ap (held_in place) is) ∙ e)
     by_option (Some seat) is = (seat, is)
+
+-- .. and other seats that have the same there hold the same reply
+pub holds_there : (old new : Seats) (stored : List Stored) (i : ℕ) (one : Stored) → HoldsFrom old stored i one
+    → held_at one.session one.slot new ≡ held_at one.session one.slot old → HoldsFrom new stored i one
+holds_there old new stored i one holds same = record {
+  later = holds.later;
+  behind = holds.behind;
+  reply = holds.reply;
+  stands = holds.stands;
+  session = holds.session;
+  slot = holds.slot;
+  held = same ∙ holds.held;
+}
 
 -- Which seats are freed
 

@@ -16,7 +16,7 @@ use Rattle.model.specs.SessionRuns.{CountsFrom}
 use Rattle.model.specs.Tree.{Tree}
 use Rattle.model.specs.World.{ServerLimits, World, InProgress, Gives, Replays, Entry, Turned, begun, started_in, refuses, run, is_to_hold, closes, behind, is_last, with_result, one, reply_at, arrives, takes, connects, hangs_up}
 use Rattle.model.proofs.Headline.{done_behind, taken_done}
-use Rattle.model.proofs.SeatLaws.{among_left, among_right, freed_listed, seat_holds}
+use Rattle.model.proofs.SeatLaws.{among_left, among_right, freed_listed, seat_holds, holds_there}
 use Rattle.model.proofs.SeatTables.{id_in, in_run, id_of_run, all-found}
 use Rattle.model.proofs.SeatRunLaws.{event_seated, RunSeated, run_seated, only_one, every_reply_is_held}
 use Rattle.model.proofs.SeatsGo.{SeatsGo, event_go}
@@ -173,15 +173,7 @@ module _ (limits : ServerLimits) (stored : List Stored) (i : ℕ) (one : Stored)
   carried stop holds =
       let seat = seat_holds one.session one.slot stop.seats holds.reply.held holds.held in
       elim (every_seat_stays limits stop one.session seat.0 seat.1) [
-        | inl stays ↦ inl (record {
-          later = holds.later;
-          behind = holds.behind;
-          reply = holds.reply;
-          stands = holds.stands;
-          session = holds.session;
-          slot = holds.slot;
-          held = ap (held_in one.slot) (stays ∙ sym seat.1) ∙ holds.held;
-        })
+        | inl stays ↦ inl (holds_there stop.seats stop.left stored i one holds (ap (held_in one.slot) (stays ∙ sym seat.1)))
         | inr freed ↦ inr freed
       ]
 

@@ -1,6 +1,6 @@
 -- Exactly once over restarts, by induction over a run and over runs.
 use Rattle.std.proofs.Common.{◌≡◌, ℕ, ◌&&◌, ◌==◌, zero, suc, ◌^◌, ◌<◌, inl, inr, Bool, true, false, cond, List, [], ◌∷◌, ◌++◌, length, get_or, option_to_list, slice_get, find, Option, None, Some, is_some, eq-eqb, eqb-true, refl, sym, ap, ◌∙◌, subst, arith, append-nil}
-use Rattle.std.specs.List.{IsAmong, AllByRecursion}
+use Rattle.std.specs.List.{IsAmong}
 use Rattle.std.proofs.lemmas.Bool.{true≢false, and_from}
 use Rattle.model.specs.declared.status.Status.TheVariants as status
 use Rattle.model.specs.Keyed.{at}
@@ -13,20 +13,12 @@ use Rattle.model.specs.Tree.{Tree}
 use Rattle.model.specs.World.{ServerLimits, World, one, arrives, takes, connects, hangs_up, reply_at}
 use Rattle.model.proofs.Headline.{slice_get-append, slice_get-within}
 use Rattle.model.proofs.SeatLaws.{among_left}
-use Rattle.model.proofs.SeatTables.{Seated, IsKept, past_earlier, id_of_run, id_in, in_run, seated_more}
+use Rattle.model.proofs.SeatTables.{Seated, IsKept, past_earlier, id_of_run, id_in, in_run, seated_more, all-found}
 use Rattle.model.proofs.SeatWorlds.{one_seated}
 use Rattle.model.proofs.ServedOnceLaws.{arrives_table, takes_table, connects_table, hangs_up_table}
 use Rattle.model.proofs.SlotLaw.{id_of, dead_never}
 use Rattle.model.proofs.SlotsHeld.{Held, run_held}
 use Rattle.model.proofs.TableCalls.{found_passes}
-
-all_found : {A : Type 0} (P : A → Type 0) (test : A → Bool) (xs : List A) (x : A) → AllByRecursion P xs → find test xs ≡ Some x → P x
-all_found P test [] x all found = absurd (cc)
-all_found {A} P test (y ∷ xs) x all found = by_test (λ later. all_found P test xs x all.1 later) (test y) found
-  where
-    by_test : (find test xs ≡ Some x → P x) → (b : Bool) → cond b (Some y) (find test xs) ≡ Some x → P x
-    by_test rest true here = let same : y ≡ x = cc in subst P same all.0
-    by_test rest false later = rest later
 
 -- An event
 
@@ -232,7 +224,7 @@ module _ (limits : ServerLimits) (stop : Stop limits) (up : stop.serving.is_down
   none_of id earlier None found = refl
   none_of id earlier (Some session) found =
       let seated = ((stop_seated stop).up up).0 in
-      let of_run = all_found (λ (s : Session). in_run s.client ≡ stop.run) (is_session id) table.sessions session seated.of_run found in
+      let of_run = all-found (λ (s : Session). in_run s.client ≡ stop.run) (is_session id) table.sessions session seated.of_run found in
       let named : id_in session ≡ id = id_of id session (found_passes (is_session id) table.sessions session found) in
       let is : run_of id ≡ stop.run = ap run_of (sym named) ∙ id_of_run stop.run session.client session.serial stop.counted of_run in
       absurd (omega (arith, earlier, is))

@@ -15,7 +15,7 @@ use Rattle.model.specs.SeatRuns.{run_of, AreApart, HoldsFrom, IsFreed}
 use Rattle.model.specs.Seats.{HeldReply, Seat, Seats, is_seat_of, seat_of, has_seat, held_in, held_at, freed, seated, holding}
 use Rattle.model.specs.Session.{SessionLimits, Client, Slot, Running, Kept, Session, Table, session_id, is_session, slot_at, no_slot, with_slot, is_client, client_number, is_of_clients, replaced_by, staying, gives_way, seats_staying, persists, limits_for, fore_channel, new_session, new_seat, create_refusals, create_unless, create_again, create_by, create_session, CreateSessionOutcome, next_number, destroy_by, is_running, started, finished_slot, held_reply, held_by, finish}
 use Rattle.model.proofs.Headline.{slice_get-append, slice_get-within}
-use Rattle.model.proofs.SeatLaws.{bytes_apart, bytes_differ, has_freed, apart_freed, was_there, had_seat, stays_or_goes, seated_other, seated_new, apart_seated, has_holding, apart_holding, holding_none, held_here, held_other, holding_was, seat_holds, among_left, among_right, freed_listed}
+use Rattle.model.proofs.SeatLaws.{bytes_apart, bytes_differ, has_freed, apart_freed, was_there, had_seat, stays_or_goes, seated_other, seated_new, apart_seated, has_holding, apart_holding, holding_none, held_here, held_other, holding_was, seat_holds, holds_there, among_left, among_right, freed_listed}
 use Rattle.model.proofs.SlotLaw.{SameSessions, session_id-serial, id_of, serial_left}
 use Rattle.model.proofs.TableCalls.{Holds, either, found_passes, found_given}
 use Rattle.model.proofs.TableLaws.{Clients, Sessions, given_by, given_serial}
@@ -184,15 +184,7 @@ module _ (run : ℕ) (table : Table) (stored : List Stored) (gone : List (List �
   still_kept i one (inl holds) =
       let seat = seat_holds one.session one.slot table.seats holds.reply.held holds.held in
       elim (stays_or_goes goes one.session table.seats seat.0 is.apart seat.1) [
-        | inl stays ↦ inl (record {
-          later = holds.later;
-          behind = holds.behind;
-          reply = holds.reply;
-          stands = holds.stands;
-          session = holds.session;
-          slot = holds.slot;
-          held = ap (held_in one.slot) (stays ∙ sym seat.1) ∙ holds.held;
-        })
+        | inl stays ↦ inl (holds_there table.seats left stored i one holds (ap (held_in one.slot) (stays ∙ sym seat.1)))
         | inr went ↦ inr (record {
           gone = went;
           listed = among_right gone (freed_between table.seats left) one.session (freed_listed one.session table.seats left seat.0 seat.1 went);
@@ -296,15 +288,7 @@ module _ (run : ℕ) (table : Table) (stored : List Stored) (gone : List (List �
     same_seat_of id past = seated_other seat id table.seats (not_its id past)
 
     still_kept_with : (i : ℕ) (one : Stored) → IsPast run table.session_serial one.session → IsKept table.seats stored gone i one → IsKept with_it stored gone i one
-    still_kept_with i one past (inl holds) = inl (record {
-      later = holds.later;
-      behind = holds.behind;
-      reply = holds.reply;
-      stands = holds.stands;
-      session = holds.session;
-      slot = holds.slot;
-      held = ap (held_in one.slot) (same_seat_of one.session past) ∙ holds.held;
-    })
+    still_kept_with i one past (inl holds) = inl (holds_there table.seats with_it stored i one holds (ap (held_in one.slot) (same_seat_of one.session past)))
     still_kept_with i one past (inr freed_before) =
         inr (record { gone = ap is_some (same_seat_of one.session past) ∙ freed_before.gone; listed = freed_before.listed })
 
