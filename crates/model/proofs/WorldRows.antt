@@ -1,6 +1,6 @@
 -- Worked rows over the world, bytes in and bytes out, on a fresh volume of 256 sectors and 16 nodes in its first run; the caller has
 -- uid 7 and gid 7, and each turn is at the moment 0.
-use Rattle.std.proofs.Common.{◌≡◌, ℕ, zero, suc, ◌+◌, ◌*◌, refl, List, [], ◌∷◌, ◌++◌, length, replicate, fold, true, Option, Some, None}
+use Rattle.std.proofs.Common.{◌≡◌, ℕ, zero, suc, ◌+◌, ◌*◌, refl, List, [], ◌∷◌, ◌++◌, length, replicate, fold, true, false, Option, Some, None}
 use Rattle.std.specs.Int.{w32}
 use Rattle.xdr.specs.Grammar.{number, number_at}
 use Rattle.xdr.specs.Forms.{padded, padded_at, counted, counted_at, each_at, elements, elements_at}
@@ -417,6 +417,19 @@ persists : answer 1 seated_greeted 0 (persist_call 1) ≡ Some (created 1 1 1 1 
 unfolding seated_greeted answer
 persists = refl
 
+-- .. or the one that it asks for; and a server that has no persistent sessions gives none
+one_slot : answer 1 seated_greeted 0 (compound 3 7 1 (43 ∷ 1 ∷ 1 ∷ 1 ∷ 1 ∷ (channel 1 ++ (channel 8 ++ (0 ∷ 1 ∷ 0 ∷ []))))) ≡ Some (created 1 1 1 1 1 1)
+unfolding seated_greeted answer
+one_slot = refl
+
+not_offering : World
+unfolding seated_greeted
+not_offering = record seated_greeted { limits = record limits { sessions = record limits.sessions { persistent = false } } }
+
+not_offered : answer 1 not_offering 0 (persist_call 1) ≡ Some (created 1 1 1 1 0 8)
+unfolding not_offering answer
+not_offered = refl
+
 seated_opened : World
 unfolding seated_greeted behind
 seated_opened = behind 1 seated_greeted 0 (persist_call 1)
@@ -537,13 +550,17 @@ sixth_of_another : answer 1 (greeted_by 7 0x636d0000 0x5060708 five) 0 (create_b
 unfolding five behind answer
 sixth_of_another = refl
 
--- a session that is destroyed frees its seat, and the sixth takes it
+-- a session that is destroyed frees its seat, which the sixth takes: another client's, or the owner's
 one_freed : World
 unfolding five behind
 one_freed = behind 1 five 0 destroy_call
 
-sixth_takes : answer 1 one_freed 0 (persist_call 6) ≡ Some (created 1 1 6 6 1 2)
-unfolding one_freed answer
+one_freed_seats : one_freed.table.seats ≡ None ∷ behind_first
+unfolding one_freed
+one_freed_seats = refl
+
+sixth_takes : answer 1 (greeted_by 7 0x636d0000 0x5060708 one_freed) 0 (create_by 7 1 2 1 1) ≡ Some (created 1 2 6 1 1 2)
+unfolding one_freed behind answer
 sixth_takes = refl
 
 sixth_seats : (persisting one_freed 6).table.seats ≡ seat_of 1 1 6 ∷ behind_first
