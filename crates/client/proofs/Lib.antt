@@ -9,4 +9,4 @@ pub mod Nexts
 pub mod Elsewhere
 pub mod WholeLaws
 pub mod Worked
-pub mod Lasts
+pub mod Operates

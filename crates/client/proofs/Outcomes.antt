@@ -53,41 +53,41 @@ module _ (limits : Limits) (state : State) (now : ℕ) where
     | inr not_passed ↦ ap (λ (s : Stepped). number_of s.outcome) not_passed.1
   ]
 
--- the outcome is the operation's, the connections stay, and the request has not ended where it had not
-abbrev pub RanWell : World → (ended : Option Status) → Argument → HasRun → Type 0
-RanWell world ended operation (Gives outcome after left) =
-    (number_of outcome ≡ operation_of operation) × (after.connections ≡ world.connections) × (left.ended ≡ ended)
-RanWell world ended operation (Replays result session slot) = Unit {0}
+-- the outcome is the operation's, and the connections stay
+abbrev RanWell : World → Argument → HasRun → Type 0
+RanWell world operation (Gives outcome after left) =
+    (number_of outcome ≡ operation_of operation) × (after.connections ≡ world.connections)
+RanWell world operation (Replays result session slot) = Unit {0}
 
 module _ (world : World) (request : InProgress) where
-  exchanged_well : (operation : Argument) → operation_of operation ≡ 42 → (r : Result ExchangeIdAnswer Status × Table) → RanWell world request.ended operation (exchanged world request r)
-  exchanged_well operation is (Err reason, table) = (sym is, refl, refl)
-  exchanged_well operation is (Ok answer, table) = (sym is, refl, refl)
+  exchanged_well : (operation : Argument) → operation_of operation ≡ 42 → (r : Result ExchangeIdAnswer Status × Table) → RanWell world operation (exchanged world request r)
+  exchanged_well operation is (Err reason, table) = (sym is, refl)
+  exchanged_well operation is (Ok answer, table) = (sym is, refl)
 
   created_well : (operation : Argument) → operation_of operation ≡ 43 → (o : sessions.CreateSessionOutcome) (answer : Result CreateSessionAnswer Status)
-      → RanWell world request.ended operation (created_by world request o answer)
-  created_well operation is o (Err reason) = (sym is, refl, refl)
-  created_well operation is o (Ok answer) = (sym is, refl, refl)
+      → RanWell world operation (created_by world request o answer)
+  created_well operation is o (Err reason) = (sym is, refl)
+  created_well operation is o (Ok answer) = (sym is, refl)
 
   tabled_well : (operation : Argument) (number : ℕ) (answer : Answer) → number ≡ operation_of operation → number_of (Outcome.Done answer) ≡ operation_of operation
-      → (r : Option Status × Table) → RanWell world request.ended operation (tabled world request number answer r)
-  tabled_well operation number answer is done (Some reason, table) = (is, refl, refl)
-  tabled_well operation number answer is done (None, table) = (done, refl, refl)
+      → (r : Option Status × Table) → RanWell world operation (tabled world request number answer r)
+  tabled_well operation number answer is done (Some reason, table) = (is, refl)
+  tabled_well operation number answer is done (None, table) = (done, refl)
 
-  started_well : (arguments : SequenceArguments) (known : Option Session) → RanWell world request.ended (Argument.Sequence arguments) (started_in world request arguments known)
-  started_well arguments None = (refl, refl, refl)
-  started_well arguments (Some session) = (refl, refl, refl)
+  started_well : (arguments : SequenceArguments) (known : Option Session) → RanWell world (Argument.Sequence arguments) (started_in world request arguments known)
+  started_well arguments None = (refl, refl)
+  started_well arguments (Some session) = (refl, refl)
 
-  begun_well : (arguments : SequenceArguments) (b : sessions.Begun) → RanWell world request.ended (Argument.Sequence arguments) (begun world request arguments b)
-  begun_well arguments (sessions.Refuses reason) = (refl, refl, refl)
+  begun_well : (arguments : SequenceArguments) (b : sessions.Begun) → RanWell world (Argument.Sequence arguments) (begun world request arguments b)
+  begun_well arguments (sessions.Refuses reason) = (refl, refl)
   begun_well arguments (sessions.Replays reply) = tt
   begun_well arguments sessions.Runs = started_well arguments (find (is_session arguments.session) world.table.sessions)
 
-  reclaimed_well : (one_fs : Bool) (refusal : Option Status) → RanWell world request.ended (Argument.ReclaimComplete one_fs) (reclaimed world request refusal)
-  reclaimed_well one_fs None = (refl, refl, refl)
-  reclaimed_well one_fs (Some reason) = (refl, refl, refl)
+  reclaimed_well : (one_fs : Bool) (refusal : Option Status) → RanWell world (Argument.ReclaimComplete one_fs) (reclaimed world request refusal)
+  reclaimed_well one_fs None = (refl, refl)
+  reclaimed_well one_fs (Some reason) = (refl, refl)
 
-  pub run_well : (now : ℕ) (operation : Argument) → RanWell world request.ended operation (run world request now operation)
+  run_well : (now : ℕ) (operation : Argument) → RanWell world operation (run world request now operation)
   unfolding run
   run_well now (Argument.ExchangeId arguments) =
       exchanged_well (Argument.ExchangeId arguments) refl (sessions.exchange_id world.limits.sessions (has_opens world.opens) request.context.cred.uid arguments world.table)
@@ -100,15 +100,15 @@ module _ (world : World) (request : InProgress) where
   run_well now (Argument.ReclaimComplete true) = reclaimed_well true (first_refusal (current_refusals (state_of world request)))
   run_well now (Argument.ReclaimComplete false) =
       tabled_well (Argument.ReclaimComplete false) 58 Answer.ReclaimComplete refl refl (sessions.reclaim_complete request.context.client world.table)
-  run_well now operation = (does_numbered world.limits.volume (state_of world request) now operation, refl, refl)
+  run_well now operation = (does_numbered world.limits.volume (state_of world request) now operation, refl)
 
-  pub in_room_well : (operation : Argument) (ran : HasRun) → RanWell world request.ended operation ran → RanWell world request.ended operation (in_room world request (operation_of operation) ran)
+  in_room_well : (operation : Argument) (ran : HasRun) → RanWell world operation ran → RanWell world operation (in_room world request (operation_of operation) ran)
   in_room_well operation (Gives (Outcome.Refused number reason) after left) well = well
   in_room_well operation (Gives (Outcome.Done answer) after left) well = by_room (has_room world request (Outcome.Done answer))
     where
-      by_room : (b : Bool) → RanWell world request.ended operation (cond b (Gives (Outcome.Done answer) after left) (refuses world request (operation_of operation) status.RepTooBig))
+      by_room : (b : Bool) → RanWell world operation (cond b (Gives (Outcome.Done answer) after left) (refuses world request (operation_of operation) status.RepTooBig))
       by_room true = well
-      by_room false = (refl, refl, refl)
+      by_room false = (refl, refl)
   in_room_well operation (Replays result session slot) well = tt
 
 -- One turn
@@ -164,7 +164,7 @@ module _ (old : World) (number : ℕ) where
     behind_well request (Outcome.Done answer) =
         either_well (is_last request) _ _ (closes_well (with_result request (Outcome.Done answer)) status.Ok) (goes_well (with_result request (Outcome.Done answer)))
 
-  has_run_well : (request : InProgress) (operation : Argument) (ran : HasRun) → RanWell old request.ended operation ran → TurnWell old number (has_run old number request operation ran)
+  has_run_well : (request : InProgress) (operation : Argument) (ran : HasRun) → RanWell old operation ran → TurnWell old number (has_run old number request operation ran)
   has_run_well request operation (Gives outcome after left) well =
       behind_well after well.1 (Some (executed_entry old request operation outcome after)) well.0 left outcome
   has_run_well request operation (Replays result session slot) well = record {

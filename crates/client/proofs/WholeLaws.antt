@@ -7,7 +7,7 @@ use Rattle.std.proofs.lemmas.Bool.{eq-eqb}
 use Rattle.std.proofs.lemmas.Option.{same_Some}
 use Rattle.model.specs.declared.status.Status.{Status}
 use Rattle.model.specs.declared.status.Status.TheVariants as status
-use Rattle.model.specs.Answer.{Answer, Outcome}
+use Rattle.model.specs.Answer.{Outcome}
 use Rattle.model.specs.Keyed.{at}
 use Rattle.model.specs.Operation.{Argument, operation_of}
 use Rattle.model.specs.Record.{framed}
@@ -31,7 +31,6 @@ use Rattle.client.specs.Whole.{IsElsewhere, IsAnsweredBy, Elsewhere, Goes_on, En
 use Rattle.client.proofs.Elsewhere.{IsAsked, connection_stays}
 use Rattle.client.proofs.Ending.{none_left, goes_on}
 use Rattle.client.proofs.JoinedLaws.{every_record_is_asked, every_reply_is_told}
-use Rattle.client.proofs.Lasts.{IsRefusal, ended_at_end}
 use Rattle.client.proofs.Nexts.{IsNext, next_is}
 use Rattle.client.proofs.Outcomes.{EntryNumbered, one_well}
 
@@ -185,14 +184,14 @@ module _ (xid : ℕ) (tag : List ℕ) where
         ok : is_ok given ≡ true
         some : 0 < length left
 
-      further_done : (after : InProgress) → at number turned.world.connections ≡ Some (Busy after) → after.ended ≡ None
+      further_done : (after : InProgress) → at number turned.world.connections ≡ Some (Busy after)
           → (more : HasOneMore world request (next_operation request) turned after) → IsFurther (Outcome.Done more.answer)
-      further_done after busy none more =
+      further_done after busy more =
           let results = one_more request done (Outcome.Done more.answer) on.results in
           record {
             stands = (
               after,
-              ap (request_at turned.world) busy ∙ ap (with_operations after) none,
+              ap (request_at turned.world) busy ∙ ap (with_operations after) more.ended,
               record {
                 xid_is = more.xid ∙ on.xid_is;
                 tag_is = more.tag ∙ on.tag_is;
@@ -204,19 +203,6 @@ module _ (xid : ℕ) (tag : List ℕ) where
             ok = refl;
             some = omega (arith, more.others, on.count, on.results.answered);
           }
-
-      done_is_done : (answer : Answer) (next : Next) → IsOutcome world request next (Outcome.Done answer) turned.executed turned.world.tree → IsRefusal turned.executed → ⊥
-      done_is_done answer (Refuses operation reason) is refusal = let never : ⊥ = cc (is.0) in never
-      done_is_done answer (Reads operation rest) is refusal = let never : ⊥ = cc (subst IsRefusal is refusal) in never
-
-      -- it has not ended
-      more_open : (after : InProgress) → at number turned.world.connections ≡ Some (Busy after) → HasOneMore world request (next_operation request) turned after
-          → (ended : Option Status) → after.ended ≡ ended → after.ended ≡ None
-      more_open after busy more None is = is
-      more_open after busy more (Some last) is = elim (ended_at_end world number now request after last asks busy is) [
-        | inl all ↦ absurd (more.others (sym more.answered ∙ (all ∙ more.count)))
-        | inr refusal ↦ absurd (done_is_done more.answer (next_operation request) more.executes refusal)
-      ]
 
       -- none is left, and the reply is to be held
 
@@ -251,7 +237,7 @@ module _ (xid : ℕ) (tag : List ℕ) where
           subst (IsOneFurther world request (next_operation request) turned) busy (one_a_turn world number now request asks) in
           elim so [
             | inl more ↦ inl (subst IsFurther (same_outcome world request turned.executed turned.world.tree (next_operation request) (Outcome.Done more.answer) given more.executes came)
-                (further_done after busy (more_open after busy more after.ended refl) more))
+                (further_done after busy more))
             | inr last ↦ inr (subst (IsLast after) (same_outcome world request turned.executed turned.world.tree (next_operation request) last.outcome given last.executes came)
                 (last_done after last))
           ]

@@ -27,7 +27,7 @@ use Rattle.client.specs.Replies.{Gives as Tells, message_of, reply_read, reply_t
 use Rattle.client.specs.Requests.{head_text, operations_text, call_text, credential_text, record_text, requested}
 use Rattle.client.specs.Whole.{IsAnsweredBy, Elsewhere, Goes_on, Ends, IsExchange}
 use Rattle.client.proofs.JoinedLaws.{text, waits, after_is}
-use Rattle.client.proofs.Lasts.{one_operates}
+use Rattle.client.proofs.Operates.{one_operates}
 
 all_bytes : (bytes : List ℕ) → list_all (λ b. nat_lt b 256) bytes ≡ true → IsBytes bytes
 all_bytes bytes all i = elim (cases_lt i (length bytes)) [
