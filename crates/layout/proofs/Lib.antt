@@ -6,6 +6,7 @@ pub mod DirectoryLaws
 pub mod EditMeets
 pub mod FileLaws
 pub mod FirstLaws
+pub mod KeptLaws
 pub mod Formatted
 pub mod Frame
 pub mod Knowing

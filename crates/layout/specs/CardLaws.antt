@@ -6,7 +6,7 @@ use Rattle.model.specs.Tree.{Tree}
 use Rattle.layout.specs.Cards.{Card, tree_of, card_in, cards_in, node_sector, node_of}
 use Rattle.layout.specs.Laid.{AreLaid, HoldsPlace, HoldsCard}
 use Rattle.layout.specs.Marks.{named_by}
-use Rattle.layout.specs.Stands.{Version, IsLaid, Stands}
+use Rattle.layout.specs.Stands.{Version, IsLaid, Stands, Kept, StandsAs}
 
 -- A card that is held is what is read. So a place that holds a card holds the one that is read, and
 -- cards that are laid are those that are read: who looks for a tree looks at these alone.
@@ -43,6 +43,18 @@ OneTree =
     (tree other : Tree)
     → Stands a size nodes image run tree → Stands b other_size other_nodes image other_run other
     → SameVolume size other_size nodes other_nodes run other_run tree other
+
+-- and for the same seats beside it
+pub record SameKept (size other_size nodes other_nodes run other_run : ℕ)
+    (kept other : Kept) : Type 0 where
+  pub kept_is : kept ≡ other
+  pub same : SameVolume size other_size nodes other_nodes run other_run kept.tree other.tree
+
+abbrev pub OneKept : Type 0
+OneKept =
+    (size other_size nodes other_nodes run other_run : ℕ) (image : Image) (kept other : Kept)
+    → StandsAs size nodes image run kept → StandsAs other_size other_nodes image other_run other
+    → SameKept size other_size nodes other_nodes run other_run kept other
 
 -- that an image stands for a tree has one proof at most
 abbrev pub OneProof : Type 0

@@ -6,6 +6,7 @@ use Rattle.disk.specs.Calls.{zero_sector}
 use Rattle.inode.specs.declared.node.Form.{Form}
 use Rattle.inode.specs.declared.node.Form.TheVariants.{One}
 use Rattle.model.specs.Limits.{limits_of}
+use Rattle.model.specs.Seats.{Seats, no_seats}
 use Rattle.model.specs.Stamp.{stamp}
 use Rattle.model.specs.Tree.{Tree}
 use Rattle.model.specs.WellFormed.{IsWellFormed, IsBefore}
@@ -27,6 +28,10 @@ version_1 = record { number = 1; form = λ place. One; spare = λ sector. zero_s
 -- the version that volumes are made in and served in
 abbrev pub current : Version
 current = version_1
+
+-- the versions that a volume of so many nodes may have, each with the seats that it keeps
+pub data IsVersion (nodes : ℕ) : Version → Seats → Type 0 where
+  First : IsVersion nodes version_1 no_seats
 
 -- each node has its place's form
 abbrev pub HaveForms : Version → List (Option Card) → Type 0
@@ -55,3 +60,18 @@ pub record Stands (version : Version) (size nodes : ℕ) (image : Image) (run : 
   pub tree_is : tree ≡ tree_in nodes image
   pub well_formed : ∥ IsWellFormed (limits_of size nodes) tree ∥₁
   pub before : IsBefore (stamp (run + 1) 0) tree
+
+-- What a volume keeps: its tree, and the seats beside it
+pub record Kept : Type 0 where
+  pub tree : Tree
+  pub seats : Seats
+
+-- a tree with no seats beside it
+abbrev pub bare : Tree → Kept
+bare tree = record { tree = tree; seats = no_seats }
+
+-- Its sectors stand for both, in one of the versions
+pub record StandsAs (size nodes : ℕ) (image : Image) (run : ℕ) (kept : Kept) : Type 0 where
+  pub version : Version
+  pub is_version : IsVersion nodes version kept.seats
+  pub stands : Stands version size nodes image run kept.tree

@@ -1,13 +1,14 @@
 //! What a volume stands for.
 
-ghost use Rattle.layout.specs.CardLaws.{OneTree, OneProof};
+ghost use Rattle.layout.specs.CardLaws.{OneTree, OneKept, OneProof};
 ghost use Rattle.layout.specs.FreshLaws.{FreshStands};
 ghost use Rattle.layout.specs.MarkLaws.{KeptAlone, StandsAlone};
 
-/// A volume stands for one tree, of one size and one restart count; that it does has one proof at
-/// most.
+/// A volume stands for one tree, of one size and one restart count, with one list of seats beside
+/// it; that it does has one proof at most.
 pub fn one_tree()
     ensures tree { OneTree }
+    ensures kept { OneKept }
     ensures proof { OneProof }
 {}
 
