@@ -1,6 +1,7 @@
 -- A change on a world is that on its file system: for each operation on the tree whose answer's length does not depend on what
 -- it finds.
 use Rattle.std.proofs.Common.{◌≡◌, ◌≤◌, ◌<◌, ◌^◌, ℕ, Bool, true, false, if◌then◌else◌, List, ◌++◌, length, nat_le, Option, Some, None, Err, IfOk, IsErrOf, refl, sym, ap, subst, ◌∙◌, arith}
+use Rattle.layout.specs.Stands.{Kept}
 use Rattle.fs.specs.Changes.{Changes, fs_ending}
 use Rattle.fs.specs.FileSystem.{FileSystem}
 use Rattle.fs.specs.Operations.{IsNotDone}
@@ -16,7 +17,6 @@ use Rattle.model.specs.Refusal.{first_refusal}
 use Rattle.model.specs.Runs.{is_done}
 use Rattle.model.specs.Session.{Table}
 use Rattle.model.specs.Step.{State, Stepped, does, effect, refused, refusals, change_refusals, unless_refused, answered}
-use Rattle.model.specs.Tree.{Tree}
 use Rattle.model.specs.World.{World, InProgress, Gives, run, stepped, state_of, in_room, has_room, refuses, reply_with, outcome_text}
 use Rattle.model.specs.declared.limits.Limits.{Limits}
 use Rattle.model.specs.declared.status.Status.{Status}
@@ -186,7 +186,7 @@ module _ (now : ℕ) (fs : FileSystem) (request : InProgress) (kind : Argument)
       told_gives T opens left fault.Down stays step no_room changes = tt
 
       pub told_changes : (T : Type 0) (table : Table) (opens : Opens) (why : FsFault) → ((state : State) → IsHere fs request state → state.opens ≡ opens → IsNotDone fs state now kind why) → IsUp why
-          → (IsErrOf {T = T} (Err why) fault.NoRoom → room ≡ false) → (IsErrOf {T = T} (Err why) fault.Device → room ≡ true) → (room ≡ true → (tree : Tree) (lasts : Bool) → OperationGives (shared fs table opens) request now kind tree lasts → given tree lasts)
+          → (IsErrOf {T = T} (Err why) fault.NoRoom → room ≡ false) → (IsErrOf {T = T} (Err why) fault.Device → room ≡ true) → (room ≡ true → (kept : Kept) (lasts : Bool) → OperationGives (shared fs table opens) request now kind kept lasts → given kept lasts)
           → Changes keeps_word given fs new before after (fs_ending {T = T} (Err why))
           → Changes keeps_word (OperationGives (shared fs table opens) request now kind) fs new before after (ending (told (operation_of kind) why))
       told_changes T table opens (fault.Status reason) step is no_room device_room gives changes =

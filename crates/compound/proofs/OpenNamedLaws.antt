@@ -6,6 +6,7 @@ use Rattle.xdr.specs.Forms.{padded, padding, trimmed_bitmap}
 use Rattle.xdr.specs.Grammar.{number}
 use Rattle.xdr.proofs.Sizes.{padded_length}
 use Rattle.xdr.proofs.Numbers.{length-number_32, length-number_64}
+use Rattle.layout.specs.Stands.{Kept}
 use Rattle.fs.specs.Changes.{Changes}
 use Rattle.fs.specs.FileSystem.{FileSystem}
 use Rattle.fs.specs.Opening.{IsOpening, IsOpeningCurrent, OpensTree, after_open, effect_of, set_by, type_of}
@@ -53,6 +54,8 @@ use Rattle.compound.proofs.Changing.{HasThisRoom, done_runs, is_up, same_room, t
 use Rattle.compound.proofs.OpenLaws.{on_tree}
 use Rattle.compound.proofs.SettingLaws.{given_bad}
 use Rattle.compound.proofs.Trees.{all_bad, append_bad, does_bad, here, is_on}
+use Rattle.volume.specs.Held.{with_tree}
+use Rattle.compound.proofs.VolumeLaws.{operation_stays}
 
 -- Each refusal has a status that refuses
 
@@ -170,6 +173,7 @@ pub open_still : {T : Type 0} (keeps_word : Type 0) (state : SharedState) (faile
     → Changes keeps_word (OperationGives state request now (Argument.Open arguments)) state.files state.files failed failed (ending result)
 open_still keeps_word state failed request now arguments (Ok done) up still memory =
     answers_quietly keeps_word (OperationGives state request now (Argument.Open arguments)) state.files state.files failed failed refl refl up
+    (operation_stays state request now (Argument.Open arguments))
     (λ after lasting gives. gives.lasting_is ∙ quiet_ran gives.world (with_rest request gives.rest) arguments
     (run_in_room gives.world (with_rest request gives.rest) now (Argument.Open arguments)) (still (state_of gives.world (with_rest request gives.rest))))
 open_still keeps_word state failed request now arguments (Err faults.Memory) up still memory =
@@ -242,9 +246,9 @@ module _ (now : ℕ) (fs : FileSystem) (request : InProgress) (arguments : OpenA
       → has_current request.context ≡ true → current_number request.context ≡ asked.directory
       → ((state : State) → IsHere fs request state → state.opens ≡ opens → IsOpening fs state asked is_full arguments)
       → (room : Bool) → ((state : State) → IsHere fs request state → HasThisRoom request room (effect fs.volume.limits state now (Argument.Open arguments))) → room ≡ true
-      → (tree : Tree) (lasting : Bool) → OperationGives (shared fs table opens) request now (Argument.Open arguments) tree lasting
-      → OpensTree fs request.context.cred now asked is_full tree lasting
-  open_makes table opens asked is_full in_run has is opening room fits some tree lasting gives =
+      → (kept : Kept) (lasting : Bool) → OperationGives (shared fs table opens) request now (Argument.Open arguments) kept lasting
+      → OpensTree fs request.context.cred now asked is_full kept lasting
+  open_makes table opens asked is_full in_run has is opening room fits some kept lasting gives =
       let state = state_of gives.world (with_rest request gives.rest) in
       let there = here gives.world fs table opens request gives.rest gives.has in
       record {
@@ -252,7 +256,7 @@ module _ (now : ℕ) (fs : FileSystem) (request : InProgress) (arguments : OpenA
         arguments = arguments;
         on = is_on fs request asked.directory state in_run has is there;
         opening = opening state there gives.has.opens;
-        tree = gives.tree ∙ tree_given now fs request (Argument.Open arguments) (on_tree now request arguments) room fits table opens gives.world gives.rest some gives.has;
+        kept = gives.kept ∙ ap (with_tree fs.volume) (tree_given now fs request (Argument.Open arguments) (on_tree now request arguments) room fits table opens gives.world gives.rest some gives.has);
         quiet = λ none. gives.lasting_is ∙ quiet_ran gives.world (with_rest request gives.rest) arguments (run_in_room gives.world (with_rest request gives.rest) now (Argument.Open arguments)) none;
       }
 

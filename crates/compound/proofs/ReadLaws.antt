@@ -1,5 +1,6 @@
 -- READ, by the call that reads a file.
 use Rattle.std.proofs.Common.{◌≡◌, ℕ, Bool, true, false, if◌then◌else◌, ◌∷◌, Option, Some, None, Err, IfOk, refl, sym, ap, subst, ◌∙◌}
+use Rattle.layout.specs.Stands.{Kept}
 use Rattle.fs.specs.Changes.{Changes}
 use Rattle.fs.specs.FileSystem.{FileSystem}
 use Rattle.fs.specs.Operations.{does_on}
@@ -15,13 +16,13 @@ use Rattle.model.specs.Operation.{Argument, ReadArguments}
 use Rattle.model.specs.Session.{Table}
 use Rattle.model.specs.StateIds.{state_refusals, read_access}
 use Rattle.model.specs.Step.{State, answered, does, effect, refused, refusals, unless_refused, without_rights, late}
-use Rattle.model.specs.Tree.{Tree}
 use Rattle.model.specs.World.{World, InProgress, Gives, run, stepped, state_of, in_room, refuses}
 use Rattle.model.specs.declared.limits.Limits.{Limits}
 use Rattle.model.specs.declared.status.Status.{Status}
 use Rattle.model.specs.declared.status.Status.TheVariants as status
 use Rattle.model.proofs.BooleanLaws.{never_both}
 use Rattle.volume.specs.Changes as ended
+use Rattle.volume.specs.Held.{with_tree}
 use Rattle.volume.specs.Changes.{IsTree, Nothing, Broken}
 use Rattle.wire.specs.Short.{IsRefusal}
 use Rattle.compound.specs.Operates.{RunsTo, GivesIn, ChangesTreeAndOpens, run_in_room, tree_by}
@@ -34,7 +35,7 @@ use Rattle.compound.proofs.Rooms.{gives_refusal, state_same}
 use Rattle.compound.proofs.Telling.{OnTree}
 use Rattle.compound.proofs.Trees.{append_bad, does_bad, here, tree_runs}
 use Rattle.compound.proofs.VerdictLaws.{verdict_bad}
-use Rattle.compound.proofs.VolumeLaws.{quiet_gives}
+use Rattle.compound.proofs.VolumeLaws.{operation_stays, quiet_gives}
 
 pub read_on_tree : (arguments : ReadArguments) → OnTree (Argument.Read arguments)
 unfolding run
@@ -58,10 +59,10 @@ tree_kept world request now arguments = by_refusal _
     by_refusal None = tree_roomed world request 25 _ _
     by_refusal (Some reason) = refl
 
-pub read_tree : (fs : FileSystem) (table : Table) (opens : Opens) (request : InProgress) (now : ℕ) (arguments : ReadArguments) (after : Tree) (lasts : Bool)
-    → OperationGives (shared fs table opens) request now (Argument.Read arguments) after lasts → IsTree fs.volume.tree after lasts
+pub read_tree : (fs : FileSystem) (table : Table) (opens : Opens) (request : InProgress) (now : ℕ) (arguments : ReadArguments) (after : Kept) (lasts : Bool)
+    → OperationGives (shared fs table opens) request now (Argument.Read arguments) after lasts → IsTree fs.volume fs.volume.tree after lasts
 read_tree fs table opens request now arguments after lasts gives =
-    gives.tree ∙ (tree_kept gives.world (with_rest request gives.rest) now arguments ∙ gives.has.tree)
+    gives.kept ∙ ap (with_tree fs.volume) (tree_kept gives.world (with_rest request gives.rest) now arguments ∙ gives.has.tree)
 
 -- It is refused with a status that is not OK
 
@@ -122,11 +123,11 @@ module _ (now : ℕ) (fs : FileSystem) (opens : Opens) (request : InProgress) (a
 
   module _ (keeps_word : Type 0) (new : FileSystem) (before after : ℕ) where
     pub told_reads : (T : Type 0) (why : FsFault) → Says fs opens request (λ state. IsNotRead fs state now (Argument.Read arguments) why)
-        → Changes keeps_word (IsTree fs.volume.tree) fs new before after (reading_ending {T = T} (Err why))
+        → Changes keeps_word (IsTree fs.volume fs.volume.tree) fs new before after (reading_ending {T = T} (Err why))
         → IfOk (told 25 why) (ChangesTreeAndOpens fs new opens opens now request (Argument.Read arguments))
     told_reads T (fault.Status reason) step changes = λ table.
         subst (λ (one : FileSystem). GivesIn now (shared fs table opens) (shared one table opens) request request (Argument.Read arguments) (Refused 25 reason))
-        (sym (left_all keeps_word (IsTree fs.volume.tree) fs new before after changes))
+        (sym (left_all keeps_word (IsTree fs.volume fs.volume.tree) fs new before after changes))
         (gives_refusal now (shared fs table opens) (shared fs table opens) request (Argument.Read arguments) 25 reason (read_err table reason step))
     told_reads T fault.NoRoom step changes = absurd (says_something {P = λ state. ⊥} step)
     told_reads T fault.Memory step changes = tt
@@ -134,21 +135,21 @@ module _ (now : ℕ) (fs : FileSystem) (opens : Opens) (request : InProgress) (a
     told_reads T fault.Down step changes = tt
 
     -- a call that left all as it was answers, or is refused for memory
-    pub read_quietly : (table : Table) → fs.volume.is_down ≡ false → Changes keeps_word (IsTree fs.volume.tree) fs new before after Nothing
+    pub read_quietly : (table : Table) → fs.volume.is_down ≡ false → Changes keeps_word (IsTree fs.volume fs.volume.tree) fs new before after Nothing
         → Changes keeps_word (OperationGives (shared fs table opens) request now (Argument.Read arguments)) fs new before after ended.Done
-    read_quietly table up changes = answers_quietly keeps_word _ fs new before after (left_all keeps_word (IsTree fs.volume.tree) fs new before after changes)
-        (changes.volume_changes.none (λ broken. cc)) up (quiet_gives (shared fs table opens) request now (Argument.Read arguments) refl)
+    read_quietly table up changes = answers_quietly keeps_word _ fs new before after (left_all keeps_word (IsTree fs.volume fs.volume.tree) fs new before after changes)
+        (changes.volume_changes.none (λ broken. cc)) up (operation_stays (shared fs table opens) request now (Argument.Read arguments)) (quiet_gives (shared fs table opens) request now (Argument.Read arguments) refl)
 
-    pub read_nothing : (table : Table) → Changes keeps_word (IsTree fs.volume.tree) fs new before after Nothing
+    pub read_nothing : (table : Table) → Changes keeps_word (IsTree fs.volume fs.volume.tree) fs new before after Nothing
         → Changes keeps_word (OperationGives (shared fs table opens) request now (Argument.Read arguments)) fs new before after Nothing
-    read_nothing table changes = leaves_all keeps_word _ fs new before after (left_all keeps_word (IsTree fs.volume.tree) fs new before after changes) (changes.volume_changes.none (λ broken. cc))
+    read_nothing table changes = leaves_all keeps_word _ fs new before after (left_all keeps_word (IsTree fs.volume fs.volume.tree) fs new before after changes) (changes.volume_changes.none (λ broken. cc))
 
     pub told_changes : (T : Type 0) (table : Table) (why : FsFault) → fs.volume.is_down ≡ false → Says fs opens request (λ state. IsNotRead fs state now (Argument.Read arguments) why)
-        → Changes keeps_word (IsTree fs.volume.tree) fs new before after (reading_ending {T = T} (Err why))
+        → Changes keeps_word (IsTree fs.volume fs.volume.tree) fs new before after (reading_ending {T = T} (Err why))
         → Changes keeps_word (OperationGives (shared fs table opens) request now (Argument.Read arguments)) fs new before after (ending (told 25 why))
     told_changes T table (fault.Status reason) up step changes = read_quietly table up changes
     told_changes T table fault.NoRoom up step changes = read_quietly table up changes
     told_changes T table fault.Memory up step changes = read_nothing table changes
     told_changes T table fault.Device up step changes =
-        changes_by keeps_word (IsTree fs.volume.tree) _ (read_tree fs table opens request now arguments) fs new before after Broken changes
+        changes_by keeps_word (IsTree fs.volume fs.volume.tree) _ (read_tree fs table opens request now arguments) fs new before after Broken changes
     told_changes T table fault.Down up step changes = never_both fs.volume.is_down up (says_something {P = λ state. fs.volume.is_down ≡ true} step)

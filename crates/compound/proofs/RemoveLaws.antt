@@ -1,6 +1,7 @@
 -- REMOVE on a world is that on its file system.
 use Rattle.std.proofs.Common.{◌≡◌, ℕ, Bool, true, false, List, length, nat_le, refl, ap, ◌∙◌, arith, length-append}
 use Rattle.xdr.proofs.Numbers.{length-number_32, length-number_64}
+use Rattle.layout.specs.Stands.{Kept}
 use Rattle.fs.specs.FileSystem.{FileSystem}
 use Rattle.fs.specs.Operations.{IsOn, IsNotDone, MakesTree, does_on}
 use Rattle.fs.specs.Removing.{removed}
@@ -13,7 +14,6 @@ use Rattle.model.specs.Operation.{Argument}
 use Rattle.model.specs.Session.{Table}
 use Rattle.model.specs.StateIds.{without_number}
 use Rattle.model.specs.Step.{State, does, effect, answered}
-use Rattle.model.specs.Tree.{Tree}
 use Rattle.model.specs.World.{World, InProgress, run, stepped, state_of, reply_with, outcome_text}
 use Rattle.compound.specs.Runs.{with_rest}
 use Rattle.compound.specs.States.{shared}
@@ -21,6 +21,7 @@ use Rattle.compound.specs.Trees.{IsHere, IsUp, removed_answer}
 use Rattle.compound.specs.Volumes.{OperationGives}
 use Rattle.compound.proofs.Changing.{HasThisRoom, is_up, same_room, tree_given}
 use Rattle.compound.proofs.Trees.{here, is_on, is_there, of_request, remove_bad}
+use Rattle.volume.specs.Held.{with_tree}
 
 text_length : (before after : ℕ) → length (outcome_text (Done (removed_answer before after))) ≡ 28
 unfolding outcome_text
@@ -65,10 +66,10 @@ module _ (now : ℕ) (fs : FileSystem) (request : InProgress) (name : List ℕ) 
   pub remove_makes : (table : Table) (opens : Opens) (directory : ℕ) → request.context.run ≡ fs.volume.run
       → has_current request.context ≡ true → current_number request.context ≡ directory
       → (room : Bool) → room ≡ nat_le (length (reply_with request (Done (removed_answer 0 0)))) 16368 → room ≡ true
-      → (tree : Tree) (lasts : Bool) → OperationGives (shared fs table opens) request now (Argument.Remove name) tree lasts
-      → MakesTree fs request.context.cred directory now (Argument.Remove name) tree lasts
-  remove_makes table opens directory in_run has is room fits some tree lasts gives = record {
+      → (kept : Kept) (lasts : Bool) → OperationGives (shared fs table opens) request now (Argument.Remove name) kept lasts
+      → MakesTree fs request.context.cred directory now (Argument.Remove name) kept lasts
+  remove_makes table opens directory in_run has is room fits some kept lasts gives = record {
     state = state_of gives.world (with_rest request gives.rest);
     on = is_on fs request directory _ in_run has is (here gives.world fs table opens request gives.rest gives.has);
-    tree = gives.tree ∙ tree_given now fs request (Argument.Remove name) on_tree room (sized room fits) table opens gives.world gives.rest some gives.has;
+    kept = gives.kept ∙ ap (with_tree fs.volume) (tree_given now fs request (Argument.Remove name) on_tree room (sized room fits) table opens gives.world gives.rest some gives.has);
   }

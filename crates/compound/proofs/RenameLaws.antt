@@ -1,6 +1,7 @@
 -- RENAME on a world is that on its file system.
 use Rattle.std.proofs.Common.{◌≡◌, ℕ, Bool, true, false, not, List, length, nat_le, Option, Some, None, refl, sym, ap, ap₂, subst, ◌∙◌, arith, length-append}
 use Rattle.xdr.proofs.Numbers.{length-number_32, length-number_64}
+use Rattle.layout.specs.Stands.{Kept}
 use Rattle.fs.specs.FileSystem.{FileSystem}
 use Rattle.fs.specs.Operations.{IsNotDone, does_on, current_refusal}
 use Rattle.fs.specs.Renaming.{IsOnBoth, RenamesTree, is_itself, renamed, opens_after}
@@ -15,7 +16,6 @@ use Rattle.model.specs.Operation.{Argument, RenameArguments}
 use Rattle.model.specs.Refusal.{refused_or}
 use Rattle.model.specs.Session.{Table}
 use Rattle.model.specs.Step.{State, does, effect, refused, refusals, unless_refused, answered, rename, current}
-use Rattle.model.specs.Tree.{Tree}
 use Rattle.model.specs.World as turns
 use Rattle.model.specs.World.{World, InProgress, HasRun, run, stepped, state_of, reply_with, outcome_text}
 use Rattle.model.specs.declared.limits.Limits.{Limits}
@@ -29,6 +29,7 @@ use Rattle.compound.specs.Volumes.{OperationGives, lasts, executed_by}
 use Rattle.compound.proofs.Current.{after_some, after_none}
 use Rattle.compound.proofs.Changing.{HasThisRoom, is_up, same_room, tree_given}
 use Rattle.compound.proofs.Trees.{here, is_on, is_there, of_request, rename_bad}
+use Rattle.volume.specs.Held.{with_tree}
 
 -- The room of its answer
 
@@ -124,11 +125,11 @@ module _ (now : ℕ) (fs : FileSystem) (request : InProgress) (arguments : Renam
 
   pub rename_makes : (table : Table) (opens : Opens) (numbers : ℕ × ℕ) → request.context.run ≡ fs.volume.run → AreBoth request.context numbers
       → (room : Bool) → room ≡ nat_le (length (reply_with request (Done (renamed_answer no_change no_change)))) 16368 → room ≡ true
-      → (tree : Tree) (lasting : Bool) → OperationGives (shared fs table opens) request now (Argument.Rename arguments) tree lasting
-      → RenamesTree fs request.context.cred numbers.0 numbers.1 now arguments tree lasting
-  rename_makes table opens numbers in_run both room fits some tree lasting gives = record {
+      → (kept : Kept) (lasting : Bool) → OperationGives (shared fs table opens) request now (Argument.Rename arguments) kept lasting
+      → RenamesTree fs request.context.cred numbers.0 numbers.1 now arguments kept lasting
+  rename_makes table opens numbers in_run both room fits some kept lasting gives = record {
     state = state_of gives.world (with_rest request gives.rest);
     on = is_on_both numbers in_run both _ (here gives.world fs table opens request gives.rest gives.has);
-    tree = gives.tree ∙ tree_given now fs request (Argument.Rename arguments) on_tree room (sized room fits) table opens gives.world gives.rest some gives.has;
+    kept = gives.kept ∙ ap (with_tree fs.volume) (tree_given now fs request (Argument.Rename arguments) on_tree room (sized room fits) table opens gives.world gives.rest some gives.has);
     quiet = λ same. gives.lasting_is ∙ quiet_ran gives.world (with_rest request gives.rest) arguments (run_in_room gives.world (with_rest request gives.rest) now (Argument.Rename arguments)) same;
   }

@@ -1,5 +1,6 @@
 -- What a SETATTR comes to.
 use Rattle.std.proofs.Common.{◌≡◌, ℕ, Bool, true, false, if◌then◌else◌, List, [], ◌∷◌, ◌++◌, length, nat_le, unwrap_or, refl, ap, ◌∙◌}
+use Rattle.layout.specs.Stands.{Kept}
 use Rattle.fs.specs.FileSystem.{FileSystem}
 use Rattle.fs.specs.Operations.{IsNotDone, does_on}
 use Rattle.fs.specs.Setting.{IsSetting, SetsTree, after_setting}
@@ -15,7 +16,7 @@ use Rattle.model.specs.Session.{Table}
 use Rattle.model.specs.SetAttr.{kind_at, set_attributes, sets, sets_size, size_refusals, was_set}
 use Rattle.model.specs.StateIds.{state_refusals, write_access}
 use Rattle.model.specs.Step.{State, alters, does, effect, refused, refusals, without_rights, answered, current, current_refusals}
-use Rattle.model.specs.Tree.{Tree, is_directory_at}
+use Rattle.model.specs.Tree.{is_directory_at}
 use Rattle.model.specs.World as turns
 use Rattle.model.specs.World.{World, InProgress, HasRun, run, stepped, state_of, reply_with}
 use Rattle.model.specs.declared.limits.Limits.{Limits}
@@ -31,6 +32,7 @@ use Rattle.compound.specs.Volumes.{OperationGives, lasts, executed_by}
 use Rattle.compound.proofs.Changing.{HasThisRoom, is_up, tree_given}
 use Rattle.compound.proofs.Trees.{all_bad, append_bad, does_bad, here, is_on, values_bad}
 use Rattle.compound.proofs.VerdictLaws.{verdict_bad}
+use Rattle.volume.specs.Held.{with_tree}
 
 -- Each refusal has a status that refuses
 
@@ -106,9 +108,9 @@ module _ (now : ℕ) (fs : FileSystem) (request : InProgress) (arguments : SetAt
       → has_current request.context ≡ true → current_number request.context ≡ asked.number
       → ((state : State) → IsHere fs request state → state.opens ≡ opens → IsSetting state asked arguments)
       → (room : Bool) → room ≡ nat_le (length (reply_with request (Done (was_set arguments)))) 16368 → room ≡ true
-      → (tree : Tree) (lasting : Bool) → OperationGives (shared fs table opens) request now (Argument.SetAttr arguments) tree lasting
-      → SetsTree fs request.context.cred now asked tree lasting
-  set_makes table opens asked in_run has is setting room fits some tree lasting gives =
+      → (kept : Kept) (lasting : Bool) → OperationGives (shared fs table opens) request now (Argument.SetAttr arguments) kept lasting
+      → SetsTree fs request.context.cred now asked kept lasting
+  set_makes table opens asked in_run has is setting room fits some kept lasting gives =
       let state = state_of gives.world (with_rest request gives.rest) in
       let there = here gives.world fs table opens request gives.rest gives.has in
       record {
@@ -116,6 +118,6 @@ module _ (now : ℕ) (fs : FileSystem) (request : InProgress) (arguments : SetAt
         arguments = arguments;
         on = is_on fs request asked.number state in_run has is there;
         setting = setting state there gives.has.opens;
-        tree = gives.tree ∙ tree_given now fs request (Argument.SetAttr arguments) on_tree room (sized room fits) table opens gives.world gives.rest some gives.has;
+        kept = gives.kept ∙ ap (with_tree fs.volume) (tree_given now fs request (Argument.SetAttr arguments) on_tree room (sized room fits) table opens gives.world gives.rest some gives.has);
         quiet = λ none. gives.lasting_is ∙ quiet_ran gives.world (with_rest request gives.rest) arguments (run_in_room gives.world (with_rest request gives.rest) now (Argument.SetAttr arguments)) none;
       }

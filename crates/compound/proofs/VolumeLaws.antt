@@ -1,7 +1,9 @@
 -- What operations and turns do to a file system, by the definition.
 use Rattle.std.proofs.Common.{◌≡◌, ℕ, Bool, true, false, ◌&&◌, ◌||◌, if◌then◌else◌, List, length, nat_le, Option, Some, None, Result, Ok, Err, refl, ap, ◌∙◌}
 use Rattle.std.specs.Result.{IsErrAnd}
+use Rattle.layout.specs.Stands.{Kept}
 use Rattle.volume.specs.Changes.{Given, Done}
+use Rattle.volume.specs.Held.{with_tree}
 use Rattle.fs.specs.Changes.{Changes}
 use Rattle.fs.specs.FileSystem.{FileSystem}
 use Rattle.model.specs.Answer as model
@@ -31,6 +33,16 @@ use Rattle.compound.proofs.QuietLaws.{leaves_all, answers_quietly}
 use Rattle.compound.proofs.Trees.{here, is_on}
 use Rattle.compound.proofs.Turning.{read_turn, run_tree}
 
+-- No operation changes the seats
+
+pub operation_stays : (state : SharedState) (request : InProgress) (now : ℕ) (operation : Argument) (after : Kept) (lasting : Bool)
+    → OperationGives state request now operation after lasting → after.seats ≡ state.files.volume.seats
+operation_stays state request now operation after lasting gives = ap (λ (kept : Kept). kept.seats) gives.kept
+
+pub turn_stays : (state : SharedState) (turn : World → (number : ℕ) → Turned) (after : Kept) (lasting : Bool)
+    → TurnGives state turn after lasting → after.seats ≡ state.files.volume.seats
+turn_stays state turn after lasting gives = ap (λ (kept : Kept). kept.seats) gives.kept
+
 -- Operations that never have to last: those that are no change and no COMMIT
 
 abbrev pub is_quiet : Argument → Bool
@@ -58,7 +70,7 @@ quiet_ran : (world : World) (request : InProgress) (operation : Argument) (ran :
 quiet_ran world request operation (turns.Gives outcome after left) quiet = quiet_entry (state_of world request) operation outcome after.tree quiet
 quiet_ran world request operation (turns.Replays reply session slot) quiet = refl
 
-pub quiet_gives : (state : SharedState) (request : InProgress) (now : ℕ) (operation : Argument) → is_quiet operation ≡ true → (after : Tree) (lasting : Bool)
+pub quiet_gives : (state : SharedState) (request : InProgress) (now : ℕ) (operation : Argument) → is_quiet operation ≡ true → (after : Kept) (lasting : Bool)
     → OperationGives state request now operation after lasting → lasting ≡ false
 quiet_gives state request now operation quiet after lasting gives =
     gives.lasting_is ∙ quiet_ran gives.world (with_rest request gives.rest) operation (run_in_room gives.world (with_rest request gives.rest) now operation) quiet
@@ -83,7 +95,7 @@ refused_ran world request operation ran number reason after left is =
 pub refused_gives : (state : SharedState) (request : InProgress) (now : ℕ) (operation : Argument) (number : ℕ) (reason : Status)
     → ((world : World) (rest : List ℕ) → HasState world state → (after : World) × (left : InProgress)
     × (run_in_room world (with_rest request rest) now operation ≡ turns.Gives (model.Refused number reason) after left))
-    → (after : Tree) (lasting : Bool) → OperationGives state request now operation after lasting → lasting ≡ false
+    → (after : Kept) (lasting : Bool) → OperationGives state request now operation after lasting → lasting ≡ false
 refused_gives state request now operation number reason refuses after lasting gives =
     let ran = refuses gives.world gives.rest gives.has in
     gives.lasting_is ∙ refused_ran gives.world (with_rest request gives.rest) operation _ number reason ran.0 ran.1 ran.2
@@ -94,6 +106,7 @@ pub refusal_changes : (keeps_word : Type 0) (fs new : FileSystem) (table : Table
     → Changes keeps_word (OperationGives (shared fs table opens) request now operation) fs new before after Done
 refusal_changes keeps_word fs new table opens before after request now operation number reason same later up gives =
     answers_quietly keeps_word (OperationGives (shared fs table opens) request now operation) fs new before after same later up
+    (operation_stays (shared fs table opens) request now operation)
     (refused_gives (shared fs table opens) request now operation number reason (λ world rest has. (_, _, gives world rest has)))
 
 -- CREATE of anything but a directory
@@ -112,25 +125,26 @@ pub other_changes : (keeps_word : Type 0) (state : SharedState) (failed : ℕ) (
     → Changes keeps_word (OperationGives state request now (Argument.Create (OtherType kind))) state.files state.files failed failed Done
 other_changes keeps_word state failed request now kind up =
     answers_quietly keeps_word (OperationGives state request now (Argument.Create (OtherType kind))) state.files state.files failed failed refl refl up
+    (operation_stays state request now (Argument.Create (OtherType kind)))
     (λ after lasting gives. gives.lasting_is ∙ other_quiet gives.world (with_rest request gives.rest) now kind)
 
 -- CREATE of a directory, where the reply has room for its result, is that of the file system
 pub made_gives : (fs : FileSystem) (table : Table) (opens : Opens) (request : InProgress) (now parent : ℕ) (name : List ℕ) (given : Attributes) → request.context.run ≡ fs.volume.run
     → has_current request.context ≡ true → current_number request.context ≡ parent
     → true ≡ nat_le (length (reply_with request (model.Done (made_answer 0 0 (trimmed given.bitmap))))) 16368
-    → (after : Tree) (lasting : Bool) → OperationGives (shared fs table opens) request now (new_directory name given) after lasting
+    → (after : Kept) (lasting : Bool) → OperationGives (shared fs table opens) request now (new_directory name given) after lasting
     → MakesTree fs request.context.cred parent now (new_directory name given) after lasting
 made_gives fs table opens request now parent name given in_run has is room after lasting gives = record {
   state = state_of gives.world (with_rest request gives.rest);
   on = is_on fs request parent _ in_run has is (here gives.world fs table opens request gives.rest gives.has);
-  tree = gives.tree ∙ tree_made now fs table opens request name given gives.world gives.rest gives.has room;
+  kept = gives.kept ∙ ap (with_tree fs.volume) (tree_made now fs table opens request name given gives.world gives.rest gives.has room);
 }
 
 -- an operation that leaves the file system alone
 pub quiet_changes : (keeps_word : Type 0) (state : SharedState) (failed : ℕ) (request : InProgress) (now : ℕ) (operation : Argument) → state.files.volume.is_down ≡ false → is_quiet operation ≡ true
     → Changes keeps_word (OperationGives state request now operation) state.files state.files failed failed Done
 quiet_changes keeps_word state failed request now operation up quiet =
-    answers_quietly keeps_word (OperationGives state request now operation) state.files state.files failed failed refl refl up (quiet_gives state request now operation quiet)
+    answers_quietly keeps_word (OperationGives state request now operation) state.files state.files failed failed refl refl up (operation_stays state request now operation) (quiet_gives state request now operation quiet)
 
 -- or is refused for memory alone
 pub quiet_result : {T : Type 0} (keeps_word : Type 0) (state : SharedState) (failed : ℕ) (request : InProgress) (now : ℕ) (operation : Argument) (result : Result T Fault)
@@ -178,7 +192,7 @@ run_executed world number request operation (turns.Gives outcome after left) =
 run_executed world number request operation (turns.Replays reply session slot) = refl
 
 -- a turn whose next operation is read does what that operation does
-pub read_gives : (state : SharedState) (request : InProgress) (now : ℕ) (operation : Argument) (rest : List ℕ) → next_operation request ≡ Reads operation rest → (after : Tree) (lasting : Bool)
+pub read_gives : (state : SharedState) (request : InProgress) (now : ℕ) (operation : Argument) (rest : List ℕ) → next_operation request ≡ Reads operation rest → (after : Kept) (lasting : Bool)
     → TurnGives state (λ world number. stepped_on world number now request) after lasting → OperationGives state request now operation after lasting
 read_gives state request now operation rest next after lasting gives =
     let world = gives.world in
@@ -189,12 +203,12 @@ read_gives state request now operation rest next after lasting gives =
       world = world;
       rest = rest;
       has = gives.has;
-      tree = gives.tree ∙ (ap (λ (t : Turned). t.world.tree) turn ∙ run_tree world gives.number (with_rest request rest) operation ran);
+      kept = gives.kept ∙ ap (with_tree state.files.volume) (ap (λ (t : Turned). t.world.tree) turn ∙ run_tree world gives.number (with_rest request rest) operation ran);
       lasting_is = gives.lasting_is ∙ (ap (λ (t : Turned). lasts t.executed) turn ∙ ap lasts (run_executed world gives.number (with_rest request rest) operation ran));
     }
 
 -- one whose next operation is refused before it runs does nothing
-pub refused_turn : (state : SharedState) (request : InProgress) (now number : ℕ) (reason : Status) → next_operation request ≡ Refuses number reason → (after : Tree) (lasting : Bool)
+pub refused_turn : (state : SharedState) (request : InProgress) (now number : ℕ) (reason : Status) → next_operation request ≡ Refuses number reason → (after : Kept) (lasting : Bool)
     → TurnGives state (λ world number. stepped_on world number now request) after lasting → lasting ≡ false
 refused_turn state request now number reason next after lasting gives =
     gives.lasting_is
@@ -203,18 +217,18 @@ refused_turn state request now number reason next after lasting gives =
 
 -- turns that are the same in each such world
 pub same_turns : (state : SharedState) (turn other : World → (number : ℕ) → Turned) → ((world : World) (number : ℕ) → HasState world state → other world number ≡ turn world number)
-    → (after : Tree) (lasting : Bool) → TurnGives state other after lasting → TurnGives state turn after lasting
+    → (after : Kept) (lasting : Bool) → TurnGives state other after lasting → TurnGives state turn after lasting
 same_turns state turn other same after lasting gives =
     let is = same gives.world gives.number gives.has in
     record {
       world = gives.world;
       number = gives.number;
       has = gives.has;
-      tree = gives.tree ∙ ap (λ (t : Turned). t.world.tree) is;
+      kept = gives.kept ∙ ap (λ (t : Turned). with_tree state.files.volume t.world.tree) is;
       lasting_is = gives.lasting_is ∙ ap (λ (t : Turned). lasts t.executed) is;
     }
 
 -- or that execute nothing
 pub idle_turns : (state : SharedState) (turn : World → (number : ℕ) → Turned) → ((world : World) (number : ℕ) → HasState world state → (turn world number).executed ≡ None)
-    → (after : Tree) (lasting : Bool) → TurnGives state turn after lasting → lasting ≡ false
+    → (after : Kept) (lasting : Bool) → TurnGives state turn after lasting → lasting ≡ false
 idle_turns state turn idle after lasting gives = gives.lasting_is ∙ ap lasts (idle gives.world gives.number gives.has)

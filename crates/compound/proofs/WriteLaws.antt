@@ -5,6 +5,7 @@ use Rattle.xdr.specs.Forms.{padded, padding}
 use Rattle.xdr.specs.Grammar.{number}
 use Rattle.xdr.proofs.Sizes.{padded_length}
 use Rattle.xdr.proofs.Numbers.{length-number_32, length-number_64}
+use Rattle.layout.specs.Stands.{Kept}
 use Rattle.fs.specs.FileSystem.{FileSystem}
 use Rattle.fs.specs.Operations.{IsNotDone, does_on}
 use Rattle.fs.specs.Writing.{Commits, IsWriting, WritesTree, after_write}
@@ -21,7 +22,6 @@ use Rattle.model.specs.Refusal.{Refusals}
 use Rattle.model.specs.Session.{Table}
 use Rattle.model.specs.StateIds.{state_refusals, write_access}
 use Rattle.model.specs.Step.{State, does, effect, refused, refusals, without_rights, answered, current_refusals, unless_refused}
-use Rattle.model.specs.Tree.{Tree}
 use Rattle.model.specs.World as turns
 use Rattle.model.specs.World.{World, InProgress, HasRun, run, stepped, state_of, reply_with, outcome_text}
 use Rattle.model.specs.declared.limits.Limits.{Limits}
@@ -38,6 +38,7 @@ use Rattle.compound.proofs.Changing.{HasThisRoom, is_up, ran_given, same_room, t
 use Rattle.compound.proofs.Rooms.{state_same}
 use Rattle.compound.proofs.Trees.{append_bad, does_bad, here, is_on}
 use Rattle.compound.proofs.VerdictLaws.{verdict_bad}
+use Rattle.volume.specs.Held.{kept_of, with_tree}
 
 verifier_length : (of : ℕ) → length (padded (to_be_bytes w64 of)) ≡ 8
 unfolding number
@@ -142,9 +143,9 @@ module _ (now : ℕ) (fs : FileSystem) (request : InProgress) (arguments : Write
       → has_current request.context ≡ true → current_number request.context ≡ number
       → ((state : State) → IsHere fs request state → state.opens ≡ opens → IsWriting state verdict asked arguments)
       → (room : Bool) → room ≡ nat_le (length (reply_with request (Done (written_answer 0 0 0)))) 16368 → room ≡ true
-      → (tree : Tree) (lasting : Bool) → OperationGives (shared fs table opens) request now (Argument.Write arguments) tree lasting
-      → WritesTree fs request.context.cred number now verdict asked tree lasting
-  write_makes table opens number verdict asked in_run has is writing room fits some tree lasting gives =
+      → (kept : Kept) (lasting : Bool) → OperationGives (shared fs table opens) request now (Argument.Write arguments) kept lasting
+      → WritesTree fs request.context.cred number now verdict asked kept lasting
+  write_makes table opens number verdict asked in_run has is writing room fits some kept lasting gives =
       let state = state_of gives.world (with_rest request gives.rest) in
       let there = here gives.world fs table opens request gives.rest gives.has in
       let ran = ran_given now fs request (Argument.Write arguments) write_on_tree room (write_sized room fits) table opens gives.world gives.rest some gives.has in
@@ -153,7 +154,7 @@ module _ (now : ℕ) (fs : FileSystem) (request : InProgress) (arguments : Write
         arguments = arguments;
         on = is_on fs request number state in_run has is there;
         writing = writing state there gives.has.opens;
-        tree = gives.tree ∙ tree_given now fs request (Argument.Write arguments) write_on_tree room (write_sized room fits) table opens gives.world gives.rest some gives.has;
+        kept = gives.kept ∙ ap (with_tree fs.volume) (tree_given now fs request (Argument.Write arguments) write_on_tree room (write_sized room fits) table opens gives.world gives.rest some gives.has);
         lasting_is = gives.lasting_is ∙ ap (λ (r : HasRun). lasts (executed_by gives.world (with_rest request gives.rest) (Argument.Write arguments) r)) ran;
       }
 
@@ -194,11 +195,11 @@ module _ (now : ℕ) (fs : FileSystem) (request : InProgress) (arguments : Commi
 
   pub commit_makes : (table : Table) (opens : Opens)
       → (room : Bool) → room ≡ nat_le (length (reply_with request (Done (committed_answer 0)))) 16368 → room ≡ true
-      → (tree : Tree) (lasting : Bool) → OperationGives (shared fs table opens) request now (Argument.Commit arguments) tree lasting
-      → tree ≡ fs.volume.tree
-  commit_makes table opens room fits some tree lasting gives =
+      → (kept : Kept) (lasting : Bool) → OperationGives (shared fs table opens) request now (Argument.Commit arguments) kept lasting
+      → kept ≡ kept_of fs.volume
+  commit_makes table opens room fits some kept lasting gives =
       let there = here gives.world fs table opens request gives.rest gives.has in
-      gives.tree ∙ (tree_given now fs request (Argument.Commit arguments) commit_on_tree room (commit_sized room fits) table opens gives.world gives.rest some gives.has
+      gives.kept ∙ ap (with_tree fs.volume) (tree_given now fs request (Argument.Commit arguments) commit_on_tree room (commit_sized room fits) table opens gives.world gives.rest some gives.has
       ∙ (kept_tree fs.volume.limits (state_of gives.world (with_rest request gives.rest)) ∙ there.tree_is))
 
 -- Without a current filehandle: the bytes of a WRITE are bytes, which the definition tests first

@@ -1,11 +1,12 @@
 -- What the operations of a COMPOUND do to the file system below it, by the definition.
 use Rattle.std.specs.Prelude.{ℕ, Bool, false, List, Option, Some, None, Result, Ok, Err, ◌≡◌}
+use Rattle.layout.specs.Stands.{Kept}
 use Rattle.model.specs.Operation.{Argument}
 use Rattle.model.specs.Runs.{is_durable}
-use Rattle.model.specs.Tree.{Tree}
 use Rattle.model.specs.World as turns
 use Rattle.model.specs.World.{World, InProgress, HasRun, Entry, Turned, executed_entry}
 use Rattle.volume.specs.Changes.{Ending, Done, Nothing, Broken}
+use Rattle.volume.specs.Held.{with_tree}
 use Rattle.compound.specs.Operates.{run_in_room, tree_by}
 use Rattle.compound.specs.Runs.{with_rest}
 use Rattle.compound.specs.States.{SharedState, HasState}
@@ -40,22 +41,23 @@ executed_by world request operation (turns.Gives outcome after left) =
     Some (executed_entry world request operation outcome after)
 executed_by world request operation (turns.Replays reply session slot) = None
 
--- in some world that has this, whatever follows the operation, it leaves this tree, and has to last
--- or not
+-- in some world that has this, whatever follows the operation, it leaves this tree, with the seats
+-- as they were, and has to last or not
 pub record OperationGives (state : SharedState) (request : InProgress) (now : ℕ)
-    (operation : Argument) (after : Tree) (lasting : Bool) : Type 0 where
+    (operation : Argument) (after : Kept) (lasting : Bool) : Type 0 where
   pub world : World
   pub rest : List ℕ
   pub has : HasState world state
-  pub tree : after ≡ tree_by world (run_in_room world (with_rest request rest) now operation)
+  pub kept : after ≡ with_tree state.files.volume
+      (tree_by world (run_in_room world (with_rest request rest) now operation))
   pub lasting_is : lasting ≡ lasts (executed_by world (with_rest request rest) operation
       (run_in_room world (with_rest request rest) now operation))
 
 -- in some such world, on some connection, this turn does
-pub record TurnGives (state : SharedState) (turn : World → (number : ℕ) → Turned) (after : Tree)
+pub record TurnGives (state : SharedState) (turn : World → (number : ℕ) → Turned) (after : Kept)
     (lasting : Bool) : Type 0 where
   pub world : World
   pub number : ℕ
   pub has : HasState world state
-  pub tree : after ≡ (turn world number).world.tree
+  pub kept : after ≡ with_tree state.files.volume (turn world number).world.tree
   pub lasting_is : lasting ≡ lasts (turn world number).executed

@@ -1,6 +1,7 @@
 -- SETATTR in each state of a COMPOUND: what it comes to by the definition, where its tests on a file system are known.
 use Rattle.std.proofs.Common.{◌≡◌, ◌+◌, ℕ, Bool, true, false, List, [], ◌∷◌, ◌++◌, Some, None, refl, ap, ap₂, ◌∙◌, not}
 use Rattle.edits.specs.declared.edit.Edit.{Edit}
+use Rattle.layout.specs.Stands.{Kept}
 use Rattle.model.specs.declared.acl.Cred.{Cred}
 use Rattle.model.specs.declared.limits.Limits.{Limits}
 use Rattle.model.specs.declared.status.Status.{Status}
@@ -26,6 +27,7 @@ use Rattle.fs.specs.Setting.{IsSet, IsSetting, SetsTree, StaysSet, after_setting
 use Rattle.fs.proofs.SettingSteps as steps
 use Rattle.volume.specs.Changes.{IsTree}
 use Rattle.volume.specs.Edits.{edited_by}
+use Rattle.volume.specs.Held.{with_tree}
 
 module _ (fs : FileSystem) (cred : Cred) (now : ℕ) (asked : Setting) (state : State) (arguments : SetAttrArguments) (on : IsOn fs cred asked.number state) (is : IsSetting state asked arguments) where
   abbrev limits : Limits
@@ -83,6 +85,6 @@ module _ (fs : FileSystem) (cred : Cred) (now : ℕ) (asked : Setting) (state : 
 
 pub sets_tree : (fs : FileSystem) (cred : Cred) (now : ℕ) (asked : Setting) (edits : List Edit)
     → ((state : State) (arguments : SetAttrArguments) → IsOn fs cred asked.number state → IsSetting state asked arguments → IsSet fs state now arguments edits)
-    → (then : Tree) (lasts : Bool) → SetsTree fs cred now asked then lasts → IsTree (edited_by fs.volume edits) then lasts
+    → (then : Kept) (lasts : Bool) → SetsTree fs cred now asked then lasts → IsTree fs.volume (edited_by fs.volume edits) then lasts
 sets_tree fs cred now asked edits step then lasts made =
-    made.tree ∙ ap (λ (s : Stepped). s.state.tree) (step made.state made.arguments made.on made.setting)
+    made.kept ∙ ap (λ (s : Stepped). with_tree fs.volume s.state.tree) (step made.state made.arguments made.on made.setting)

@@ -13,6 +13,7 @@ use Rattle.edits.specs.Edits.{AreEntries, AreDoable, edits_of, size_of}
 use Rattle.inode.proofs.Parts.{stored_entries}
 use Rattle.layout.specs.Cards.{Card}
 use Rattle.layout.specs.Known.{IsCard}
+use Rattle.layout.specs.Stands.{Kept}
 use Rattle.model.specs.declared.acl.Ace.{Ace}
 use Rattle.model.specs.declared.acl.Cred.{Cred}
 use Rattle.model.specs.declared.limits.Limits.{Limits}
@@ -49,6 +50,7 @@ use Rattle.fs.proofs.KeptLaws.{planned_by}
 use Rattle.volume.specs.Edits.{edited_by}
 use Rattle.volume.specs.Formed.{IsFormed}
 use Rattle.volume.specs.Nodes.{IsNodeOf, IsFile, ShowsContent}
+use Rattle.volume.specs.Held.{with_tree}
 
 -- In each state of the operation
 
@@ -132,9 +134,9 @@ unless_stable false done false unstable is lasts = cc
 pub puts_tree : (fs : FileSystem) (cred : Cred) (now number : ℕ) (verdict : Result (Unit {0}) Status) (asked : Writing) (edits : List Edit)
     → ((state : State) (arguments : WriteArguments) → IsOn fs cred number state → IsWriting state verdict asked arguments
     → does_on fs state now (Argument.Write arguments) ≡ after_write (edited_by fs.volume edits) (fs.changes + 1) state arguments (length (bytes_taken fs asked)))
-    → (then : Tree) (lasts : Bool) → WritesTree fs cred number now verdict asked then lasts → IsPut fs.volume edits asked.is_stable then lasts
+    → (then : Kept) (lasts : Bool) → WritesTree fs cred number now verdict asked then lasts → IsPut fs.volume edits asked.is_stable then lasts
 puts_tree fs cred now number verdict asked edits step then lasts made = (
-  made.tree ∙ ap (λ (s : Stepped). s.state.tree) (step made.state made.arguments made.on made.writing),
+  made.kept ∙ ap (λ (s : Stepped). with_tree fs.volume s.state.tree) (step made.state made.arguments made.on made.writing),
   λ lasting. unless_stable (has_bytes made.arguments) (is_done (does_on fs made.state now (Argument.Write made.arguments)).outcome) asked.is_stable (made.arguments.stable == 0)
       made.writing.stable_is (sym made.lasting_is ∙ lasting),
 )

@@ -1,6 +1,7 @@
 -- OPEN, but for the table of opens, of which a call is told whether it is full.
 use Rattle.std.specs.Prelude.{ℕ, Bool, List, [], ◌∷◌, ◌++◌, ◌+◌, Result, Ok, Err, None, MatchOption, ◌≡◌, ◌&&◌, ◌||◌, true, false, not, if◌then◌else◌}
 use Rattle.edits.specs.declared.edit.Edit.{Edit}
+use Rattle.layout.specs.Stands.{Kept}
 use Rattle.model.specs.declared.acl.Cred.{Cred}
 use Rattle.model.specs.declared.limits.Limits.{Limits}
 use Rattle.model.specs.declared.status.Status.TheVariants as status
@@ -37,6 +38,7 @@ use Rattle.fs.specs.FileSystem.{FileSystem}
 use Rattle.fs.specs.Operations.{IsOn, does_on, IsNotDone, IsRefused}
 use Rattle.fs.specs.Renaming.{info_of}
 use Rattle.volume.specs.Edits.{edited_by}
+use Rattle.volume.specs.Held.{with_tree}
 
 -- What is asked, as the definition has it
 
@@ -131,12 +133,13 @@ pub record IsOpened (fs : FileSystem) (asked : Opening) (made : Opened) : Type 0
 -- what an OPEN of this caller leaves by the definition. One that neither makes a file nor cuts one
 -- is no change: nothing of it has to last.
 pub record OpensTree (fs : FileSystem) (cred : Cred) (now : ℕ) (asked : Opening) (is_full : Bool)
-    (after : Tree) (lasts : Bool) : Type 0 where
+    (after : Kept) (lasts : Bool) : Type 0 where
   pub state : State
   pub arguments : OpenArguments
   pub on : IsOn fs cred asked.directory state
   pub opening : IsOpening fs state asked is_full arguments
-  pub tree : after ≡ (does_on fs state now (Argument.Open arguments)).state.tree
+  pub kept : after
+      ≡ with_tree fs.volume (does_on fs state now (Argument.Open arguments)).state.tree
   pub quiet : alters state (Argument.Open arguments) ≡ false → lasts ≡ false
 
 -- the current file, which changes nothing

@@ -1,6 +1,7 @@
 -- What a call on a file system says of an operation.
 use Rattle.std.specs.Prelude.{ℕ, Bool, true, List, Option, Some, None, Result, Ok, Err, ◌≡◌, ◌+◌}
 use Rattle.edits.specs.declared.edit.Edit.{Edit}
+use Rattle.layout.specs.Stands.{Kept}
 use Rattle.model.specs.declared.acl.Cred.{Cred}
 use Rattle.model.specs.declared.status.Status.{Status}
 use Rattle.model.specs.Answer.{Answer}
@@ -17,6 +18,7 @@ use Rattle.fs.specs.declared.fault.FsFault.TheVariants as fault
 use Rattle.fs.specs.declared.created.Created.{Created}
 use Rattle.fs.specs.FileSystem.{FileSystem}
 use Rattle.volume.specs.Edits.{edited_by}
+use Rattle.volume.specs.Held.{with_tree}
 
 -- a COMPOUND's state on this file system, by this caller, with the node of this number as the
 -- current one
@@ -76,10 +78,10 @@ TestsCurrent fs state (Err fault.Down) = fs.volume.is_down ≡ true
 -- what an operation of this caller, with the node of this number as the current one, leaves by the
 -- definition
 pub record MakesTree (fs : FileSystem) (cred : Cred) (number now : ℕ) (operation : Argument)
-    (after : Tree) (lasts : Bool) : Type 0 where
+    (after : Kept) (lasts : Bool) : Type 0 where
   pub state : State
   pub on : IsOn fs cred number state
-  pub tree : after ≡ (does_on fs state now operation).state.tree
+  pub kept : after ≡ with_tree fs.volume (does_on fs state now operation).state.tree
 
 -- a call that was not done: refused as the definition refuses it, done but for the room that its
 -- reply lacks, or not known to be done

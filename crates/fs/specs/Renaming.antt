@@ -2,6 +2,7 @@
 use Rattle.std.specs.Prelude.{ℕ, Bool, true, false, List, Option, Some, None, Result, Ok, Err}
 use Rattle.std.specs.Prelude.{MatchOption, ◌+◌, ◌==◌, ◌&&◌, ◌≡◌, bytes_eq, option_map, IsTrue, if◌then◌else◌}
 use Rattle.edits.specs.declared.edit.Edit.{Edit}
+use Rattle.layout.specs.Stands.{Kept}
 use Rattle.model.specs.declared.acl.Cred.{Cred}
 use Rattle.model.specs.Answer.{Answer}
 use Rattle.model.specs.Context.{has_saved, is_same_name}
@@ -18,6 +19,7 @@ use Rattle.fs.specs.declared.renaming.Renaming.{Renaming}
 use Rattle.fs.specs.FileSystem.{FileSystem}
 use Rattle.fs.specs.Operations.{IsOn, does_on, IsNotDone}
 use Rattle.volume.specs.Edits.{edited_by}
+use Rattle.volume.specs.Held.{with_tree}
 
 -- a COMPOUND's state with one directory as the saved filehandle, and another or the same as the
 -- current one
@@ -81,10 +83,11 @@ Renames keeps_word old new state now arguments (Err reason) =
 -- what a rename leaves by the definition. A name that is given to itself is no change: nothing of
 -- it has to last.
 pub record RenamesTree (fs : FileSystem) (cred : Cred) (from to now : ℕ)
-    (arguments : RenameArguments) (after : Tree) (lasts : Bool) : Type 0 where
+    (arguments : RenameArguments) (after : Kept) (lasts : Bool) : Type 0 where
   pub state : State
   pub on : IsOnBoth fs cred from to state
-  pub tree : after ≡ (does_on fs state now (Argument.Rename arguments)).state.tree
+  pub kept : after
+      ≡ with_tree fs.volume (does_on fs state now (Argument.Rename arguments)).state.tree
   pub quiet : is_same_name state.context arguments ≡ true → lasts ≡ false
 
 -- Before it is kept

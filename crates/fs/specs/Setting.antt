@@ -5,6 +5,7 @@ use Rattle.std.specs.Global.{Vec}
 use Rattle.edits.specs.declared.edit.Edit.{Edit}
 use Rattle.edits.specs.declared.edit.Edit.TheVariants as edit
 use Rattle.inode.specs.Fields.{Fields}
+use Rattle.layout.specs.Stands.{Kept}
 use Rattle.model.specs.declared.acl.Cred.{Cred}
 use Rattle.model.specs.declared.limits.Limits.{Limits}
 use Rattle.model.specs.declared.status.Status.{Status}
@@ -28,6 +29,7 @@ use Rattle.fs.specs.FileSystem.{FileSystem}
 use Rattle.fs.specs.Files.{IsVerdict, verdict_refusals}
 use Rattle.fs.specs.Operations.{IsOn, IsNotDone, does_on}
 use Rattle.volume.specs.Edits.{edited_by}
+use Rattle.volume.specs.Held.{with_tree}
 
 -- the arguments that a call is made for, and the verdict on their stateid
 pub record IsSetting (state : State) (asked : Setting) (arguments : SetAttrArguments) : Type 0 where
@@ -52,13 +54,14 @@ SetsAttributes keeps_word old new state now arguments (Err reason) =
 
 -- what a SETATTR of this caller leaves by the definition. An empty bitmap is no change: nothing of
 -- it has to last.
-pub record SetsTree (fs : FileSystem) (cred : Cred) (now : ℕ) (asked : Setting) (after : Tree)
+pub record SetsTree (fs : FileSystem) (cred : Cred) (now : ℕ) (asked : Setting) (after : Kept)
     (lasts : Bool) : Type 0 where
   pub state : State
   pub arguments : SetAttrArguments
   pub on : IsOn fs cred asked.number state
   pub setting : IsSetting state asked arguments
-  pub tree : after ≡ (does_on fs state now (Argument.SetAttr arguments)).state.tree
+  pub kept : after
+      ≡ with_tree fs.volume (does_on fs state now (Argument.SetAttr arguments)).state.tree
   pub quiet : alters state (Argument.SetAttr arguments) ≡ false → lasts ≡ false
 
 -- Before it is kept

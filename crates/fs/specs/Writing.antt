@@ -1,6 +1,7 @@
 -- WRITE and COMMIT, as calls on a file system.
 use Rattle.std.specs.Prelude.{◌≡◌, ◌+◌, ℕ, Bool, true, List, Result, Ok, Err, ◌==◌, not, take}
 use Rattle.edits.specs.declared.edit.Edit.{Edit}
+use Rattle.layout.specs.Stands.{Kept}
 use Rattle.model.specs.declared.acl.Cred.{Cred}
 use Rattle.model.specs.declared.status.Status.{Status}
 use Rattle.model.specs.Answer.{Answer}
@@ -18,7 +19,7 @@ use Rattle.fs.specs.Files.{IsVerdict}
 use Rattle.fs.specs.Operations.{IsOn, IsNotDone, does_on}
 use Rattle.volume.specs.Changes.{Given}
 use Rattle.volume.specs.Edits.{edited_by}
-use Rattle.volume.specs.Held.{Held}
+use Rattle.volume.specs.Held.{Held, with_tree}
 
 -- WRITE
 
@@ -71,19 +72,20 @@ is_lasting fs state now operation = is_durable (record {
 -- what a WRITE of this caller to the file of this number leaves by the definition, and whether that
 -- has to last: what is not to be stable may be lost until the next flush
 pub record WritesTree (fs : FileSystem) (cred : Cred) (number now : ℕ)
-    (verdict : Result (Unit {0}) Status) (asked : Writing) (after : Tree) (lasts : Bool)
+    (verdict : Result (Unit {0}) Status) (asked : Writing) (after : Kept) (lasts : Bool)
     : Type 0 where
   pub state : State
   pub arguments : WriteArguments
   pub on : IsOn fs cred number state
   pub writing : IsWriting state verdict asked arguments
-  pub tree : after ≡ (does_on fs state now (Argument.Write arguments)).state.tree
+  pub kept : after
+      ≡ with_tree fs.volume (does_on fs state now (Argument.Write arguments)).state.tree
   pub lasting_is : lasts ≡ is_lasting fs state now (Argument.Write arguments)
 
 -- the tree after edits, which has to last only where they are to be stable
 abbrev pub IsPut : Held → List Edit → (is_stable : Bool) → Given
 IsPut held edits is_stable after lasts =
-    (after ≡ edited_by held edits) × (lasts ≡ true → is_stable ≡ true)
+    (after ≡ with_tree held (edited_by held edits)) × (lasts ≡ true → is_stable ≡ true)
 
 -- COMMIT
 

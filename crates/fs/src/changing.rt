@@ -193,7 +193,8 @@ impl<D: Device> Fs<D> {
         requires planned { IsPlanned (fs_of self.old) edits.items }
         // In any case
         ensures volume { Alters self.old self.new
-            (IsTree (edited_by (fs_of self.old).volume edits.entry.items)) (fs_ending result) }
+            (IsTree (fs_of self.old).volume
+            (edited_by (fs_of self.old).volume edits.entry.items)) (fs_ending result) }
         // Done
         ensures shows { OnOk result (Shows D.keeps_word
             (edited_by (fs_of self.old).volume edits.entry.items) (fs_of self.new).volume.tree) }

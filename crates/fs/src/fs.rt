@@ -145,7 +145,7 @@ impl<D: Device> Fs<D> {
     /// Device where the device failed, and Down from then on.
     pub fn checkpoint(&mut self) -> Result<(), FsFault>
         ensures volume { Alters self.old self.new
-            (Stays (fs_of self.old).volume.tree) (fs_ending result) }
+            (Stays (fs_of self.old).volume) (fs_ending result) }
         ensures shows { OnOk result (Shows D.keeps_word (fs_of self.old).volume.tree
             (fs_of self.new).volume.tree) }
         ensures recent { D.keeps_word → OnOk result

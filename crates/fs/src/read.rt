@@ -60,7 +60,7 @@ impl<D: Device> Fs<D> {
         ensures err { OnErr result (out.new.items ≡ out.old.items) }
         // It only reads, and that where there is something to read
         ensures volume { Alters self.old self.new
-            (IsTree (fs_of self.old).volume.tree) (reading_ending result) }
+            (IsTree (fs_of self.old).volume (fs_of self.old).volume.tree) (reading_ending result) }
         ensures nothing { (IsErrOf result FsFault.Memory ⊎ IsErrOf result FsFault.Device)
             → 0 < length (part_at (fs_of self.old) number offset count) }
         ensures down { (fs_of self.old).volume.is_down ≡ true → IsErrOf result FsFault.Down }

@@ -195,7 +195,7 @@ impl<D: Device> Fs<D> {
             → IsOn (fs_of self.old) cred.now number state
             → Commits D.keeps_word (fs_of self.old) (fs_of self.new) state now arguments result }
         ensures volume { Alters self.old self.new
-            (IsTree (fs_of self.old).volume.tree) (fs_ending result) }
+            (IsTree (fs_of self.old).volume (fs_of self.old).volume.tree) (fs_ending result) }
         ensures room { OnOk result (has_room ≡ true) }
         // Refused
         ensures no_room { IsErrOf result FsFault.NoRoom → has_room ≡ false }

@@ -1,5 +1,5 @@
 -- A checkpoint between two calls: the machine is as it was, and a stop leaves what it might have left.
-use Rattle.std.proofs.Common.{◌≡◌, ◌⊎◌, List, ◌∷◌, refl, sym, ap, ◌∙◌, subst, inl, inr, ⊎_elim, true, false}
+use Rattle.std.proofs.Common.{◌≡◌, ◌⊎◌, List, [], ◌∷◌, refl, sym, ap, ◌∙◌, subst, inl, inr, ⊎_elim, true, false, arith}
 use Rattle.std.specs.List.{IsAmong}
 use Rattle.disk.specs.Moments.{History, AddsOnly}
 use Rattle.disk.proofs.MomentLemmas.{AddsOnly-weaken}
@@ -8,35 +8,40 @@ use Rattle.fs.specs.FileSystem.{FileSystem}
 use Rattle.fs.specs.declared.fault.FsFault.{FsFault}
 use Rattle.fs.specs.declared.fault.FsFault.TheVariants as faults
 use Rattle.volume.proofs.FrontLaws.{among_more}
-use Rattle.volume.specs.Held.{Held, IsSameVolume, IsRecent, KeepsRecent, AddsTrees, StandsForOne, MayAdd}
+use Rattle.layout.specs.Stands.{Kept}
+use Rattle.volume.specs.Held.{Held, IsSameVolume, IsRecent, KeepsRecent, AddsTrees, StandsForOne, IsLeft, MayAdd, kept_of}
 use Rattle.model.specs.Keyed.{Keyed}
 use Rattle.model.specs.Opens.{Opens}
-use Rattle.model.specs.Runs.{Serving, Event, MayLeave}
+use Rattle.model.specs.Runs.{Serving, Event}
+use Rattle.model.specs.Seats.{Seats}
 use Rattle.model.specs.Session.{Table}
 use Rattle.model.specs.Tree.{Tree}
 use Rattle.model.specs.World.{World, Connection}
-use Rattle.server.specs.Seen.{Checkpoints, Breaks}
+use Rattle.server.specs.Seen.{MayKeep, Checkpoints, Breaks}
 use Rattle.server.specs.Views.{world_by, serving_by}
-use Rattle.server.proofs.Moves.{broken_leaves}
+use Rattle.server.proofs.Moves.{broken_leaves, leaves_now}
 use Rattle.server.proofs.ServedTurns.{broken}
 
 -- whichever event it is taken for
-keeping_moments : (old : Serving) (held : Held) (new : History) → IsRecent held old.recent → AddsTrees held held.tree new → (event : Event)
-    → AddsOnly (StandsForOne held (MayLeave old event)) held.history new
-keeping_moments old held new is adds event = AddsOnly-weaken
-    (StandsForOne held (MayAdd old.recent held.tree)) (StandsForOne held (MayLeave old event)) held.history new
+keeping_moments : (old : Serving) (held : Held) (new : History) → IsRecent held old.recent → IsAmong old.held held.seats → AddsTrees held (kept_of held) new → (event : Event)
+    → AddsOnly (StandsForOne held (MayKeep old event)) held.history new
+keeping_moments old held new is seated adds event = AddsOnly-weaken
+    (StandsForOne held (MayAdd held old.recent (kept_of held))) (StandsForOne held (MayKeep old event)) held.history new
     (λ image found. (
       found.0,
-      inl (⊎_elim
-          (λ (stays : IsAmong old.recent found.0). stays)
-          (λ (same : found.0 ≡ held.tree). subst (λ (tree : Tree). IsAmong old.recent tree) (sym same) is.newest)
-          found.1),
+      ⊎_elim
+          (λ (stays : IsLeft held old.recent found.0). (inl stays.0, inl (subst (λ (seats : Seats). IsAmong old.held seats) (sym stays.1) seated)))
+          (λ (same : found.0 ≡ kept_of held). (
+            inl (subst (λ (tree : Tree). IsAmong old.recent tree) (sym (ap (λ (kept : Kept). kept.tree) same)) is.newest),
+            inl (subst (λ (seats : Seats). IsAmong old.held seats) (sym (ap (λ (kept : Kept). kept.seats) same)) seated),
+          ))
+          found.1,
       found.2,
     ))
     (adds old.recent is)
 
 module _ (old new : FileSystem) (table : Table) (opens : Opens) (connections : Keyed Connection)
-    (same : IsSameVolume old.volume new.volume) (changes : new.changes ≡ old.changes) where
+    (same : IsSameVolume old.volume new.volume) (changes : new.changes ≡ old.changes) (seats : new.volume.seats ≡ old.volume.seats) where
   -- all but the tree
   pub keeps_world : (tree : Tree) → (let with_tree : FileSystem → World = λ files. record (world_by (shared files table opens) connections) { tree = tree } in with_tree new ≡ with_tree old)
   keeps_world tree = broken (shared old table opens) (shared new table opens) connections connections same changes refl refl tree
@@ -45,32 +50,33 @@ module _ (old new : FileSystem) (table : Table) (opens : Opens) (connections : K
   kept_world trees = keeps_world new.volume.tree ∙ ap (λ (tree : Tree). record (world_by (shared old table opens) connections) { tree = tree }) trees
 
   abbrev serving_of : FileSystem → List Tree → Serving
-  serving_of files recent = serving_by (world_by (shared files table opens) connections) recent files.volume.is_down
+  serving_of files recent = serving_by (world_by (shared files table opens) connections) recent files.volume.seats files.volume.is_down
 
-  abbrev Kept : (recent left : List Tree) → Type 0
-  Kept recent left =
+  abbrev Keeps : (recent left : List Tree) → Type 0
+  Keeps recent left =
       Checkpoints (record { serving = serving_of old recent; volume = old.volume }) (record { serving = serving_of new left; volume = new.volume })
 
   -- where it is done
   pub checkpointed : new.volume.tree ≡ old.volume.tree → old.volume.is_down ≡ false → new.volume.is_down ≡ false → KeepsRecent old.volume new.volume
-      → AddsTrees old.volume old.volume.tree new.volume.history → (recent : List Tree) → IsRecent old.volume recent → Kept recent recent
+      → AddsTrees old.volume (kept_of old.volume) new.volume.history → (recent : List Tree) → IsRecent old.volume recent → Keeps recent recent
   checkpointed trees up still_up keeps adds recent ready = record {
     serving =
-        ap (λ (world : World). serving_by world recent new.volume.is_down) (kept_world trees)
-        ∙ ap (serving_by (world_by (shared old table opens) connections) recent) (still_up ∙ sym up);
+        ap (λ (world : World). serving_by world recent new.volume.seats new.volume.is_down) (kept_world trees)
+        ∙ (ap (λ (kept : Seats). serving_by (world_by (shared old table opens) connections) recent kept new.volume.is_down) seats
+        ∙ ap (serving_by (world_by (shared old table opens) connections) recent old.volume.seats) (still_up ∙ sym up));
     moves = λ event. record {
-      moments = keeping_moments (serving_of old recent) old.volume new.volume.history ready adds event;
-      leaves = (keeps recent ready).leaves;
+      moments = keeping_moments (serving_of old recent) old.volume new.volume.history ready (0, (omega arith, refl)) adds event;
+      leaves = leaves_now new.volume recent (keeps recent ready).leaves;
       same = same;
     };
     ready = keeps recent ready;
   }
 
   -- where the device fails in it
-  pub checkpoint_fails : old.volume.is_down ≡ false → new.volume.is_down ≡ true → AddsTrees old.volume old.volume.tree new.volume.history
+  pub checkpoint_fails : old.volume.is_down ≡ false → new.volume.is_down ≡ true → AddsTrees old.volume (kept_of old.volume) new.volume.history
       → (event : Event) (recent : List Tree) → IsRecent old.volume recent → (after : List Tree)
       × Breaks (record { serving = serving_of old recent; volume = old.volume }) event (record {
-        serving = serving_by (record (world_by (shared new table opens) connections) { tree = old.volume.tree }) after new.volume.is_down;
+        serving = serving_by (record (world_by (shared new table opens) connections) { tree = old.volume.tree }) after new.volume.seats new.volume.is_down;
         volume = new.volume;
       })
   checkpoint_fails up down adds event recent ready = (
@@ -84,11 +90,12 @@ module _ (old new : FileSystem) (table : Table) (opens : Opens) (connections : K
             (λ (first : tree ≡ old.volume.tree). subst (λ (one : Tree). IsAmong recent one) (sym first) ready.newest)
             (λ (rest : IsAmong recent tree). rest)
             (among_more old.volume.tree recent tree left));
-        seats = λ seats left. inl left;
+        seats = λ one among. inl (subst (λ (kept : Seats). IsAmong (kept ∷ []) one) seats among);
       };
       moves = record {
-        moments = keeping_moments (serving_of old recent) old.volume new.volume.history ready adds event;
-        leaves = broken_leaves old.volume new.volume old.volume.tree recent ready adds same;
+        moments = keeping_moments (serving_of old recent) old.volume new.volume.history ready (0, (omega arith, refl)) adds event;
+        leaves = leaves_now new.volume (old.volume.tree ∷ recent)
+            (broken_leaves old.volume new.volume old.volume.tree recent ready adds same seats);
         same = same;
       };
     },

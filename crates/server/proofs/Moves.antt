@@ -14,9 +14,10 @@ use Rattle.disk.specs.Moments.{Image, Moment, Left, LeftWithin, LeftSince, momen
 use Rattle.compound.specs.States.{shared}
 use Rattle.compound.proofs.QuietLaws.{same_volume}
 use Rattle.fs.specs.FileSystem.{FileSystem}
-use Rattle.volume.specs.Held.{Held, IsSameVolume, StandsForOne, LeavesOne, IsRecent, Holds, MayAdd, AddsTrees}
+use Rattle.layout.specs.Stands.{Kept}
+use Rattle.volume.specs.Held.{Held, IsSameVolume, StandsForOne, LeavesOne, IsRecent, Holds, IsLeft, MayAdd, AddsTrees, kept_of, with_tree}
 use Rattle.volume.specs.Stands.{StandsFor}
-use Rattle.model.specs.Runs.{Serving, Event, MayLeave, executed_of, effect_of}
+use Rattle.model.specs.Runs.{Serving, Event, executed_of, effect_of}
 use Rattle.model.specs.Opens.{Opens, no_opens}
 use Rattle.model.specs.Seats.{no_seats}
 use Rattle.model.specs.Tree.{Tree}
@@ -25,7 +26,7 @@ use Rattle.model.specs.Session.{Table, empty_table}
 use Rattle.model.specs.World.{World, Connection, mounted_world}
 use Rattle.server.specs.Headline.{IsMounted}
 use Rattle.server.specs.Views.{world_by, server_limits, serving_by}
-use Rattle.server.specs.Seen.{Seen, LeavesNow, Moves, Said, told, Does}
+use Rattle.server.specs.Seen.{Seen, LeavesNow, MayKeep, Moves, Said, told, Does}
 use Rattle.server.proofs.Worlds.{happened_quietly, among_rest}
 use Rattle.disk.proofs.MomentLemmas.{AddsOnly-same}
 
@@ -48,61 +49,77 @@ left_now h image left = ⊎_elim
 pub moves_none : (old new : Serving) (event : Event) (held : Held) → LeavesNow (record { serving = new; volume = held })
     → Moves (record { serving = old; volume = held }) event (record { serving = new; volume = held })
 moves_none old new event held leaves = record {
-  moments = AddsOnly-same (StandsForOne held (MayLeave old event)) held.history;
+  moments = AddsOnly-same (StandsForOne held (MayKeep old event)) held.history;
   leaves = leaves;
   same = same_volume held held refl;
 }
 
-stands_on : (old new : Held) (tree : Tree) (image : Image) → IsSameVolume old new
-    → StandsFor old.sectors old.limits.nodes old.run tree image → StandsFor new.sectors new.limits.nodes new.run tree image
-stands_on old new tree image same stands =
-    subst (λ (s : ℕ). StandsFor s new.limits.nodes new.run tree image) (sym same.sectors)
-    (subst (λ (n : ℕ). StandsFor old.sectors n new.run tree image) (sym (ap (λ l. l.nodes) same.limits))
-    (subst (λ (r : ℕ). StandsFor old.sectors old.limits.nodes r tree image) (sym same.run) stands))
+stands_on : (old new : Held) (kept : Kept) (image : Image) → IsSameVolume old new
+    → StandsFor old.sectors old.limits.nodes old.run kept image → StandsFor new.sectors new.limits.nodes new.run kept image
+stands_on old new kept image same stands =
+    subst (λ (s : ℕ). StandsFor s new.limits.nodes new.run kept image) (sym same.sectors)
+    (subst (λ (n : ℕ). StandsFor old.sectors n new.run kept image) (sym (ap (λ l. l.nodes) same.limits))
+    (subst (λ (r : ℕ). StandsFor old.sectors old.limits.nodes r kept image) (sym same.run) stands))
 
--- after a failure a stop leaves one of the trees before the call, or the one after it
-pub broken_leaves : (held after_held : Held) (after : Tree) (recent : List Tree) → IsRecent held recent → AddsTrees held after after_held.history → IsSameVolume held after_held
-    → LeavesOne after_held (after ∷ recent)
-broken_leaves held after_held after recent is adds same image left = ⊎_elim
+-- a volume leaves one list of seats, its own
+pub leaves_now : (held : Held) (recent : List Tree) → LeavesOne held recent
+    → (image : Image) → Left held.history.now image → StandsForOne held (λ kept. IsAmong recent kept.tree × IsAmong (held.seats ∷ []) kept.seats) image
+leaves_now held recent leaves image left =
+    let one = leaves image left in
+    (one.0, (one.1.0, (0, (omega arith, one.1.1))), one.2)
+
+-- after a failure a stop leaves one of the trees before the call, or the one after it, and the seats before it
+pub broken_leaves : (held after_held : Held) (after : Tree) (recent : List Tree) → IsRecent held recent → AddsTrees held (with_tree held after) after_held.history → IsSameVolume held after_held
+    → after_held.seats ≡ held.seats → LeavesOne after_held (after ∷ recent)
+broken_leaves held after_held after recent is adds same seats image left = ⊎_elim
     (λ (earlier : LeftSince held.history (moment held.history) image).
     let one = is.leaves image (left_now held.history image earlier) in
-    (one.0, among_rest after recent one.0 one.1, stands_on held after_held one.0 image same one.2))
-    (λ (added : StandsForOne held (MayAdd recent after) image). ⊎_elim
-    (λ (before : IsAmong recent added.0). (added.0, among_rest after recent added.0 before, stands_on held after_held added.0 image same added.2))
-    (λ (behind : added.0 ≡ after). (added.0, (0, (omega arith, behind)), stands_on held after_held added.0 image same added.2))
+    stays one.0 one.1 one.2)
+    (λ (added : StandsForOne held (MayAdd held recent (with_tree held after)) image). ⊎_elim
+    (λ (before : IsLeft held recent added.0). stays added.0 before added.2)
+    (λ (behind : added.0 ≡ with_tree held after). (
+      added.0,
+      ((0, (omega arith, ap (λ (kept : Kept). kept.tree) behind)), ap (λ (kept : Kept). kept.seats) behind ∙ sym seats),
+      stands_on held after_held added.0 image same added.2,
+    ))
     added.1)
     ((adds recent is).added (moment held.history) image (omega arith) (inl left))
+  where
+    stays : (kept : Kept) → IsLeft held recent kept → StandsFor held.sectors held.limits.nodes held.run kept image
+        → StandsForOne after_held (IsLeft after_held (after ∷ recent)) image
+    stays kept among stands = (kept, (among_rest after recent kept.tree among.0, among.1 ∙ sym seats), stands_on held after_held kept image same stands)
 
 -- a call that does an event without the device
 pub does_quietly : (held : Held) (old new : World) (down : Bool) (event : Event) (said : Said) → executed_of old event ≡ None → down ≡ false → new ≡ effect_of old event
-    → new.table.seats ≡ no_seats → said ≡ told old event → (recent : List Tree) → IsRecent held recent → (after : List Tree)
-    × Does (record { serving = serving_by old recent down; volume = held }) event said (record { serving = serving_by new after down; volume = held })
-does_quietly held old new down event said none up is none_seated says recent ready = (
+    → new.table.seats ≡ held.seats → said ≡ told old event → (recent : List Tree) → IsRecent held recent → (after : List Tree)
+    × Does (record { serving = serving_by old recent held.seats down; volume = held }) event said (record { serving = serving_by new after held.seats down; volume = held })
+does_quietly held old new down event said none up is seated says recent ready = (
   recent,
   record {
-    happens = happened_quietly old new recent down down event none up up is none_seated;
+    happens = happened_quietly old new recent held.seats down down event none up up is seated;
     says = says;
-    moves = moves_none _ _ event held ready.leaves;
+    moves = moves_none _ _ event held (leaves_now held recent ready.leaves);
     ready = ready;
   },
 )
 
 -- the world of a server that was just mounted
 pub world_mounted : (fs : FileSystem) (table : Table) (opens : Opens) (connections : Keyed Connection) → table ≡ empty_table fs.volume.run → opens ≡ no_opens → connections ≡ [] → fs.changes ≡ 0
-    → world_by (shared fs table opens) connections ≡ mounted_world (server_limits fs.volume.limits) fs.volume.run fs.volume.tree no_seats
-world_mounted fs table opens connections tables none_open none changes =
+    → fs.volume.seats ≡ no_seats → world_by (shared fs table opens) connections ≡ mounted_world (server_limits fs.volume.limits) fs.volume.run fs.volume.tree fs.volume.seats
+world_mounted fs table opens connections tables none_open none changes unseated =
     ap₂ (λ (t : Table) (o : Opens). world_by (shared fs t o) connections) tables none_open
     ∙ (ap (λ (k : Keyed Connection). world_by (shared fs (empty_table fs.volume.run) no_opens) k) none
-    ∙ ap (λ (n : ℕ). record (world_by (shared fs (empty_table fs.volume.run) no_opens) []) { changes = n }) changes)
+    ∙ (ap (λ (n : ℕ). record (world_by (shared fs (empty_table fs.volume.run) no_opens) []) { changes = n }) changes
+    ∙ ap (mounted_world (server_limits fs.volume.limits) fs.volume.run fs.volume.tree) (sym unseated)))
 
 -- a server that was just mounted
-pub mounted_by : (fs : FileSystem) (table : Table) (opens : Opens) (connections : Keyed Connection) → table ≡ empty_table fs.volume.run → opens ≡ no_opens → connections ≡ [] → fs.changes ≡ 0 → fs.volume.is_down ≡ false → Holds fs.volume
+pub mounted_by : (fs : FileSystem) (table : Table) (opens : Opens) (connections : Keyed Connection) → table ≡ empty_table fs.volume.run → opens ≡ no_opens → connections ≡ [] → fs.changes ≡ 0 → fs.volume.seats ≡ no_seats → fs.volume.is_down ≡ false → Holds fs.volume
     → ∥ IsStart fs.volume.limits fs.volume.run fs.volume.tree ∥₁ → fs.volume.limits.aces_set + 5 ≤ fs.volume.limits.aces
-    → IsMounted fs.volume.run fs.volume.tree (record { serving = serving_by (world_by (shared fs table opens) connections) (fs.volume.tree ∷ []) fs.volume.is_down; volume = fs.volume })
-mounted_by fs table opens connections tables none_open none changes up holds starts room = record {
+    → IsMounted fs.volume.run (kept_of fs.volume) (record { serving = serving_by (world_by (shared fs table opens) connections) (fs.volume.tree ∷ []) fs.volume.seats fs.volume.is_down; volume = fs.volume })
+mounted_by fs table opens connections tables none_open none changes unseated up holds starts room = record {
   serves =
-      ap (λ (w : World). serving_by w (fs.volume.tree ∷ []) fs.volume.is_down) (world_mounted fs table opens connections tables none_open none changes)
-      ∙ ap (λ (b : Bool). serving_by (mounted_world (server_limits fs.volume.limits) fs.volume.run fs.volume.tree no_seats) (fs.volume.tree ∷ []) b) up;
+      ap (λ (w : World). serving_by w (fs.volume.tree ∷ []) fs.volume.seats fs.volume.is_down) (world_mounted fs table opens connections tables none_open none changes unseated)
+      ∙ ap (λ (b : Bool). serving_by (mounted_world (server_limits fs.volume.limits) fs.volume.run fs.volume.tree fs.volume.seats) (fs.volume.tree ∷ []) fs.volume.seats b) up;
   counted = refl;
   begins = refl;
   starts = starts;
@@ -113,18 +130,18 @@ mounted_by fs table opens connections tables none_open none changes up holds sta
 -- the tree that was found is one with which this run may begin
 pub found_start : (sectors : ℕ) (old : moments.History) (held : Held) → IsFound sectors old held → held.limits ≡ limits_of sectors held.limits.nodes
     → ∥ IsStart held.limits held.run held.tree ∥₁
-found_start sectors old held found limits = ∥∥₁_elim found.stood ∥∥₁_prop (λ base. ∥∥₁_map base.stands.well_formed (λ well. record {
+found_start sectors old held found limits = ∥∥₁_elim found.stood ∥∥₁_prop (λ base. ∥∥₁_map base.stands.stands.well_formed (λ well. record {
   well_formed = subst (λ (l : Limits). IsWellFormed l held.tree) (sym limits) well;
   before = was_before (stamp held.run 0) (next_stamp held.run 0) held.tree
-      (subst (λ (r : ℕ). IsBefore (stamp r 0) held.tree) (sym found.raised) base.stands.before) (omega arith);
+      (subst (λ (r : ℕ). IsBefore (stamp r 0) held.tree) (sym found.raised) base.stands.stands.before) (omega arith);
 }))
 
 pub limits_room : (sectors : ℕ) (held : Held) → held.limits ≡ limits_of sectors held.limits.nodes → held.limits.aces_set + 5 ≤ held.limits.aces
 limits_room sectors held limits = subst (λ (l : Limits). l.aces_set + 5 ≤ l.aces) (sym limits) (omega arith)
 
 pub same_seen : (old new : World) (recent : List Tree) (old_held new_held : Held) → new ≡ old → new_held ≡ old_held
-    → (let one : Seen = record { serving = serving_by old recent old_held.is_down; volume = old_held } in one)
-    ≡ record { serving = serving_by new recent new_held.is_down; volume = new_held }
+    → (let one : Seen = record { serving = serving_by old recent old_held.seats old_held.is_down; volume = old_held } in one)
+    ≡ record { serving = serving_by new recent new_held.seats new_held.is_down; volume = new_held }
 same_seen old new recent old_held new_held worlds volumes =
-    ap (λ (w : World). let one : Seen = record { serving = serving_by w recent old_held.is_down; volume = old_held } in one) (sym worlds)
-    ∙ ap (λ (h : Held). let one : Seen = record { serving = serving_by new recent h.is_down; volume = h } in one) (sym volumes)
+    ap (λ (w : World). let one : Seen = record { serving = serving_by w recent old_held.seats old_held.is_down; volume = old_held } in one) (sym worlds)
+    ∙ ap (λ (h : Held). let one : Seen = record { serving = serving_by new recent h.seats h.is_down; volume = h } in one) (sym volumes)

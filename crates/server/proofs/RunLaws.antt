@@ -15,7 +15,7 @@ use Rattle.disk.specs.Moments.{seen}
 use Rattle.server.specs.RunLaws.{IsReady, HangUpIsCalls, NeverEmpty, IsIdle, OnlyIdle}
 use Rattle.server.specs.Seen.{Seen, Call, Did, IsServed, IsTurned, Stays}
 use Rattle.server.specs.Seen as served
-use Rattle.server.proofs.Stops.{joined}
+use Rattle.server.proofs.Stops.{joined, mounted_leaves}
 
 further_calls : (connection now : ℕ) (first old new : Seen) (calls : List Call) → IsServed first calls old → IsTurned connection now old new
     → (more : List Call) × IsServed first more new
@@ -33,9 +33,9 @@ hang_up_is_calls connection now first old new calls before turned = (further_cal
 
 pub never_empty : NeverEmpty
 never_empty run start first last calls mounted served none =
-    let all = joined first last calls mounted.ready.leaves served in
+    let all = joined first last calls (mounted_leaves run start first mounted) served in
     let one = all.leaves (seen last.volume.history.now) (seen_left last.volume.history.now) in
-    let never = subst (λ (recent : List Tree). IsAmong recent one.0) none one.1 in
+    let never = subst (λ (recent : List Tree). IsAmong recent one.0.tree) none one.1.0 in
     absurd (omega (arith, never.1.0))
 
 -- A step is not idle

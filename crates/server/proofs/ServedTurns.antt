@@ -1,21 +1,23 @@
 -- A turn of a connection, as the turn of its server.
-use Rattle.std.proofs.Common.{◌≡◌, ℕ, List, subst, false, Option, Some, refl, sym, ap, ◌∙◌, inl, inr}
+use Rattle.std.proofs.Common.{◌≡◌, ℕ, List, subst, false, Option, Some, refl, sym, ap, ◌∙◌, inl, inr, arith}
 use Rattle.disk.specs.Moments.{History, AddsOnly}
 use Rattle.disk.proofs.MomentLemmas.{AddsOnly-weaken}
 use Rattle.compound.specs.States.{SharedState, HasState, with_state}
 use Rattle.compound.specs.Volumes.{TurnGives, lasts}
 use Rattle.fs.specs.FileSystem.{FileSystem}
-use Rattle.volume.specs.Held.{IsSameVolume, AddsTrees, StandsForOne, IsRecent, MayAdd}
+use Rattle.layout.specs.Stands.{Kept}
+use Rattle.volume.specs.Held.{IsSameVolume, AddsTrees, StandsForOne, IsRecent, MayAdd, with_tree}
 use Rattle.model.specs.declared.limits.Limits.{Limits}
 use Rattle.model.specs.Tree.{Tree}
 use Rattle.model.specs.Keyed.{Keyed, at, with}
 use Rattle.model.proofs.KeyedLaws.{at-with_same}
 use Rattle.model.specs.Runs as runs
-use Rattle.model.specs.Runs.{MayLeave}
+use Rattle.model.specs.Runs.{Serving, MayLeave}
 use Rattle.model.specs.World as world
 use Rattle.model.specs.World.{one, with_connection}
 use Rattle.server.specs.declared.turn.Turn.{Turn}
 use Rattle.server.specs.Connections.{Turns, IsRising, HasGoneOn, turn_view}
+use Rattle.server.specs.Seen.{MayKeep}
 use Rattle.server.specs.Views.{world_by, server_limits, serving_by}
 use Rattle.server.proofs.Turning.{one_is}
 use Rattle.server.proofs.Worlds.{may_leave_from}
@@ -71,27 +73,34 @@ gone_on_at old new number before after there written further =
 
 -- what the turn of a connection gives in the server's world
 pub gives_one : (state : SharedState) (connections : Keyed world.Connection) (number now : ℕ) (before : world.Connection) → at number connections ≡ Some before
-    → TurnGives state (λ w n. world.turned w n now (Some before)) (one (world_by state connections) number now).world.tree (lasts (one (world_by state connections) number now).executed)
+    → TurnGives state (λ w n. world.turned w n now (Some before)) (with_tree state.files.volume (one (world_by state connections) number now).world.tree) (lasts (one (world_by state connections) number now).executed)
 gives_one state connections number now before is =
     let same = one_is (world_by state connections) number now before is in
     record {
       world = world_by state connections;
       number = number;
       has = has_state state connections;
-      tree = ap (λ (t : world.Turned). t.world.tree) same;
+      kept = ap (λ (t : world.Turned). with_tree state.files.volume t.world.tree) same;
       lasting_is = ap (λ (t : world.Turned). lasts t.executed) same;
     }
 
 -- what a stop within it may leave
+
+abbrev pub serving_of : SharedState → Keyed world.Connection → List Tree → Serving
+serving_of state connections recent = serving_by (world_by state connections) recent state.files.volume.seats state.files.volume.is_down
+
 pub turning_moments : (state : SharedState) (old : Keyed world.Connection) (number now : ℕ) (recent : List Tree) (new : History) → IsRecent state.files.volume recent → state.files.volume.is_down ≡ false
-    → AddsTrees state.files.volume (one (world_by state old) number now).world.tree new
-    → AddsOnly (StandsForOne state.files.volume (MayLeave (serving_by (world_by state old) recent state.files.volume.is_down) (runs.Turns number now))) state.files.volume.history new
+    → AddsTrees state.files.volume (with_tree state.files.volume (one (world_by state old) number now).world.tree) new
+    → AddsOnly (StandsForOne state.files.volume (MayKeep (serving_of state old recent) (runs.Turns number now))) state.files.volume.history new
 turning_moments state old number now recent new is up moments =
-    AddsOnly-weaken _ (StandsForOne state.files.volume (MayLeave (serving_by (world_by state old) recent state.files.volume.is_down) (runs.Turns number now))) state.files.volume.history new
+    AddsOnly-weaken _ (StandsForOne state.files.volume (MayKeep (serving_of state old recent) (runs.Turns number now))) state.files.volume.history new
     (λ image found. (found.0, either found.0 found.1, found.2)) (moments recent is)
   where
-    either : (tree : Tree) → MayAdd recent (one (world_by state old) number now).world.tree tree
-        → MayLeave (serving_by (world_by state old) recent state.files.volume.is_down) (runs.Turns number now) tree
-    either tree (inl stays) = inl stays
-    either tree (inr goes) = subst (MayLeave (serving_by (world_by state old) recent state.files.volume.is_down) (runs.Turns number now)) (sym goes)
-        (may_leave_from (world_by state old) recent state.files.volume.is_down (runs.Turns number now) is.newest up)
+    either : (kept : Kept) → MayAdd state.files.volume recent (with_tree state.files.volume (one (world_by state old) number now).world.tree) kept
+        → MayKeep (serving_of state old recent) (runs.Turns number now) kept
+    either kept (inl stays) = (inl stays.0, inl (0, (omega arith, stays.1)))
+    either kept (inr goes) = (
+      subst (MayLeave (serving_of state old recent) (runs.Turns number now)) (sym (ap (λ (of : Kept). of.tree) goes))
+          (may_leave_from (world_by state old) recent state.files.volume.seats state.files.volume.is_down (runs.Turns number now) is.newest up),
+      inl (0, (omega arith, ap (λ (of : Kept). of.seats) goes)),
+    )

@@ -1,41 +1,40 @@
 -- The calls of a server are a run of the machine, and what a stop within one leaves stands for what the machine may leave.
 use Rattle.std.proofs.Common.{◌≡◌, ◌<◌, ◌+◌, ◌^◌, ℕ, List, refl, sym, ap, ◌∙◌, subst, inl, ⊎_elim, arith}
+use Rattle.std.specs.List.{IsAmong}
 use Rattle.std.proofs.Math.Logic.{∥∥₁_elim, ∥∥₁_map}
 use Rattle.std.proofs.Props.{props}
 use Rattle.disk.specs.Moments.{Image, History, LeftSince, moment, seen}
+use Rattle.layout.specs.Stands.{Kept, bare}
 use Rattle.model.specs.Fresh.{fresh_tree}
-use Rattle.model.specs.Tree.{Tree}
 use Rattle.volume.specs.MountAnswers.{NoTree}
-use Rattle.volume.specs.Held.{Held, IsSameVolume}
+use Rattle.volume.specs.Held.{Held, IsSameVolume, kept_of}
 use Rattle.volume.specs.Stands.{StandsFor, IsBase}
 use Rattle.volume.specs.Superblock.{last_run}
-use Rattle.volume.proofs.OneTree.{one_tree_stands}
+use Rattle.volume.proofs.OneTree.{Kept-set, one_stands}
 use Rattle.model.proofs.Headline.{every_run}
 use Rattle.model.proofs.GivenLaws.{every_stamp_is_given}
 use Rattle.model.proofs.StampLaws.{every_stamp}
 use Rattle.model.specs.StampRuns.{AreGiven}
 use Rattle.model.specs.Runs as runs
-use Rattle.model.specs.Runs.{Serving, Event, Takes, MayLeave, IsRun, AreStamped, history_after, history_failing, effect_of, mounted}
-use Rattle.model.specs.Seats.{no_seats}
+use Rattle.model.specs.Runs.{Serving, Event, Takes, IsRun, AreStamped, history_after, history_failing, effect_of, mounted}
 use Rattle.model.specs.World.{World}
 use Rattle.volume.proofs.RemountLaws.{seen_left, rests_left, lasting, served_good}
-use Rattle.volume.proofs.OneTree.{Tree-set}
 use Rattle.volume.specs.Formats.{IsFresh}
 use Rattle.volume.specs.Remounts.{StandsForGood, LeavesGood}
-use Rattle.server.specs.Headline.{IsGoodTree, EveryStop, EveryRun, EveryFirst, IsNewVolume, Formatted, Powers, NeverLost, IsNotLost, EveryTrace, Stopped, executed_in, Follows, IsLater, Next, Then, EveryLife, EveryStamping}
+use Rattle.server.specs.Headline.{IsMounted, IsGood, EveryStop, EveryRun, EveryFirst, IsNewVolume, Formatted, Powers, NeverLost, IsNotLost, EveryTrace, Stopped, executed_in, Follows, IsLater, Next, Then, EveryLife, EveryStamping}
 use Rattle.volume.specs.Held.{StandsForOne}
-use Rattle.server.specs.Seen.{Seen, LeavesNow, Moves, Call, IsServed, Begins, Goes_on, Fails_at, Stays_down, Keeps_on, world_after, history_of, AreTold, told}
+use Rattle.server.specs.Seen.{Seen, LeavesNow, MayKeep, Moves, Call, IsServed, Begins, Goes_on, Fails_at, Stays_down, Keeps_on, world_after, history_of, AreTold, told}
 use Rattle.server.specs.Views.{server_limits}
 use Rattle.server.proofs.Moves.{left_now}
 
 -- a stop within a call
 stopped_in : (old new : Seen) (event : Event) → LeavesNow old → Moves old event new → (image : Image) → LeftSince new.volume.history (moment old.volume.history) image
-    → StandsForOne old.volume (MayLeave old.serving event) image
+    → StandsForOne old.volume (MayKeep old.serving event) image
 stopped_in old new event leaves moves image left = ⊎_elim
     (λ (before : LeftSince old.volume.history (moment old.volume.history) image).
     let one = leaves image (left_now old.volume.history image before) in
-    (one.0, inl one.1, one.2))
-    (λ (added : StandsForOne old.volume (MayLeave old.serving event) image). added)
+    (one.0, (inl one.1.0, inl one.1.1), one.2))
+    (λ (added : StandsForOne old.volume (MayKeep old.serving event) image). added)
     (moves.moments.added (moment old.volume.history) image (omega arith) left)
 
 -- The calls so far
@@ -97,6 +96,16 @@ joined first last calls leaves (Keeps_on {old = old} {new = new} before keeps) =
       same = same_on first.volume old.volume new.volume was.same moves.same;
     }
 
+-- a server that was just mounted leaves what it begins with
+pub mounted_leaves : (run : ℕ) (start : Kept) (first : Seen) → IsMounted run start first → LeavesNow first
+mounted_leaves run start first mounted image left =
+    let one = mounted.ready.leaves image left in
+    let seated : first.volume.seats ≡ start.seats = ap (λ (kept : Kept). kept.seats) mounted.begins in (
+      one.0,
+      (one.1.0, subst (λ (s : Serving). IsAmong s.held one.0.seats) (sym mounted.serves) (0, (omega arith, one.1.1 ∙ seated))),
+      one.2,
+    )
+
 -- The laws
 
 pub every_stop : EveryStop
@@ -104,62 +113,65 @@ every_stop stopped image left =
     let first = stopped.first in
     let old = stopped.old in
     let history = history_of first.serving.world stopped.calls in
-    let all = joined first old stopped.calls stopped.mounted.ready.leaves stopped.served in
+    let all = joined first old stopped.calls (mounted_leaves stopped.run stopped.start first stopped.mounted) stopped.served in
     let found = stopped_in old stopped.new stopped.event all.leaves stopped.moves image left in
     let stands : StandsFor first.volume.sectors first.volume.limits.nodes stopped.run found.0 image =
     subst (λ (s : ℕ). StandsFor s first.volume.limits.nodes stopped.run found.0 image) all.same.sectors
     (subst (λ (n : ℕ). StandsFor old.volume.sectors n stopped.run found.0 image) (ap (λ l. l.nodes) all.same.limits)
     (subst (λ (r : ℕ). StandsFor old.volume.sectors old.volume.limits.nodes r found.0 image) (all.same.run ∙ stopped.mounted.counted) found.2)) in
     record {
-      tree = found.0;
-      good = every_run (server_limits first.volume.limits) stopped.run stopped.start no_seats old.serving history
-          (subst (λ (s : Serving). IsRun s old.serving history) stopped.mounted.serves all.run) stopped.event found.0 found.1;
+      kept = found.0;
+      good = record {
+        tree = every_run (server_limits first.volume.limits) stopped.run stopped.start.tree stopped.start.seats old.serving history
+            (subst (λ (s : Serving). IsRun s old.serving history) stopped.mounted.serves all.run) stopped.event found.0.tree found.1.0;
+        seats = found.1.1;
+      };
       stands = stands;
       no_other = λ nodes run other others.
-          let one = one_tree_stands _ _ _ _ _ other found.0 image others stands in
-          (one.tree_is, (one.nodes_are, one.run_is));
+          let one = one_stands _ _ _ _ _ other found.0 image others stands in
+          (one.kept_is, (one.nodes_are, one.run_is));
     }
 
 -- under a count, or as many more
-stands_more : (sectors nodes run : ℕ) (good : Tree → Type 0) (tree : Tree) (image : Image) → good tree → StandsFor sectors nodes run tree image
+stands_more : (sectors nodes run : ℕ) (good : Kept → Type 0) (kept : Kept) (image : Image) → good kept → StandsFor sectors nodes run kept image
     → StandsForGood sectors nodes run good image
-stands_more sectors nodes run good tree image is stands =
-    ∣ (tree, is, 0, subst (λ (r : ℕ). StandsFor sectors nodes r tree image) (omega arith) stands) ∣₁
+stands_more sectors nodes run good kept image is stands =
+    ∣ (kept, is, 0, subst (λ (r : ℕ). StandsFor sectors nodes r kept image) (omega arith) stands) ∣₁
 
-leaves_good : (stopped : Stopped) → LeavesGood stopped.first.volume.sectors stopped.first.volume.limits.nodes stopped.run (IsGoodTree stopped)
+leaves_good : (stopped : Stopped) → LeavesGood stopped.first.volume.sectors stopped.first.volume.limits.nodes stopped.run (IsGood stopped)
     stopped.new.volume.history (moment stopped.old.volume.history)
 leaves_good stopped = record {
   within = stopped.moves.moments.later;
   leaves = λ image left.
       let is = every_stop stopped image left in
-      stands_more stopped.first.volume.sectors stopped.first.volume.limits.nodes stopped.run (IsGoodTree stopped) is.tree image is.good is.stands;
+      stands_more stopped.first.volume.sectors stopped.first.volume.limits.nodes stopped.run (IsGood stopped) is.kept image is.good is.stands;
 }
 
 pub every_run_again : EveryRun
 every_run_again stopped device from again remounts found =
-    let same = served_good stopped.first.volume.sectors stopped.first.volume.limits.nodes stopped.run (IsGoodTree stopped)
+    let same = served_good stopped.first.volume.sectors stopped.first.volume.limits.nodes stopped.run (IsGood stopped)
     stopped.new.volume.history (moment stopped.old.volume.history) device from again (leaves_good stopped) remounts found in
-    record { good = same.tree_is; nodes = same.nodes_are; counted = same.greater }
+    record { good = same.kept_is; nodes = same.nodes_are; counted = same.greater }
 
 -- Between runs
 
-new_leaves : (sectors nodes : ℕ) (new : History) (since : ℕ) → IsNewVolume sectors nodes new since → LeavesGood sectors nodes 0 (λ tree. tree ≡ fresh_tree) new since
+new_leaves : (sectors nodes : ℕ) (new : History) (since : ℕ) → IsNewVolume sectors nodes new since → LeavesGood sectors nodes 0 (λ kept. kept ≡ bare fresh_tree) new since
 new_leaves sectors nodes new since (Formatted {device = device} fresh) = record {
   within = omega arith;
-  leaves = λ image left. stands_more sectors nodes 0 (λ tree. tree ≡ fresh_tree) fresh_tree image refl (fresh image (left_now device image left));
+  leaves = λ image left. stands_more sectors nodes 0 (λ kept. kept ≡ bare fresh_tree) (bare fresh_tree) image refl (fresh image (left_now device image left));
 }
 new_leaves sectors nodes new since (Powers {image = was} fresh) = record {
   within = omega arith;
-  leaves = λ image left. stands_more sectors nodes 0 (λ tree. tree ≡ fresh_tree) fresh_tree image refl
+  leaves = λ image left. stands_more sectors nodes 0 (λ kept. kept ≡ bare fresh_tree) (bare fresh_tree) image refl
       (subst (λ (i : Image). IsFresh sectors nodes i) (sym (rests_left was image left)) fresh);
 }
 
 pub every_first : EveryFirst
 every_first sectors nodes new since device from first is remounts found =
-    let same = served_good sectors nodes 0 (λ tree. tree ≡ fresh_tree) new since device from first (new_leaves sectors nodes new since is) remounts found in
-    record { empty = ∥∥₁_elim same.tree_is (Tree-set first.tree fresh_tree) (λ e. e); nodes_are = same.nodes_are; counted = same.greater }
+    let same = served_good sectors nodes 0 (λ kept. kept ≡ bare fresh_tree) new since device from first (new_leaves sectors nodes new since is) remounts found in
+    record { empty = ∥∥₁_elim same.kept_is (Kept-set (kept_of first) (bare fresh_tree)) (λ e. e); nodes_are = same.nodes_are; counted = same.greater }
 
-module _ (sectors nodes run : ℕ) (good : Tree → Type 0) (device : History) (from : ℕ) (leaves : LeavesGood sectors nodes run good device from) where
+module _ (sectors nodes run : ℕ) (good : Kept → Type 0) (device : History) (from : ℕ) (leaves : LeavesGood sectors nodes run good device from) where
   stands : StandsForGood sectors nodes run good (seen device.now)
   stands = leaves.leaves (seen device.now) (inl (seen_left device.now))
 
@@ -167,8 +179,8 @@ module _ (sectors nodes run : ℕ) (good : Tree → Type 0) (device : History) (
   there none = ∥∥₁_elim stands (Prim.hlevel props) (λ one.
       ∥∥₁_elim one.3 (Prim.hlevel props) (λ base. none nodes (run + one.2) one.0 base))
 
-  full : ((other_nodes count : ℕ) (tree : Tree) → IsBase sectors other_nodes count tree (seen device.now) → count + 1 ≡ 2 ^ 32)
-      → ∥ ((tree : Tree) × good tree × StandsFor sectors nodes last_run tree (seen device.now)) ∥₁
+  full : ((other_nodes count : ℕ) (kept : Kept) → IsBase sectors other_nodes count kept (seen device.now) → count + 1 ≡ 2 ^ 32)
+      → ∥ ((kept : Kept) × good kept × StandsFor sectors nodes last_run kept (seen device.now)) ∥₁
   full is = ∥∥₁_elim stands (Prim.hlevel props) (λ one.
       ∥∥₁_map one.3 (λ base.
       let at_last = is nodes (run + one.2) one.0 base in
@@ -185,19 +197,19 @@ module _ (sectors nodes run : ℕ) (good : Tree → Type 0) (device : History) (
 pub never_lost : NeverLost
 never_lost = record {
   first = λ sectors nodes new since device from is remounts.
-      not_lost sectors nodes 0 (λ tree. tree ≡ fresh_tree) device from
-      (lasting sectors nodes 0 (λ tree. tree ≡ fresh_tree) new since device from (new_leaves sectors nodes new since is) remounts);
+      not_lost sectors nodes 0 (λ kept. kept ≡ bare fresh_tree) device from
+      (lasting sectors nodes 0 (λ kept. kept ≡ bare fresh_tree) new since device from (new_leaves sectors nodes new since is) remounts);
   later = λ stopped device from remounts.
       let sectors = stopped.first.volume.sectors in
       let nodes = stopped.first.volume.limits.nodes in
-      not_lost sectors nodes stopped.run (IsGoodTree stopped) device from
-      (lasting sectors nodes stopped.run (IsGoodTree stopped) stopped.new.volume.history (moment stopped.old.volume.history) device from (leaves_good stopped) remounts);
+      not_lost sectors nodes stopped.run (IsGood stopped) device from
+      (lasting sectors nodes stopped.run (IsGood stopped) stopped.new.volume.history (moment stopped.old.volume.history) device from (leaves_good stopped) remounts);
 }
 
-follows_run : (old new : Stopped) → Follows old new → ∥ IsGoodTree old new.start ∥₁ × (old.run < new.run)
+follows_run : (old new : Stopped) → Follows old new → ∥ IsGood old new.start ∥₁ × (old.run < new.run)
 follows_run old new follows =
     let again = every_run_again old follows.device follows.from new.first.volume follows.remounts follows.found in
-    (subst (λ (tree : Tree). ∥ IsGoodTree old tree ∥₁) new.mounted.begins again.good, subst (λ (r : ℕ). old.run < r) new.mounted.counted again.counted)
+    (subst (λ (kept : Kept). ∥ IsGood old kept ∥₁) new.mounted.begins again.good, subst (λ (r : ℕ). old.run < r) new.mounted.counted again.counted)
 
 later_run : (old new : Stopped) → IsLater old new → old.run < new.run
 later_run old new (Next follows) = (follows_run old new follows).1
@@ -216,8 +228,8 @@ stamped_within stopped =
     let first = stopped.first in
     let old = stopped.old in
     let history = history_of first.serving.world stopped.calls in
-    let all = joined first old stopped.calls stopped.mounted.ready.leaves stopped.served in
-    every_stamp (server_limits first.volume.limits) stopped.run stopped.start no_seats old.serving history
+    let all = joined first old stopped.calls (mounted_leaves stopped.run stopped.start first stopped.mounted) stopped.served in
+    every_stamp (server_limits first.volume.limits) stopped.run stopped.start.tree stopped.start.seats old.serving history
     (subst (λ (s : Serving). IsRun s old.serving history) stopped.mounted.serves all.run) stopped.event
 
 given_within : (stopped : Stopped) → ∥ AreGiven stopped.run (executed_in stopped) ∥₁
@@ -225,9 +237,9 @@ given_within stopped =
     let first = stopped.first in
     let old = stopped.old in
     let history = history_of first.serving.world stopped.calls in
-    let all = joined first old stopped.calls stopped.mounted.ready.leaves stopped.served in
+    let all = joined first old stopped.calls (mounted_leaves stopped.run stopped.start first stopped.mounted) stopped.served in
     ∥∥₁_map stopped.mounted.starts (λ starts.
-    every_stamp_is_given (server_limits first.volume.limits) stopped.run stopped.start no_seats old.serving history stopped.mounted.room starts
+    every_stamp_is_given (server_limits first.volume.limits) stopped.run stopped.start.tree stopped.start.seats old.serving history stopped.mounted.room starts
     (subst (λ (s : Serving). IsRun s old.serving history) stopped.mounted.serves all.run) stopped.event)
 
 pub every_stamping : EveryStamping

@@ -10,7 +10,7 @@ use Rattle.compound.specs.declared.step.Stepped.{Stepped}
 use Rattle.compound.specs.declared.step.Stepped.TheVariants as stepped
 use Rattle.compound.specs.declared.fault.Fault.{Fault}
 use Rattle.compound.specs.Volumes.{TurnGives}
-use Rattle.compound.proofs.VolumeLaws.{same_turns, idle_turns}
+use Rattle.compound.proofs.VolumeLaws.{turn_stays, same_turns, idle_turns}
 use Rattle.fs.specs.Changes.{Changes}
 use Rattle.volume.specs.Changes.{Ending, Done}
 use Rattle.fs.specs.FileSystem.{FileSystem}
@@ -163,4 +163,4 @@ module _ (keeps_word : Type 0) (state : SharedState) (fs new : FileSystem) (befo
 pub idle_changes : (keeps_word : Type 0) (state : SharedState) (failed : ℕ) (turn : World → ℕ → Turned) → state.files.volume.is_down ≡ false
     → ((world : World) (number : ℕ) → HasState world state → (turn world number).executed ≡ None) → Changes keeps_word (TurnGives state turn) state.files state.files failed failed Done
 idle_changes keeps_word state failed turn up idle =
-    answers_quietly keeps_word (TurnGives state turn) state.files state.files failed failed refl (omega arith) up (idle_turns state turn idle)
+    answers_quietly keeps_word (TurnGives state turn) state.files state.files failed failed refl (omega arith) up (turn_stays state turn) (idle_turns state turn idle)

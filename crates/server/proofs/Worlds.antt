@@ -2,11 +2,12 @@
 use Rattle.std.proofs.Common.{◌≡◌, ◌⊎◌, ◌+◌, ◌<◌, ◌≤◌, ℕ, zero, suc, Bool, true, false, List, [], ◌∷◌, ◌++◌, length, get_or, None, Some, Result, Ok, Err, IfOk, OnOk, OnErr, refl, sym, ap, ◌∙◌, subst, inl, inr, cond, arith, lt-ltb}
 use Rattle.std.specs.List.{IsAmong}
 use Rattle.std.proofs.lemmas.Bool.{cases_eq}
+use Rattle.layout.specs.Stands.{Kept}
 use Rattle.model.specs.Keyed.{Keyed, at, with, without}
 use Rattle.model.specs.Record.{RecordLimits, Front, Partial, Refused, Whole, front}
 use Rattle.model.specs.Rpc.{is_call_read, read_call}
 use Rattle.model.specs.Runs.{Event, Happens, Fails, StaysDown, MayLeave, effect_of, executed_of, executed_by}
-use Rattle.model.specs.Seats.{Seats, no_seats}
+use Rattle.model.specs.Seats.{Seats}
 use Rattle.model.specs.Tree.{Tree}
 use Rattle.model.specs.World as world
 use Rattle.model.specs.World.{World, Quiet, Closed, arrives, arrives_at, arrived, takes, without_reply, connects, can_connect, connection_changed, with_connection, hangs_up, is_busy}
@@ -26,18 +27,18 @@ use Rattle.server.specs.Views.{world_by, serving_by}
 
 -- Events
 
--- a volume has no seats
-only_none : (seats : Seats) → IsAmong (no_seats ∷ []) seats → seats ≡ no_seats
-only_none seats among = by_place among.0 among.1.0 among.1.1
+-- only one list of seats is left
+only_one : (one seats : Seats) → IsAmong (one ∷ []) seats → seats ≡ one
+only_one one seats among = by_place among.0 among.1.0 among.1.1
   where
-    by_place : (place : ℕ) → place < length (no_seats ∷ []) → seats ≡ get_or (no_seats ∷ []) place seats → seats ≡ no_seats
+    by_place : (place : ℕ) → place < length (one ∷ []) → seats ≡ get_or (one ∷ []) place seats → seats ≡ one
     by_place zero less e = e
     by_place (suc place) less e = absurd (omega arith)
 
 -- an event that executes nothing leaves the trees
-pub happened_quietly : (old new : World) (recent : List Tree) (old_down new_down : Bool) (event : Event) → executed_of old event ≡ None → old_down ≡ false → new_down ≡ false → new ≡ effect_of old event
-    → new.table.seats ≡ no_seats → Happens (serving_by old recent old_down) event (serving_by new recent new_down)
-happened_quietly old new recent old_down new_down event none up still is none_seated = record {
+pub happened_quietly : (old new : World) (recent : List Tree) (kept : Seats) (old_down new_down : Bool) (event : Event) → executed_of old event ≡ None → old_down ≡ false → new_down ≡ false → new ≡ effect_of old event
+    → new.table.seats ≡ kept → Happens (serving_by old recent kept old_down) event (serving_by new recent kept new_down)
+happened_quietly old new recent kept old_down new_down event none up still is seated = record {
   up = up;
   world = is;
   still_up = still;
@@ -45,33 +46,33 @@ happened_quietly old new recent old_down new_down event none up still is none_se
   durable = λ entry e lasts tree left.
       let done : executed_of old event ≡ Some entry = subst (λ (b : Bool). executed_by old event b ≡ Some entry) up e in
       let never : ⊥ = cc in absurd never;
-  seats = λ seats left. only_none seats left ∙ sym none_seated;
+  seats = λ seats left. only_one kept seats left ∙ sym seated;
 }
 
-pub may_leave_from : (old : World) (recent : List Tree) (down : Bool) (event : Event) → IsAmong recent old.tree → down ≡ false
-    → MayLeave (serving_by old recent down) event (effect_of old event).tree
-may_leave_from old recent down event newest up =
-    subst (λ (b : Bool). MayLeave (serving_by old recent b) event (effect_of old event).tree) (sym up) (
-    let made = each_event_happens (serving_by old recent false) event refl newest in
-    subst (MayLeave (serving_by old recent false) event) (ap (λ (w : World). w.tree) made.1.world) (made.1.no_others made.0.world.tree made.2))
+pub may_leave_from : (old : World) (recent : List Tree) (kept : Seats) (down : Bool) (event : Event) → IsAmong recent old.tree → down ≡ false
+    → MayLeave (serving_by old recent kept down) event (effect_of old event).tree
+may_leave_from old recent kept down event newest up =
+    subst (λ (b : Bool). MayLeave (serving_by old recent kept b) event (effect_of old event).tree) (sym up) (
+    let made = each_event_happens (serving_by old recent kept false) event refl newest in
+    subst (MayLeave (serving_by old recent kept false) event) (ap (λ (w : World). w.tree) made.1.world) (made.1.no_others made.0.world.tree made.2))
 
 -- an event that leaves a stop some of the trees before and the one after it, and after what has to last that one alone
-pub happened_leaving : (held : Held) (old new : World) (recent left : List Tree) (old_down new_down : Bool) (event : Event) → IsAmong recent old.tree → old_down ≡ false → new_down ≡ false
-    → new ≡ effect_of old event → new.table.seats ≡ no_seats → Leaves held (effect_of old event).tree (lasts (executed_of old event)) recent left
-    → Happens (serving_by old recent old_down) event (serving_by new left new_down)
-happened_leaving held old new recent left old_down new_down event newest up still is none_seated leaves = record {
+pub happened_leaving : (held : Held) (after : Kept) (old new : World) (recent left : List Tree) (kept : Seats) (old_down new_down : Bool) (event : Event) → IsAmong recent old.tree → old_down ≡ false → new_down ≡ false
+    → new ≡ effect_of old event → new.table.seats ≡ held.seats → after.tree ≡ (effect_of old event).tree → Leaves held after (lasts (executed_of old event)) recent left
+    → Happens (serving_by old recent kept old_down) event (serving_by new left held.seats new_down)
+happened_leaving held after old new recent left kept old_down new_down event newest up still is seated tree leaves = record {
   up = up;
   world = is;
   still_up = still;
-  no_others = λ tree among. elim (leaves.no_others tree among) [
+  no_others = λ one among. elim (leaves.no_others one among) [
     | inl stays ↦ inl stays
-    | inr behind ↦ subst (MayLeave (serving_by old recent old_down) event) (sym behind) (may_leave_from old recent old_down event newest up)
+    | inr behind ↦ subst (MayLeave (serving_by old recent kept old_down) event) (sym (behind ∙ tree)) (may_leave_from old recent kept old_down event newest up)
   ];
-  durable = λ entry e durable tree among.
+  durable = λ entry e durable one among.
       let done : executed_of old event ≡ Some entry = subst (λ (b : Bool). executed_by old event b ≡ Some entry) up e in
       let fits : EntryFits old.tree (effect_of old event).tree (Some entry) = subst (EntryFits old.tree (effect_of old event).tree) done (event_fits old event) in
-      leaves.durable (ap lasts done ∙ durable) tree among ∙ fits.1;
-  seats = λ seats among. only_none seats among ∙ sym none_seated;
+      leaves.durable (ap lasts done ∙ durable) one among ∙ (tree ∙ fits.1);
+  seats = λ seats among. only_one held.seats seats among ∙ sym seated;
 }
 
 among_more : (more : Tree) (recent : List Tree) (tree : Tree) → IsAmong (more ∷ recent) tree → (tree ≡ more) ⊎ IsAmong recent tree
@@ -84,22 +85,22 @@ among_more more recent tree among = by_place among.0 among.1.0 among.1.1
 pub among_rest : (more : Tree) (recent : List Tree) (tree : Tree) → IsAmong recent tree → IsAmong (more ∷ recent) tree
 among_rest more recent tree among = (suc among.0, (omega (arith, among.1.0), among.1.1))
 
-pub failed_from : (old new : World) (recent : List Tree) (old_down new_down : Bool) (event : Event) → IsAmong recent old.tree → old_down ≡ false → new_down ≡ true → new ≡ old
-    → Fails (serving_by old recent old_down) event (serving_by new ((effect_of old event).tree ∷ recent) new_down)
-failed_from old new recent old_down new_down event newest up down is = record {
+pub failed_from : (old new : World) (recent : List Tree) (kept left : Seats) (old_down new_down : Bool) (event : Event) → IsAmong recent old.tree → old_down ≡ false → new_down ≡ true → new ≡ old → left ≡ kept
+    → Fails (serving_by old recent kept old_down) event (serving_by new ((effect_of old event).tree ∷ recent) left new_down)
+failed_from old new recent kept left old_down new_down event newest up down is same = record {
   up = up;
   world = is;
   down = down;
   no_others = λ tree left. elim (among_more (effect_of old event).tree recent tree left) [
-    | inl first ↦ subst (MayLeave (serving_by old recent old_down) event) (sym first) (may_leave_from old recent old_down event newest up)
+    | inl first ↦ subst (MayLeave (serving_by old recent kept old_down) event) (sym first) (may_leave_from old recent kept old_down event newest up)
     | inr rest ↦ inl rest
   ];
-  seats = λ seats left. inl left;
+  seats = λ seats among. inl (subst (λ (one : Seats). IsAmong (one ∷ []) seats) same among);
 }
 
-pub stays_down : (old new : World) (old_down new_down : Bool) (recent : List Tree) (connection : ℕ) → old_down ≡ true → new_down ≡ true → new ≡ takes old connection
-    → StaysDown (serving_by old recent old_down) connection (serving_by new recent new_down)
-stays_down old new old_down new_down recent connection was down is = record {
+pub stays_down : (old new : World) (old_down new_down : Bool) (recent : List Tree) (kept : Seats) (connection : ℕ) → old_down ≡ true → new_down ≡ true → new ≡ takes old connection
+    → StaysDown (serving_by old recent kept old_down) connection (serving_by new recent kept new_down)
+stays_down old new old_down new_down recent kept connection was down is = record {
   down = was;
   world = is;
   still_down = down;

@@ -1,15 +1,15 @@
 -- What users of the server can rely on, from the bytes that come to the sectors that a stop leaves.
 use Rattle.std.specs.Prelude.{ℕ, List, [], ◌∷◌, slice_get, Some, ◌≡◌, ◌≢◌, ◌<◌, ◌≤◌, ◌+◌}
 use Rattle.disk.specs.Moments.{Image, History, LeftSince, at_rest, moment, seen}
+use Rattle.layout.specs.Stands.{Kept, bare}
 use Rattle.model.specs.Fresh.{fresh_tree}
-use Rattle.model.specs.Runs.{Event, IsGoodPrefix, AreStamped, mounted, executed, done_with, before, stamp_in}
-use Rattle.model.specs.Seats.{no_seats}
+use Rattle.model.specs.Runs.{Event, MayHold, IsGoodPrefix, AreStamped, mounted, executed, done_with, before, stamp_in}
 use Rattle.model.specs.SoundRuns.{IsStart}
 use Rattle.model.specs.StampRuns.{AreGiven}
 use Rattle.model.specs.Tree.{Tree}
 use Rattle.model.specs.World.{Entry}
 use Rattle.volume.specs.Formats.{IsFresh, LeavesFresh}
-use Rattle.volume.specs.Held.{Held, IsRecent}
+use Rattle.volume.specs.Held.{Held, IsRecent, kept_of}
 use Rattle.volume.specs.MountAnswers.{IsMountRefused}
 use Rattle.volume.specs.Remounts.{Remounts, IsFound, LeavesGood}
 use Rattle.volume.specs.Stands.{StandsFor}
@@ -21,25 +21,26 @@ use Rattle.server.specs.declared.server.Server.{Server}
 use Rattle.disk.specs.declared.device.Device.{Ghosts}
 
 -- a server that was just mounted, and begins a run with this tree, which is well formed and from
--- before its stamps, and with no seats: a stop now leaves it
-pub record IsMounted (run : ℕ) (start : Tree) (first : Seen) : Type 0 where
-  pub serves : first.serving ≡ mounted (server_limits first.volume.limits) run start no_seats
+-- before its stamps, and these seats: a stop now leaves them
+pub record IsMounted (run : ℕ) (start : Kept) (first : Seen) : Type 0 where
+  pub serves :
+      first.serving ≡ mounted (server_limits first.volume.limits) run start.tree start.seats
   pub counted : first.volume.run ≡ run
-  pub begins : first.volume.tree ≡ start
-  pub starts : ∥ IsStart first.volume.limits run start ∥₁
+  pub begins : kept_of first.volume ≡ start
+  pub starts : ∥ IsStart first.volume.limits run start.tree ∥₁
   pub room : first.volume.limits.aces_set + 5 ≤ first.volume.limits.aces
   pub ready : IsRecent first.volume first.serving.recent
 
 -- so begins a server that a mount gives
 abbrev pub Begins : {D : Type 0} {g : Ghosts D} → Server D g → Type 0
 Begins server =
-    IsMounted (volume_of server).run (volume_of server).tree
+    IsMounted (volume_of server).run (kept_of (volume_of server))
     (seen_with server ((volume_of server).tree ∷ []))
 
 -- A run that was stopped at some moment of a call, or since its start.
 pub record Stopped : Type 0 where
   pub run : ℕ
-  pub start : Tree
+  pub start : Kept
   pub first : Seen
   pub calls : List Call
   pub old : Seen
@@ -75,29 +76,34 @@ handed_out_in stopped = (history_of stopped.first.serving.world stopped.calls).h
 -- change in it was permitted.
 abbrev pub IsGoodTree : Stopped → Tree → Type 0
 IsGoodTree stopped tree =
-    IsGoodPrefix stopped.start (executed_in stopped) (handed_out_in stopped) tree
+    IsGoodPrefix stopped.start.tree (executed_in stopped) (handed_out_in stopped) tree
 
--- What a stop leaves holds exactly such a tree.
+-- Such a tree, with the seats that the machine may leave beside it
+pub record IsGood (stopped : Stopped) (kept : Kept) : Type 0 where
+  pub tree : IsGoodTree stopped kept.tree
+  pub seats : MayHold stopped.old.serving stopped.event kept.seats
+
+-- What a stop leaves holds exactly such a pair.
 pub record IsKept (stopped : Stopped) (image : Image) : Type 0 where
-  pub tree : Tree
-  pub good : IsGoodTree stopped tree
+  pub kept : Kept
+  pub good : IsGood stopped kept
   pub stands : StandsFor stopped.first.volume.sectors stopped.first.volume.limits.nodes stopped.run
-      tree image
-  pub no_other : (nodes run : ℕ) (other : Tree)
+      kept image
+  pub no_other : (nodes run : ℕ) (other : Kept)
       → StandsFor stopped.first.volume.sectors nodes run other image
-      → (other ≡ tree) × ((nodes ≡ stopped.first.volume.limits.nodes) × (run ≡ stopped.run))
+      → (other ≡ kept) × ((nodes ≡ stopped.first.volume.limits.nodes) × (run ≡ stopped.run))
 
 abbrev pub EveryStop : Type 0
 EveryStop = (stopped : Stopped) (image : Image) → LeftBy stopped image → IsKept stopped image
 
--- a later mount has such a tree, on a volume of as many nodes, under a greater restart count
+-- a later mount has such a pair, on a volume of as many nodes, under a greater restart count
 pub record HasGoodTree (stopped : Stopped) (again : Held) : Type 0 where
-  pub good : ∥ IsGoodTree stopped again.tree ∥₁
+  pub good : ∥ IsGood stopped (kept_of again) ∥₁
   pub nodes : again.limits.nodes ≡ stopped.first.volume.limits.nodes
   pub counted : stopped.run < again.run
 
 -- The headline: however often the volume was mounted since, in the same power cycle or after
--- further stops, the next mount that serves has such a tree.
+-- further stops, the next mount that serves has such a pair.
 abbrev pub EveryRun : Type 0
 EveryRun =
     (stopped : Stopped) (device : History) (from : ℕ) (again : Held)
@@ -113,9 +119,9 @@ pub data IsNewVolume (sectors nodes : ℕ) : History → ℕ → Type 0 where
       → IsNewVolume sectors nodes (at_rest image) 0
 
 -- Before the first run: however often a new volume was mounted, and those mounts refused or stopped,
--- the next one that serves has the empty root, under a count above 0.
+-- the next one that serves has the empty root and no seats, under a count above 0.
 pub record BeginsFresh (nodes : ℕ) (first : Held) : Type 0 where
-  pub empty : first.tree ≡ fresh_tree
+  pub empty : kept_of first ≡ bare fresh_tree
   pub nodes_are : first.limits.nodes ≡ nodes
   pub counted : 0 < first.run
 
@@ -125,26 +131,26 @@ EveryFirst =
     → IsNewVolume sectors nodes new since → Remounts sectors new since device from
     → IsFound sectors device first → BeginsFresh nodes first
 
--- Each map that a stop leaves stands for one of these trees, under this count or a greater one. So a
+-- Each map that a stop leaves stands for one of these, under this count or a greater one. So a
 -- mount that is refused for what is there is refused as Worn, under the greatest count.
-pub record IsNotLost (sectors nodes run : ℕ) (good : Tree → Type 0) (device : History)
+pub record IsNotLost (sectors nodes run : ℕ) (good : Kept → Type 0) (device : History)
     (from : ℕ) : Type 0 where
   pub leaves : LeavesGood sectors nodes run good device from
   pub not_volume : (new : History) → IsMountRefused sectors device new mounts.NotVolume → ⊥
   pub not_damaged : (new : History) → IsMountRefused sectors device new mounts.Damaged → ⊥
   pub worn : (new : History) → IsMountRefused sectors device new mounts.Worn
-      → ∥ ((tree : Tree) × good tree
-      × StandsFor sectors nodes last_run tree (seen device.now)) ∥₁
+      → ∥ ((kept : Kept) × good kept
+      × StandsFor sectors nodes last_run kept (seen device.now)) ∥₁
 
 -- so before the first run, and after each
 pub record NeverLost : Type 0 where
   pub first : (sectors nodes : ℕ) (new : History) (since : ℕ) (device : History) (from : ℕ)
       → IsNewVolume sectors nodes new since → Remounts sectors new since device from
-      → IsNotLost sectors nodes 0 (λ tree. tree ≡ fresh_tree) device from
+      → IsNotLost sectors nodes 0 (λ kept. kept ≡ bare fresh_tree) device from
   pub later : (stopped : Stopped) (device : History) (from : ℕ)
       → IsMountedAfter stopped device from
       → IsNotLost stopped.first.volume.sectors stopped.first.volume.limits.nodes stopped.run
-      (IsGoodTree stopped) device from
+      (IsGood stopped) device from
 
 -- The runs of a volume: one follows after the stop of another, and however many mounts that did not
 -- serve.
@@ -158,10 +164,10 @@ pub data IsLater (old : Stopped) : Stopped → Type 0 where
   Next : {new : Stopped} → Follows old new → IsLater old new
   Then : {between new : Stopped} → IsLater old between → Follows between new → IsLater old new
 
--- Each begins with a good tree of the one before, and its restart count is above those of all
--- before.
+-- Each begins with a good tree and good seats of the one before, and its restart count is above
+-- those of all before.
 pub record EveryLife : Type 0 where
-  pub begins : (old new : Stopped) → Follows old new → ∥ IsGoodTree old new.start ∥₁
+  pub begins : (old new : Stopped) → Follows old new → ∥ IsGood old new.start ∥₁
   pub rises : (old new : Stopped) → IsLater old new → old.run < new.run
 
 -- Each change gives the next stamp of its run to all that it makes or alters, one that a stop takes

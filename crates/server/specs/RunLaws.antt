@@ -1,8 +1,8 @@
 -- What follows of every run.
 use Rattle.std.specs.Prelude.{ℕ, List, [], Option, Some, ◌≡◌, ◌↔◌}
+use Rattle.layout.specs.Stands.{Kept}
 use Rattle.model.specs.Keyed.{at}
 use Rattle.model.specs.Rpc.{NoCall, read_call}
-use Rattle.model.specs.Tree.{Tree}
 use Rattle.model.specs.World.{World, Connection, Waiting, Busy, Idle, one}
 use Rattle.volume.specs.Held.{IsRecent}
 use Rattle.server.specs.Headline.{IsMounted}
@@ -23,7 +23,7 @@ HangUpIsCalls =
 -- one that claims that a stop leaves nothing
 abbrev pub NeverEmpty : Type 0
 NeverEmpty =
-    (run : ℕ) (start : Tree) (first last : Seen) (calls : List Call) → IsMounted run start first
+    (run : ℕ) (start : Kept) (first last : Seen) (calls : List Call) → IsMounted run start first
     → IsServed first calls last → last.serving.recent ≡ [] → ⊥
 
 -- nothing to do: no whole call waits, and no request has begun

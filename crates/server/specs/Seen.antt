@@ -1,10 +1,12 @@
 -- A server as its caller sees it from call to call: the machine of the headline, and the volume
 -- below it.
 use Rattle.std.specs.Prelude.{ℕ, true, List, [], ◌∷◌, Option, Some, None, ◌≡◌}
-use Rattle.disk.specs.Moments.{AddsOnly}
-use Rattle.volume.specs.Held.{Held, IsSameVolume, StandsForOne, LeavesOne, IsRecent}
+use Rattle.std.specs.List.{IsAmong}
+use Rattle.disk.specs.Moments.{Image, AddsOnly, Left}
+use Rattle.layout.specs.Stands.{Kept}
+use Rattle.volume.specs.Held.{Held, IsSameVolume, StandsForOne, IsRecent}
 use Rattle.model.specs.Keyed.{at}
-use Rattle.model.specs.Runs.{Serving, Event, Arrives, Turns, HangsUp, Connects, Takes, Happens, Fails, StaysDown, MayLeave, History, no_history, history_after, history_failing, effect_of}
+use Rattle.model.specs.Runs.{Serving, Event, Arrives, Turns, HangsUp, Connects, Takes, Happens, Fails, StaysDown, MayLeave, MayHold, History, no_history, history_after, history_failing, effect_of}
 use Rattle.model.specs.World as world
 use Rattle.model.specs.World.{World, Turn, one, taken_at, reply_at, is_busy}
 
@@ -12,13 +14,23 @@ pub record Seen : Type 0 where
   pub serving : Serving
   pub volume : Held
 
-abbrev pub LeavesNow : Seen → Type 0
-LeavesNow seen = LeavesOne seen.volume seen.serving.recent
+-- a tree and seats that the machine leaves now
+abbrev pub IsLeftBy : Serving → Kept → Type 0
+IsLeftBy serving kept = IsAmong serving.recent kept.tree × IsAmong serving.held kept.seats
 
--- what a call adds to what a stop may leave, at each moment of it: trees that the machine may leave
--- while the event happens
+-- each map that a stop leaves now stands for such a pair
+abbrev pub LeavesNow : Seen → Type 0
+LeavesNow seen = (image : Image) → Left seen.volume.history.now image
+    → StandsForOne seen.volume (IsLeftBy seen.serving) image
+
+-- and while an event happens
+abbrev pub MayKeep : Serving → Event → Kept → Type 0
+MayKeep serving event kept = MayLeave serving event kept.tree × MayHold serving event kept.seats
+
+-- what a call adds to what a stop may leave, at each moment of it: what the machine may leave while
+-- the event happens
 pub record Moves (old : Seen) (event : Event) (new : Seen) : Type 0 where
-  pub moments : AddsOnly (StandsForOne old.volume (MayLeave old.serving event)) old.volume.history
+  pub moments : AddsOnly (StandsForOne old.volume (MayKeep old.serving event)) old.volume.history
       new.volume.history
   pub leaves : LeavesNow new
   pub same : IsSameVolume old.volume new.volume

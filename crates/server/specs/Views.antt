@@ -8,16 +8,16 @@ use Rattle.fs.specs.FileSystem.{FileSystem}
 use Rattle.fs.specs.Views.{fs_of, fs_failures}
 use Rattle.model.specs.declared.limits.Limits.{Limits}
 use Rattle.model.specs.Runs.{Serving, Event}
-use Rattle.model.specs.Seats.{no_seats}
+use Rattle.model.specs.Seats.{Seats}
 use Rattle.model.specs.Tree.{Tree}
 use Rattle.model.specs.World as world
 use Rattle.model.specs.World.{World, ServerLimits, mounted_world}
 use Rattle.rpc.specs.Assembly.{record_limits}
 use Rattle.session.specs.Limits.{served}
-use Rattle.volume.specs.Held.{Held, IsRecent, LeavesOne}
+use Rattle.volume.specs.Held.{Held, IsRecent}
 use Rattle.server.specs.Connections.{connections_of}
 use Rattle.server.specs.declared.server.Server.{Server}
-use Rattle.server.specs.Seen.{Seen, Said, Gave, Does, Breaks, Checkpoints, GivesDown, IsTurned}
+use Rattle.server.specs.Seen.{Seen, LeavesNow, Said, Gave, Does, Breaks, Checkpoints, GivesDown, IsTurned}
 
 -- how many connections there may be at a time
 abbrev pub most_connections : ℕ
@@ -57,29 +57,29 @@ files_of server = fs_of server.fs
 unfoldable pub volume_of : {D : Type 0} {g : Ghosts D} → Server D g → Held
 volume_of server = (fs_of server.fs).volume
 
--- it has the tree of its volume, and no client, session or seat, and no connection
+-- it has the tree of its volume and its seats, and no client, no session and no connection
 abbrev pub BeginsEmpty : {D : Type 0} {g : Ghosts D} → Server D g → Type 0
 BeginsEmpty server = world_of server
     ≡ mounted_world (server_limits (volume_of server).limits) (volume_of server).run
-    (volume_of server).tree no_seats
+    (volume_of server).tree (volume_of server).seats
 
 -- how often the device has failed
 unfoldable pub failures_of : {D : Type 0} {g : Ghosts D} → Server D g → ℕ
 failures_of server = fs_failures server.fs
 
--- the machine of the headline: a stop may leave these trees now. A volume has no seats beside its
--- tree, before a call and after it.
-abbrev pub serving_by : World → List Tree → (is_down : Bool) → Serving
-serving_by world recent is_down = record {
+-- the machine of the headline: a stop may leave these trees now, with these seats
+abbrev pub serving_by : World → List Tree → Seats → (is_down : Bool) → Serving
+serving_by world recent seats is_down = record {
   world = world;
   recent = recent;
-  held = no_seats ∷ [];
+  held = seats ∷ [];
   is_down = is_down;
 }
 
 -- the server as that machine
 abbrev pub serving : {D : Type 0} {g : Ghosts D} → Server D g → List Tree → Serving
-serving server recent = serving_by (world_of server) recent (volume_of server).is_down
+serving server recent = serving_by (world_of server) recent (volume_of server).seats
+    (volume_of server).is_down
 
 -- the same with the volume below it
 abbrev pub seen_with : {D : Type 0} {g : Ghosts D} → Server D g → List Tree → Seen
@@ -90,7 +90,8 @@ seen_with server recent = record { serving = serving server recent; volume = vol
 abbrev pub seen_down : {D : Type 0} {g : Ghosts D} → Server D g → Tree → List Tree → Seen
 seen_down server tree recent = record {
   serving =
-      serving_by (record (world_of server) { tree = tree }) recent (volume_of server).is_down;
+      serving_by (record (world_of server) { tree = tree }) recent (volume_of server).seats
+      (volume_of server).is_down;
   volume = volume_of server;
 }
 
@@ -119,7 +120,7 @@ Fails old new event = (recent : List Tree) → IsRecent (volume_of old) recent
 abbrev pub Gives : {D : Type 0} {g : Ghosts D} → (old new : Server D g) → (connection : ℕ) → Said
     → Type 0
 Gives old new connection said = (tree : Tree) (recent : List Tree)
-    → LeavesOne (volume_of old) recent
+    → LeavesNow (seen_down old tree recent)
     → GivesDown (seen_down old tree recent) connection said (seen_down new tree recent)
 
 -- so many turns of a connection, and then what comes

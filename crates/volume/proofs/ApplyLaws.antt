@@ -15,6 +15,7 @@ use Rattle.journal.specs.declared.fault.JournalFault.TheVariants as faults
 use Rattle.journal.proofs.Fronts.{applied_all-push}
 use Rattle.journal.proofs.Joins.{front_moved, moved_contents}
 use Rattle.layout.specs.Cards.{Card, tree_of, cards_in}
+use Rattle.layout.specs.Stands.{Kept, bare}
 use Rattle.model.specs.declared.limits.Limits.{Limits}
 use Rattle.model.specs.Tree.{Tree}
 use Rattle.volume.specs.Changes.{Given, Done, Broken, Changes, ending_of}
@@ -54,22 +55,22 @@ module _ (limits : Limits) (run : ℕ) (cards : List (Option Card)) (old new : L
   moved_tree = ∥∥₁_elim serving (Tree-set (tree_of (contents new) cards) (tree_of (contents old) cards)) (tree_same limits.nodes run cards old new same)
 
   covered : (recent : List Tree) → IsRecent (held_by limits run cards old) recent → (count : ℕ) → count ≤ length new.list
-      → (tree : Tree) × IsAmong recent tree × ∥ Stands new.size limits.nodes (applied_all (take count new.list) new.base) run tree ∥₁
+      → (tree : Tree) × IsAmong recent tree × ∥ Stands new.size limits.nodes (applied_all (take count new.list) new.base) run (bare tree) ∥₁
   covered recent is count few =
       let before = front_moved old.list old new moved count few in
       let one = is.covers (applied_all (take before.0 old.list) old.base) (front_among old.base old.list before.0 before.1) in (
         one.0,
         one.1,
-        ∥∥₁_map one.2 (λ stands. subst (λ (s : ℕ). Stands s limits.nodes (applied_all (take count new.list) new.base) run one.0) (sym size)
-            (stands_same old.size limits.nodes (applied_all (take before.0 old.list) old.base) (applied_all (take count new.list) new.base) run one.0 before.2 stands)),
+        ∥∥₁_map one.2 (λ stands. subst (λ (s : ℕ). Stands s limits.nodes (applied_all (take count new.list) new.base) run (bare one.0)) (sym size)
+            (stands_same old.size limits.nodes (applied_all (take before.0 old.list) old.base) (applied_all (take count new.list) new.base) run (bare one.0) before.2 stands)),
       )
 
   pub moved_recent : (recent : List Tree) → IsRecent (held_by limits run cards old) recent → IsRecent (held_by limits run cards new) recent
   moved_recent recent is = record {
     leaves = λ image left.
         let one = covered recent is 0 (omega arith) in (
-          one.0,
-          one.1,
+          bare one.0,
+          (one.1, refl),
           ∥∥₁_map one.2 (λ stands. record { base = new.base; settles = settled image left; stands = stands }),
         );
     covers = λ front among.
@@ -77,7 +78,7 @@ module _ (limits : Limits) (run : ℕ) (cards : List (Option Card)) (old new : L
         let one = covered recent is there.0 there.1 in (
           one.0,
           one.1,
-          subst (λ (i : Image). ∥ Stands new.size limits.nodes i run one.0 ∥₁) (sym there.2) one.2,
+          subst (λ (i : Image). ∥ Stands new.size limits.nodes i run (bare one.0) ∥₁) (sym there.2) one.2,
         );
     newest = subst (IsAmong recent) (sym moved_tree) is.newest;
   }
@@ -90,7 +91,7 @@ listed_with log updates = record log { list = list_with log updates }
 pub record StandsWith (nodes run : ℕ) (old : Log) (updates : List Update) (is : List (Option Card)) (after : Tree) : Type 0 where
   pub read : is ≡ cards_in nodes (applied updates (contents old))
   pub tree : tree_of (applied updates (contents old)) is ≡ after
-  pub stands : ∥ Stands old.size nodes (applied updates (contents old)) run after ∥₁
+  pub stands : ∥ Stands old.size nodes (applied updates (contents old)) run (bare after) ∥₁
 
 -- A transaction makes other cards of those that stand, and the tree is another one.
 module _ (limits : Limits) (run : ℕ) (cards is : List (Option Card)) (old : Log) (updates : List Update) (after : Tree)
@@ -107,8 +108,8 @@ module _ (limits : Limits) (run : ℕ) (cards is : List (Option Card)) (old : Lo
   pub pushed_serves : ∥ IsServing mid limits.nodes run is ∥₁
   pushed_serves = ∥∥₁_map serving (λ served. record {
     read = behind.read ∙ ap (cards_in limits.nodes) (sym pushed);
-    stands = subst (λ (t : Tree). ∥ Stands old.size limits.nodes (contents mid) run t ∥₁) (sym pushed_tree)
-        (subst (λ (image : Image). ∥ Stands old.size limits.nodes image run after ∥₁) (sym pushed) behind.stands);
+    stands = subst (λ (t : Tree). ∥ Stands old.size limits.nodes (contents mid) run (bare t) ∥₁) (sym pushed_tree)
+        (subst (λ (image : Image). ∥ Stands old.size limits.nodes image run (bare after) ∥₁) (sym pushed) behind.stands);
     settled = served.settled;
   })
 
@@ -128,10 +129,10 @@ module _ (keeps_word : Type 0) (limits : Limits) (run : ℕ) (cards is : List (O
 
   -- the tree after it, which may be lost
   abbrev given : Given
-  given tree lasts = (tree ≡ after) × (lasts ≡ false)
+  given kept lasts = (kept ≡ bare after) × (lasts ≡ false)
 
-  moments : keeps_word → (tree : Tree) (lasts : Bool) → given tree lasts → AddsTrees was tree new.history
-  moments k tree lasts is_given = flush_adds limits run cards old new tree (safe.moments k)
+  moments : keeps_word → (kept : Kept) (lasts : Bool) → given kept lasts → AddsTrees was kept new.history
+  moments k kept lasts is_given = flush_adds limits run cards old new kept (safe.moments k)
 
   module _ (up : new.is_down ≡ false) (has : HasApplied keeps_word updates old new) (serves : keeps_word → ∥ IsServing old limits.nodes run cards ∥₁)
       (behind : keeps_word → StandsWith limits.nodes run old updates is after) where
@@ -160,13 +161,14 @@ module _ (keeps_word : Type 0) (limits : Limits) (run : ℕ) (cards is : List (O
       moments = moments;
       ends = record {
         still_up = up;
-        leaves = λ k tree lasts is_given recent ready. (
+        leaves = λ k kept lasts is_given recent ready. (
           after ∷ recent,
           record {
+            seats = sym (ap (λ (of : Kept). of.seats) is_given.0);
             ready = moved_recent limits run is between new safe.size (goes k) (safe.settled k up) (middle k) (after ∷ recent)
                 (pushed_recent limits run cards is old updates after (behind k) (serves k) recent ready);
             no_others = λ one among. ⊎_elim
-                (λ (first : one ≡ after). inr (first ∙ sym is_given.0))
+                (λ (first : one ≡ after). inr (first ∙ sym (ap (λ (of : Kept). of.tree) is_given.0)))
                 (λ (rest : IsAmong recent one). inl rest)
                 (among_more after recent one among);
             durable = λ durable. absurd (true≢false (sym durable ∙ is_given.1));
@@ -192,7 +194,7 @@ module _ (keeps_word : Type 0) (limits : Limits) (run : ℕ) (cards is : List (O
 pub apply_refused : (keeps_word : Type 0) (limits : Limits) (run : ℕ) (cards : List (Option Card)) (old new : Log) (after : Tree) (failed_before failed_after : ℕ) (fault : JournalFault)
     → IsSafe keeps_word old new → old.is_down ≡ false → (fault ≡ faults.TooMany → ⊥) → Answers {T = Unit {0}} old new failed_before failed_after (Err fault)
     → (fault ≡ faults.TooMany) ⊎ ((fault ≡ faults.Fault) ⊎ (fault ≡ faults.Down))
-    → Changes keeps_word (λ tree lasts. (tree ≡ after) × (lasts ≡ false)) (held_by limits run cards old) (held_by limits run cards new) failed_before failed_after
+    → Changes keeps_word (λ kept lasts. (kept ≡ bare after) × (lasts ≡ false)) (held_by limits run cards old) (held_by limits run cards new) failed_before failed_after
     (ending_of {T = Unit {0}} (Err (fault_of fault)))
 apply_refused keeps_word limits run cards old new after failed_before failed_after faults.Fault safe up few answers refuses =
     apply_broken keeps_word limits run cards cards old new [] after failed_before failed_after safe answers.later (answers.goes_down refl) (answers.counted refl)

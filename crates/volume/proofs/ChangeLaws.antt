@@ -25,7 +25,9 @@ use Rattle.layout.specs.Cards.{Card, tree_of, cards_in}
 use Rattle.layout.specs.Known.{AreCards}
 use Rattle.layout.specs.Laid.{AreNumbered}
 use Rattle.layout.specs.Marks.{mark_by}
-use Rattle.layout.specs.Stands.{current, IsLaid}
+use Rattle.layout.specs.Stands as layout
+use Rattle.layout.specs.Stands.{IsLaid, bare, current}
+use Rattle.layout.proofs.KeptLaws.{bare_stands, tree_stands}
 use Rattle.layout.proofs.CardLaws.{cards-back, only_cards}
 use Rattle.model.specs.declared.limits.Limits.{Limits}
 use Rattle.model.specs.Charge.{fits}
@@ -42,7 +44,6 @@ use Rattle.volume.proofs.ParentLaws.{parents_after}
 use Rattle.volume.specs.Formed.{IsFormed}
 use Rattle.volume.specs.Held.{Held}
 use Rattle.volume.specs.Known.{IsKnown, IsServing}
-use Rattle.volume.specs.Stands.{Stands}
 use Rattle.volume.specs.Views.{held_by}
 use Rattle.volume.proofs.ApplyLaws.{StandsWith}
 use Rattle.volume.proofs.EditLaws.{can_settle, edited_alike, outline_alike}
@@ -99,7 +100,7 @@ module _ (word : Type 0) (k : word) (nodes run : ℕ) (log : Log) (cards : List 
   abbrev after : Tree
   after = edited (edits_of edits) (tree_of image cards)
 
-  behind_stands : cards ≡ cards_in nodes image → Stands log.size nodes image run (tree_of image cards) → StandsWith nodes run log outcome.updates.items is after
+  behind_stands : cards ≡ cards_in nodes image → layout.Stands current log.size nodes image run (tree_of image cards) → StandsWith nodes run log outcome.updates.items is after
   behind_stands read stands =
       let here : IsLaid current log.size (length cards) image cards = subst (λ (n : ℕ). IsLaid current log.size n image cards) (sym count)
       (subst (IsLaid current log.size nodes image) (sym read) stands.laid) in
@@ -112,7 +113,7 @@ module _ (word : Type 0) (k : word) (nodes run : ℕ) (log : Log) (cards : List 
         stands = ∥∥₁_elim stands.well_formed ∥∥₁_prop (λ well.
             let both = formed_sound (limits_of log.size nodes) (stamp (run + 1) 0) after formed
             (edited_bytes edits comes.bytes (tree_of image cards) (well_formed_bytes (limits_of log.size nodes) (tree_of image cards) well)) in
-            ∣ record {
+            ∣ bare_stands log.size nodes now run after (record {
               sized = stands.sized;
               counted = stands.counted;
               first = applied-other outcome.updates.items image 0 (not_first log.size outcome.updates.items comes.targets) ∙ stands.first;
@@ -120,12 +121,12 @@ module _ (word : Type 0) (k : word) (nodes run : ℕ) (log : Log) (cards : List 
               tree_is = sym lays.tree_is ∙ ap (tree_of now) (sym back);
               well_formed = both.0;
               before = both.1;
-            } ∣₁);
+            }) ∣₁);
       }
 
   pub behind_serving : ∥ IsServing log nodes run cards ∥₁ → StandsWith nodes run log outcome.updates.items is after
   behind_serving serving = ∥∥₁_elim serving (StandsWith-prop nodes run log outcome.updates.items is after) (λ served.
-      ∥∥₁_elim served.stands (StandsWith-prop nodes run log outcome.updates.items is after) (behind_stands served.read))
+      ∥∥₁_elim served.stands (StandsWith-prop nodes run log outcome.updates.items is after) (λ stands. behind_stands served.read (tree_stands log.size nodes image run (bare (tree_of image cards)) stands)))
 
 -- What memory keeps after it
 

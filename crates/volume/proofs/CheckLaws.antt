@@ -10,7 +10,7 @@ use Rattle.journal.specs.declared.fault.JournalFault.{JournalFault}
 use Rattle.journal.specs.declared.fault.JournalFault.TheVariants as journals
 use Rattle.journal.proofs.First.{first_kept}
 use Rattle.layout.specs.Cards.{Card, tree_of}
-use Rattle.model.specs.Tree.{Tree}
+use Rattle.layout.specs.Stands.{Kept, bare}
 use Rattle.volume.specs.Checks.{IsSeen, HasChecked, FailsCheck, Checks}
 use Rattle.volume.specs.Loads.{AreLoaded, HoldsVolume}
 use Rattle.volume.specs.MountAnswers.{first_verdict}
@@ -51,8 +51,8 @@ first_seen sectors sector fault few only = ⊎_elim
 
 -- refused by the first sector
 pub look_fails : (sectors : ℕ) (old : History) (fault : MountFault) → IsSeen sectors (seen old.now 0) (Err fault) → FailsCheck sectors old fault
-look_fails sectors old mounts.NotVolume is = (is, λ nodes run tree base. is_volume_there sectors nodes run tree (seen old.now) base is)
-look_fails sectors old mounts.Damaged is = (is.0, λ nodes run tree base. is.1 (spelled sectors nodes run tree (seen old.now) base))
+look_fails sectors old mounts.NotVolume is = (is, λ nodes run kept base. is_volume_there sectors nodes run kept (seen old.now) base is)
+look_fails sectors old mounts.Damaged is = (is.0, λ nodes run kept base. is.1 (spelled sectors nodes run kept (seen old.now) base))
 look_fails sectors old mounts.Worn is = absurd is
 look_fails sectors old mounts.Memory is = absurd is
 look_fails sectors old mounts.Device is = tt
@@ -61,7 +61,7 @@ look_fails sectors old mounts.Device is = tt
 pub gate_fails : (sectors : ℕ) (old : History) (fault : JournalFault) → first_verdict sectors old ≢ verdicts.NotVolume
     → (fault ≡ journals.Damaged → HasNoForm sectors old) → FailsCheck sectors old (gate_fault fault)
 gate_fails sectors old journals.Memory volume damaged = tt
-gate_fails sectors old journals.Damaged volume damaged = (volume, λ nodes run tree base. damaged refl base.base base.settles)
+gate_fails sectors old journals.Damaged volume damaged = (volume, λ nodes run kept base. damaged refl base.base base.settles)
 gate_fails sectors old journals.Fault volume damaged = tt
 gate_fails sectors old journals.TooMany volume damaged = tt
 gate_fails sectors old journals.Down volume damaged = tt
@@ -78,15 +78,15 @@ module _ (sectors : ℕ) (old : History) (found : Superblock) (base : Image) (se
     (volume : first_verdict sectors old ≢ verdicts.NotVolume) (first : seen old.now 0 ≡ superblock found.sectors found.nodes found.run)
     (settles : Settles sectors (seen old.now) base) where
   -- refused by its nodes
-  pub nodes_fail : (fault : MountFault) → (fault ≡ mounts.Damaged → (tree : Tree) → StandsOn found base tree → ⊥)
+  pub nodes_fail : (fault : MountFault) → (fault ≡ mounts.Damaged → (kept : Kept) → StandsOn found base kept → ⊥)
       → (fault ≡ mounts.Device) ⊎ ((fault ≡ mounts.Damaged) ⊎ (fault ≡ mounts.Memory)) → FailsCheck sectors old fault
   nodes_fail fault none only = ⊎_elim
       (λ (device : fault ≡ mounts.Device). subst (FailsCheck sectors old) (sym device) tt)
       (λ (rest : (fault ≡ mounts.Damaged) ⊎ (fault ≡ mounts.Memory)). ⊎_elim
       (λ (damaged : fault ≡ mounts.Damaged). subst (FailsCheck sectors old) (sym damaged) (
         volume,
-        λ nodes run tree stands. none damaged tree
-            (found_stands sectors nodes run tree (seen old.now) stands base settles found.sectors found.nodes found.run sectors_is few counted first),
+        λ nodes run kept stands. none damaged kept
+            (found_stands sectors nodes run kept (seen old.now) stands base settles found.sectors found.nodes found.run sectors_is few counted first),
       ))
       (λ (memory : fault ≡ mounts.Memory). subst (FailsCheck sectors old) (sym memory) tt)
       rest)
@@ -98,12 +98,12 @@ module _ (sectors : ℕ) (old : History) (found : Superblock) (base : Image) (se
   has_checked keeps_word k cards places loaded checked same_sectors same_nodes same_run = record {
     first = volume;
     sectors_are = same_sectors ∙ sectors_is;
-    tree = tree_of base cards;
-    stands = subst (λ (n : ℕ). StandsFor sectors n checked.count (tree_of base cards) (seen old.now)) (sym same_nodes)
-        (subst (λ (r : ℕ). StandsFor sectors found.nodes r (tree_of base cards) (seen old.now)) (sym same_run)
+    kept = bare (tree_of base cards);
+    stands = subst (λ (n : ℕ). StandsFor sectors n checked.count (bare (tree_of base cards)) (seen old.now)) (sym same_nodes)
+        (subst (λ (r : ℕ). StandsFor sectors found.nodes r (bare (tree_of base cards)) (seen old.now)) (sym same_run)
         (∥∥₁_map (loaded.stood k) (λ stands. record {
           base = base;
           settles = settles;
-          stands = subst (λ (s : ℕ). Stands s found.nodes base found.run (tree_of base cards)) sectors_is stands;
+          stands = subst (λ (s : ℕ). Stands s found.nodes base found.run (bare (tree_of base cards))) sectors_is stands;
         })));
   }

@@ -9,6 +9,7 @@ use Rattle.journal.specs.Log.{Log, contents, applied_all}
 use Rattle.journal.specs.Settled.{AreSame}
 use Rattle.journal.proofs.Fronts.{applied_keeps}
 use Rattle.layout.specs.Cards.{Card, tree_of}
+use Rattle.layout.specs.Stands.{Kept, bare}
 use Rattle.model.specs.declared.limits.Limits.{Limits}
 use Rattle.model.specs.Tree.{Tree}
 use Rattle.volume.specs.Changes.{Done, Stays, Changes}
@@ -46,17 +47,17 @@ module _ (keeps_word : Type 0) (limits : Limits) (run : ℕ) (cards : List (Opti
   checkpoint_keeps k = ∥∥₁_elim (serves k) (Tree-set is.tree was.tree) (tree_same limits.nodes run cards old new (done.contents k))
 
   -- where the old base stands for a tree, so does the new one
-  stands_on : (a b : Image) (tree : Tree) → AreSame old.size a b → Stands old.size limits.nodes a run tree → Stands new.size limits.nodes b run tree
+  stands_on : (a b : Image) (tree : Tree) → AreSame old.size a b → Stands old.size limits.nodes a run (bare tree) → Stands new.size limits.nodes b run (bare tree)
   stands_on a b tree same stands =
-      subst (λ (size : ℕ). Stands size limits.nodes b run tree) (sym safe.size) (stands_same old.size limits.nodes a b run tree same stands)
+      subst (λ (size : ℕ). Stands size limits.nodes b run (bare tree)) (sym safe.size) (stands_same old.size limits.nodes a b run (bare tree) same stands)
 
   pub checkpoint_recent : keeps_word → KeepsRecent was is
   checkpoint_recent k recent ready =
       let first = ready.covers old.base (front_among old.base old.list 0 (omega arith)) in
       record {
         leaves = λ image left. (
-          first.0,
-          first.1,
+          bare first.0,
+          (first.1, refl),
           ∥∥₁_map first.2 (λ stands. record {
             base = new.base;
             settles = safe.settled k up image left;
@@ -71,17 +72,18 @@ module _ (keeps_word : Type 0) (limits : Limits) (run : ℕ) (cards : List (Opti
         newest = subst (λ (tree : Tree). IsAmong recent tree) (sym (checkpoint_keeps k)) ready.newest;
       }
 
-  pub checkpoint_done : (before after : ℕ) → before ≤ after → after ≡ before → Changes keeps_word (Stays was.tree) was is before after Done
+  pub checkpoint_done : (before after : ℕ) → before ≤ after → after ≡ before → Changes keeps_word (Stays was) was is before after Done
   checkpoint_done before after later told = record {
     same = record { sectors = safe.size; limits = refl; run = refl };
     later = later;
     none = λ other. told;
-    moments = λ k tree lasts given. flush_adds limits run cards old new tree (safe.moments k);
+    moments = λ k kept lasts given. flush_adds limits run cards old new kept (safe.moments k);
     ends = record {
       still_up = up;
-      leaves = λ k tree lasts given recent ready. (
+      leaves = λ k kept lasts given recent ready. (
         recent,
         record {
+          seats = sym (ap (λ (of : Kept). of.seats) given.0);
           ready = checkpoint_recent k recent ready;
           no_others = λ one among. inl among;
           durable = λ durable. absurd (true≢false (sym durable ∙ given.1));

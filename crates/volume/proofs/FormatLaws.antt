@@ -11,7 +11,8 @@ use Rattle.journal.specs.Settled.{Settles}
 use Rattle.journal.proofs.Images.{put_other}
 use Rattle.journal.proofs.Lists.{targets_of-Fit}
 use Rattle.layout.specs.FreshLaws.{IsFresh}
-use Rattle.layout.specs.Stands.{current}
+use Rattle.layout.specs.Stands.{bare, current}
+use Rattle.layout.proofs.KeptLaws.{bare_stands}
 use Rattle.layout.specs.Superblock.{is_size}
 use Rattle.layout.proofs.Formatted.{fresh_stands}
 use Rattle.model.specs.Fresh.{fresh_tree}
@@ -40,24 +41,24 @@ module _ (sectors nodes : ℕ) (size : IsTrue (is_size sectors nodes)) where
     others = λ place some within. zeros_at sectors nodes (148 + place) (omega arith) (λ e. omega (arith, e, some));
   }
 
-  stands : Stands sectors nodes (new_volume sectors nodes) 0 fresh_tree
-  stands = fresh_stands current sectors nodes (new_volume sectors nodes) is_fresh
+  stands : Stands sectors nodes (new_volume sectors nodes) 0 (bare fresh_tree)
+  stands = bare_stands sectors nodes (new_volume sectors nodes) 0 fresh_tree (fresh_stands current sectors nodes (new_volume sectors nodes) is_fresh)
 
   pub root_fits : AreTargets sectors (targets (root_update ∷ []))
   root_fits = let parts = sized sectors nodes size in targets_of-Fit sectors (148 ∷ []) (omega arith, omega (arith, parts.some, parts.room), tt, tt)
 
   pub format_moments : (old new : History) → AddsFormats sectors (superblock sectors nodes 0) (root_update ∷ []) old new
-      → AddsOnly (λ image. (image 0 ≡ zero_sector) ⊎ StandsFor sectors nodes 0 fresh_tree image) old new
+      → AddsOnly (λ image. (image 0 ≡ zero_sector) ⊎ StandsFor sectors nodes 0 (bare fresh_tree) image) old new
   format_moments old new moments = AddsOnly-weaken
       (λ image. (image 0 ≡ zero_sector) ⊎ Settles sectors image (new_volume sectors nodes))
-      (λ image. (image 0 ≡ zero_sector) ⊎ StandsFor sectors nodes 0 fresh_tree image) old new
+      (λ image. (image 0 ≡ zero_sector) ⊎ StandsFor sectors nodes 0 (bare fresh_tree) image) old new
       (λ image either. elim either [
         | inl zeros ↦ inl zeros
         | inr settles ↦ inr ∣ record { base = new_volume sectors nodes; settles = settles; stands = stands } ∣₁
       ]) moments
 
   pub format_stands : (new : History) → IsFormatted sectors (superblock sectors nodes 0) (root_update ∷ []) new
-      → (image : Image) → Left new.now image → StandsFor sectors nodes 0 fresh_tree image
+      → (image : Image) → Left new.now image → StandsFor sectors nodes 0 (bare fresh_tree) image
   format_stands new is image left = ∣ record { base = new_volume sectors nodes; settles = is image left; stands = stands } ∣₁
 
 pub on_ok : {T E : Type 0} (r : Result T E) (P : Type 0) → is_err r ≡ false → OnOk r P → P

@@ -10,7 +10,8 @@ use Rattle.journal.specs.Settled.{Settles, SettlesAs}
 use Rattle.journal.specs.declared.fault.JournalFault.{JournalFault}
 use Rattle.journal.specs.declared.fault.JournalFault.TheVariants as journals
 use Rattle.journal.proofs.Recovers.{settles_once}
-use Rattle.model.specs.Tree.{Tree}
+use Rattle.layout.specs.Stands.{Kept}
+use Rattle.layout.proofs.KeptLaws.{tree_stands}
 use Rattle.volume.specs.declared.fault.MountFault.TheVariants as mounts
 use Rattle.volume.specs.declared.superblock.Verdict.TheVariants.{NotVolume, Worn, Damaged, Sound}
 use Rattle.volume.specs.Refusals.{gate_fault}
@@ -35,24 +36,24 @@ if_err_all (Err e) keeps_word P Q S so first kept = so e first kept
 
 -- The first sector
 
-module _ (size nodes run : ℕ) (tree : Tree) (seen : Image) (base : IsBase size nodes run tree seen) where
+module _ (size nodes run : ℕ) (kept : Kept) (seen : Image) (base : IsBase size nodes run kept seen) where
   few_nodes : nodes < 2 ^ 32
-  few_nodes = let parts = sized size nodes base.stands.sized in omega (arith, parts.few)
+  few_nodes = let parts = sized size nodes base.stands.stands.sized in omega (arith, parts.few)
 
   pub small : size < 2 ^ 32
-  small = let parts = sized size nodes base.stands.sized in omega (arith, parts.most)
+  small = let parts = sized size nodes base.stands.stands.sized in omega (arith, parts.most)
 
   pub enough : 256 ≤ size
-  enough = large size nodes base.stands.sized
+  enough = large size nodes base.stands.stands.sized
 
   first_is : seen 0 ≡ superblock size nodes run
-  first_is = sym (first_kept size seen base.base (omega (arith, enough)) base.settles) ∙ base.stands.first
+  first_is = sym (first_kept size seen base.base (omega (arith, enough)) base.settles) ∙ (tree_stands size nodes base.base run kept base.stands).first
 
   pub nodes_is : word 16 (seen 0) ≡ nodes
   nodes_is = ap (word 16) first_is ∙ word_nodes size nodes run few_nodes
 
   pub run_is : word 20 (seen 0) ≡ run
-  run_is = ap (word 20) first_is ∙ word_run size nodes run base.stands.counted
+  run_is = ap (word 20) first_is ∙ word_run size nodes run base.stands.stands.counted
 
   pub spelled : seen 0 ≡ superblock size (word 16 (seen 0)) (word 20 (seen 0))
   spelled = first_is ∙ (ap (λ (n : ℕ). superblock size n run) (sym nodes_is) ∙ ap (λ (r : ℕ). superblock size (word 16 (seen 0)) r) (sym run_is))
@@ -63,7 +64,7 @@ module _ (size nodes run : ℕ) (tree : Tree) (seen : Image) (base : IsBase size
   never_damaged true true same is h = cc
   never_damaged false worn same is h = cc
 
-  -- where a tree stands, the first sector is not damaged
+  -- where one stands, the first sector is not damaged
   pub not_damaged : verdict size (seen 0) ≡ Damaged → ⊥
   unfolding verdict
   not_damaged is = never_damaged (is_volume size (seen 0)) (eqb (word 20 (seen 0)) last_run) (bytes_eq (seen 0) (superblock size (word 16 (seen 0)) (word 20 (seen 0))))
@@ -79,7 +80,7 @@ module _ (size nodes run : ℕ) (tree : Tree) (seen : Image) (base : IsBase size
   pub is_volume_there : verdict size (seen 0) ≡ NotVolume → ⊥
   unfolding verdict
   is_volume_there is = never_none (is_volume size (seen 0)) (eqb (word 20 (seen 0)) last_run) (bytes_eq (seen 0) (superblock size (word 16 (seen 0)) (word 20 (seen 0))))
-      (ap (is_volume size) first_is ∙ volume_first size nodes run small few_nodes base.stands.sized) is
+      (ap (is_volume size) first_is ∙ volume_first size nodes run small few_nodes base.stands.stands.sized) is
 
   worn_alone : (volume worn same : Bool) → cond (not volume) NotVolume (cond worn Worn (cond same Sound Damaged)) ≡ Worn → worn ≡ true
   worn_alone true true same h = refl
@@ -96,10 +97,10 @@ module _ (size nodes run : ℕ) (tree : Tree) (seen : Image) (base : IsBase size
       let full : run ≡ last_run = sym run_is ∙ eqb-true (word 20 (seen 0)) last_run worn in
       omega (arith, full)
 
-  -- a stop within the journal's mount leaves the tree
+  -- a stop within the journal's mount leaves it
   pub settled_moments : (old new : History) → AddsOnly (SettlesAs size seen) old new
-      → AddsOnly (λ image. StandsFor size nodes run tree image ⊎ StandsFor size nodes (run + 1) tree image) old new
-  settled_moments old new moments = AddsOnly-weaken (SettlesAs size seen) (λ image. StandsFor size nodes run tree image ⊎ StandsFor size nodes (run + 1) tree image) old new
+      → AddsOnly (λ image. StandsFor size nodes run kept image ⊎ StandsFor size nodes (run + 1) kept image) old new
+  settled_moments old new moments = AddsOnly-weaken (SettlesAs size seen) (λ image. StandsFor size nodes run kept image ⊎ StandsFor size nodes (run + 1) kept image) old new
       (λ image same. inl ∣ record { base = base.base; settles = same base.base base.settles; stands = base.stands } ∣₁) moments
 
   module _ (at : Image) (settles : Settles size seen at) (sectors found_nodes found_run : ℕ) (sectors_is : sectors ≡ size)
@@ -113,34 +114,34 @@ module _ (size nodes run : ℕ) (tree : Tree) (seen : Image) (base : IsBase size
     same_run : found_run ≡ run
     same_run = sym (word_run size found_nodes found_run counts) ∙ (ap (word 20) found_first ∙ run_is)
 
-    -- the tree stands on the base that the journal found
-    pub found_stands : Stands sectors found_nodes at found_run tree
-    found_stands = subst (λ (s : ℕ). Stands s found_nodes at found_run tree) (sym sectors_is)
-        (subst (λ (n : ℕ). Stands size n at found_run tree) (sym same_nodes)
-        (subst (λ (r : ℕ). Stands size nodes at r tree) (sym same_run)
-        (stands_same size nodes base.base at run tree (settles_once size seen base.base at small base.settles settles) base.stands)))
+    -- it stands on the base that the journal found
+    pub found_stands : Stands sectors found_nodes at found_run kept
+    found_stands = subst (λ (s : ℕ). Stands s found_nodes at found_run kept) (sym sectors_is)
+        (subst (λ (n : ℕ). Stands size n at found_run kept) (sym same_nodes)
+        (subst (λ (r : ℕ). Stands size nodes at r kept) (sym same_run)
+        (stands_same size nodes base.base at run kept (settles_once size seen base.base at small base.settles settles) base.stands)))
 
     pub found_moments : (old mid new : History) → AddsOnly (SettlesAs size seen) old mid
-        → (Stands sectors found_nodes at found_run tree
-        → AddsOnly (λ image. StandsFor sectors found_nodes found_run tree image ⊎ StandsFor sectors found_nodes (found_run + 1) tree image) mid new)
-        → AddsOnly (λ image. StandsFor size nodes run tree image ⊎ StandsFor size nodes (run + 1) tree image) old new
-    found_moments old mid new before after = AddsOnly-join (λ image. StandsFor size nodes run tree image ⊎ StandsFor size nodes (run + 1) tree image) old mid new
+        → (Stands sectors found_nodes at found_run kept
+        → AddsOnly (λ image. StandsFor sectors found_nodes found_run kept image ⊎ StandsFor sectors found_nodes (found_run + 1) kept image) mid new)
+        → AddsOnly (λ image. StandsFor size nodes run kept image ⊎ StandsFor size nodes (run + 1) kept image) old new
+    found_moments old mid new before after = AddsOnly-join (λ image. StandsFor size nodes run kept image ⊎ StandsFor size nodes (run + 1) kept image) old mid new
         (settled_moments old mid before)
-        (subst (λ (s : ℕ). AddsOnly (λ image. StandsFor s nodes run tree image ⊎ StandsFor s nodes (run + 1) tree image) mid new) sectors_is
-        (subst (λ (n : ℕ). AddsOnly (λ image. StandsFor sectors n run tree image ⊎ StandsFor sectors n (run + 1) tree image) mid new) same_nodes
-        (subst (λ (r : ℕ). AddsOnly (λ image. StandsFor sectors found_nodes r tree image ⊎ StandsFor sectors found_nodes (r + 1) tree image) mid new) same_run
+        (subst (λ (s : ℕ). AddsOnly (λ image. StandsFor s nodes run kept image ⊎ StandsFor s nodes (run + 1) kept image) mid new) sectors_is
+        (subst (λ (n : ℕ). AddsOnly (λ image. StandsFor sectors n run kept image ⊎ StandsFor sectors n (run + 1) kept image) mid new) same_nodes
+        (subst (λ (r : ℕ). AddsOnly (λ image. StandsFor sectors found_nodes r kept image ⊎ StandsFor sectors found_nodes (r + 1) kept image) mid new) same_run
         (after found_stands))))
 
 -- what stands on the base that was found stood in what was seen
-pub seen_stands : (size nodes run sectors found_nodes found_run fs_run : ℕ) (tree : Tree) (seen at : Image) → Settles size seen at → sectors ≡ size → fs_run ≡ found_run + 1
-    → nodes ≡ found_nodes → fs_run ≡ run + 1 → ∥ Stands sectors found_nodes at found_run tree ∥₁ → StandsFor size nodes run tree seen
-seen_stands size nodes run sectors found_nodes found_run fs_run tree seen at settles sectors_is run_is nodes_is counted stands =
+pub seen_stands : (size nodes run sectors found_nodes found_run fs_run : ℕ) (kept : Kept) (seen at : Image) → Settles size seen at → sectors ≡ size → fs_run ≡ found_run + 1
+    → nodes ≡ found_nodes → fs_run ≡ run + 1 → ∥ Stands sectors found_nodes at found_run kept ∥₁ → StandsFor size nodes run kept seen
+seen_stands size nodes run sectors found_nodes found_run fs_run kept seen at settles sectors_is run_is nodes_is counted stands =
     let same_run : found_run ≡ run = omega (arith, run_is, counted) in
     ∥∥₁_map stands (λ is. record {
       base = at;
       settles = settles;
-      stands = subst (λ (s : ℕ). Stands s nodes at run tree) sectors_is (subst (λ (n : ℕ). Stands sectors n at run tree) (sym nodes_is)
-          (subst (λ (r : ℕ). Stands sectors found_nodes at r tree) same_run is));
+      stands = subst (λ (s : ℕ). Stands s nodes at run kept) sectors_is (subst (λ (n : ℕ). Stands sectors n at run kept) (sym nodes_is)
+          (subst (λ (r : ℕ). Stands sectors found_nodes at r kept) same_run is));
     })
 
 pub only_damaged : (fault : JournalFault) → gate_fault fault ≡ mounts.Damaged → fault ≡ journals.Damaged

@@ -12,8 +12,9 @@ use Rattle.disk.proofs.MomentLemmas.{AddsOnly-weaken}
 use Rattle.journal.specs.Log.{Log, StandsForFront, applied_all}
 use Rattle.journal.specs.Settled.{Settles}
 use Rattle.journal.proofs.Fronts.{applied_all-push}
+use Rattle.layout.specs.Stands.{Kept}
 use Rattle.model.specs.Tree.{Tree}
-use Rattle.volume.specs.Held.{Held, StandsForOne, IsRecent, MayAdd, AddsTrees, fronts_from}
+use Rattle.volume.specs.Held.{Held, StandsForOne, IsRecent, MayAdd, AddsTrees, fronts_from, with_tree}
 use Rattle.volume.specs.Stands.{Stands}
 
 pub among_rest : {A : Type 0} (first : A) (rest : List A) (one : A) → IsAmong rest one → IsAmong (first ∷ rest) one
@@ -53,55 +54,57 @@ front_more base (first ∷ list) updates front among = ⊎_elim
     (among_more base (fronts_from (applied first base) (list ++ updates ∷ [])) front among)
 
 module _ (held : Held) (log : Log) (size : held.sectors ≡ log.size) (history : held.history ≡ log.history) (fronts : held.fronts ≡ fronts_from log.base log.list)
-    (updates : List Update) (after : Tree) (behind : ∥ Stands held.sectors held.limits.nodes (applied updates (applied_all log.list log.base)) held.run after ∥₁) where
-  one_front : (recent : List Tree) → IsRecent held recent → (image : Image) → StandsForFront log.size log.base (log.list ++ updates ∷ []) image → StandsForOne held (MayAdd recent after) image
-  one_front recent is image front = elim (cases_lt (length log.list) front.count) [
-    | inl last ↦
-        let many : length (log.list ++ updates ∷ []) ≡ length log.list + 1 = length-append log.list (updates ∷ []) in
-        let all : front.count ≡ length (log.list ++ updates ∷ []) = omega (arith, last, many, front.within) in
-        let whole : take front.count (log.list ++ updates ∷ []) ≡ log.list ++ updates ∷ [] = ap (λ (n : ℕ). take n (log.list ++ updates ∷ [])) all ∙ take-length (log.list ++ updates ∷ []) in
-        let base : applied_all (take front.count (log.list ++ updates ∷ [])) log.base ≡ applied updates (applied_all log.list log.base)
-        = ap (λ (l : List (List Update)). applied_all l log.base) whole ∙ applied_all-push log.list updates log.base in (
-          after,
-          inr refl,
-          ∥∥₁_map behind (λ stands. record {
-            base = applied updates (applied_all log.list log.base);
-            settles = subst (λ (i : Image). Settles held.sectors image i) base (subst (λ (s : ℕ). Settles s image (applied_all (take front.count (log.list ++ updates ∷ [])) log.base)) (sym size) front.settles);
-            stands = stands;
-          }),
-        )
-    | inr earlier ↦
-        let same : take front.count (log.list ++ updates ∷ []) ≡ take front.count log.list = take-append-le front.count log.list (updates ∷ []) earlier in
-        let covered = is.covers (applied_all (take front.count log.list) log.base)
-        (subst (λ (l : List Image). IsAmong l (applied_all (take front.count log.list) log.base)) (sym fronts) (front_among log.base log.list front.count earlier)) in (
-          covered.0,
-          inl covered.1,
-          ∥∥₁_map covered.2 (λ stands. record {
-            base = applied_all (take front.count log.list) log.base;
-            settles = subst (λ (i : Image). Settles held.sectors image i) (ap (λ (l : List (List Update)). applied_all l log.base) same)
-                (subst (λ (s : ℕ). Settles s image (applied_all (take front.count (log.list ++ updates ∷ [])) log.base)) (sym size) front.settles);
-            stands = stands;
-          }),
-        )
-  ]
+    (updates : List Update) where
+  module _ (after : Kept) (behind : ∥ Stands held.sectors held.limits.nodes (applied updates (applied_all log.list log.base)) held.run after ∥₁) where
+    one_front : (recent : List Tree) → IsRecent held recent → (image : Image) → StandsForFront log.size log.base (log.list ++ updates ∷ []) image → StandsForOne held (MayAdd held recent after) image
+    one_front recent is image front = elim (cases_lt (length log.list) front.count) [
+      | inl last ↦
+          let many : length (log.list ++ updates ∷ []) ≡ length log.list + 1 = length-append log.list (updates ∷ []) in
+          let all : front.count ≡ length (log.list ++ updates ∷ []) = omega (arith, last, many, front.within) in
+          let whole : take front.count (log.list ++ updates ∷ []) ≡ log.list ++ updates ∷ [] = ap (λ (n : ℕ). take n (log.list ++ updates ∷ [])) all ∙ take-length (log.list ++ updates ∷ []) in
+          let base : applied_all (take front.count (log.list ++ updates ∷ [])) log.base ≡ applied updates (applied_all log.list log.base)
+          = ap (λ (l : List (List Update)). applied_all l log.base) whole ∙ applied_all-push log.list updates log.base in (
+            after,
+            inr refl,
+            ∥∥₁_map behind (λ stands. record {
+              base = applied updates (applied_all log.list log.base);
+              settles = subst (λ (i : Image). Settles held.sectors image i) base (subst (λ (s : ℕ). Settles s image (applied_all (take front.count (log.list ++ updates ∷ [])) log.base)) (sym size) front.settles);
+              stands = stands;
+            }),
+          )
+      | inr earlier ↦
+          let same : take front.count (log.list ++ updates ∷ []) ≡ take front.count log.list = take-append-le front.count log.list (updates ∷ []) earlier in
+          let covered = is.covers (applied_all (take front.count log.list) log.base)
+          (subst (λ (l : List Image). IsAmong l (applied_all (take front.count log.list) log.base)) (sym fronts) (front_among log.base log.list front.count earlier)) in (
+            with_tree held covered.0,
+            inl (covered.1, refl),
+            ∥∥₁_map covered.2 (λ stands. record {
+              base = applied_all (take front.count log.list) log.base;
+              settles = subst (λ (i : Image). Settles held.sectors image i) (ap (λ (l : List (List Update)). applied_all l log.base) same)
+                  (subst (λ (s : ℕ). Settles s image (applied_all (take front.count (log.list ++ updates ∷ [])) log.base)) (sym size) front.settles);
+              stands = stands;
+            }),
+          )
+    ]
 
-  -- a flush of the whole list and one more: what `durable::keep` adds is what the file system says
-  pub keeps_fronts : (new : History) → AddsOnly (StandsForFront log.size log.base (log.list ++ updates ∷ [])) log.history new → AddsTrees held after new
-  keeps_fronts new adds recent is =
-      subst (λ (h : History). AddsOnly (StandsForOne held (MayAdd recent after)) h new) (sym history)
-      (AddsOnly-weaken (StandsForFront log.size log.base (log.list ++ updates ∷ [])) (StandsForOne held (MayAdd recent after)) log.history new (one_front recent is) adds)
+    -- a flush of the whole list and one more: what `durable::keep` adds is what the file system says
+    pub keeps_fronts : (new : History) → AddsOnly (StandsForFront log.size log.base (log.list ++ updates ∷ [])) log.history new → AddsTrees held after new
+    keeps_fronts new adds recent is =
+        subst (λ (h : History). AddsOnly (StandsForOne held (MayAdd held recent after)) h new) (sym history)
+        (AddsOnly-weaken (StandsForFront log.size log.base (log.list ++ updates ∷ [])) (StandsForOne held (MayAdd held recent after)) log.history new (one_front recent is) adds)
 
   -- a change that is not flushed: the trees that a stop may leave from now on, and the device is as it was
-  pub applied_recent : (recent : List Tree) → IsRecent held recent
+  pub applied_recent : (after : Tree) → ∥ Stands held.sectors held.limits.nodes (applied updates (applied_all log.list log.base)) held.run (with_tree held after) ∥₁
+      → (recent : List Tree) → IsRecent held recent
       → IsRecent (record held { tree = after; fronts = fronts_from log.base (log.list ++ updates ∷ []) }) (after ∷ recent)
-  applied_recent recent is = record {
-    leaves = λ image left. (let one = is.leaves image left in (one.0, among_rest after recent one.0 one.1, one.2));
+  applied_recent after behind recent is = record {
+    leaves = λ image left. (let one = is.leaves image left in (one.0, (among_rest after recent one.0.tree one.1.0, one.1.1), one.2));
     covers = λ front among. elim (front_more log.base log.list updates front among) [
       | inl old ↦
           let one = is.covers front (subst (λ (l : List Image). IsAmong l front) (sym fronts) old) in
           (one.0, among_rest after recent one.0 one.1, one.2)
       | inr new ↦
-          (after, (0, (omega arith, refl)), subst (λ (i : Image). ∥ Stands held.sectors held.limits.nodes i held.run after ∥₁) (sym new) behind)
+          (after, (0, (omega arith, refl)), subst (λ (i : Image). ∥ Stands held.sectors held.limits.nodes i held.run (with_tree held after) ∥₁) (sym new) behind)
     ];
     newest = (0, (omega arith, refl));
   }

@@ -9,7 +9,9 @@ use Rattle.disk.specs.Moments.{Image, IsSector}
 use Rattle.layout.specs.Cards.{Card, tree_of, cards_in}
 use Rattle.layout.specs.Laid.{AreLaid, HoldsPlace, HoldsCard, HoldsContent}
 use Rattle.layout.specs.Marks.{mark_in}
-use Rattle.layout.specs.Stands.{current, IsLaid}
+use Rattle.layout.specs.Stands as layout
+use Rattle.layout.specs.Stands.{Kept, IsLaid, bare, current}
+use Rattle.layout.proofs.KeptLaws.{bare_stands, tree_stands}
 use Rattle.layout.specs.Superblock.{is_size}
 use Rattle.model.specs.declared.limits.Limits.{Limits}
 use Rattle.model.specs.declared.node.NodeKind.{NodeKind}
@@ -44,10 +46,10 @@ module _ (size nodes run : ℕ) (image : Image) (cards : List (Option Card)) (la
 
   -- where they are well formed, it stands
   pub found_stands : IsTrue (is_size size nodes) → run < 2 ^ 32 → image 0 ≡ superblock size nodes run
-      → AreWellFormed (limits_of size nodes) (stamp (run + 1) 0) cards → Stands size nodes image run (tree_of image cards)
+      → AreWellFormed (limits_of size nodes) (stamp (run + 1) 0) cards → Stands size nodes image run (bare (tree_of image cards))
   found_stands sized counted first well_formed =
       let both = (each_tree nodes image (mark_in nodes image) cards laid.laid marked_bytes (limits_of size nodes) (omega arith) (stamp (run + 1) 0)).0 well_formed in
-      record {
+      bare_stands size nodes image run (tree_of image cards) (record {
         sized = sized;
         counted = counted;
         first = first;
@@ -55,14 +57,17 @@ module _ (size nodes run : ℕ) (image : Image) (cards : List (Option Card)) (la
         tree_is = ap (tree_of image) read;
         well_formed = ∣ both.0 ∣₁;
         before = both.1;
-      }
+      })
 
-  -- and where they are not, no tree does
-  pub none_stands : (tree : Tree) → (AreWellFormed (limits_of size nodes) (stamp (run + 1) 0) cards → ⊥) → Stands size nodes image run tree → ⊥
-  none_stands tree never stands = ∥∥₁_elim stands.well_formed (Prim.hlevel props) (λ well_formed.
+  no_tree : (tree : Tree) → (AreWellFormed (limits_of size nodes) (stamp (run + 1) 0) cards → ⊥) → layout.Stands current size nodes image run tree → ⊥
+  no_tree tree never stands = ∥∥₁_elim stands.well_formed (Prim.hlevel props) (λ well_formed.
       let same : tree ≡ tree_of image cards = stands.tree_is ∙ sym (ap (tree_of image) read) in
       never ((each_tree nodes image (mark_in nodes image) cards laid.laid marked_bytes (limits_of size nodes) (omega arith) (stamp (run + 1) 0)).1
       (subst (IsWellFormed (limits_of size nodes)) same well_formed, subst (IsBefore (stamp (run + 1) 0)) same stands.before)))
+
+  -- and where they are not, none does
+  pub none_stands : (kept : Kept) → (AreWellFormed (limits_of size nodes) (stamp (run + 1) 0) cards → ⊥) → Stands size nodes image run kept → ⊥
+  none_stands kept never stands = no_tree kept.tree never (tree_stands size nodes image run kept stands)
 
 -- what is asked of the table is asked of the cards
 pub asked : (limits told : Limits) (at by : ℕ) (table cards : List (Option Card)) → limits ≡ told → at ≡ by → table ≡ cards
@@ -95,14 +100,18 @@ allowed_few size nodes image mark cards laid allowed place card there = elim (ca
     none_some : (x : Card) → (let none : Option Card = None in none ≡ Some x) → ⊥
     none_some x e = cc
 
--- so where a tree stands, few blocks do
-pub stands_few : (size nodes run : ℕ) (image : Image) (tree : Tree) → HoldsSectors size image → Stands size nodes image run tree
+tree_few : (size nodes run : ℕ) (image : Image) (tree : Tree) → HoldsSectors size image → layout.Stands current size nodes image run tree
     → (AreFew (cards_in nodes image) → ⊥) → ⊥
-stands_few size nodes run image tree sectors stands never = ∥∥₁_elim stands.well_formed (Prim.hlevel props) (λ well_formed.
+tree_few size nodes run image tree sectors stands never = ∥∥₁_elim stands.well_formed (Prim.hlevel props) (λ well_formed.
     let cards = cards_in nodes image in
     let are = (each_tree nodes image (mark_in nodes image) cards stands.laid.laid (marked_bytes size nodes run image cards stands.laid refl sectors) (limits_of size nodes) (omega arith) (stamp (run + 1) 0)).1
     (subst (IsWellFormed (limits_of size nodes)) stands.tree_is well_formed, subst (IsBefore (stamp (run + 1) 0)) stands.tree_is stands.before) in
     never (allowed_few size nodes image (mark_in nodes image) cards stands.laid.laid are.nodes))
+
+-- so where a tree stands, few blocks do
+pub stands_few : (size nodes run : ℕ) (image : Image) (kept : Kept) → HoldsSectors size image → Stands size nodes image run kept
+    → (AreFew (cards_in nodes image) → ⊥) → ⊥
+stands_few size nodes run image kept sectors stands never = tree_few size nodes run image kept.tree sectors (tree_stands size nodes image run kept stands) never
 
 -- how a refusal that is handed on was named below
 pub only_damaged : (fault : ScanFault) → mount_fault fault ≡ mounts.Damaged → fault ≡ scans.Damaged

@@ -7,7 +7,9 @@ use Rattle.journal.specs.Commit.{AddsEither}
 use Rattle.journal.specs.Settled.{Settles, AreSame}
 use Rattle.journal.proofs.Images.{put_same, put_other}
 use Rattle.layout.specs.Cards.{tree_of, cards_in}
-use Rattle.layout.specs.Stands.{current, IsLaid}
+use Rattle.layout.specs.Stands as layout
+use Rattle.layout.specs.Stands.{Kept, IsLaid, current}
+use Rattle.layout.proofs.KeptLaws.{kept_bare, bare_stands, tree_stands}
 use Rattle.layout.proofs.MarkProofs.{kept_alone}
 use Rattle.model.specs.Stamp.{stamp}
 use Rattle.model.specs.Tree.{Tree}
@@ -34,8 +36,8 @@ module _ (sectors nodes run : ℕ) (base : Image) (counted : run + 1 < 2 ^ 32) w
   others n above = put_other base (first_update sectors nodes (run + 1)) n (λ same. omega (arith, same, above))
 
   -- the count is raised, and nothing else changes
-  pub raised_stands : (tree : Tree) → Stands sectors nodes base run tree → Stands sectors nodes raised (run + 1) tree
-  raised_stands tree stands =
+  tree_raised : (tree : Tree) → layout.Stands current sectors nodes base run tree → layout.Stands current sectors nodes raised (run + 1) tree
+  tree_raised tree stands =
       let parts = sized sectors nodes stands.sized in
       let same = kept_alone current sectors nodes base raised (cards_in nodes base) (omega (arith, parts.room)) stands.laid (λ n above below. others n above) in
       record {
@@ -48,19 +50,23 @@ module _ (sectors nodes run : ℕ) (base : Image) (counted : run + 1 < 2 ^ 32) w
         before = before-later (stamp (run + 1) 0) (stamp (run + 1 + 1) 0) tree (omega arith) stands.before;
       }
 
-  pub raised_base : (after : Image) (tree : Tree) → AreSame sectors raised after → Stands sectors nodes base run tree → Stands sectors nodes after (run + 1) tree
-  raised_base after tree same stands = stands_same sectors nodes raised after (run + 1) tree same (raised_stands tree stands)
+  pub raised_stands : (kept : Kept) → Stands sectors nodes base run kept → Stands sectors nodes raised (run + 1) kept
+  raised_stands kept stands = subst (Stands sectors nodes raised (run + 1)) (sym (kept_bare sectors nodes base run kept stands))
+      (bare_stands sectors nodes raised (run + 1) kept.tree (tree_raised kept.tree (tree_stands sectors nodes base run kept stands)))
+
+  pub raised_base : (after : Image) (kept : Kept) → AreSame sectors raised after → Stands sectors nodes base run kept → Stands sectors nodes after (run + 1) kept
+  raised_base after kept same stands = stands_same sectors nodes raised after (run + 1) kept same (raised_stands kept stands)
 
   pub raised_others : (after : Image) → AreSame sectors raised after → (n : ℕ) → 98 ≤ n → n < sectors → after n ≡ base n
   raised_others after same n above below = sym (same n (inr above, below)) ∙ others n above
 
-  pub raise_moments : (tree : Tree) (old new : History) → Stands sectors nodes base run tree
+  pub raise_moments : (kept : Kept) (old new : History) → Stands sectors nodes base run kept
       → AddsEither sectors (first_update sectors nodes (run + 1) ∷ []) base old new
-      → AddsOnly (λ image. StandsFor sectors nodes run tree image ⊎ StandsFor sectors nodes (run + 1) tree image) old new
-  raise_moments tree old new stands moments = AddsOnly-weaken
+      → AddsOnly (λ image. StandsFor sectors nodes run kept image ⊎ StandsFor sectors nodes (run + 1) kept image) old new
+  raise_moments kept old new stands moments = AddsOnly-weaken
       (λ image. Settles sectors image base ⊎ Settles sectors image (applied (first_update sectors nodes (run + 1) ∷ []) base))
-      (λ image. StandsFor sectors nodes run tree image ⊎ StandsFor sectors nodes (run + 1) tree image) old new
+      (λ image. StandsFor sectors nodes run kept image ⊎ StandsFor sectors nodes (run + 1) kept image) old new
       (λ image either. elim either [
         | inl settles ↦ inl ∣ record { base = base; settles = settles; stands = stands } ∣₁
-        | inr settles ↦ inr ∣ record { base = raised; settles = settles; stands = raised_stands tree stands } ∣₁
+        | inr settles ↦ inr ∣ record { base = raised; settles = settles; stands = raised_stands kept stands } ∣₁
       ]) moments

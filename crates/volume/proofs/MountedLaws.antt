@@ -11,7 +11,7 @@ use Rattle.volume.specs.declared.fault.MountFault.TheVariants as mounts
 use Rattle.volume.specs.declared.mount.Superblock.{Superblock}
 use Rattle.volume.specs.declared.volume.Unmounted.{Unmounted}
 use Rattle.volume.specs.declared.superblock.Verdict.TheVariants as verdicts
-use Rattle.volume.specs.Held.{Held}
+use Rattle.volume.specs.Held.{Held, kept_of}
 use Rattle.volume.specs.MountAnswers.{first_verdict, HasMounted, OnlyReplays, HasReason, IsMountRefused, ComesBack}
 use Rattle.volume.specs.Mounts.{HasBegun, IsNotBegun}
 use Rattle.volume.specs.Refusals.{gate_fault}
@@ -28,13 +28,13 @@ untouched_replays sectors old new same = record {
 }
 
 untouched_mount : (sectors : ℕ) (old new : History) → new ≡ old → AddsMount sectors old new
-untouched_mount sectors old new same nodes run tree base = subst (AddsOnly _ old) (sym same) (AddsOnly-same _ old)
+untouched_mount sectors old new same nodes run kept base = subst (AddsOnly _ old) (sym same) (AddsOnly-same _ old)
 
 -- nothing was asked of the device
 pub refused_untouched : (sectors : ℕ) (old new : History) (fault : MountFault) → new ≡ old → HasReason sectors old new fault → IsMountRefused sectors old new fault
 refused_untouched sectors old new fault same reason = record {
   moments = untouched_mount sectors old new same;
-  replays = λ other. untouched_replays sectors old new same;
+  writes = λ other. inl (untouched_replays sectors old new same);
   reason = reason;
 }
 
@@ -44,17 +44,17 @@ module _ (sectors : ℕ) (old new : History) (same : new ≡ old) where
       → (fault ≡ mounts.Damaged → first_verdict sectors old ≡ verdicts.Damaged) → HasReason sectors old new fault
   first_reason mounts.NotVolume none worn damaged = record {
     first = none refl;
-    no_tree = λ nodes run tree base. is_volume_there sectors nodes run tree (seen old.now) base (none refl);
+    no_tree = λ nodes run kept base. is_volume_there sectors nodes run kept (seen old.now) base (none refl);
     untouched = same;
   }
   first_reason mounts.Worn none worn damaged = record {
     first = worn refl;
-    full = λ nodes run tree base. count_full sectors nodes run tree (seen old.now) base (worn refl);
+    full = λ nodes run kept base. count_full sectors nodes run kept (seen old.now) base (worn refl);
     untouched = same;
   }
   first_reason mounts.Damaged none worn damaged = record {
     first = inl (damaged refl, same);
-    no_tree = λ nodes run tree base. not_damaged sectors nodes run tree (seen old.now) base (damaged refl);
+    no_tree = λ nodes run kept base. not_damaged sectors nodes run kept (seen old.now) base (damaged refl);
   }
   first_reason mounts.Memory none worn damaged = tt
   first_reason mounts.Device none worn damaged = tt
@@ -80,18 +80,18 @@ gate_counted before after fault reasons counted is = ⊎_elim counted
 
 module _ (sectors : ℕ) (old new : History) (sound : first_verdict sectors old ≡ verdicts.Sound) (replays : AddsOnly (SettlesAs sectors (seen old.now)) old new) where
   settled_mount : AddsMount sectors old new
-  settled_mount nodes run tree base = settled_moments sectors nodes run tree (seen old.now) base old new replays
+  settled_mount nodes run kept base = settled_moments sectors nodes run kept (seen old.now) base old new replays
 
   failed : IsMountRefused sectors old new mounts.Device
-  failed = record { moments = settled_mount; replays = λ other. absurd (other refl); reason = tt }
+  failed = record { moments = settled_mount; writes = λ other. absurd (other refl); reason = tt }
 
   pub gate_refused : (fault : JournalFault) → (fault ≡ journals.Damaged → LeavesOnlySynced sectors old new) → (fault ≡ journals.Memory → new ≡ old)
       → IsMountRefused sectors old new (gate_fault fault)
   gate_refused journals.Memory damaged memory = refused_untouched sectors old new mounts.Memory (memory refl) tt
   gate_refused journals.Damaged damaged memory = record {
     moments = settled_mount;
-    replays = λ other. record { moments = replays; formless = λ none. inr (damaged refl).only_synced };
-    reason = record { first = inr sound; no_tree = λ nodes run tree base. (damaged refl).formless base.base base.settles };
+    writes = λ other. inl (record { moments = replays; formless = λ none. inr (damaged refl).only_synced });
+    reason = record { first = inr sound; no_tree = λ nodes run kept base. (damaged refl).formless base.base base.settles };
   }
   gate_refused journals.Fault damaged memory = failed
   gate_refused journals.TooMany damaged memory = failed
@@ -107,30 +107,30 @@ module _ (sectors : ℕ) (old mid : History) (found : Superblock) (base : Image)
     found = record {
       run = found.run;
       raised = begun.run;
-      stood = seen_stands sectors held.limits.nodes found.run found.sectors found.nodes found.run held.run held.tree (seen old.now) base settles sectors_is begun.run begun.nodes begun.run begun.stood;
+      stood = seen_stands sectors held.limits.nodes found.run found.sectors found.nodes found.run held.run (kept_of held) (seen old.now) base settles sectors_is begun.run begun.nodes begun.run begun.stood;
     };
-    moments = λ nodes run tree stands. found_moments sectors nodes run tree (seen old.now) stands base settles found.sectors found.nodes found.run sectors_is few counted first
-        old mid held.history replays (begun.moments tree);
-    since_sync = λ nodes run tree stands. found_moments sectors nodes run tree (seen old.now) stands base settles found.sectors found.nodes found.run sectors_is few counted first
-        (synced old) mid held.history since (begun.moments tree);
+    moments = λ nodes run kept stands. found_moments sectors nodes run kept (seen old.now) stands base settles found.sectors found.nodes found.run sectors_is few counted first
+        old mid held.history replays (begun.moments kept);
+    since_sync = λ nodes run kept stands. found_moments sectors nodes run kept (seen old.now) stands base settles found.sectors found.nodes found.run sectors_is few counted first
+        (synced old) mid held.history since (begun.moments kept);
     holds = begun.holds;
   }
 
   pub begin_refused : (new : History) (fault : MountFault) → IsNotBegun found base mid new fault → IsMountRefused sectors old new fault
   begin_refused new fault refused = record {
-    moments = λ nodes run tree stands. found_moments sectors nodes run tree (seen old.now) stands base settles found.sectors found.nodes found.run sectors_is few counted first
-        old mid new replays (refused.moments tree);
-    replays = λ other. record {
+    moments = λ nodes run kept stands. found_moments sectors nodes run kept (seen old.now) stands base settles found.sectors found.nodes found.run sectors_is few counted first
+        old mid new replays (refused.moments kept);
+    writes = λ other. inl (record {
       moments = subst (λ (h : History). AddsOnly (SettlesAs sectors (seen old.now)) old h) (sym (refused.untouched other)) replays;
       formless = λ none. absurd (none base settles);
-    };
+    });
     reason = ⊎_elim
         (λ (device : fault ≡ mounts.Device). subst (HasReason sectors old new) (sym device) tt)
         (λ (rest : (fault ≡ mounts.Damaged) ⊎ (fault ≡ mounts.Memory)). ⊎_elim
         (λ (damaged : fault ≡ mounts.Damaged). subst (HasReason sectors old new) (sym damaged) (record {
           first = inr sound;
-          no_tree = λ nodes run tree stands. refused.no_tree damaged tree
-              (found_stands sectors nodes run tree (seen old.now) stands base settles found.sectors found.nodes found.run sectors_is few counted first);
+          no_tree = λ nodes run kept stands. refused.no_tree damaged kept
+              (found_stands sectors nodes run kept (seen old.now) stands base settles found.sectors found.nodes found.run sectors_is few counted first);
         }))
         (λ (memory : fault ≡ mounts.Memory). subst (HasReason sectors old new) (sym memory) tt)
         rest)

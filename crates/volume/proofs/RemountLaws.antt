@@ -6,11 +6,11 @@ use Rattle.std.proofs.Math.Logic.{∥∥₁_elim, ∥∥₁_map, ∥∥₁_prop}
 use Rattle.std.proofs.Math.Path.{fun_ext}
 use Rattle.journal.proofs.Moments.{seen-may_hold}
 use Rattle.disk.specs.Moments.{Image, Moment, History, Left, LeftSince, LeftWithin, at_rest, moment, seen}
-use Rattle.model.specs.Tree.{Tree}
+use Rattle.layout.specs.Stands.{Kept}
 use Rattle.volume.specs.Stands.{StandsFor}
-use Rattle.volume.specs.Held.{Held}
+use Rattle.volume.specs.Held.{Held, kept_of}
 use Rattle.volume.specs.Remounts.{AddsMount, IsFound, IsFront, Now, Before, Remounts, Stays, Mounts, Ends, Stops, StandsForGood, LeavesGood, ServesGood, EveryRemount, StillStands}
-use Rattle.volume.proofs.OneTree.{one_tree_stands}
+use Rattle.volume.proofs.OneTree.{one_stands}
 
 pub seen_left : (m : Moment) → Left m (seen m)
 seen_left m n = seen-may_hold m.unsynced m.fixed n
@@ -31,7 +31,7 @@ front_left device earlier t image (Before {now = now} {before = before} {past = 
     (λ (was : LeftWithin past t image). inr (inr was))
     left)
 
-module _ (sectors nodes run : ℕ) (good : Tree → Type 0) where
+module _ (sectors nodes run : ℕ) (good : Kept → Type 0) where
   abbrev Good : Image → Type 0
   Good image = StandsForGood sectors nodes run good image
 
@@ -72,16 +72,16 @@ module _ (sectors nodes run : ℕ) (good : Tree → Type 0) where
   served_good first since device from held leaves remounts found =
       let now = (lasting first since device from leaves remounts).leaves (seen device.now) (inl (seen_left device.now)) in
       ∥∥₁_elim now (Prim.hlevel (props, ∥∥₁_prop)) (λ stood.
-      let one = one_tree_stands sectors held.limits.nodes found.run nodes (run + stood.2) held.tree stood.0 (seen device.now) found.stood stood.3 in
+      let one = one_stands sectors held.limits.nodes found.run nodes (run + stood.2) (kept_of held) stood.0 (seen device.now) found.stood stood.3 in
       record {
-        tree_is = ∣ subst good (sym one.tree_is) stood.1 ∣₁;
+        kept_is = ∣ subst good (sym one.kept_is) stood.1 ∣₁;
         nodes_are = one.nodes_are;
         greater = omega (arith, one.run_is, found.raised);
       })
 
 pub still_stands : StillStands
-still_stands sectors nodes run trees first since device from leaves remounts = lasting sectors nodes run (IsAmong trees) first since device from leaves remounts
+still_stands sectors nodes run keeps first since device from leaves remounts = lasting sectors nodes run (IsAmong keeps) first since device from leaves remounts
 
 pub every_remount : EveryRemount
-every_remount sectors nodes run trees first since device from held leaves remounts found =
-    served_good sectors nodes run (IsAmong trees) first since device from held leaves remounts found
+every_remount sectors nodes run keeps first since device from held leaves remounts found =
+    served_good sectors nodes run (IsAmong keeps) first since device from held leaves remounts found

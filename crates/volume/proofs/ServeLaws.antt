@@ -14,7 +14,8 @@ use Rattle.journal.specs.Log.{Log, IsSettled, StandsForFront, contents, applied_
 use Rattle.journal.specs.Settled.{AreSame}
 use Rattle.layout.specs.Cards.{Card, tree_of, cards_in}
 use Rattle.layout.specs.MarkLaws.{SeesSame}
-use Rattle.layout.specs.Stands.{current}
+use Rattle.layout.specs.Stands.{Kept, bare, current}
+use Rattle.layout.proofs.KeptLaws.{tree_stands}
 use Rattle.layout.proofs.MarkProofs.{kept_alone}
 use Rattle.model.specs.declared.limits.Limits.{Limits}
 use Rattle.model.specs.Tree.{Tree}
@@ -31,11 +32,11 @@ use Rattle.volume.proofs.OneTree.{Tree-set}
 use Rattle.volume.proofs.StandLaws.{sized, stands_same}
 
 module _ (nodes run : ℕ) (cards : List (Option Card)) (old new : Log) (same : AreSame old.size (contents old) (contents new)) where
-  sees : Stands old.size nodes (contents old) run (tree_of (contents old) cards)
+  sees : Stands old.size nodes (contents old) run (bare (tree_of (contents old) cards))
       → SeesSame current old.size nodes (contents old) (contents new) (cards_in nodes (contents old))
   sees stands =
-      let parts = sized old.size nodes stands.sized in
-      kept_alone current old.size nodes (contents old) (contents new) (cards_in nodes (contents old)) (omega (arith, parts.room)) stands.laid
+      let parts = sized old.size nodes stands.stands.sized in
+      kept_alone current old.size nodes (contents old) (contents new) (cards_in nodes (contents old)) (omega (arith, parts.room)) (tree_stands old.size nodes (contents old) run (bare (tree_of (contents old) cards)) stands).laid
       (λ n above below. sym (same n (inr above, below)))
 
   -- the same tree is seen
@@ -46,8 +47,8 @@ module _ (nodes run : ℕ) (cards : List (Option Card)) (old new : Log) (same : 
   pub still_serving : new.size ≡ old.size → IsSettled new → IsServing old nodes run cards → ∥ IsServing new nodes run cards ∥₁
   still_serving size settled serving = ∥∥₁_map serving.stands (λ stands. record {
     read = serving.read ∙ sym (sees stands).same_cards;
-    stands = ∣ subst (λ (s : ℕ). Stands s nodes (contents new) run (tree_of (contents new) cards)) (sym size)
-        (subst (Stands old.size nodes (contents new) run) (sym (tree_same serving)) (stands_same old.size nodes (contents old) (contents new) run (tree_of (contents old) cards) same stands)) ∣₁;
+    stands = ∣ subst (λ (s : ℕ). Stands s nodes (contents new) run (bare (tree_of (contents new) cards))) (sym size)
+        (subst (λ (t : Tree). Stands old.size nodes (contents new) run (bare t)) (sym (tree_same serving)) (stands_same old.size nodes (contents old) (contents new) run (bare (tree_of (contents old) cards)) same stands)) ∣₁;
     settled = settled;
   })
 
@@ -58,14 +59,14 @@ flush_keeps keeps_word nodes run cards old new flushed serves k =
     ∥∥₁_elim (serves k) (Tree-set (tree_of (contents new) cards) (tree_of (contents old) cards)) (tree_same nodes run cards old new (flushed.contents k))
 
 -- what a flush adds to what a stop may leave are trees that it may leave already
-pub flush_adds : (limits : Limits) (run : ℕ) (cards : List (Option Card)) (old new : Log) (after : Tree) → AddsFronts old new
+pub flush_adds : (limits : Limits) (run : ℕ) (cards : List (Option Card)) (old new : Log) (after : Kept) → AddsFronts old new
     → AddsTrees (held_by limits run cards old) after new.history
 flush_adds limits run cards old new after adds recent is = AddsOnly-weaken
-    (StandsForFront old.size old.base old.list) (StandsForOne (held_by limits run cards old) (MayAdd recent after)) old.history new.history
+    (StandsForFront old.size old.base old.list) (StandsForOne (held_by limits run cards old) (MayAdd (held_by limits run cards old) recent after)) old.history new.history
     (λ image front.
     let covered = is.covers (applied_all (take front.count old.list) old.base) (front_among old.base old.list front.count front.within) in (
-      covered.0,
-      inl covered.1,
+      bare covered.0,
+      inl (covered.1, refl),
       ∥∥₁_map covered.2 (λ stands. record { base = applied_all (take front.count old.list) old.base; settles = front.settles; stands = stands }),
     ))
     adds
@@ -79,22 +80,22 @@ among_one only other among = by_place among.0 among.1.0 among.1.1
 
 -- where nothing is left to flush, each map left stands for what the base does, and so does its only front
 pub holds_base : (limits : Limits) (run : ℕ) (cards : List (Option Card)) (log : Log) → log.list ≡ []
-    → ∥ Stands log.size limits.nodes (contents log) run (tree_of (contents log) cards) ∥₁ → IsSettled log → Holds (held_by limits run cards log)
+    → ∥ Stands log.size limits.nodes (contents log) run (bare (tree_of (contents log) cards)) ∥₁ → IsSettled log → Holds (held_by limits run cards log)
 holds_base limits run cards log listed stands settled =
     let base : contents log ≡ log.base = ap (λ l. applied_all l log.base) listed in
     let tree = tree_of (contents log) cards in
-    let here : ∥ Stands log.size limits.nodes log.base run tree ∥₁ = subst (λ (image : Image). ∥ Stands log.size limits.nodes image run tree ∥₁) base stands in
+    let here : ∥ Stands log.size limits.nodes log.base run (bare tree) ∥₁ = subst (λ (image : Image). ∥ Stands log.size limits.nodes image run (bare tree) ∥₁) base stands in
     let only : fronts_from log.base log.list ≡ log.base ∷ [] = ap (fronts_from log.base) listed in
     record {
       leaves = λ image left. (
-        tree,
-        (0, (omega arith, refl)),
+        bare tree,
+        ((0, (omega arith, refl)), refl),
         ∥∥₁_map here (λ is. record { base = log.base; settles = settled image left; stands = is }),
       );
       covers = λ front among. (
         tree,
         (0, (omega arith, refl)),
-        subst (λ (i : Image). ∥ Stands log.size limits.nodes i run tree ∥₁) (sym (among_one log.base front (subst (λ (l : List Image). IsAmong l front) only among))) here,
+        subst (λ (i : Image). ∥ Stands log.size limits.nodes i run (bare tree) ∥₁) (sym (among_one log.base front (subst (λ (l : List Image). IsAmong l front) only among))) here,
       );
       newest = (0, (omega arith, refl));
     }
@@ -118,20 +119,21 @@ module _ (keeps_word : Type 0) (limits : Limits) (run : ℕ) (cards : List (Opti
   IsUp = keeps_word → ∥ IsServing old limits.nodes run cards ∥₁
 
   module _ (safe : IsSafe keeps_word old new) (later : before ≤ after) where
-    pub flush_done : after ≡ before → new.is_down ≡ false → HasFlushed keeps_word old new → IsUp → Changes keeps_word (IsTree was.tree) was is before after Done
+    pub flush_done : after ≡ before → new.is_down ≡ false → HasFlushed keeps_word old new → IsUp → Changes keeps_word (IsTree was was.tree) was is before after Done
     flush_done told false_from_ne_true flushed serves = record {
       same = same_volume safe.size;
       later = later;
       none = λ other. told;
-      moments = λ k tree lasts given. flush_adds limits run cards old new tree (safe.moments k);
+      moments = λ k kept lasts given. flush_adds limits run cards old new kept (safe.moments k);
       ends = record {
         still_up = false_from_ne_true;
-        leaves = λ k tree lasts given recent ready. (
+        leaves = λ k after lasts given recent ready. (
           is.tree ∷ [],
           record {
             ready = holds k;
-            no_others = λ one among. inr (among_one is.tree one among ∙ kept k ∙ sym given);
-            durable = λ durable one among. among_one is.tree one among ∙ kept k ∙ sym given;
+            seats = sym (ap (λ (kept : Kept). kept.seats) given);
+            no_others = λ one among. inr (among_one is.tree one among ∙ kept k ∙ sym (ap (λ (kept : Kept). kept.tree) given));
+            durable = λ durable one among. among_one is.tree one among ∙ kept k ∙ sym (ap (λ (kept : Kept). kept.tree) given);
           },
         );
       };
@@ -150,7 +152,7 @@ module _ (keeps_word : Type 0) (limits : Limits) (run : ℕ) (cards : List (Opti
       same = same_volume safe.size;
       later = later;
       none = λ other. absurd (other refl);
-      moments = λ k tree lasts of. flush_adds limits run cards old new tree (safe.moments k);
+      moments = λ k kept lasts of. flush_adds limits run cards old new kept (safe.moments k);
       ends = record {
         down = down;
         cause = counted;
@@ -163,7 +165,7 @@ module _ (keeps_word : Type 0) (limits : Limits) (run : ℕ) (cards : List (Opti
       same = same_volume safe.size;
       later = later;
       none = λ other. told;
-      moments = λ k tree lasts of. flush_adds limits run cards old new tree (safe.moments k);
+      moments = λ k kept lasts of. flush_adds limits run cards old new kept (safe.moments k);
       ends = ap (held_by limits run cards) same;
     }
 

@@ -3,11 +3,10 @@ use Rattle.std.proofs.Common.{ℕ, ◌≤◌, inl, inr, refl, rules, arith, sym}
 use Rattle.std.specs.Prelude.{IsTrue}
 use Rattle.disk.specs.Moments.{Image}
 use Rattle.journal.specs.Settled.{AreSame}
-use Rattle.layout.specs.Stands.{current}
+use Rattle.layout.specs.Stands.{Kept}
 use Rattle.layout.specs.Superblock.{is_size}
 use Rattle.layout.proofs.FirstLaws.{Sized, sized_parts}
 use Rattle.layout.proofs.MarkProofs.{stands_alone}
-use Rattle.model.specs.Tree.{Tree}
 use Rattle.volume.specs.Stands.{Stands}
 
 pub sized : (sectors nodes : ℕ) → IsTrue (is_size sectors nodes) → Sized sectors nodes
@@ -17,9 +16,13 @@ pub large : (sectors nodes : ℕ) → IsTrue (is_size sectors nodes) → 256 ≤
 large sectors nodes size = search rules
 
 -- the volume is the same where the kept sectors are
-pub stands_same : (sectors nodes : ℕ) (a b : Image) (run : ℕ) (tree : Tree) → AreSame sectors a b
-    → Stands sectors nodes a run tree → Stands sectors nodes b run tree
-stands_same sectors nodes a b run tree same stands =
-    let enough : 256 ≤ sectors = large sectors nodes stands.sized in
-    stands_alone current sectors nodes a b run tree stands (sym (same 0 (inl refl, omega (arith, enough))))
-    (λ n above below. sym (same n (inr above, below)))
+pub stands_same : (sectors nodes : ℕ) (a b : Image) (run : ℕ) (kept : Kept) → AreSame sectors a b
+    → Stands sectors nodes a run kept → Stands sectors nodes b run kept
+stands_same sectors nodes a b run kept same stands =
+    let enough : 256 ≤ sectors = large sectors nodes stands.stands.sized in
+    record {
+      version = stands.version;
+      is_version = stands.is_version;
+      stands = stands_alone stands.version sectors nodes a b run kept.tree stands.stands (sym (same 0 (inl refl, omega (arith, enough))))
+          (λ n above below. sym (same n (inr above, below)));
+    }

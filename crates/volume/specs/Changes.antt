@@ -3,10 +3,11 @@
 use Rattle.std.specs.Prelude.{ℕ, Bool, true, false, List, Result, Ok, Err, ◌≡◌, ◌≤◌, ◌⊎◌}
 use Rattle.std.specs.List.{IsAmong}
 use Rattle.disk.specs.Cause.{IsCounted}
+use Rattle.layout.specs.Stands.{Kept}
 use Rattle.model.specs.Tree.{Tree}
 use Rattle.volume.specs.declared.fault.VolumeFault.{VolumeFault}
 use Rattle.volume.specs.declared.fault.VolumeFault.TheVariants as fault
-use Rattle.volume.specs.Held.{Held, IsSameVolume, IsRecent, MayAdd, AddsTrees}
+use Rattle.volume.specs.Held.{Held, IsSameVolume, IsRecent, AddsTrees, kept_of, with_tree}
 use Rattle.volume.specs.Shown.{ShowsAs}
 
 -- how a call ends: it answered, it left all as it was, or the device failed in it
@@ -22,36 +23,37 @@ ending_of (Err fault.Memory) = Nothing
 ending_of (Err fault.Device) = Broken
 ending_of (Err fault.Down) = Nothing
 
--- What the definition says of a call: that the tree after it is this one, and whether what it did
--- has to last. A change that may be lost until a later one, as an unstable write, is one that does
--- not.
+-- What the definition says of a call: what is kept after it, a tree and the seats, and whether what
+-- it did to the tree has to last. A change that may be lost until a later one, as an unstable
+-- write, is one that does not. Seats always last.
 abbrev pub Given : Type 1
-Given = (after : Tree) → (lasts : Bool) → Type 0
+Given = (after : Kept) → (lasts : Bool) → Type 0
 
--- that it is this tree
-abbrev pub IsTree : Tree → Given
-IsTree tree after lasts = after ≡ tree
+-- that it is this tree, and the seats as they were
+abbrev pub IsTree : Held → Tree → Given
+IsTree held tree after lasts = after ≡ with_tree held tree
 
--- that it is this tree, and that nothing has to last that did not before
-abbrev pub Stays : Tree → Given
-Stays tree after lasts = (after ≡ tree) × (lasts ≡ false)
+-- that it is as it was, and that nothing has to last that did not before
+abbrev pub Stays : Held → Given
+Stays held after lasts = (after ≡ kept_of held) × (lasts ≡ false)
 
 -- a stop after the call leaves these trees: of those before and the one after it, and of what has
--- to last that one alone
-pub record Leaves (new : Held) (after : Tree) (lasts : Bool) (recent left : List Tree)
+-- to last that one alone; and the seats after it
+pub record Leaves (new : Held) (after : Kept) (lasts : Bool) (recent left : List Tree)
     : Type 0 where
   pub ready : IsRecent new left
-  pub no_others : (tree : Tree) → IsAmong left tree → MayAdd recent after tree
-  pub durable : lasts ≡ true → (tree : Tree) → IsAmong left tree → tree ≡ after
+  pub seats : new.seats ≡ after.seats
+  pub no_others : (tree : Tree) → IsAmong left tree → IsAmong recent tree ⊎ (tree ≡ after.tree)
+  pub durable : lasts ≡ true → (tree : Tree) → IsAmong left tree → tree ≡ after.tree
 
 -- whichever trees a stop may leave before it
-abbrev pub LeavesTrees : (old new : Held) → (after : Tree) → (lasts : Bool) → Type 0
+abbrev pub LeavesTrees : (old new : Held) → (after : Kept) → (lasts : Bool) → Type 0
 LeavesTrees old new after lasts = (recent : List Tree) → IsRecent old recent
     → (left : List Tree) × Leaves new after lasts recent left
 
 pub record HasAnswered (keeps_word : Type 0) (given : Given) (old new : Held) : Type 0 where
   pub still_up : new.is_down ≡ false
-  pub leaves : keeps_word → (after : Tree) (lasts : Bool) → given after lasts
+  pub leaves : keeps_word → (after : Kept) (lasts : Bool) → given after lasts
       → LeavesTrees old new after lasts
 
 -- it is down, and the device counted a failure; and on any device it shows what it showed before
@@ -61,7 +63,7 @@ pub record HasBroken (given : Given) (old new : Held) (failed_before failed_afte
   pub down : new.is_down ≡ true
   pub cause : IsCounted failed_before failed_after
   pub shows : ShowsAs old.tree new.tree
-      ⊎ ((after : Tree) (lasts : Bool) → given after lasts → ShowsAs after new.tree)
+      ⊎ ((after : Kept) (lasts : Bool) → given after lasts → ShowsAs after.tree new.tree)
 
 abbrev pub EndsAs : (keeps_word : Type 0) → Given → (old new : Held) → (before after : ℕ)
     → Ending → Type 0
@@ -76,7 +78,7 @@ pub record Changes (keeps_word : Type 0) (given : Given) (old new : Held)
   pub later : failed_before ≤ failed_after
   -- whatever failed in it is told
   pub none : (ending ≡ Broken → ⊥) → failed_after ≡ failed_before
-  -- at each moment of it a stop leaves a tree from before, or the one after it
-  pub moments : keeps_word → (after : Tree) (lasts : Bool) → given after lasts
+  -- at each moment of it a stop leaves a tree from before, or what is kept after it
+  pub moments : keeps_word → (after : Kept) (lasts : Bool) → given after lasts
       → AddsTrees old after new.history
   pub ends : EndsAs keeps_word given old new failed_before failed_after ending

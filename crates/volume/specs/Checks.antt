@@ -2,7 +2,7 @@
 use Rattle.std.specs.Prelude.{ℕ, ⊤, List, Result, Ok, Err, ◌≡◌, ◌≢◌, ◌≤◌, IfOk, IfErr, IsErrOf}
 use Rattle.disk.specs.Cause.{IsCounted}
 use Rattle.disk.specs.Moments.{History, seen}
-use Rattle.model.specs.Tree.{Tree}
+use Rattle.layout.specs.Stands.{Kept}
 use Rattle.volume.specs.MountAnswers.{first_verdict, NoTree}
 use Rattle.volume.specs.Stands.{StandsFor}
 use Rattle.volume.specs.Superblock.{superblock, verdict, word}
@@ -25,13 +25,13 @@ IsSeen sectors sector (Err mounts.Worn) = ⊥
 IsSeen sectors sector (Err mounts.Memory) = ⊥
 IsSeen sectors sector (Err mounts.Device) = ⊤
 
--- A tree stands for what the device settles to, of these numbers of sectors and nodes, and under
--- this restart count, which may be full.
+-- A tree and seats stand for what the device settles to, of these numbers of sectors and nodes, and
+-- under this restart count, which may be full.
 pub record HasChecked (sectors : ℕ) (old : History) (checked : Checked) : Type 0 where
   pub first : first_verdict sectors old ≢ verdicts.NotVolume
   pub sectors_are : checked.sectors ≡ sectors
-  pub tree : Tree
-  pub stands : StandsFor sectors checked.nodes checked.count tree (seen old.now)
+  pub kept : Kept
+  pub stands : StandsFor sectors checked.nodes checked.count kept (seen old.now)
 
 -- A check that is refused: no count is too full for it. Damaged comes after NotVolume, by the first
 -- sector or by what follows it.

@@ -13,7 +13,7 @@ use Rattle.model.specs.Stamp.{stamp}
 use Rattle.model.specs.Tree.{Tree, names_at}
 use Rattle.volume.specs.Changes.{Given}
 use Rattle.volume.specs.Formed.{IsFormed}
-use Rattle.volume.specs.Held.{Held}
+use Rattle.volume.specs.Held.{Held, with_tree}
 
 -- the tree after edits
 abbrev pub edited_by : Held → List Edit → Tree
@@ -89,4 +89,5 @@ pub record IsChange (held : Held) (edits : List Edit) : Type 0 where
 
 -- the tree after the edits; a stop may lose it until the next flush
 abbrev pub IsEdited : Held → List Edit → Given
-IsEdited held edits after lasts = (after ≡ edited_by held edits) × (lasts ≡ false)
+IsEdited held edits after lasts =
+    (after ≡ with_tree held (edited_by held edits)) × (lasts ≡ false)

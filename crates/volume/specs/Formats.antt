@@ -7,6 +7,7 @@ use Rattle.inode.specs.declared.node.Form.TheVariants.{One}
 use Rattle.inode.specs.Spelling.{inode_sector}
 use Rattle.layout.specs.FreshLaws.{root_fields}
 use Rattle.layout.specs.Cards.{node_sector}
+use Rattle.layout.specs.Stands.{bare}
 use Rattle.model.specs.Fresh.{fresh_tree}
 use Rattle.volume.specs.Stands.{StandsFor}
 
@@ -14,9 +15,9 @@ use Rattle.volume.specs.Stands.{StandsFor}
 abbrev pub root_update : Update
 root_update = record { target = node_sector 0; content = inode_sector One root_fields }
 
--- the new volume: an empty root, which was never mounted
+-- the new volume: an empty root and no seats, which was never mounted
 abbrev pub IsFresh : (sectors nodes : ℕ) → Image → Type 0
-IsFresh sectors nodes image = StandsFor sectors nodes 0 fresh_tree image
+IsFresh sectors nodes image = StandsFor sectors nodes 0 (bare fresh_tree) image
 
 -- what a format adds to what a stop may leave: no volume, or the new one
 abbrev pub AddsFresh : (sectors nodes : ℕ) → (old new : History) → Type 0

@@ -3,8 +3,10 @@ use Rattle.std.specs.Prelude.{ℕ, Bool, false, List, [], ◌∷◌, ◌≡◌, 
 use Rattle.std.specs.List.{IsAmong}
 use Rattle.disk.specs.declared.update.Update.{Update}
 use Rattle.disk.specs.Moments.{History, Image, Left, AddsOnly, applied}
+use Rattle.layout.specs.Stands.{Kept}
 use Rattle.model.specs.declared.limits.Limits.{Limits}
 use Rattle.model.specs.Limits.{limits_of}
+use Rattle.model.specs.Seats.{Seats}
 use Rattle.model.specs.Stamp.{stamp}
 use Rattle.model.specs.Tree.{Tree}
 use Rattle.volume.specs.Formed.{IsFormed}
@@ -19,11 +21,20 @@ pub record Held : Type 0 where
   pub limits : Limits
   pub run : ℕ
   pub tree : Tree
+  pub seats : Seats
   pub is_down : Bool
   pub sectors : ℕ
   pub history : History
   -- what the sectors give with the flushed changes, and after each change that is not flushed yet
   pub fronts : List Image
+
+-- the same seats beside another tree
+abbrev pub with_tree : Held → Tree → Kept
+with_tree held tree = record { tree = tree; seats = held.seats }
+
+-- what it keeps
+abbrev pub kept_of : Held → Kept
+kept_of held = with_tree held held.tree
 
 -- a volume that was just mounted
 pub record IsNew (sectors : ℕ) (held : Held) : Type 0 where
@@ -38,15 +49,19 @@ pub record IsSameVolume (old new : Held) : Type 0 where
   pub limits : new.limits ≡ old.limits
   pub run : new.run ≡ old.run
 
--- the map stands for a tree of these, in this run of the volume
-abbrev pub StandsForOne : Held → (Tree → Type 0) → Image → Type 0
-StandsForOne held may image = (tree : Tree) × may tree
-    × StandsFor held.sectors held.limits.nodes held.run tree image
+-- the map stands for one of these, in this run of the volume
+abbrev pub StandsForOne : Held → (Kept → Type 0) → Image → Type 0
+StandsForOne held may image = (kept : Kept) × may kept
+    × StandsFor held.sectors held.limits.nodes held.run kept image
+
+-- one of these trees, with the volume's seats: what of these was changed is flushed
+abbrev pub IsLeft : Held → List Tree → Kept → Type 0
+IsLeft held recent kept = IsAmong recent kept.tree × (kept.seats ≡ held.seats)
 
 -- each map that a stop leaves now stands for one of these trees
 abbrev pub LeavesOne : Held → List Tree → Type 0
 LeavesOne held recent =
-    (image : Image) → Left held.history.now image → StandsForOne held (IsAmong recent) image
+    (image : Image) → Left held.history.now image → StandsForOne held (IsLeft held recent) image
 
 -- The trees that a stop may leave, now and within a flush: those of its fronts. The one in memory
 -- is among them.
@@ -54,7 +69,7 @@ pub record IsRecent (held : Held) (recent : List Tree) : Type 0 where
   pub leaves : LeavesOne held recent
   pub covers : (front : Image) → IsAmong held.fronts front
       → (tree : Tree) × IsAmong recent tree
-      × ∥ Stands held.sectors held.limits.nodes front held.run tree ∥₁
+      × ∥ Stands held.sectors held.limits.nodes front held.run (with_tree held tree) ∥₁
   pub newest : IsAmong recent held.tree
 
 -- whichever trees a stop might leave before, it may leave now, and no others
@@ -65,11 +80,11 @@ KeepsRecent old new = (recent : List Tree) → IsRecent old recent → IsRecent 
 abbrev pub Holds : Held → Type 0
 Holds held = IsRecent held (held.tree ∷ [])
 
-abbrev pub MayAdd : List Tree → (after : Tree) → Tree → Type 0
-MayAdd recent after tree = IsAmong recent tree ⊎ (tree ≡ after)
+abbrev pub MayAdd : Held → List Tree → (after : Kept) → Kept → Type 0
+MayAdd held recent after kept = IsLeft held recent kept ⊎ (kept ≡ after)
 
 -- at every moment since, a map left is one left before, or stands for one of the trees before or
--- the one after the change
-abbrev pub AddsTrees : Held → (after : Tree) → History → Type 0
+-- for what is kept after the change
+abbrev pub AddsTrees : Held → (after : Kept) → History → Type 0
 AddsTrees held after new = (recent : List Tree) → IsRecent held recent
-    → AddsOnly (StandsForOne held (MayAdd recent after)) held.history new
+    → AddsOnly (StandsForOne held (MayAdd held recent after)) held.history new

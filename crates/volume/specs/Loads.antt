@@ -4,6 +4,7 @@ use Rattle.disk.specs.Moments.{Image, IsSector}
 use Rattle.journal.specs.Log.{Log}
 use Rattle.layout.specs.Cards.{Card, tree_of, cards_in}
 use Rattle.layout.specs.Health.{Health, Reads}
+use Rattle.layout.specs.Stands.{bare}
 use Rattle.model.specs.Limits.{limits_of}
 use Rattle.model.specs.Stamp.{stamp}
 use Rattle.shape.specs.WellFormed.{AreWellFormed}
@@ -28,7 +29,7 @@ pub record AreLoaded (keeps_word : Type 0) (found : Superblock) (image : Image)
   pub well_formed : ∥ AreWellFormed (limits_of found.sectors found.nodes)
       (stamp (found.run + 1) 0) cards ∥₁
   pub read : keeps_word → cards ≡ cards_in found.nodes image
-  pub stood : keeps_word → ∥ StandsOn found image (tree_of image cards) ∥₁
+  pub stood : keeps_word → ∥ StandsOn found image (bare (tree_of image cards)) ∥₁
 
 abbrev pub IsLoaded : (keeps_word : Type 0) → Superblock → Log → List (Option Card) → List Bool
     → Type 0

@@ -1,12 +1,12 @@
 -- What a mount says by its answer.
-use Rattle.std.specs.Prelude.{ℕ, ⊤, ◌≡◌, ◌≤◌, ◌+◌, ◌^◌, ◌⊎◌}
+use Rattle.std.specs.Prelude.{ℕ, ⊤, ◌≡◌, ◌≤◌, ◌<◌, ◌+◌, ◌^◌, ◌⊎◌}
 use Rattle.disk.specs.Cause.{IsCounted}
 use Rattle.disk.specs.Moments.{Image, History, AddsOnly, seen, synced}
 use Rattle.journal.specs.Settled.{Settles, SettlesAs}
-use Rattle.model.specs.Tree.{Tree}
+use Rattle.layout.specs.Stands.{Kept, current}
 use Rattle.volume.specs.Held.{Held, Holds, IsNew}
 use Rattle.volume.specs.Remounts.{AddsMount, IsFound}
-use Rattle.volume.specs.Stands.{IsBase}
+use Rattle.volume.specs.Stands.{IsBase, StandsFor}
 use Rattle.volume.specs.Superblock.{verdict}
 use Rattle.volume.specs.declared.fault.MountFault.{MountFault}
 use Rattle.volume.specs.declared.fault.MountFault.TheVariants as mounts
@@ -20,7 +20,7 @@ first_verdict sectors old = verdict sectors (seen old.now 0)
 
 abbrev pub NoTree : (sectors : ℕ) → History → Type 0
 NoTree sectors old =
-    (nodes run : ℕ) (tree : Tree) → IsBase sectors nodes run tree (seen old.now) → ⊥
+    (nodes run : ℕ) (kept : Kept) → IsBase sectors nodes run kept (seen old.now) → ⊥
 
 -- A mount that serves: the first sector is sound, the tree that stood is served, and a stop leaves
 -- it under the new count
@@ -39,6 +39,17 @@ pub record OnlyReplays (sectors : ℕ) (old new : History) : Type 0 where
   pub formless : ((settled : Image) → Settles sectors (seen old.now) settled → ⊥)
       → (new ≡ old) ⊎ (new ≡ synced old)
 
+-- Or a volume of an earlier version was rewritten as one of the current version, and memory ran out
+-- within that: what it keeps stands at each moment. No earlier version is read yet.
+pub record OnlyMigrates (sectors : ℕ) (old new : History) (fault : MountFault) : Type 0 where
+  pub memory : fault ≡ mounts.Memory
+  pub nodes : ℕ
+  pub run : ℕ
+  pub kept : Kept
+  pub stood : IsBase sectors nodes run kept (seen old.now)
+  pub earlier : stood.stands.version.number < current.number
+  pub moments : AddsOnly (StandsFor sectors nodes run kept) old new
+
 -- NotVolume and Worn come by the first sector alone, before Damaged; and where a tree stands, Worn
 -- at a full count alone
 pub record IsNoVolume (sectors : ℕ) (old new : History) : Type 0 where
@@ -48,7 +59,7 @@ pub record IsNoVolume (sectors : ℕ) (old new : History) : Type 0 where
 
 pub record IsWorn (sectors : ℕ) (old new : History) : Type 0 where
   pub first : first_verdict sectors old ≡ verdicts.Worn
-  pub full : (nodes run : ℕ) (tree : Tree) → IsBase sectors nodes run tree (seen old.now)
+  pub full : (nodes run : ℕ) (kept : Kept) → IsBase sectors nodes run kept (seen old.now)
       → run + 1 ≡ 2 ^ 32
   pub untouched : new ≡ old
 
@@ -64,11 +75,12 @@ HasReason sectors old new mounts.Damaged = IsDamaged sectors old new
 HasReason sectors old new mounts.Memory = ⊤
 HasReason sectors old new mounts.Device = ⊤
 
--- A mount that is refused: the tree stands as it stood, and its count is raised only where the
+-- A mount that is refused: what is kept stands as it stood, and its count is raised only where the
 -- device failed
 pub record IsMountRefused (sectors : ℕ) (old new : History) (fault : MountFault) : Type 0 where
   pub moments : AddsMount sectors old new
-  pub replays : (fault ≡ mounts.Device → ⊥) → OnlyReplays sectors old new
+  pub writes : (fault ≡ mounts.Device → ⊥)
+      → OnlyReplays sectors old new ⊎ OnlyMigrates sectors old new fault
   pub reason : HasReason sectors old new fault
 
 -- the device that comes back, of so many sectors and failures before: Device is answered exactly

@@ -3,9 +3,9 @@ use Rattle.std.specs.Prelude.{ℕ, ⊤, false, [], Result, Ok, Err, ◌≡◌, �
 use Rattle.disk.specs.Moments.{Image, History, AddsOnly}
 use Rattle.journal.specs.Layout.{first_target}
 use Rattle.journal.specs.Log.{Log, IsSettled}
+use Rattle.layout.specs.Stands.{Kept}
 use Rattle.layout.specs.Superblock.{is_size}
-use Rattle.model.specs.Tree.{Tree}
-use Rattle.volume.specs.Held.{Held, Holds}
+use Rattle.volume.specs.Held.{Held, Holds, kept_of}
 use Rattle.volume.specs.Stands.{Stands, StandsFor}
 use Rattle.volume.specs.Superblock.{superblock, verdict}
 use Rattle.volume.specs.declared.fault.MountFault.{MountFault}
@@ -41,26 +41,26 @@ IsTold sectors sector (Err mounts.Damaged) = verdict sectors sector ≡ verdicts
 IsTold sectors sector (Err mounts.Memory) = ⊥
 IsTold sectors sector (Err mounts.Device) = ⊤
 
--- the tree stands on this base, under the count that was found
-abbrev pub StandsOn : Superblock → (base : Image) → Tree → Type 0
-StandsOn found base tree = Stands found.sectors found.nodes base found.run tree
+-- a tree and seats stand on this base, under the count that was found
+abbrev pub StandsOn : Superblock → (base : Image) → Kept → Type 0
+StandsOn found base kept = Stands found.sectors found.nodes base found.run kept
 
--- a map stands for the tree, under the count that was found or the next one
-abbrev pub StandsForEither : Superblock → Tree → Image → Type 0
-StandsForEither found tree image =
-    StandsFor found.sectors found.nodes found.run tree image
-    ⊎ StandsFor found.sectors found.nodes (found.run + 1) tree image
+-- a map stands for them, under the count that was found or the next one
+abbrev pub StandsForEither : Superblock → Kept → Image → Type 0
+StandsForEither found kept image =
+    StandsFor found.sectors found.nodes found.run kept image
+    ⊎ StandsFor found.sectors found.nodes (found.run + 1) kept image
 
--- what a run that begins adds to what a stop may leave: the tree that stands, under either count
+-- what a run that begins adds to what a stop may leave: what stands, under either count
 abbrev pub AddsRaised : Superblock → (base : Image) → (old new : History) → Type 0
 AddsRaised found base old new =
-    (tree : Tree) → StandsOn found base tree → AddsOnly (StandsForEither found tree) old new
+    (kept : Kept) → StandsOn found base kept → AddsOnly (StandsForEither found kept) old new
 
--- The count is raised: the tree that stood stands under the next one, and nothing else has changed
+-- The count is raised: what stood stands under the next one, and nothing else has changed
 pub record IsRaised (keeps_word : Type 0) (found : Superblock) (old new : Log) : Type 0 where
   pub still_up : new.is_down ≡ false
-  pub stands : keeps_word → (tree : Tree) → StandsOn found old.base tree
-      → Stands found.sectors found.nodes new.base (found.run + 1) tree
+  pub stands : keeps_word → (kept : Kept) → StandsOn found old.base kept
+      → Stands found.sectors found.nodes new.base (found.run + 1) kept
   pub same : keeps_word → (n : ℕ) → first_target ≤ n → n < old.size → new.base n ≡ old.base n
   pub settled : keeps_word → IsSettled new
 
@@ -68,7 +68,7 @@ pub record IsRaised (keeps_word : Type 0) (found : Superblock) (old new : Log) :
 pub record HasBegun (found : Superblock) (base : Image) (old : History) (held : Held) : Type 0 where
   pub run : held.run ≡ found.run + 1
   pub nodes : held.limits.nodes ≡ found.nodes
-  pub stood : ∥ StandsOn found base held.tree ∥₁
+  pub stood : ∥ StandsOn found base (kept_of held) ∥₁
   pub moments : AddsRaised found base old held.history
   pub holds : Holds held
 
@@ -76,6 +76,6 @@ pub record HasBegun (found : Superblock) (base : Image) (old : History) (held : 
 pub record IsNotBegun (found : Superblock) (base : Image) (old new : History) (fault : MountFault)
     : Type 0 where
   pub moments : AddsRaised found base old new
-  pub no_tree : fault ≡ mounts.Damaged → (tree : Tree) → StandsOn found base tree → ⊥
+  pub no_tree : fault ≡ mounts.Damaged → (kept : Kept) → StandsOn found base kept → ⊥
   pub untouched : (fault ≡ mounts.Device → ⊥) → new ≡ old
   pub only : (fault ≡ mounts.Device) ⊎ ((fault ≡ mounts.Damaged) ⊎ (fault ≡ mounts.Memory))

@@ -2,23 +2,23 @@
 use Rattle.std.specs.Prelude.{ℕ, ◌∷◌, List, ◌≡◌, ◌<◌, ◌≤◌, ◌+◌, ◌⊎◌}
 use Rattle.std.specs.List.{IsAmong}
 use Rattle.disk.specs.Moments.{Image, Moment, History, LeftSince, AddsOnly, at_rest, moment, seen}
-use Rattle.model.specs.Tree.{Tree}
-use Rattle.volume.specs.Held.{Held}
+use Rattle.layout.specs.Stands.{Kept}
+use Rattle.volume.specs.Held.{Held, kept_of}
 use Rattle.volume.specs.Stands.{IsBase, StandsFor}
 
--- What a mount adds to what a stop may leave, at each moment of it: the tree that stood, with its
--- restart count or the next one.
+-- What a mount adds to what a stop may leave, at each moment of it: the tree and the seats that
+-- stood, with their restart count or the next one.
 abbrev pub AddsMount : (sectors : ℕ) → (old new : History) → Type 0
 AddsMount sectors old new =
-    (nodes run : ℕ) (tree : Tree) → IsBase sectors nodes run tree (seen old.now)
-    → AddsOnly (λ image. StandsFor sectors nodes run tree image
-    ⊎ StandsFor sectors nodes (run + 1) tree image) old new
+    (nodes run : ℕ) (kept : Kept) → IsBase sectors nodes run kept (seen old.now)
+    → AddsOnly (λ image. StandsFor sectors nodes run kept image
+    ⊎ StandsFor sectors nodes (run + 1) kept image) old new
 
--- A mount serves the tree that stood, and raised its restart count.
+-- A mount serves the tree and the seats that stood, and raised their restart count.
 pub record IsFound (sectors : ℕ) (old : History) (held : Held) : Type 0 where
   pub run : ℕ
   pub raised : held.run ≡ run + 1
-  pub stood : StandsFor sectors held.limits.nodes run held.tree (seen old.now)
+  pub stood : StandsFor sectors held.limits.nodes run (kept_of held) (seen old.now)
 
 -- a device as it was at one of its moments
 pub data IsFront (device : History) : History → Type 0 where
@@ -40,13 +40,13 @@ pub data Remounts (sectors : ℕ) (first : History) (since : ℕ) : History → 
   Stops : {old : History} {image : Image} {from : ℕ} → Remounts sectors first since old from
       → LeftSince old from image → Remounts sectors first since (at_rest image) 0
 
--- the map stands for one of these trees, under this count or a greater one
-abbrev pub StandsForGood : (sectors nodes run : ℕ) → (good : Tree → Type 0) → Image → Type 0
+-- the map stands for one of these, under this count or a greater one
+abbrev pub StandsForGood : (sectors nodes run : ℕ) → (good : Kept → Type 0) → Image → Type 0
 StandsForGood sectors nodes run good image =
-    ∥ ((tree : Tree) × good tree × (more : ℕ) × StandsFor sectors nodes (run + more) tree image) ∥₁
+    ∥ ((kept : Kept) × good kept × (more : ℕ) × StandsFor sectors nodes (run + more) kept image) ∥₁
 
 -- and so does each that a stop of a device leaves from a moment on
-pub record LeavesGood (sectors nodes run : ℕ) (good : Tree → Type 0) (device : History)
+pub record LeavesGood (sectors nodes run : ℕ) (good : Kept → Type 0) (device : History)
     (from : ℕ) : Type 0 where
   pub within : from ≤ moment device
   pub leaves : (image : Image) → LeftSince device from image
@@ -56,20 +56,20 @@ pub record LeavesGood (sectors nodes run : ℕ) (good : Tree → Type 0) (device
 -- and none of them is refused as Damaged or NotVolume.
 abbrev pub StillStands : Type 0
 StillStands =
-    (sectors nodes run : ℕ) (trees : List Tree) (first : History) (since : ℕ) (device : History)
-    (from : ℕ) → LeavesGood sectors nodes run (IsAmong trees) first since
+    (sectors nodes run : ℕ) (good : List Kept) (first : History) (since : ℕ) (device : History)
+    (from : ℕ) → LeavesGood sectors nodes run (IsAmong good) first since
     → Remounts sectors first since device from
-    → LeavesGood sectors nodes run (IsAmong trees) device from
+    → LeavesGood sectors nodes run (IsAmong good) device from
 
--- And the next mount that serves has such a tree, under a greater restart count.
-pub record ServesGood (nodes run : ℕ) (good : Tree → Type 0) (held : Held) : Type 0 where
-  pub tree_is : ∥ good held.tree ∥₁
+-- And the next mount that serves has such a tree and such seats, under a greater restart count.
+pub record ServesGood (nodes run : ℕ) (good : Kept → Type 0) (held : Held) : Type 0 where
+  pub kept_is : ∥ good (kept_of held) ∥₁
   pub nodes_are : held.limits.nodes ≡ nodes
   pub greater : run < held.run
 
 abbrev pub EveryRemount : Type 0
 EveryRemount =
-    (sectors nodes run : ℕ) (trees : List Tree) (first : History) (since : ℕ) (device : History)
-    (from : ℕ) (held : Held) → LeavesGood sectors nodes run (IsAmong trees) first since
+    (sectors nodes run : ℕ) (good : List Kept) (first : History) (since : ℕ) (device : History)
+    (from : ℕ) (held : Held) → LeavesGood sectors nodes run (IsAmong good) first since
     → Remounts sectors first since device from → IsFound sectors device held
-    → ServesGood nodes run (IsAmong trees) held
+    → ServesGood nodes run (IsAmong good) held

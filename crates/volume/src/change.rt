@@ -100,7 +100,8 @@ impl<D: Device> Volume<D> {
     pub fn keep(&mut self, edits: Vec<Edit<'_>>) -> Result<(), VolumeFault>
         requires { IsChange (held_of self.old) edits.items }
         ensures volume { Alters self.old self.new
-            (IsTree (edited_by (held_of self.old) edits.entry.items)) (ending_of result) }
+            (IsTree (held_of self.old) (edited_by (held_of self.old) edits.entry.items))
+            (ending_of result) }
         ensures shows { OnOk result (Shows D.keeps_word
             (edited_by (held_of self.old) edits.entry.items) (held_of self.new).tree) }
         // Refused

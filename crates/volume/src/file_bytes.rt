@@ -48,7 +48,7 @@ impl<D: Device> Volume<D> {
         ensures err { OnErr result (out.new.items ≡ out.old.items) }
         // It only reads
         ensures volume { Alters self.old self.new
-            (IsTree (held_of self.old).tree) (ending_of_reading result) }
+            (IsTree (held_of self.old) (held_of self.old).tree) (ending_of_reading result) }
         // Refused
         ensures down { IsErrOf result VolumeFault.Down ↔ ((held_of self.old).is_down ≡ true) }
         ensures refuses { IfErr result (λ fault. (fault ≡ VolumeFault.Device)

@@ -4,7 +4,7 @@ ghost use Rattle.std.specs.Prelude.{◌≡◌, ◌<◌, ◌^◌, ℕ};
 ghost use Rattle.volume.specs.Fronts.{KeepsFronts, AppliedRecent};
 ghost use Rattle.volume.specs.Remounts.{EveryRemount, StillStands};
 ghost use Rattle.volume.specs.Shown.{AnswersByShown};
-ghost use Rattle.volume.specs.Stands.{OneTreeStands};
+ghost use Rattle.volume.specs.Stands.{OneStands};
 ghost use Rattle.volume.specs.Superblock.{superblock, word};
 
 /// The first sector of a volume tells its nodes and its restart count.
@@ -16,11 +16,11 @@ pub fn superblock_tells()
         → word 20 (superblock sectors nodes run) ≡ run }
 {}
 
-/// A map that a stop left stands for one tree, of a volume with one number of nodes and one restart
-/// count.
-#[tactic(auto, using(crate::proofs::OneTree::one_tree_stands))]
-pub fn one_tree_stands()
-    ensures { OneTreeStands }
+/// A map that a stop left stands for one tree with its seats, of a volume with one number of nodes
+/// and one restart count.
+#[tactic(auto, using(crate::proofs::OneTree::one_stands))]
+pub fn one_stands()
+    ensures { OneStands }
 {}
 
 /// However often a volume is mounted, with power on or after a stop, and wherever those mounts end

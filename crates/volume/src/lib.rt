@@ -19,5 +19,5 @@ mod volume;
 pub use checking::{Checked, check};
 pub use fault::{FormatFault, MountFault, VolumeFault};
 pub use formatting::format;
-pub use laws::{answers_by_shown, every_remount, one_tree_stands, superblock_tells, unflushed};
+pub use laws::{answers_by_shown, every_remount, one_stands, superblock_tells, unflushed};
 pub use volume::{Unmounted, Volume};

@@ -2,7 +2,7 @@
 
 ghost use Rattle.std.specs.Prelude.{◌≡◌, ◌⊎◌, IfOk, IfErr, IsErrOf};
 ghost use Rattle.journal.specs.Journal.{log_of, failures_of};
-ghost use Rattle.model.specs.Tree.{Tree as NumberedTree};
+ghost use Rattle.layout.specs.Stands.{Kept};
 ghost use Rattle.parents.specs.Parents.{AreParents};
 ghost use Rattle.layout.specs.Health.{Reads};
 ghost use Rattle.volume.specs.Loads.{AreLoaded, HoldsBase, HoldsVolume, IsLoaded, Loads};
@@ -47,8 +47,8 @@ pub(crate) fn read_nodes<S: Sectors>(
     ensures health { Reads (S.health sectors.old) (S.health sectors.new)
         (IsErrOf result MountFault.Device) }
     // Refused
-    ensures damaged { S.keeps_word → IsErrOf result MountFault.Damaged → (tree : NumberedTree)
-        → StandsOn found (S.image (S.kept sectors.old)) tree → ⊥ }
+    ensures damaged { S.keeps_word → IsErrOf result MountFault.Damaged → (kept : Kept)
+        → StandsOn found (S.image (S.kept sectors.old)) kept → ⊥ }
     ensures only { IfErr result (λ fault. (fault ≡ MountFault.Device)
         ⊎ ((fault ≡ MountFault.Damaged) ⊎ (fault ≡ MountFault.Memory))) }
 {
@@ -84,8 +84,8 @@ pub(crate) fn load<D: Device>(
         (failures_of store.old.journal) (failures_of store.new.journal)
         (IsErrOf result MountFault.Device) }
     // Refused
-    ensures damaged { D.keeps_word → IsErrOf result MountFault.Damaged → (tree : NumberedTree)
-        → StandsOn found (log_of store.old.journal).base tree → ⊥ }
+    ensures damaged { D.keeps_word → IsErrOf result MountFault.Damaged → (kept : Kept)
+        → StandsOn found (log_of store.old.journal).base kept → ⊥ }
     ensures only { IfErr result (λ fault. (fault ≡ MountFault.Device)
         ⊎ ((fault ≡ MountFault.Damaged) ⊎ (fault ≡ MountFault.Memory))) }
 {

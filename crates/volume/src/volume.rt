@@ -219,7 +219,7 @@ impl<D: Device> Volume<D> {
     /// call.
     pub fn flush(&mut self) -> Result<(), VolumeFault>
         ensures volume { Alters self.old self.new
-            (IsTree (held_of self.old).tree) (ending_of result) }
+            (IsTree (held_of self.old) (held_of self.old).tree) (ending_of result) }
         ensures shows { OnOk result (Shows D.keeps_word (held_of self.old).tree
             (held_of self.new).tree) }
         // Refused
@@ -239,7 +239,7 @@ impl<D: Device> Volume<D> {
     /// Those of [`Volume::flush`].
     pub fn checkpoint(&mut self) -> Result<(), VolumeFault>
         ensures volume { Alters self.old self.new
-            (Stays (held_of self.old).tree) (ending_of result) }
+            (Stays (held_of self.old)) (ending_of result) }
         ensures shows { OnOk result (Shows D.keeps_word (held_of self.old).tree
             (held_of self.new).tree) }
         ensures recent { D.keeps_word → OnOk result

@@ -7,6 +7,7 @@ use Rattle.model.specs.Stamp.{stamp}
 use Rattle.shape.specs.WellFormed.{AreWellFormed}
 use Rattle.volume.specs.Refusals.{mount_fault}
 use Rattle.volume.specs.declared.fault.MountFault.TheVariants as mounts
+use Rattle.layout.proofs.KeptLaws.{tree_stands}
 use Rattle.volume.proofs.LoadLaws.{asked, err_is, found_stands, none_stands, only_damaged, stands_few}
 use Rattle.volume.proofs.ServeLaws.{told_err}
 use Rattle.volume.proofs.load.read_nodes.Goals as goal
@@ -21,7 +22,7 @@ returns-in_err-contents-clause-damaged g c = λ k is tree stands.
     stands_few found.sectors found.nodes found.run image tree
     (λ n within. (c.requires.base k).sectors n (subst (λ (s : ℕ). n < s) c.requires.volume.size within)) stands
     (c.in_err-contents.ensures.damaged k (ap (λ x. Err x) damaged) (cards_in found.nodes image)
-    stands.laid)
+    (tree_stands found.sectors found.nodes image found.run tree stands).laid)
 
 pub returns-then-not-branch-clause-damaged : goal.returns-then-not-branch-clause-damaged
 returns-then-not-branch-clause-damaged g c = λ k is tree stands.

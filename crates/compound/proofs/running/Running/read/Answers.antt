@@ -64,7 +64,7 @@ returns-in_ok-finish-in-Ok-read-clause-gives g c = λ now keeps table.
     omega (arith, c.in_ok-values.ensures.count, length-take (min arguments.count fs.volume.limits.transfer_bytes) (drop arguments.offset (bytes_at fs.volume.tree c.in-Ok.number))) in
     let answer = Answer.Read (record { is_end = c.in-Ok-read.is_end; data_bytes = part }) in
     subst (λ (one : FileSystem). Operates now (shared fs table opens) (shared one table opens) request kind c.settle_spelled.result)
-    (sym (left_all g.D.Device.keeps_word (IsTree fs.volume.tree) fs new (fs_failures c.args.fs.now) (fs_failures c.read.new.self) c.in-Ok-read.ensures.volume))
+    (sym (left_all g.D.Device.keeps_word (IsTree fs.volume fs.volume.tree) fs new (fs_failures c.args.fs.now) (fs_failures c.read.new.self) c.in-Ok-read.ensures.volume))
     (c.settle_spelled.ensures.gives now (shared fs table opens) kind answer
     (record { number_is = refl; values_are = sym (c.in_ok-finish-in-Ok-read.ensures.ok c.in_ok-values.values.items part (c.in-Ok-read.ensures.bytes keeps) c.in_ok-values.ensures.ok few) }) refl
     (read_ok now fs opens request arguments table answer

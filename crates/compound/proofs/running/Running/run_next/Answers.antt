@@ -9,7 +9,7 @@ use Rattle.compound.specs.Views.{in_progress_of}
 use Rattle.compound.proofs.Firsts.{first_alone}
 use Rattle.compound.proofs.Refusals.{refused_spelled}
 use Rattle.compound.proofs.Turning.{turns_read, turns_refused}
-use Rattle.compound.proofs.VolumeLaws.{read_gives, refused_turn}
+use Rattle.compound.proofs.VolumeLaws.{read_gives, refused_turn, turn_stays}
 use Rattle.compound.specs.declared.fault.Fault.TheVariants as fault
 use Rattle.fs.proofs.ChangeLaws.{changes_by}
 use Rattle.volume.proofs.ServeLaws.{told_err}
@@ -73,6 +73,7 @@ pub returns-in-Refuses-clause-volume : goal.returns-in-Refuses-clause-volume
 returns-in-Refuses-clause-volume g c =
     let next = rw c.in-Refuses.is at c.in_ok-operation.ensures.ok in
     answers_quietly g.D.Device.keeps_word _ _ _ _ _ refl refl c.requires.up
+    (turn_stays (shared_of c.args.fs.now c.args.table.now c.args.opens.now) _)
     (refused_turn (shared_of c.args.fs.now c.args.table.now c.args.opens.now) (in_progress_of c.args.self.now) c.args.now c.in-Refuses.operation c.in-Refuses.status next)
 
 pub returns-in-Refuses-clause-kept : goal.returns-in-Refuses-clause-kept

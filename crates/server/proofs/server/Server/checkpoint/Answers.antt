@@ -6,6 +6,8 @@ use Rattle.opens.specs.Views.{opens_of}
 use Rattle.session.specs.Views.{table_of}
 use Rattle.server.specs.Connections.{connections_of}
 use Rattle.server.specs.Views.{world_of, volume_of, failures_of}
+use Rattle.volume.specs.Held.{kept_of}
+use Rattle.compound.proofs.Unseated.{seats_stay}
 use Rattle.server.proofs.Checkpoints.{checkpointed, checkpoint_fails, keeps_world, only_device}
 use Rattle.server.proofs.Worlds.{AllOfRun}
 use Rattle.server.proofs.server.Server.checkpoint.Goals as goal
@@ -33,8 +35,8 @@ returns-in-Ok-clause-ok g c = λ keeps.
     let s = c.args.self.now in
     let did = c.in-Ok.ensures in
     let volume = did.volume.volume_changes in
-    checkpointed (fs_of s.fs) (fs_of c.checkpoint.new.self) (table_of s.table) (opens_of s.opens) (connections_of s.connections) volume.same did.changes
-    (did.shows.tree_is keeps) (sym c.if-is_down.ensures) volume.ends.still_up (did.recent keeps) (volume.moments keeps (fs_of s.fs).volume.tree false (refl, refl))
+    checkpointed (fs_of s.fs) (fs_of c.checkpoint.new.self) (table_of s.table) (opens_of s.opens) (connections_of s.connections) volume.same did.changes (seats_stay s.fs c.checkpoint.new.self)
+    (did.shows.tree_is keeps) (sym c.if-is_down.ensures) volume.ends.still_up (did.recent keeps) (volume.moments keeps (kept_of (fs_of s.fs).volume) false (refl, refl))
 
 pub returns-in-Ok-clause-kept : goal.returns-in-Ok-clause-kept
 unfolding world_of volume_of failures_of
@@ -48,7 +50,7 @@ returns-in-Ok-clause-kept g c =
       none_failed = volume.none (λ broken. cc);
       same = volume.same;
       world = keeps_world (fs_of s.fs) (fs_of c.checkpoint.new.self) (table_of s.table) (opens_of s.opens) (connections_of s.connections) volume.same did.changes
-          (fs_of c.checkpoint.new.self).volume.tree;
+          (seats_stay s.fs c.checkpoint.new.self) (fs_of c.checkpoint.new.self).volume.tree;
     }
 
 pub returns-in-Err-clause-fails : goal.returns-in-Err-clause-fails
@@ -61,7 +63,7 @@ returns-in-Err-clause-fails g c = λ keeps up.
     (λ down. true≢false (sym (did.down.0 (ap Err down)) ∙ up)) in
     let failed = rw device at did.volume in
     checkpoint_fails (fs_of s.fs) (fs_of c.checkpoint.new.self) (table_of s.table) (opens_of s.opens) (connections_of s.connections) volume.same did.changes
-    up failed.volume_changes.ends.down (volume.moments keeps (fs_of s.fs).volume.tree false (refl, refl))
+    (seats_stay s.fs c.checkpoint.new.self) up failed.volume_changes.ends.down (volume.moments keeps (kept_of (fs_of s.fs).volume) false (refl, refl))
 
 pub returns-in-Err-clause-refused : goal.returns-in-Err-clause-refused
 unfolding world_of volume_of failures_of
@@ -75,7 +77,7 @@ returns-in-Err-clause-refused g c =
     record {
       told = refl;
       world = keeps_world (fs_of s.fs) (fs_of c.checkpoint.new.self) (table_of s.table) (opens_of s.opens) (connections_of s.connections) volume.same did.changes
-          (fs_of c.checkpoint.new.self).volume.tree;
+          (seats_stay s.fs c.checkpoint.new.self) (fs_of c.checkpoint.new.self).volume.tree;
       cause = inr failed.volume_changes.ends.cause;
       down = failed.volume_changes.ends.down;
     }

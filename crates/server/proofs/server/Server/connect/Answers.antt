@@ -6,7 +6,7 @@ use Rattle.server.specs.Connections.{connections_of, connection_view, IsOfRun}
 use Rattle.server.specs.declared.fault.ServerFault.TheVariants as faults
 use Rattle.server.specs.Views.{world_of, volume_of, world_by}
 use Rattle.model.specs.Runs as runs
-use Rattle.compound.proofs.Unseated.{table_unseated}
+use Rattle.compound.proofs.Unseated.{seated}
 use Rattle.server.proofs.Moves.{does_quietly}
 use Rattle.server.proofs.Refusals.{told_by}
 use Rattle.server.proofs.SlabLaws.{count_of, with_slot, stands_none, grew}
@@ -63,7 +63,7 @@ returns-clause-ok g c =
     λ keeps. does_quietly (fs_of s.fs).volume _ _ _ (runs.Connects conn) _ refl up
     (connected (shared_of s.fs s.table s.opens) (connections_of s.connections) _ conn (connection_view c.in_ok-connection.connection) can
     (with_slot s.connections c.insert.new.self conn c.in_ok-connection.connection updates) c.in_ok-connection.ensures)
-    (table_unseated s.table) refl
+    (seated s.fs s.table) refl
 
 pub returns-clause-is_full : goal.returns-clause-is_full
 unfolding world_of

@@ -7,7 +7,7 @@ use Rattle.server.specs.Connections.{connections_of}
 use Rattle.server.specs.declared.fault.ServerFault.TheVariants as faults
 use Rattle.server.specs.Refused.{view, IsUntouched, RefusesTurn}
 use Rattle.server.specs.Seen.{Stays}
-use Rattle.compound.proofs.Unseated.{table_unseated}
+use Rattle.compound.proofs.Unseated.{seated}
 use Rattle.server.proofs.Refusals.{told_by, begins_on, runs_on, hang_up_refused}
 use Rattle.server.specs.Views.{world_of, volume_of, failures_of, seen_with}
 use Rattle.server.proofs.HangUps.{turned_on, fewer_left}
@@ -88,7 +88,7 @@ returns-clause-ok g c =
       was.1,
       does_quietly (fs_of mid.fs).volume _ _ _ (runs.HangsUp c.args.conn) _ refl inv.is_up
           (hung_up (shared_of mid.fs mid.table mid.opens) (connections_of mid.connections) _ c.args.conn (sym c.is_busy.ensures ∙ c.loop-self-test.false)
-          (without_slot mid.connections c.try_remove.new.self c.args.conn c.try_remove.ensures.updates)) (table_unseated mid.table) refl was.0 was.2,
+          (without_slot mid.connections c.try_remove.new.self c.args.conn c.try_remove.ensures.updates)) (seated mid.fs mid.table) refl was.0 was.2,
     )
 
 pub returns-clause-gone : goal.returns-clause-gone

@@ -8,6 +8,7 @@ use Rattle.session.specs.Views.{table_of}
 use Rattle.server.specs.Connections.{connections_of}
 use Rattle.server.specs.Views.{world_of, volume_of, failures_of}
 use Rattle.opens.specs.Views.{opens_of}
+use Rattle.compound.proofs.Unseated.{volume_unseated}
 use Rattle.server.proofs.Moves.{mounted_by, world_mounted, found_start, limits_room}
 use Rattle.server.proofs.server.Server.mount_with.Goals as goal
 
@@ -16,7 +17,7 @@ unfolding world_of volume_of connections_of
 returns-clause-begins g c =
     let serves = c.in_ok-fs.ensures.serves in
     λ keeps. mounted_by (fs_of c.in_ok-fs.fs) (table_of c.new-table.result) (opens_of c.new-opens.result) (connections_of c.in-Ok.connections)
-    (c.new-table.ensures ∙ ap empty_table c.restart_count.ensures) c.new-opens.ensures (rw c.in-Ok.ensures.empty refl) c.in_ok-fs.ensures.no_change serves.new.is_up (serves.mounted keeps).holds
+    (c.new-table.ensures ∙ ap empty_table c.restart_count.ensures) c.new-opens.ensures (rw c.in-Ok.ensures.empty refl) c.in_ok-fs.ensures.no_change (volume_unseated c.in_ok-fs.fs) serves.new.is_up (serves.mounted keeps).holds
     (found_start (g.D.Device.size c.args.device) (g.D.Device.history c.args.device) (fs_of c.in_ok-fs.fs).volume (serves.mounted keeps).found serves.new.limits)
     (limits_room (g.D.Device.size c.args.device) (fs_of c.in_ok-fs.fs).volume serves.new.limits)
 
@@ -25,6 +26,7 @@ unfolding world_of volume_of connections_of
 returns-clause-world g c =
     world_mounted (fs_of c.in_ok-fs.fs) (table_of c.new-table.result) (opens_of c.new-opens.result) (connections_of c.in-Ok.connections)
     (c.new-table.ensures ∙ ap empty_table c.restart_count.ensures) c.new-opens.ensures (rw c.in-Ok.ensures.empty refl) c.in_ok-fs.ensures.no_change
+    (volume_unseated c.in_ok-fs.fs)
 
 pub returns-clause-serves : goal.returns-clause-serves
 unfolding volume_of failures_of

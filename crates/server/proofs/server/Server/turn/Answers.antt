@@ -1,11 +1,11 @@
-use Rattle.std.proofs.Common.{◌≡◌, ℕ, Some, true, inl, inr, refl, sym, ap, ap₂, ◌∙◌, subst, arith}
+use Rattle.std.proofs.Common.{◌≡◌, ◌∷◌, ℕ, Some, true, inl, inr, refl, sym, ap, ap₂, ◌∙◌, subst, arith}
 use Rattle.compound.specs.declared.fault.Fault.TheVariants as turns
 use Rattle.slab.specs.Slab.{with_value}
 use Rattle.compound.specs.States.{shared, shared_of}
 use Rattle.fs.specs.FileSystem.{FileSystem}
 use Rattle.fs.specs.Views.{fs_of}
 use Rattle.model.specs.Runs as runs
-use Rattle.model.specs.World.{Closed}
+use Rattle.model.specs.World.{Closed, one}
 use Rattle.server.specs.Connections.{connections_of, connection_view}
 use Rattle.server.specs.Faults.{turn_fault}
 use Rattle.server.specs.declared.fault.ServerFault.TheVariants as faults
@@ -14,8 +14,8 @@ use Rattle.server.specs.Views.{world_of, volume_of, failures_of, world_by}
 use Rattle.compound.proofs.QuietLaws.{left_all, broken≢done}
 use Rattle.model.proofs.KeyedLaws.{at-with_other}
 use Rattle.model.specs.Keyed.{at}
-use Rattle.compound.proofs.Unseated.{table_unseated}
-use Rattle.server.proofs.Moves.{broken_leaves}
+use Rattle.compound.proofs.Unseated.{seated, seats_stay}
+use Rattle.server.proofs.Moves.{broken_leaves, leaves_now}
 use Rattle.server.proofs.Refusals.{told_by, device_told, turn_refused}
 use Rattle.server.proofs.SlabLaws.{stands, stands_none, wrote, wrote_count, rewrote, numbers_rise}
 use Rattle.server.proofs.ServedTurns.{turned, undone, broken, gone_on_at, gives_one, turning_moments}
@@ -93,17 +93,20 @@ returns-in_err-turn-clause-fails g c =
     let device : refusal ≡ turns.Device = device_told refusal (let told_is : turn_fault refusal ≡ faults.Device = cc in told_is) in
     let volume = c.turn.ensures.volume.volume_changes in
     let failed = rw (c.in_err-turn.was, device) at c.turn.ensures.volume in
+    let left_tree = (one (world_by (shared_of s.fs s.table s.opens) (connections_of s.connections)) c.args.conn c.args.now).world.tree in
     let adds = volume.moments keeps _ _ (gives_one (shared_of s.fs s.table s.opens) (connections_of s.connections) c.args.conn c.args.now (connection_view before)
     (stands s.connections c.args.conn before c.in-Some.ensures.value)) in
     λ recent ready. (
       _,
       record {
-        fails = failed_from _ _ recent _ _ (runs.Turns c.args.conn c.args.now) ready.newest up failed.volume_changes.ends.down
+        fails = failed_from _ _ recent _ _ _ _ (runs.Turns c.args.conn c.args.now) ready.newest up failed.volume_changes.ends.down
             (broken (shared_of s.fs s.table s.opens) (shared_of c.turn.new.fs c.turn.new.table c.turn.new.opens) (connections_of s.connections) _ volume.same (failed.no_count broken≢done)
-            (ap₂ (shared (fs_of c.turn.new.fs)) back.1 back.2) (rewrote s.connections c.args.conn before after c.in-Some.ensures.value back.0) (fs_of s.fs).volume.tree);
+            (ap₂ (shared (fs_of c.turn.new.fs)) back.1 back.2) (rewrote s.connections c.args.conn before after c.in-Some.ensures.value back.0) (fs_of s.fs).volume.tree)
+            (seats_stay s.fs c.turn.new.fs);
         moves = record {
           moments = turning_moments (shared_of s.fs s.table s.opens) (connections_of s.connections) c.args.conn c.args.now recent _ ready up adds;
-          leaves = broken_leaves (fs_of s.fs).volume (fs_of c.turn.new.fs).volume _ recent ready adds volume.same;
+          leaves = leaves_now (fs_of c.turn.new.fs).volume (left_tree ∷ recent)
+              (broken_leaves (fs_of s.fs).volume (fs_of c.turn.new.fs).volume left_tree recent ready adds volume.same (seats_stay s.fs c.turn.new.fs));
           same = volume.same;
         };
       },
@@ -165,11 +168,12 @@ returns-clause-ok g c =
     let left = volume.ends.leaves keeps _ _ gives recent ready in (
       left.0,
       record {
-        happens = happened_leaving (fs_of c.turn.new.fs).volume _ _ recent left.0 _ _ (runs.Turns c.args.conn c.args.now) ready.newest up volume.ends.still_up made.1 (table_unseated c.turn.new.table) left.1;
+        happens = happened_leaving (fs_of c.turn.new.fs).volume _ _ _ recent left.0 _ _ _ (runs.Turns c.args.conn c.args.now) ready.newest up volume.ends.still_up made.1
+            (seated c.turn.new.fs c.turn.new.table) refl left.1;
         says = ap Turned made.0;
         moves = record {
           moments = turning_moments (shared_of s.fs s.table s.opens) (connections_of s.connections) c.args.conn c.args.now recent _ ready up (volume.moments keeps _ _ gives);
-          leaves = left.1.ready.leaves;
+          leaves = leaves_now (fs_of c.turn.new.fs).volume left.0 left.1.ready.leaves;
           same = volume.same;
         };
         ready = left.1.ready;

@@ -1,5 +1,5 @@
 use Rattle.std.proofs.Common.{◌≡◌, ◌+◌, ◌∙◌, ℕ, refl, sym, ap, subst, arith}
-use Rattle.std.specs.Prelude.{IsTrue}
+use Rattle.std.specs.Prelude.{IsTrue, Err}
 use Rattle.edits.specs.Outlines.{outline_of}
 use Rattle.journal.specs.Journal.{log_of}
 use Rattle.journal.specs.Log.{Log, contents}
@@ -9,9 +9,10 @@ use Rattle.model.specs.Limits.{limits_of}
 use Rattle.model.specs.Stamp.{stamp}
 use Rattle.model.specs.Tree.{Tree}
 use Rattle.volume.specs.Known.{IsKnown, IsServing}
+use Rattle.layout.specs.Stands.{bare}
 use Rattle.volume.specs.Mounts.{IsRaised, StandsOn}
 use Rattle.volume.specs.Views.{held_of}
-use Rattle.volume.proofs.BeginLaws.{begun_serving, begun_holds, same_tree, raised_from}
+use Rattle.volume.proofs.BeginLaws.{begun_serving, begun_holds, same_tree, raised_from, not_loaded, not_raised}
 use Rattle.volume.proofs.FormatLaws.{on_ok}
 use Rattle.volume.proofs.FormedLaws.{formed_later, loaded_formed, tree_formed}
 use Rattle.volume.proofs.volume.Volume.begin.Goals as goal
@@ -57,7 +58,7 @@ returns-clause-begun g c = λ k.
     record {
       run = refl;
       nodes = nodes;
-      stood = subst (λ (t : Tree). ∥ StandsOn found old.base t ∥₁) (sym tree) (c.in-Ok.ensures.loaded.stood k);
+      stood = subst (λ (t : Tree). ∥ StandsOn found old.base (bare t) ∥₁) (sym tree) (c.in-Ok.ensures.loaded.stood k);
       moments = raised_from found old mid new.history c.in-Ok.ensures.loads.only (c.raise.ensures.moments k);
       holds = begun_holds word found old mid new cards c.in-Ok.loaded.places c.in-Ok.ensures.loaded raised c.in-Ok.ensures.loads.only (sym c.requires.volume.size) c.raise.ensures.size listed
           c.of_volume.result nodes k;
@@ -81,3 +82,13 @@ returns-clause-new g c =
       formed = tree_formed c.of_volume.result (stamp (found.run + 1) 0) (contents new) cards
           (loaded_formed word found old cards c.in-Ok.loaded.places c.in-Ok.ensures.loaded c.of_volume.result c.of_volume.ensures);
     }
+
+pub returns-in-Err-clause-refused : goal.returns-in-Err-clause-refused
+returns-in-Err-clause-refused g c = λ k.
+    not_loaded c.args.found (log_of c.args.journal) (log_of c.load.new.store.journal) _ c.in-Err.fault c.in-Err.ensures.loads.only c.into_device.ensures.history
+    (λ is. c.in-Err.ensures.damaged k (ap (λ x. Err x) is)) c.in-Err.ensures.only
+
+pub returns-then-is_err-clause-refused : goal.returns-then-is_err-clause-refused
+returns-then-is_err-clause-refused g c = λ k.
+    not_raised c.args.found (log_of c.args.journal) (log_of c.load.new.store.journal) (log_of c.raise.new.journal).history _ c.in-Ok.ensures.loads.only
+    c.into_device-then-is_err.ensures.history (c.raise.ensures.moments k)

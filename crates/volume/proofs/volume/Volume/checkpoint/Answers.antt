@@ -2,13 +2,12 @@ use Rattle.std.proofs.Common.{◌∙◌, ℕ, sym, ap, subst, arith}
 use Rattle.std.specs.Prelude.{IsTrue}
 use Rattle.journal.specs.Journal.{log_of}
 use Rattle.journal.specs.Log.{Log, contents}
-use Rattle.layout.specs.Cards.{tree_of}
 use Rattle.layout.specs.Superblock.{is_size}
 use Rattle.model.specs.Limits.{limits_of}
 use Rattle.volume.specs.Changes.{Stays}
 use Rattle.volume.specs.Known.{IsKnown}
 use Rattle.volume.specs.Refusals.{fault_of}
-use Rattle.volume.specs.Views.{held_of, volume_failures}
+use Rattle.volume.specs.Views.{held_by, held_of, volume_failures}
 use Rattle.volume.proofs.FormedLaws.{shows_same}
 use Rattle.volume.proofs.ServeLaws.{flush_serves, flush_refused, found_up, up_answered, told_err}
 use Rattle.volume.proofs.CheckpointLaws.{checkpoint_done, checkpoint_keeps, checkpoint_recent}
@@ -42,7 +41,7 @@ returns-in_err-checkpoint-clause-volume g c =
     let new : Log = log_of c.checkpoint.new.self in
     let fault = c.in_err-checkpoint.field-0.0 in
     let told = told_err c.from_residual.result (fault_of fault) c.from_residual.ensures.1 in
-    rw told (flush_refused g.D.Device.keeps_word (Stays (tree_of (contents old) volume.table)) volume.limits volume.run volume.table old new _ _ fault c.in_err-checkpoint.ensures.safe
+    rw told (flush_refused g.D.Device.keeps_word (Stays (held_by volume.limits volume.run volume.table old)) volume.limits volume.run volume.table old new _ _ fault c.in_err-checkpoint.ensures.safe
     c.in_err-checkpoint.ensures.answers c.in_err-checkpoint.ensures.refuses)
 
 pub returns-clause-volume : goal.returns-clause-volume

@@ -8,7 +8,7 @@ use Rattle.model.specs.Limits.{limits_of}
 use Rattle.volume.specs.Changes.{IsTree}
 use Rattle.volume.specs.Known.{IsKnown}
 use Rattle.volume.specs.Refusals.{fault_of}
-use Rattle.volume.specs.Views.{held_of, volume_failures}
+use Rattle.volume.specs.Views.{held_by, held_of, volume_failures}
 use Rattle.volume.proofs.FormedLaws.{shows_same}
 use Rattle.volume.proofs.ServeLaws.{flush_done, flush_keeps, flush_serves, flush_refused, found_up, up_answered, told_err}
 use Rattle.volume.proofs.volume.Volume.flush.Goals as goal
@@ -41,7 +41,7 @@ returns-in_err-flush-clause-volume g c =
     let new : Log = log_of c.flush.new.self in
     let fault = c.in_err-flush.field-0.0 in
     let told = told_err c.from_residual.result (fault_of fault) c.from_residual.ensures.1 in
-    rw told (flush_refused g.D.Device.keeps_word (IsTree (tree_of (contents old) volume.table)) volume.limits volume.run volume.table old new _ _ fault c.in_err-flush.ensures.safe
+    rw told (flush_refused g.D.Device.keeps_word (IsTree (held_by volume.limits volume.run volume.table old) (tree_of (contents old) volume.table)) volume.limits volume.run volume.table old new _ _ fault c.in_err-flush.ensures.safe
     c.in_err-flush.ensures.answers c.in_err-flush.ensures.refuses)
 
 pub returns-clause-volume : goal.returns-clause-volume
