@@ -6,7 +6,7 @@ use Rattle.model.specs.declared.acl.Ace.{Ace}
 use Rattle.model.specs.declared.acl.Who.{Who}
 use Rattle.model.specs.declared.acl.Who.TheVariants as who
 use Rattle.inode.specs.declared.node.Form.{Form}
-use Rattle.inode.specs.declared.node.Form.TheVariants.{One}
+use Rattle.inode.specs.declared.node.Form.TheVariants.{One, Two}
 use Rattle.inode.specs.declared.node.Inode.{Inode}
 
 pub record Fields : Type 0 where
@@ -57,6 +57,7 @@ pub record IsRunSector (sector : ℕ) : Type 0 where
 -- the most entries that a form has room for
 abbrev pub most_entries : Form → ℕ
 most_entries One = 40
+most_entries Two = 72
 
 -- What has a spelling in a form: numbers that fit, no more entries than the form has room for, and
 -- one run sector for each 500 runs, rounded up, at most nine.

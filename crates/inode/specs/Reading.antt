@@ -12,7 +12,7 @@ use Rattle.model.specs.declared.acl.Who.{Who}
 use Rattle.model.specs.declared.acl.Who.TheVariants as who
 use Rattle.sector.specs.Records.{records_at_front}
 use Rattle.inode.specs.declared.node.Form.{Form}
-use Rattle.inode.specs.declared.node.Form.TheVariants.{One}
+use Rattle.inode.specs.declared.node.Form.TheVariants.{One, Two}
 use Rattle.inode.specs.Fields.{Fields, IsInode}
 use Rattle.inode.specs.Spelling.{inode_sector}
 
@@ -39,9 +39,14 @@ ace_in bytes = record {
   who = who_of_byte (slice_index bytes 1) (from_be_bytes w32 (drop 8 bytes));
 }
 
--- the form that a sector says
+-- the form that a sector says by byte 3, the last one of its magic: 50 is `2`
 abbrev pub form_in : List ℕ → Form
-form_in sector = One
+form_in sector = if slice_index sector 3 == 50 then Two else One
+
+-- the number of entries in a sector of this form
+abbrev pub count_in : Form → List ℕ → ℕ
+count_in One sector = slice_index sector 5
+count_in Two sector = from_be_bytes w16 (drop 84 sector)
 
 abbrev pub run_sector_in : List ℕ → ℕ
 run_sector_in bytes = from_be_bytes w32 bytes
@@ -59,7 +64,7 @@ fields_in sector = record {
   run_sectors =
       records_at_front run_sector_in 4 ((from_be_bytes w16 (drop 6 sector) + 499) / 500)
       (drop 48 sector);
-  acl = records_at_front ace_in 16 (slice_index sector 5) (drop 128 sector);
+  acl = records_at_front ace_in 16 (count_in (form_in sector) sector) (drop 128 sector);
 }
 
 abbrev pub FieldsReadBack : Type 0

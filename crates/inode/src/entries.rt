@@ -14,6 +14,9 @@ use sector::{SIZE, put_bytes, put_u32, put_zeros, u32_at};
 /// How long an entry is.
 pub(crate) const WIDTH: usize = 16;
 
+/// The most entries that any form has room for.
+pub(crate) const MOST: usize = 72;
+
 fn kind_byte(kind: AceKind) -> u8
     ensures { result ≡ ace_kind_byte kind }
 {

@@ -10,8 +10,24 @@ use std::alloc::{AllocError, Global};
 /// The forms of node sectors.
 #[derive(Clone, Copy, PartialEq, Eq)]
 pub enum Form {
-    /// `NODE`, with up to 40 entries.
+    /// `NODE`, with up to 40 entries, whose number is byte 5.
     One,
+    /// `NOD2`, with up to 72 entries, whose number is in bytes 84 and 85.
+    Two,
+}
+
+impl Form {
+    ghost use Rattle.inode.specs.Fields.{most_entries};
+
+    /// The most entries that a node of this form has room for.
+    pub(crate) fn most_entries(self) -> usize
+        ensures { result ≡ most_entries self }
+    {
+        match self {
+            Form::One => 40,
+            Form::Two => 72,
+        }
+    }
 }
 
 /// A node, apart from its bytes or names.

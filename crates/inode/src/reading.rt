@@ -4,14 +4,14 @@ ghost use Rattle.std.specs.Prelude.{◌≡◌, ◌≤◌, ◌+◌, ◌*◌, ◌+
 ghost use Rattle.std.specs.List.{AllByRecursion, flat_map};
 ghost use Rattle.model.specs.declared.acl.Ace.{Ace};
 ghost use Rattle.model.specs.declared.node.NodeKind.{NodeKind};
-ghost use Rattle.inode.specs.declared.node.Form.{Form};
 ghost use Rattle.inode.specs.Fields.{Fields, fields_of, IsAce, IsRunSector, IsInode};
 ghost use Rattle.inode.specs.Spelling.{inode_sector, ace_bytes, number_bytes, kind_byte};
+ghost use Rattle.inode.specs.Reading.{count_in};
 
-use crate::entries::{WIDTH, ace_at};
+use crate::entries::{MOST, WIDTH, ace_at};
 use crate::fault::InodeFault;
 use crate::node::{Form, Inode};
-use crate::writing::{ENTRIES, RUN_NUMBERS, to_sector};
+use crate::writing::{ENTRIES, RUN_NUMBERS, SECOND_COUNT, to_sector};
 use model::acl::Acl;
 use model::node::NodeKind;
 use sector::{SIZE, u16_at, u32_at, u64_at};
@@ -67,7 +67,7 @@ fn run_sectors_in(alloc: Global, sector: &[u8; SIZE], count: usize) -> Result<Ve
 
 /// The first entries.
 fn acl_in(alloc: Global, sector: &[u8; SIZE], count: usize) -> Result<Acl, InodeFault>
-    requires { count ≤ Acl.MAX_STORED }
+    requires { count ≤ MOST }
     ensures fits { IfOk result (λ acl. (length acl ≡ count) × AllByRecursion IsAce acl) }
     ensures only { (aces : List Ace) (rest : List ℕ) → AllByRecursion IsAce aces
         → length aces ≡ count
@@ -87,22 +87,32 @@ fn acl_in(alloc: Global, sector: &[u8; SIZE], count: usize) -> Result<Acl, Inode
     Ok(acl)
 }
 
-/// The inode that would stand in a sector, whatever stands in the bytes between its fields.
-fn inode_in(alloc: Global, sector: &[u8; SIZE]) -> Result<Inode, InodeFault>
-    ensures fits { IfOk result (λ inode. (form : Form) → IsInode form (fields_of inode)) }
-    ensures only { (form : Form) (fields : Fields) → IsInode form fields
+/// The number of entries in a sector of this form, whatever stands there.
+fn count_at(form: Form, sector: &[u8; SIZE]) -> usize
+    ensures { result ≡ count_in form sector.now }
+{
+    match form {
+        Form::One => usize::from(sector[5]),
+        Form::Two => usize::from(u16_at(sector, SECOND_COUNT)),
+    }
+}
+
+/// The inode that would stand in a sector of this form, whatever stands in the bytes between its
+/// fields.
+fn inode_in(alloc: Global, form: Form, sector: &[u8; SIZE]) -> Result<Inode, InodeFault>
+    ensures fits { IfOk result (λ inode. IsInode form (fields_of inode)) }
+    ensures only { (fields : Fields) → IsInode form fields
         → sector.now ≡ inode_sector form fields
         → IfOk result (λ inode. fields_of inode ≡ fields) }
-    ensures err { IsErrOf result InodeFault.NotInode → (form : Form) (fields : Fields)
-        → IsInode form fields
+    ensures err { IsErrOf result InodeFault.NotInode → (fields : Fields) → IsInode form fields
         → sector.now ≡ inode_sector form fields → ⊥ }
 {
     let Some(kind) = kind_from(sector[4]) else {
         return Err(InodeFault::NotInode);
     };
-    let aces = usize::from(sector[5]);
+    let aces = count_at(form, sector);
     let runs = u16_at(sector, 6);
-    if aces > Acl::MAX_STORED {
+    if aces > form.most_entries() {
         return Err(InodeFault::NotInode);
     }
     if runs > MAX_RUNS {
@@ -135,7 +145,7 @@ pub fn from_sector(alloc: Global, form: Form, sector: &[u8; SIZE]) -> Result<Ino
     ensures not_inode { IsErrOf result InodeFault.NotInode → (fields : Fields) → IsInode form fields
         → ¬ (sector.now ≡ inode_sector form fields) }
 {
-    let inode = inode_in(alloc, sector)?;
+    let inode = inode_in(alloc, form, sector)?;
     let mut spelled = [0; SIZE];
     to_sector(&inode, form, &mut spelled);
     if spelled != *sector {

@@ -2,20 +2,23 @@
 
 ghost use Rattle.std.specs.Prelude.{◌≡◌, ◌≤◌, ◌+◌, ◌-◌, ◌*◌, ◌++◌, length, take};
 ghost use Rattle.std.specs.List.{AllByRecursion};
-ghost use Rattle.inode.specs.Fields.{fields_of, IsAce, IsInode};
+ghost use Rattle.inode.specs.Fields.{fields_of, most_entries, IsAce, IsInode};
 ghost use Rattle.inode.specs.Spelling.{inode_sector, head, nine, magic, acl_bytes};
 ghost use Rattle.inode.specs.Spelling as spelled;
 
-use crate::entries::{WIDTH, put_ace};
+use crate::entries::{MOST, WIDTH, put_ace};
 use crate::node::{Form, Inode};
-use model::acl::{Ace, Acl};
+use model::acl::Ace;
 use model::node::NodeKind;
 use sector::{SIZE, put_bytes, put_u16, put_u32, put_u64, put_zeros};
 
-/// Where the numbers of the run sectors, the zeros after them and the entries begin.
+/// Where the numbers of the run sectors, the second number of entries, the zeros after it and the
+/// entries begin.
 pub(crate) const RUN_NUMBERS: usize = 48;
 
-const ZEROS: usize = 84;
+pub(crate) const SECOND_COUNT: usize = 84;
+
+const ZEROS: usize = 86;
 
 pub(crate) const ENTRIES: usize = 128;
 
@@ -33,15 +36,38 @@ fn magic_of(form: Form) -> [u8; 4]
 {
     match form {
         Form::One => *b"NODE",
+        Form::Two => *b"NOD2",
+    }
+}
+
+/// How many entries there are, as byte 5 tells it.
+fn first_count(form: Form, count: usize) -> u8
+    requires { count ≤ most_entries form }
+    ensures { result ≡ spelled.first_count form count }
+{
+    match form {
+        Form::One => count as u8,
+        Form::Two => 0,
+    }
+}
+
+/// How many entries there are, as bytes 84 and 85 tell it.
+fn second_count(form: Form, count: usize) -> u16
+    requires { count ≤ most_entries form }
+    ensures { result ≡ spelled.second_count form count }
+{
+    match form {
+        Form::One => 0,
+        Form::Two => count as u16,
     }
 }
 
 fn put_head(inode: &Inode, form: Form, sector: &mut [u8; SIZE])
-    requires { length inode.now.acl ≤ Acl.MAX_STORED }
+    requires { length inode.now.acl ≤ most_entries form }
     ensures front { take RUN_NUMBERS sector.new ≡ head form (fields_of inode.now) }
     ensures len { length sector.new ≡ SIZE }
 {
-    let count = inode.acl.as_slice().len() as u8;
+    let count = first_count(form, inode.acl.as_slice().len());
     put_bytes(sector, 0, &magic_of(form));
     put_bytes(sector, 4, &[kind_byte(inode.kind), count]);
     put_u16(sector, 6, inode.runs);
@@ -55,18 +81,18 @@ fn put_head(inode: &Inode, form: Form, sector: &mut [u8; SIZE])
 
 fn put_run_sectors(numbers: &[u32], sector: &mut [u8; SIZE])
     requires { length numbers.now ≤ Inode.MAX_RUN_SECTORS }
-    ensures front { take ZEROS sector.new ≡ take RUN_NUMBERS sector.old ++ nine numbers.now }
+    ensures front { take SECOND_COUNT sector.new ≡ take RUN_NUMBERS sector.old ++ nine numbers.now }
     ensures len { length sector.new ≡ SIZE }
 {
     for (i, number) in numbers.iter().enumerate() {
         put_u32(sector, RUN_NUMBERS + 4 * i, *number);
     }
     let end = RUN_NUMBERS + 4 * numbers.len();
-    put_zeros(sector, end, ZEROS - end);
+    put_zeros(sector, end, SECOND_COUNT - end);
 }
 
 fn put_entries(aces: &[Ace], sector: &mut [u8; SIZE])
-    requires few { length aces.now ≤ Acl.MAX_STORED }
+    requires few { length aces.now ≤ MOST }
     requires each { AllByRecursion IsAce aces.now }
     ensures { sector.new ≡ take ENTRIES sector.old ++ acl_bytes aces.now }
 {
@@ -84,6 +110,8 @@ pub fn to_sector(inode: &Inode, form: Form, sector: &mut [u8; SIZE])
 {
     put_head(inode, form, sector);
     put_run_sectors(&inode.run_sectors, sector);
+    let count = second_count(form, inode.acl.as_slice().len());
+    put_u16(sector, SECOND_COUNT, count);
     put_zeros(sector, ZEROS, ENTRIES - ZEROS);
     put_entries(inode.acl.as_slice(), sector);
 }
