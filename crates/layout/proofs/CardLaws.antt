@@ -9,7 +9,7 @@ use Rattle.model.specs.declared.node.NodeKind.{NodeKind}
 use Rattle.model.specs.declared.node.NodeKind.TheVariants as kind
 use Rattle.model.specs.Charge.{divided_up, blocks_of}
 use Rattle.inode.specs.declared.node.Form.{Form}
-use Rattle.inode.specs.declared.node.Form.TheVariants.{One}
+use Rattle.inode.specs.declared.node.Form.TheVariants.{One, Two}
 use Rattle.inode.specs.Fields.{Fields}
 use Rattle.inode.specs.Spelling.{inode_sector}
 use Rattle.extents.specs.declared.run.Run.{Run}
@@ -87,6 +87,7 @@ same_card image card runs blocks a b c = rw (a, b, c) refl
 starts : (form : Form) (fields : Fields) → get_or (inode_sector form fields) 0 0 ≡ 78
 unfolding inode_sector
 starts One fields = refl
+starts Two fields = refl
 
 module _ (image : Image) (place : ℕ) (card : Card) (holds : HoldsCard image place card) where
   from-back : card_from image card.form card.fields ≡ card
