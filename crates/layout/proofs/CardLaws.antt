@@ -84,7 +84,7 @@ names_from-back image kind.Directory card is many holds =
 same_card : (image : Image) (card : Card) (runs : List Run) (blocks : List (Option ℕ)) → runs ≡ card.runs → blocks ≡ card.blocks → names_from image card.fields.kind card.fields.size card.blocks ≡ card.names → card_by image card.form card.fields runs blocks ≡ card
 same_card image card runs blocks a b c = rw (a, b, c) refl
 
-starts : (form : Form) (fields : Fields) → get_or (inode_sector form fields) 0 0 ≡ 78
+pub starts : (form : Form) (fields : Fields) → get_or (inode_sector form fields) 0 0 ≡ 78
 unfolding inode_sector
 starts One fields = refl
 starts Two fields = refl
@@ -106,7 +106,7 @@ module _ (image : Image) (place : ℕ) (card : Card) (holds : HoldsCard image pl
   first_there : get_or (image (node_sector place)) 0 0 ≡ 78
   first_there = ap (λ (s : List ℕ). get_or s 0 0) holds.node.sector ∙ starts card.form card.fields
 
-zero_first : get_or zero_sector 0 0 ≡ 0
+pub zero_first : get_or zero_sector 0 0 ≡ 0
 unfolding zero_sector
 zero_first = refl
 

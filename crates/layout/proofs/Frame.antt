@@ -37,7 +37,7 @@ module _ (old new : Image) (blocks : List (Option ℕ)) (same : (n : ℕ) → 0 
   bytes-kept size = ap (λ (f : ℕ → ℕ). map f (range_with_len 0 size)) (λ i k. byte_at-kept k i)
 
 module _ (old new : Image) (card : Card) (same : AreKept old new (Some card)) where
-  of_runs : (n : ℕ) → 0 < times n card.fields.run_sectors → new n ≡ old n
+  pub of_runs : (n : ℕ) → 0 < times n card.fields.run_sectors → new n ≡ old n
   unfolding named_by
   of_runs n h = same n (omega arith)
 
@@ -45,7 +45,7 @@ module _ (old new : Image) (card : Card) (same : AreKept old new (Some card)) wh
   unfolding named_by
   of_blocks n h = same n (omega arith)
 
-  content-held : (kind : NodeKind) → HoldsContent old kind card → HoldsContent new kind card
+  pub content-held : (kind : NodeKind) → HoldsContent old kind card → HoldsContent new kind card
   content-held kind.File holds = record { unnamed = holds.unnamed; tail = λ k h. byte_at-kept old new card.blocks of_blocks k ∙ holds.tail k h }
   content-held kind.Directory holds = record { count = holds.count; names = holds.names; stamped = holds.stamped; spelled = λ i h. content-kept old new card.blocks of_blocks (get_or card.blocks i None) i refl ∙ holds.spelled i h }
 

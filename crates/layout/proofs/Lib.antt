@@ -14,5 +14,6 @@ pub mod Linking
 pub mod MarkProofs
 pub mod NodeEditLaws
 pub mod NumberLaws
+pub mod Rewriting
 pub mod StepLaws
 pub mod Summing

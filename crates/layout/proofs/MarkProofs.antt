@@ -141,11 +141,11 @@ lays_marks version size nodes old new places cards writes =
       spare = λ n low high. writes.same n low ∙ writes.spare n low high;
     }
 
-mark_in-same : (nodes : ℕ) (old new : Image) → new 98 ≡ old 98 → new 99 ≡ old 99 → (n : ℕ) → mark_in nodes new n ≡ mark_in nodes old n
+pub mark_in-same : (nodes : ℕ) (old new : Image) → new 98 ≡ old 98 → new 99 ≡ old 99 → (n : ℕ) → mark_in nodes new n ≡ mark_in nodes old n
 unfolding mark_in
 mark_in-same nodes old new low high n = ap₂ (λ (a b : List ℕ). if ltb n (148 + nodes) then 0 else bit_in a b (n - (148 + nodes))) low high
 
-below_size : (version : Version) (size nodes : ℕ) (image : Image) (cards : List (Option Card)) → IsLaid version size nodes image cards → (n : ℕ) → 0 < mark_in nodes image n → n < size
+pub below_size : (version : Version) (size nodes : ℕ) (image : Image) (cards : List (Option Card)) → IsLaid version size nodes image cards → (n : ℕ) → 0 < mark_in nodes image n → n < size
 below_size version size nodes image cards laid n some = elim (cases_lt n size) [
   | inl low ↦ low
   | inr high ↦ absurd (let none = laid.within n high in omega arith)

@@ -14,6 +14,7 @@ pub mod LaidProps
 pub mod MarkLaws
 pub mod Marks
 pub mod NodeEdits
+pub mod Rewriting
 pub mod Stands
 pub mod Steps
 pub mod SumLaws

@@ -3,6 +3,7 @@
 ghost use Rattle.layout.specs.CardLaws.{OneTree, OneKept, OneProof};
 ghost use Rattle.layout.specs.FreshLaws.{FreshStands};
 ghost use Rattle.layout.specs.MarkLaws.{KeptAlone, StandsAlone};
+ghost use Rattle.layout.specs.Rewriting.{RewrittenStands, FormStays};
 
 /// A volume stands for one tree, of one size and one restart count, with one list of seats beside
 /// it; that it does has one proof at most.
@@ -21,4 +22,11 @@ pub fn kept()
 /// A volume that was just formatted stands for the tree of one empty directory.
 pub fn fresh()
     ensures { FreshStands }
+{}
+
+/// A volume whose nodes are written in the forms of another version, with that version's spare
+/// sectors and first sector, stands for the same tree. A node that has its form already stays.
+pub fn rewritten()
+    ensures stands { RewrittenStands }
+    ensures stays { FormStays }
 {}

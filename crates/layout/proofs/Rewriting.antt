@@ -1,0 +1,215 @@
+-- A volume that is rewritten in another version stands for the same tree.
+use Rattle.std.proofs.Common.{◌≡◌, ◌≤◌, ◌<◌, ◌+◌, ◌⊎◌, ℕ, zero, suc, List, [], ◌∷◌, Option, Some, None, length, get_or, refl, sym, ap, ap₂, ◌∙◌, subst, arith, ⊎_elim}
+use Rattle.disk.specs.Moments.{Image}
+use Rattle.disk.specs.Calls.{zero_sector}
+use Rattle.model.specs.declared.node.NodeKind.{NodeKind}
+use Rattle.model.specs.declared.node.NodeKind.TheVariants as kind
+use Rattle.model.specs.Keyed.{with}
+use Rattle.model.specs.Stamp.{stamp}
+use Rattle.model.specs.Tree.{Tree, Node, File, Directory}
+use Rattle.model.specs.WellFormed.{IsBefore}
+use Rattle.inode.specs.declared.node.Form.{Form}
+use Rattle.inode.specs.declared.node.Form.TheVariants.{One, Two}
+use Rattle.inode.specs.Fields.{Fields, IsInode, most_entries}
+use Rattle.inode.specs.Spelling.{inode_sector}
+use Rattle.inode.proofs.ReadBack.{fields-back}
+use Rattle.layout.specs.Cards.{Card, node_sector, cards_in, content_of, node_of, node_with, tree_of}
+use Rattle.layout.specs.Laid.{AreNumbered, HoldsContent, HoldsPlace}
+use Rattle.layout.specs.Marks.{mark_in, named, named_by}
+use Rattle.layout.specs.Rewriting.{in_form, IsRewritten, RewrittenStands, FormStays}
+use Rattle.layout.specs.Stands.{Version, IsLaid}
+use Rattle.layout.proofs.CardLaws.{cards-back, zero_first, starts}
+use Rattle.layout.proofs.Changing.{named-at, tree-kept}
+use Rattle.layout.proofs.Frame.{content-held, of_runs, run_sectors-kept, node-kept}
+use Rattle.layout.proofs.MarkProofs.{mark_in-same, below_size, room}
+
+-- Sectors of nodes
+
+pub node_in_form : (form was : Form) (fields : Fields) → IsInode was fields → in_form form (inode_sector was fields) ≡ inode_sector form fields
+unfolding in_form
+node_in_form form was fields is = rw (starts was fields) (ap (inode_sector form) (fields-back was fields is))
+
+pub free_in_form : (form : Form) → in_form form zero_sector ≡ zero_sector
+unfolding in_form
+free_in_form form = rw zero_first refl
+
+-- Cards in other forms
+
+abbrev in_its_form : Form → Card → Card
+in_its_form form card = record card { form = form }
+
+abbrev place_in : Form → Option Card → Option Card
+place_in form None = None
+place_in form (Some card) = Some (in_its_form form card)
+
+abbrev cards_from : (form : ℕ → Form) → (place : ℕ) → List (Option Card) → List (Option Card)
+cards_from form place [] = []
+cards_from form place (card ∷ cards) = place_in (form place) card ∷ cards_from form (suc place) cards
+
+length_from : (form : ℕ → Form) (place : ℕ) (cards : List (Option Card)) → length (cards_from form place cards) ≡ length cards
+length_from form place [] = refl
+length_from form place (card ∷ cards) = ap suc (length_from form (suc place) cards)
+
+from_at : (form : ℕ → Form) (place : ℕ) (cards : List (Option Card)) (i : ℕ) → get_or (cards_from form place cards) i None ≡ place_in (form (place + i)) (get_or cards i None)
+from_at form place [] i = refl
+from_at form place (card ∷ cards) zero = ap (λ (n : ℕ). place_in (form n) card) (omega arith)
+from_at form place (card ∷ cards) (suc i) = from_at form (suc place) cards i ∙ ap (λ (n : ℕ). place_in (form n) (get_or cards i None)) (omega arith)
+
+all_at : (form : ℕ → Form) (cards : List (Option Card)) (i : ℕ) → get_or (cards_from form 0 cards) i None ≡ place_in (form i) (get_or cards i None)
+all_at form cards i = from_at form 0 cards i ∙ ap (λ (n : ℕ). place_in (form n) (get_or cards i None)) (omega arith)
+
+named_place : (n : ℕ) (form : Form) (card : Option Card) → named_by n (place_in form card) ≡ named_by n card
+unfolding named_by
+named_place n form None = refl
+named_place n form (Some card) = refl
+
+named_from : (n : ℕ) (form : ℕ → Form) (place : ℕ) (cards : List (Option Card)) → named n (cards_from form place cards) ≡ named n cards
+named_from n form place [] = refl
+named_from n form place (card ∷ cards) = ap₂ (λ (a b : ℕ). a + b) (named_place n (form place) card) (named_from n form (suc place) cards)
+
+same_content : (image : Image) (of : NodeKind) (form : Form) (card : Card) → content_of image of (in_its_form form card) ≡ content_of image of card
+same_content image kind.File form card = refl
+same_content image kind.Directory form card = refl
+
+same_node : (image : Image) (form : Form) (card : Card) → node_of image (in_its_form form card) ≡ node_of image card
+unfolding node_of
+same_node image form card = ap (node_with card.fields) (same_content image card.fields.kind form card)
+
+tree_from : (image : Image) (form : ℕ → Form) (place : ℕ) (cards : List (Option Card)) → tree_of image (cards_from form place cards) ≡ tree_of image cards
+tree_from image form place [] = refl
+tree_from image form place (None ∷ cards) = tree_from image form (suc place) cards
+tree_from image form place (Some card ∷ cards) =
+    ap₂ (λ (tree : Tree) (node : Node). with tree card.fields.number node) (tree_from image form (suc place) cards) (same_node image (form place) card)
+
+held_in_form : (image : Image) (of : NodeKind) (form : Form) (card : Card) → HoldsContent image of card → HoldsContent image of (in_its_form form card)
+held_in_form image kind.File form card holds = record { unnamed = holds.unnamed; tail = holds.tail }
+held_in_form image kind.Directory form card holds = record { count = holds.count; names = holds.names; stamped = holds.stamped; spelled = holds.spelled }
+
+-- Room for the entries
+
+more_room : (was is : Form) → (was ≡ One) ⊎ (is ≡ Two) → most_entries was ≤ most_entries is
+more_room One One roomy = omega arith
+more_room One Two roomy = omega arith
+more_room Two Two roomy = omega arith
+more_room Two One roomy = absurd (⊎_elim (λ (e : Two ≡ One). cc) (λ (e : One ≡ Two). cc) roomy)
+
+fits_in_form : (was is : Form) (fields : Fields) → (was ≡ One) ⊎ (is ≡ Two) → IsInode was fields → IsInode is fields
+fits_in_form was is fields roomy fits = record {
+  number = fits.number;
+  owner = fits.owner;
+  group = fits.group;
+  change = fits.change;
+  time_modify = fits.time_modify;
+  size = fits.size;
+  runs = fits.runs;
+  run_sectors = fits.run_sectors;
+  each_run_sector = fits.each_run_sector;
+  acl = (let more = more_room was is roomy in omega (arith, more, fits.acl));
+  each_ace = fits.each_ace;
+}
+
+module _ (was is : Version) (size nodes run : ℕ) (old new : Image) (cards : List (Option Card)) (laid : IsLaid was size nodes old cards)
+    (below : 148 + nodes ≤ size) (rewritten : IsRewritten was is size nodes run old new) where
+  abbrev now : List (Option Card)
+  now = cards_from is.form 0 cards
+
+  marks : (n : ℕ) → mark_in nodes new n ≡ mark_in nodes old n
+  marks n = mark_in-same nodes old new (rewritten.bitmap 98 (omega arith) (omega arith)) (rewritten.bitmap 99 (omega arith) (omega arith)) n
+
+  kept : (place n : ℕ) → 0 < named_by n (get_or cards place None) → new n ≡ old n
+  kept place n some =
+      let marked : 0 < mark_in nodes old n = omega (arith, some, named-at n cards place, laid.laid.marks n) in
+      rewritten.region n (laid.laid.behind n marked) (below_size was size nodes old cards laid n marked)
+
+  held_at : (place : ℕ) (card : Option Card) → place < nodes → get_or cards place None ≡ card → HoldsPlace old place card → HoldsPlace new place (place_in (is.form place) card)
+  held_at place None within there holds =
+      rewritten.nodes_are place within ∙ (ap (in_form (is.form place)) holds ∙ free_in_form (is.form place))
+  held_at place (Some card) within there holds =
+      let same : (n : ℕ) → 0 < named_by n (Some card) → new n ≡ old n = λ n some. kept place n (rw there some) in
+      let roomy : (card.form ≡ One) ⊎ (is.form place ≡ Two) = rw (laid.forms place card there) (rewritten.roomy place within) in
+      record {
+        node = record {
+          fits = fits_in_form card.form (is.form place) card.fields roomy holds.node.fits;
+          number = holds.node.number;
+          sector = rewritten.nodes_are place within
+              ∙ (ap (in_form (is.form place)) holds.node.sector ∙ node_in_form (is.form place) card.form card.fields holds.node.fits);
+          each_run = holds.node.each_run;
+          run_count = holds.node.run_count;
+          run_sectors = run_sectors-kept old new card.fields.run_sectors card.runs (of_runs old new card same) holds.node.run_sectors;
+          runs = holds.node.runs;
+          blocks = holds.node.blocks;
+        };
+        content = held_in_form new card.fields.kind (is.form place) card (content-held old new card same card.fields.kind holds.content);
+      }
+
+  held_now : (place : ℕ) → place < nodes → HoldsPlace new place (get_or now place None)
+  held_now place within = subst (HoldsPlace new place) (sym (all_at is.form cards place))
+      (held_at place (get_or cards place None) within refl (laid.laid.held place within))
+
+  some_is : (form : Form) (card : Option Card) (one : Card) → place_in form card ≡ Some one → (it : Card) × (card ≡ Some it) × (one ≡ in_its_form form it)
+  some_is form None one e = absurd (cc)
+  some_is form (Some it) one e = (it, refl, cc)
+
+  apart_now : AreNumbered now
+  apart_now i j a b off at_i at_j =
+      let one = some_is (is.form i) (get_or cards i None) a (sym (all_at is.form cards i) ∙ at_i) in
+      let two = some_is (is.form j) (get_or cards j None) b (sym (all_at is.form cards j) ∙ at_j) in
+      λ same. laid.laid.apart i j one.0 two.0 off one.1 two.1
+      (sym (ap (λ (c : Card). c.fields.number) one.2) ∙ (same ∙ ap (λ (c : Card). c.fields.number) two.2))
+
+  laid_now : IsLaid is size nodes new now
+  laid_now = record {
+    laid = record {
+      count = length_from is.form 0 cards ∙ laid.laid.count;
+      held = held_now;
+      apart = apart_now;
+      marks = λ n. named_from n is.form 0 cards ∙ (laid.laid.marks n ∙ sym (marks n));
+      behind = λ n some. laid.laid.behind n (omega (arith, some, marks n));
+      once = λ n. omega (arith, marks n, laid.laid.once n);
+    };
+    forms = λ place card there.
+        let one = some_is (is.form place) (get_or cards place None) card (sym (all_at is.form cards place) ∙ there) in
+        ap (λ (c : Card). c.form) one.2;
+    within = λ n past. marks n ∙ laid.within n past;
+    spare = rewritten.spare;
+  }
+
+  tree_now : tree_of new now ≡ tree_of old cards
+  tree_now = tree_from new is.form 0 cards
+      ∙ tree-kept old new cards (λ i card there. node-kept old new card (λ n some. kept i n (rw there some)))
+
+before_later : (a b : ℕ) (tree : Tree) → a ≤ b → IsBefore a tree → IsBefore b tree
+before_later a b tree later before = record {
+  number = λ number node is. let low = before.number number node is in omega (arith, later, low);
+  change = λ number node is. let low = before.change number node is in omega (arith, later, low);
+  entry = λ number node of entry is named. let low = before.entry number node of entry is named in omega (arith, later, low);
+}
+
+pub rewritten_stands : RewrittenStands
+rewritten_stands was is size nodes run later old new tree stands no_less counted rewritten =
+    let cards = cards_in nodes old in
+    let below = room size nodes stands.sized in
+    let laid = laid_now was is size nodes later old new cards stands.laid below rewritten in
+    let back : cards_in nodes new ≡ cards_from is.form 0 cards = cards-back new nodes (cards_from is.form 0 cards) laid.laid.count laid.laid.held in
+    record {
+      sized = stands.sized;
+      counted = counted;
+      first = rewritten.first;
+      laid = subst (IsLaid is size nodes new) (sym back) laid;
+      tree_is = stands.tree_is
+          ∙ (sym (tree_now was is size nodes later old new cards stands.laid below rewritten) ∙ ap (tree_of new) (sym back));
+      well_formed = stands.well_formed;
+      before = before_later (stamp (run + 1) 0) (stamp (later + 1) 0) tree (omega (arith, no_less)) stands.before;
+    }
+
+stays_at : (version : Version) (image : Image) (place : ℕ) (card : Option Card) → ((one : Card) → card ≡ Some one → one.form ≡ version.form place) → HoldsPlace image place card
+    → in_form (version.form place) (image (node_sector place)) ≡ image (node_sector place)
+stays_at version image place None forms holds = ap (in_form (version.form place)) holds ∙ (free_in_form (version.form place) ∙ sym holds)
+stays_at version image place (Some card) forms holds =
+    ap (in_form (version.form place)) holds.node.sector
+    ∙ (node_in_form (version.form place) card.form card.fields holds.node.fits
+    ∙ (ap (λ (form : Form). inode_sector form card.fields) (sym (forms card refl)) ∙ sym holds.node.sector))
+
+pub form_stays : FormStays
+form_stays version size nodes run image tree place stands within =
+    stays_at version image place (get_or (cards_in nodes image) place None) (λ one there. stands.laid.forms place one there) (stands.laid.laid.held place within)

@@ -1,0 +1,8 @@
+use Rattle.layout.proofs.Rewriting.{rewritten_stands, form_stays}
+use Rattle.layout.proofs.volumes.rewritten.Goals as goal
+
+pub returns-clause-stands : goal.returns-clause-stands
+returns-clause-stands c = rewritten_stands
+
+pub returns-clause-stays : goal.returns-clause-stays
+returns-clause-stays c = form_stays
