@@ -23,9 +23,6 @@ use Rattle.scan.specs.Names.{FindsContent}
 
 -- What is found is held where the device keeps its word, and what is held is found
 
-pub form_is : (form : Form) → form ≡ One
-form_is One = refl
-
 content_held : (word : Type 0) (image : Image) (kind : NodeKind) (card : Card) → word → FindsContent word image kind card.fields.size card.blocks card.names → HoldsContent image kind card
 content_held word image kind.File card w found = record { unnamed = found.unnamed; tail = found.tail w }
 content_held word image kind.Directory card w found = record { count = found.count; names = found.directory; stamped = found.stamped; spelled = found.spelled w }
@@ -37,9 +34,9 @@ place_held word image place (Some card) w found =
     let blocks = rest.in_blocks in
     record {
       node = record {
-        fits = subst (λ (form : Form). IsInode form card.fields) (sym (form_is card.form)) found.node.fits;
+        fits = subst (λ (form : Form). IsInode form card.fields) (sym found.form) found.node.fits;
         number = found.node.number;
-        sector = found.node.spelled w ∙ ap (λ (form : Form). inode_sector form card.fields) (sym (form_is card.form));
+        sector = found.node.spelled w ∙ ap (λ (form : Form). inode_sector form card.fields) (sym found.form);
         each_run = blocks.in_sectors.each;
         run_count = blocks.in_sectors.count_is;
         run_sectors = blocks.in_sectors.spelled w;
@@ -59,7 +56,7 @@ place_known word image place (Some card) found =
     let rest = found.rest in
     let blocks = rest.in_blocks in
     record {
-      fits = subst (λ (form : Form). IsInode form card.fields) (sym (form_is card.form)) found.node.fits;
+      fits = subst (λ (form : Form). IsInode form card.fields) (sym found.form) found.node.fits;
       number = found.node.number;
       each_run = blocks.in_sectors.each;
       run_count = blocks.in_sectors.count_is;
@@ -72,13 +69,14 @@ content_found : (word : Type 0) (image : Image) (kind : NodeKind) (card : Card) 
 content_found word image kind.File card holds = record { unnamed = holds.unnamed; tail = λ w. holds.tail }
 content_found word image kind.Directory card holds = record { count = holds.count; directory = holds.names; stamped = holds.stamped; spelled = λ w. holds.spelled }
 
-pub place_found : (word : Type 0) (image : Image) (place : ℕ) (card : Option Card) → ((one : Card) → card ≡ Some one → length one.blocks ≤ 4096) → HoldsPlace image place card → FindsPlace word image place card
-place_found word image place None few holds = λ w. holds
-place_found word image place (Some card) few holds = record {
+pub place_found : (word : Type 0) (image : Image) (place : ℕ) (card : Option Card) → ((one : Card) → card ≡ Some one → one.form ≡ One) → ((one : Card) → card ≡ Some one → length one.blocks ≤ 4096) → HoldsPlace image place card → FindsPlace word image place card
+place_found word image place None forms few holds = λ w. holds
+place_found word image place (Some card) forms few holds = record {
+  form = forms card refl;
   node = record {
-    fits = subst (λ (form : Form). IsInode form card.fields) (form_is card.form) holds.node.fits;
+    fits = subst (λ (form : Form). IsInode form card.fields) (forms card refl) holds.node.fits;
     number = holds.node.number;
-    spelled = λ w. holds.node.sector ∙ ap (λ (form : Form). inode_sector form card.fields) (form_is card.form);
+    spelled = λ w. holds.node.sector ∙ ap (λ (form : Form). inode_sector form card.fields) (forms card refl);
   };
   rest = record {
     in_blocks = record {

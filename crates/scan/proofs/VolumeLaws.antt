@@ -8,21 +8,21 @@ use Rattle.layout.specs.Cards.{Card}
 use Rattle.layout.specs.Known.{AreCards}
 use Rattle.layout.specs.Laid.{AreLaid, AreNumbered}
 use Rattle.layout.specs.Marks.{named, mark_in, mark_by}
-use Rattle.layout.specs.Stands.{current, IsLaid}
+use Rattle.layout.specs.Stands.{current, HaveForms, IsLaid}
 use Rattle.layout.proofs.CardLaws.{cards-back}
 use Rattle.layout.proofs.MarkProofs.{mark-back, each_mark, marks_laid}
 use Rattle.scan.specs.Cards.{FindsPlace, IsFound, CanHold}
 use Rattle.scan.specs.Sectors.{AreBits, AreSpare}
 use Rattle.scan.specs.Volumes.{AreFew, IsRead}
 use Rattle.scan.proofs.MarkingLaws.{most-in}
-use Rattle.scan.proofs.TableLaws.{form_is, place_held, place_known, place_found, one_place}
+use Rattle.scan.proofs.TableLaws.{place_held, place_known, place_found, one_place}
 
 -- Cards that are laid can be held
 
 pub laid_can : (word : Type 0) (image : Image) (size nodes count : ℕ) (cards : List (Option Card)) → size ≡ 148 + nodes + count → IsLaid current size nodes image cards → AreFew cards → CanHold word image nodes count cards
 laid_can word image size nodes count cards sized laid few = record {
   many = laid.laid.count;
-  each = λ place h. place_found word image place (get_or cards place None) (λ card is. few place card is) (laid.laid.held place h);
+  each = λ place h. place_found word image place (get_or cards place None) (λ card is. laid.forms place card is) (λ card is. few place card is) (laid.laid.held place h);
   once = λ n. elim (cases_lt 0 (mark_in nodes image n)) [
     | inl some ↦
         let low = laid.laid.behind n some in
@@ -102,27 +102,30 @@ module _ (word : Type 0) (image : Image) (size nodes count : ℕ) (cards : List 
         once = λ n. omega (arith, same w n, each.once n);
       }
 
-  few : AreFew cards
-  few place card is = elim (cases_lt place nodes) [
-    | inl h ↦ few_at place card (subst (FindsPlace word image place) is (found.each place h))
+  found_at : (place : ℕ) (card : Card) → get_or cards place None ≡ Some card → FindsPlace word image place (Some card)
+  found_at place card is = elim (cases_lt place nodes) [
+    | inl h ↦ subst (FindsPlace word image place) is (found.each place h)
     | inr past ↦ absurd (none_some card (sym (get_or_past cards place None (omega (arith, found.many))) ∙ is))
   ]
     where
       none_some : (card : Card) → (let none : Option Card = None in none ≡ Some card) → ⊥
       none_some card e = cc
 
-      few_at : (place : ℕ) (card : Card) → FindsPlace word image place (Some card) → length card.blocks ≤ 4096
-      few_at place card at = let rest = at.rest in let blocks = rest.in_blocks in blocks.few
+  few : AreFew cards
+  few place card is = let at = found_at place card is in let rest = at.rest in let blocks = rest.in_blocks in blocks.few
+
+  forms : HaveForms current cards
+  forms place card is = let at = found_at place card is in at.form
 
   pub is_read : IsRead word size nodes image cards places
   is_read = record {
     known = known;
-    forms = λ place card is. form_is card.form;
+    forms = forms;
     few = few;
     size_is = sized ∙ ap (λ (n : ℕ). 148 + nodes + n) (sym found.len);
     laid = λ w. record {
       laid = laid w;
-      forms = λ place card is. form_is card.form;
+      forms = forms;
       within = λ n h. same w n ∙ (let each = each_mark (148 + nodes) places 0 in each.within n (omega (arith, found.len)));
       spare = spare w;
     };

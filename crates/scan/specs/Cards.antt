@@ -5,6 +5,7 @@ use Rattle.disk.specs.Moments.{Image}
 use Rattle.disk.specs.Calls.{zero_sector}
 use Rattle.extents.specs.declared.run.Run.{Run}
 use Rattle.extents.specs.Runs.{AreRunsOf}
+use Rattle.inode.specs.declared.node.Form.TheVariants.{One}
 use Rattle.inode.specs.Fields.{Fields}
 use Rattle.layout.specs.Cards.{Card, node_sector, block_count}
 use Rattle.layout.specs.Marks.{times, times_set, named, mark_by}
@@ -32,6 +33,7 @@ pub record FindsRest (word : Type 0) (image : Image) (card : Card) : Type 0 wher
 
 -- a place
 pub record FindsCard (word : Type 0) (image : Image) (place : ℕ) (card : Card) : Type 0 where
+  pub form : card.form ≡ One
   pub node : FindsNode word (image (node_sector place)) card.fields
   pub rest : FindsRest word image card
 

@@ -83,6 +83,7 @@ fn read_card<S: Sectors>(
     requires fits { IsInode One (fields_of inode) }
     requires size { first + length places.old ≡ S.size (S.kept sectors.old) }
     ensures fields { IfOk result (λ card. card.fields ≡ fields_of inode) }
+    ensures form { IfOk result (λ card. card.form ≡ One) }
     ensures found { IfOk result (FindsRest S.keeps_word (S.image (S.kept sectors.old))) }
     ensures marked { IfOk result (λ card. AreMarked first places.old places.new
         (uses card.fields card.blocks)) }
