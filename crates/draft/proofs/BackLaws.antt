@@ -1,39 +1,90 @@
--- A card whose blocks have changed is laid anew and put back: what is known then, and the step on it.
-use Rattle.std.proofs.Common.{◌≡◌, ◌≤◌, ◌<◌, ◌+◌, ◌⊎◌, ℕ, Bool, List, [], Option, Some, None, length, get_or, set, refl, sym, ap, ◌∙◌, arith, subst, inl, inr}
+-- A card whose blocks have changed is put back: what is known then, and the step on it.
+use Rattle.std.proofs.Common.{◌≡◌, ◌≢◌, ◌≤◌, ◌<◌, ◌+◌, ◌⊎◌, ℕ, Bool, List, [], Option, Some, None, length, get_or, set, refl, sym, ap, ◌∙◌, arith, subst, inl, inr}
 use Rattle.disk.specs.Moments.{Image, applied}
 use Rattle.disk.specs.declared.update.Update.{Update}
 use Rattle.freemap.specs.Kept.{free_places}
 use Rattle.inode.specs.Fields.{Fields}
+use Rattle.inode.specs.Spelling.{inode_sector}
 use Rattle.model.specs.declared.node.NodeKind.TheVariants as kind
 use Rattle.model.specs.Edit.{Edit, done}
 use Rattle.layout.specs.Cards.{Card, block_count}
 use Rattle.layout.specs.ChangeLaws.{ChangesOwn}
 use Rattle.layout.specs.Known.{IsCard, HasContent, AreCards}
-use Rattle.layout.specs.Laid.{AreLaid, HoldsNode}
+use Rattle.layout.specs.Laid.{AreLaid, HoldsNode, AreRunSectors}
 use Rattle.layout.specs.Marks.{times, times_set, named, named_by, mark_by}
 use Rattle.layout.specs.NodeEdits.{AreFiles}
 use Rattle.layout.specs.Steps.{Steps, Gives, ShowsSame}
 use Rattle.layout.proofs.Changing.{named-set}
+use Rattle.layout.proofs.Frame.{run_sectors-kept}
 use Rattle.layout.proofs.MarkProofs.{each_mark}
 use Rattle.layout.proofs.NodeEditLaws.{named_by-parts}
 use Rattle.cards.specs.Tables.{charge_of, charge_of_all}
-use Rattle.draft.specs.Blocks.{set_blocks}
+use Rattle.draft.specs.Blocks.{IsPut, set_blocks}
 use Rattle.draft.specs.declared.draft.Draft.{Draft}
 use Rattle.draft.specs.Drafts.{cards_of, end_of, image_of, tree_of, IsKnown, StaysKnown, IsDraft, HasNow, IsBack}
-use Rattle.draft.specs.Laying.{fields_with, IsRerun}
+use Rattle.draft.specs.Laying.{fields_with, IsRerun, Follow}
 use Rattle.draft.specs.Updates.{AreBetween}
+use Rattle.draft.proofs.BlockLaws.{here, elsewhere}
 use Rattle.draft.proofs.CountLaws.{region_named, sum_over-set, less_others, named_count, named_charged}
-use Rattle.draft.proofs.KnownLaws.{put-back, mark-outside, in_table, card_at, named_once, changed_known, content_of_file, made}
+use Rattle.draft.proofs.KnownLaws.{put-back, mark-outside, in_table, card_at, named_once, held_at, changed_known, content_of_file, made}
 use Rattle.draft.proofs.UpdateLaws.{between-still}
 
--- the card `was` got other blocks and fields, which is `mid_card`
+-- the card `was` got other blocks and fields, which is `mid_card`, and has the runs that it had
 pub record IsMoved (old : Draft) (was mid_card : Card) (mid_places : List Bool) (mid_updates : List Update) : Type 0 where
   pub number : mid_card.fields.number ≡ was.fields.number
   pub run_sectors : mid_card.fields.run_sectors ≡ was.fields.run_sectors
+  pub runs : mid_card.runs ≡ was.runs
   pub count : length mid_card.blocks ≡ block_count mid_card.fields
   pub marks : (n : ℕ) → mark_by (148 + old.nodes) mid_places n + times_set n was.blocks ≡ mark_by (148 + old.nodes) old.places n + times_set n mid_card.blocks
   pub len : length mid_places ≡ length old.places
   pub others : (image : Image) (n : ℕ) → times_set n was.blocks ≡ 0 → times_set n mid_card.blocks ≡ 0 → applied mid_updates image n ≡ applied old.updates image n
+
+-- A card that was taken out stands at its place again, with runs of its blocks. Its run sectors hold
+-- them where those of the card that was put back held its own
+pub record StandsAgain (old new : Draft) (place : ℕ) (card : Card) (places : List Bool) (updates : List Update) : Type 0 where
+  pub is : Card
+  pub put : cards_of new ≡ set (cards_of old) place (Some is)
+  pub same : new.nodes ≡ old.nodes
+  pub rerun : IsRerun card is
+  pub follow : Follow (148 + old.nodes) places new.places card.fields.run_sectors is.fields.run_sectors
+  pub len : length new.places ≡ length places
+  pub node : (image : Image) → applied new.updates image (148 + place) ≡ inode_sector is.form is.fields
+  pub run_sectors : (image : Image) → AreRunSectors (applied updates image) card.fields.run_sectors card.runs → AreRunSectors (applied new.updates image) is.fields.run_sectors is.runs
+  pub others : (image : Image) (n : ℕ) → n ≢ 148 + place → times n is.fields.run_sectors ≡ 0 → applied new.updates image n ≡ applied updates image n
+
+-- it is laid anew
+pub laid_again : (old new : Draft) (place : ℕ) (card : Card) (places : List Bool) (updates : List Update) → IsBack old.nodes place places updates (set (cards_of old) place None) new card → StandsAgain old new place card places updates
+laid_again old new place card places updates back =
+    let laid = back.laid in
+    record {
+      is = back.is;
+      put = back.put ∙ put-back (cards_of old) place back.is;
+      same = back.same;
+      rerun = laid.rerun;
+      follow = laid.follow;
+      len = laid.len;
+      node = λ image. let lays = laid.lays image in lays.node;
+      run_sectors = λ image held. let lays = laid.lays image in lays.run_sectors;
+      others = λ image. let lays = laid.lays image in lays.others;
+    }
+
+-- or its runs stay, and its node alone is written
+pub put_again : (old new : Draft) (place : ℕ) (card : Card) (places : List Bool) (updates : List Update) → IsCard card → times (148 + place) card.fields.run_sectors ≡ 0 → cards_of new ≡ set (set (cards_of old) place None) place (Some card)
+    → new.nodes ≡ old.nodes → new.places ≡ places → ((image : Image) → IsPut (applied updates image) (applied new.updates image) (148 + place) (inode_sector card.form card.fields)) → StandsAgain old new place card places updates
+put_again old new place card places updates is_card apart cards nodes same put =
+    let away : (image : Image) (n : ℕ) → n ≢ 148 + place → applied new.updates image n ≡ applied updates image n = λ image. elsewhere (applied updates image) (applied new.updates image) (148 + place) (inode_sector card.form card.fields) (put image) in
+    record {
+      is = card;
+      put = cards ∙ put-back (cards_of old) place card;
+      same = nodes;
+      rerun = record { form = refl; blocks = refl; names = refl; fields = refl; runs = is_card.runs; each_run = is_card.each_run; run_count = is_card.run_count; fits = is_card.fits };
+      follow = λ n. ap (λ (p : List Bool). mark_by (148 + old.nodes) p n + times n card.fields.run_sectors) same;
+      len = ap length same;
+      node = λ image. here (applied updates image) (applied new.updates image) (148 + place) (inode_sector card.form card.fields) (put image);
+      run_sectors = λ image. run_sectors-kept (applied updates image) (applied new.updates image) card.fields.run_sectors card.runs
+          (λ n some. away image n (λ e. absurd (let named = ap (λ (k : ℕ). times k card.fields.run_sectors) e in omega arith)));
+      others = λ image n off none. away image n off;
+    }
 
 -- what all are charged, where the card had those blocks
 module _ (old : Draft) (place : ℕ) (was : Card) (known : IsKnown old) (there : get_or (cards_of old) place None ≡ Some was) where
@@ -55,7 +106,7 @@ module _ (old : Draft) (place : ℕ) (was : Card) (known : IsKnown old) (there :
       omega (arith, all, moved, less)
 
 module _ (old new : Draft) (place : ℕ) (was mid_card : Card) (mid_places : List Bool) (mid_updates : List Update) (known : IsKnown old) (there : get_or (cards_of old) place None ≡ Some was) (moved : IsMoved old was mid_card mid_places mid_updates)
-    (back : IsBack old.nodes place mid_places mid_updates (set (cards_of old) place None) new mid_card) where
+    (back : StandsAgain old new place mid_card mid_places mid_updates) where
   abbrev first : ℕ
   first = 148 + old.nodes
 
@@ -63,7 +114,7 @@ module _ (old new : Draft) (place : ℕ) (was mid_card : Card) (mid_places : Lis
   is = back.is
 
   rerun : IsRerun mid_card is
-  rerun = let laid = back.laid in laid.rerun
+  rerun = back.rerun
 
   within : place < old.nodes
   within = in_table old.nodes (mark_by first old.places) (cards_of old) place was known.cards there
@@ -72,10 +123,10 @@ module _ (old new : Draft) (place : ℕ) (was mid_card : Card) (mid_places : Lis
   card_was = card_at old.nodes (mark_by first old.places) (cards_of old) place was known.cards there
 
   pub cards_are : cards_of new ≡ set (cards_of old) place (Some is)
-  cards_are = back.put ∙ put-back (cards_of old) place is
+  cards_are = back.put
 
   pub len : length new.places ≡ length old.places
-  len = let laid = back.laid in laid.len ∙ moved.len
+  len = back.len ∙ moved.len
 
   record Counts (n : ℕ) : Type 0 where
     pub is_parts : times n is.fields.run_sectors + times_set n is.blocks ≡ times n is.fields.run_sectors + times_set n mid_card.blocks
@@ -88,13 +139,12 @@ module _ (old new : Draft) (place : ℕ) (was mid_card : Card) (mid_places : Lis
   counts : (n : ℕ) → Counts n
   counts n =
       let each = each_mark first new.places 0 in
-      let laid = back.laid in
       let blocks : times_set n is.blocks ≡ times_set n mid_card.blocks = ap (times_set n) rerun.blocks in
       let runs : times n mid_card.fields.run_sectors ≡ times n was.fields.run_sectors = ap (times n) moved.run_sectors in
       record {
         is_parts = omega arith;
         marks = moved.marks n;
-        follow = omega (arith, laid.follow n);
+        follow = omega (arith, back.follow n);
         some = named_once old.nodes (mark_by first old.places) (cards_of old) place was known.cards there n;
         once = each.once n;
         behind = each.behind n;
@@ -131,10 +181,8 @@ module _ (old new : Draft) (place : ℕ) (was mid_card : Card) (mid_places : Lis
 
   targets : AreBetween 148 (end_of old) new.updates
   targets = between-still 148 (end_of old) old.updates new.updates known.targets (λ image n out.
-      let laid = back.laid in
-      let lays = laid.lays image in
       let none = outside n out in
-      lays.others n (λ e. elim out [ inl low ↦ omega arith | inr high ↦ omega (arith, within) ]) none.2 ∙ moved.others image n none.0 none.1)
+      back.others image n (λ e. elim out [ inl low ↦ omega arith | inr high ↦ omega (arith, within) ]) none.2 ∙ moved.others image n none.0 none.1)
 
   pub stays : HasContent is.fields.kind is → StaysKnown old new
   stays content =
@@ -167,41 +215,44 @@ module _ (old new : Draft) (place : ℕ) (was mid_card : Card) (mid_places : Lis
   own base = record {
     others = λ n low off none again.
         let c = counts n in
-        let laid = back.laid in
-        let lays = laid.lays base in
-        lays.others n off (omega (arith, named_by-parts n is, c.is_parts)) ∙ moved.others base n (omega (arith, named_by-parts n was)) (omega (arith, named_by-parts n is, c.is_parts));
+        back.others base n off (omega (arith, named_by-parts n is, c.is_parts)) ∙ moved.others base n (omega (arith, named_by-parts n was)) (omega (arith, named_by-parts n is, c.is_parts));
     marks = λ n. let c = counts n in omega (arith, named_by-parts n was, named_by-parts n is, c.is_parts, c.marks, c.follow);
     once = λ n. let c = counts n in c.once;
     behind = λ n. let c = counts n in c.behind;
   }
 
-  node : (base : Image) → HoldsNode (image_of base new) place is
-  node base =
-      let laid = back.laid in
-      let lays = laid.lays base in
+  -- its run sectors are none of its blocks
+  held : (base : Image) → AreLaid old.nodes (image_of base old) (mark_by first old.places) (cards_of old) → AreRunSectors (applied mid_updates base) mid_card.fields.run_sectors mid_card.runs
+  held base laid =
+      let card = held_at old.nodes (image_of base old) (mark_by first old.places) (cards_of old) place was laid there in
+      let each = each_mark first old.places 0 in
+      let each_mid = each_mark first mid_places 0 in
+      rw (moved.run_sectors, moved.runs) (run_sectors-kept (image_of base old) (applied mid_updates base) was.fields.run_sectors was.runs
+      (λ n some. let c = counts n in moved.others base n (omega (arith, c.some, each.once n)) (omega (arith, c.some, c.marks, each.once n, each_mid.once n))) card.node.run_sectors)
+
+  node : (base : Image) → AreLaid old.nodes (image_of base old) (mark_by first old.places) (cards_of old) → HoldsNode (image_of base new) place is
+  node base laid =
       record {
         fits = rerun.fits;
         number = subst (λ (n : ℕ). 0 < n) (sym number) card_was.number;
-        sector = lays.node;
+        sector = back.node base;
         each_run = rerun.each_run;
         run_count = rerun.run_count;
-        run_sectors = lays.run_sectors;
+        run_sectors = back.run_sectors base (held base laid);
         runs = rerun.runs;
         blocks = ap length rerun.blocks ∙ moved.count ∙ sym (ap block_count rerun.fields);
       }
 
   pub steps : (base : Image) → AreLaid old.nodes (image_of base old) (mark_by first old.places) (cards_of old)
       → Steps old.nodes (image_of base old) (image_of base new) (mark_by first old.places) (mark_by first new.places) (cards_of old) place was is
-  steps base laid = record { within = within; there = there; number = number; laid = laid; node = node base; own = own base }
+  steps base laid = record { within = within; there = there; number = number; laid = laid; node = node base laid; own = own base }
 
   -- what the blocks hold the laying keeps
   pub kept : (base : Image) (n : ℕ) → 0 < times_set n is.blocks → image_of base new n ≡ applied mid_updates base n
   kept base n some =
       let c = counts n in
-      let laid = back.laid in
-      let lays = laid.lays base in
       let blocks : times_set n is.blocks ≡ times_set n mid_card.blocks = ap (times_set n) rerun.blocks in
-      lays.others n (λ e. omega (arith, within, c.marks, c.follow, c.some, c.behind)) (omega (arith, c.marks, c.follow, c.some, c.once))
+      back.others base n (λ e. omega (arith, within, c.marks, c.follow, c.some, c.behind)) (omega (arith, c.marks, c.follow, c.some, c.once))
 
   pub shows_same : ShowsSame was.fields mid_card.fields → ShowsSame was.fields is.fields
   shows_same shows = record {

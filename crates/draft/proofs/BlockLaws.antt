@@ -1,5 +1,5 @@
 -- Bytes that are written within one block, and part by part.
-use Rattle.std.proofs.Common.{◌≡◌, ◌≢◌, ◌≤◌, ◌<◌, ◌+◌, ◌-◌, ◌*◌, ◌++◌, ℕ, Bool, true, List, [], Option, Some, None, length, get_or, set, max, min, replicate, ◌/◌, ◌%◌, ◌⊎◌, refl, sym, ap, ◌∙◌, arith, inl, inr, eqb}
+use Rattle.std.proofs.Common.{◌≡◌, ◌≢◌, ◌≤◌, ◌<◌, ◌+◌, ◌-◌, ◌*◌, ◌++◌, ℕ, Bool, true, false, List, [], Option, Some, None, length, get_or, set, max, min, replicate, ◌/◌, ◌%◌, ◌⊎◌, ◌||◌, refl, sym, ap, ◌∙◌, arith, subst, inl, inr, eqb}
 use Rattle.std.specs.Prelude.{Result, Ok, Err, IfOk, OnOk}
 use Rattle.std.proofs.lemmas.Bool.{cases_lt}
 use Rattle.std.proofs.lemmas.List.{length-append, length-set, length-replicate, get_or-set_same, get_or-set_other}
@@ -17,7 +17,7 @@ use Rattle.layout.proofs.Frame.{times_set-at, content-kept}
 use Rattle.layout.proofs.MarkProofs.{each_mark}
 use Rattle.layout.proofs.StepLaws.{each_own, others_hold, each_change}
 use Rattle.layout.proofs.NumberLaws.{once-here}
-use Rattle.draft.specs.Blocks.{IsPut, Takes, HaveMarks, HaveRegion, FollowBlocks, GetSectors, GetsSector, WritesOne, WritesBytes, ChangeBlocks}
+use Rattle.draft.specs.Blocks.{IsPut, Takes, HaveMarks, HaveRegion, FollowBlocks, GetSectors, GetsSector, WritesOne, WritesBytes, ChangeBlocks, FillHoles, set_blocks}
 use Rattle.draft.specs.Updates.{ChangeOne}
 use Rattle.draft.proofs.CountLaws.{takes_free, set_more, set_holes}
 use Rattle.draft.proofs.UpdateLaws.{put-here, put-elsewhere}
@@ -51,6 +51,16 @@ gets_on first a b c x y z one other = record {
   free = omega (arith, one.free, other.free);
   more = λ n. omega (arith, one.more n, other.more n);
 }
+
+pub fills_on : (one other : Bool) (x y z : List (Option ℕ)) → FillHoles one x y → FillHoles other y z → FillHoles (one || other) x z
+fills_on false false x y z was is = is ∙ was
+fills_on false true x y z was is = subst (λ (b : List (Option ℕ)). set_blocks b < set_blocks z) was is
+fills_on true false x y z was is = subst (λ (b : List (Option ℕ)). set_blocks x < set_blocks b) (sym is) was
+fills_on true true x y z was is = omega (arith, was, is)
+
+pub none_filled : (filled : Bool) (was is : List (Option ℕ)) → filled ≡ false → FillHoles filled was is → is ≡ was
+none_filled false was is none fills = fills
+none_filled true was is none fills = absurd cc
 
 pub changes_on : (old mid new : List Update) (between is : List (Option ℕ)) → ((n : ℕ) → times_set n between ≤ times_set n is) → ChangeBlocks old mid between → ChangeBlocks mid new is → ChangeBlocks old new is
 changes_on old mid new between is more one other image n none = other image n none ∙ one image n (omega (arith, more n))

@@ -1,5 +1,5 @@
 -- A file that is cut, as one edit.
-use Rattle.std.proofs.Common.{◌≡◌, ◌≤◌, ◌<◌, ◌+◌, ◌-◌, ◌*◌, ◌/◌, ◌%◌, ◌^◌, ℕ, Bool, List, [], Option, Some, None, length, get_or, set, take, replicate, inl, inr, refl, sym, ap, ◌∙◌, arith, subst}
+use Rattle.std.proofs.Common.{◌≡◌, ◌≤◌, ◌<◌, ◌+◌, ◌-◌, ◌*◌, ◌/◌, ◌%◌, ◌^◌, ℕ, Bool, List, [], Option, Some, None, length, get_or, take, replicate, inl, inr, refl, sym, ap, ◌∙◌, arith, subst}
 use Rattle.std.proofs.lemmas.Bool.{cases_eq, cases_lt}
 use Rattle.std.proofs.lemmas.List.{length-take, get_or-take, length-replicate}
 use Rattle.disk.specs.Moments.{Image, applied}
@@ -21,10 +21,10 @@ use Rattle.layout.proofs.NodeEditLaws.{cut_file}
 use Rattle.layout.proofs.StepLaws.{each_own, others_hold}
 use Rattle.draft.specs.Blocks.{IsPut, HaveMarks, AreWithin, ClearsTail, ChangeBlocks}
 use Rattle.draft.specs.declared.draft.Draft.{Draft}
-use Rattle.draft.specs.Drafts.{cards_of, end_of, image_of, tree_of, IsKnown, StaysKnown, MakesOver, HasNow, IsBack}
+use Rattle.draft.specs.Drafts.{cards_of, end_of, image_of, tree_of, IsKnown, StaysKnown, MakesOver, HasNow}
 use Rattle.draft.specs.Grown.{sized}
 use Rattle.draft.specs.Laying.{CanBeLaid, HasEnough, IsRerun}
-use Rattle.draft.proofs.BackLaws.{IsMoved, stays, has_now, kept, makes, steps, are_files, file_content, shows_sized}
+use Rattle.draft.proofs.BackLaws.{IsMoved, StandsAgain, stays, has_now, kept, makes, steps, are_files, file_content, shows_sized}
 use Rattle.draft.proofs.BlockLaws.{here, elsewhere, sector-within}
 use Rattle.draft.proofs.KnownLaws.{in_table, card_at, named_once, file_blocks, file_unnamed, fields_fit}
 use Rattle.draft.proofs.RunLaws.{enough}
@@ -104,7 +104,7 @@ module _ (old : Draft) (place size : ℕ) (was : Card) (known : IsKnown old) (th
     cut_enough = enough was (cut_card was size) (blocks_of kind.File size) is_card refl refl
 
     module _ (file : was.fields.kind ≡ kind.File) (shorter : size ≤ was.fields.size) (new : Draft) (mid_updates : List Update) (changes : ChangeBlocks old.updates mid_updates was.blocks)
-        (back : IsBack old.nodes place mid_places mid_updates (set (cards_of old) place None) new (cut_card was size)) where
+        (back : StandsAgain old new place (cut_card was size) mid_places mid_updates) where
       abbrev count : ℕ
       count = blocks_of kind.File size
 
@@ -112,6 +112,7 @@ module _ (old : Draft) (place size : ℕ) (was : Card) (known : IsKnown old) (th
       moved = record {
         number = refl;
         run_sectors = refl;
+        runs = refl;
         count = omega (arith, length-take count was.blocks, file_blocks was is_card file) ∙ sym (ap (λ (k : NodeKind). blocks_of k size) file);
         marks = marks;
         len = len;
@@ -132,7 +133,7 @@ module _ (old : Draft) (place size : ℕ) (was : Card) (known : IsKnown old) (th
         is = back.is
 
         rerun : IsRerun (cut_card was size) is
-        rerun = let laid = back.laid in laid.rerun
+        rerun = back.rerun
 
         keeps : (n : ℕ) → 0 < times_set n is.blocks → image_of base new n ≡ applied mid_updates base n
         keeps = kept old new place was (cut_card was size) mid_places mid_updates known there moved back base

@@ -24,10 +24,10 @@ use Rattle.layout.proofs.NodeEditLaws.{drop_one_name}
 use Rattle.layout.proofs.StepLaws.{each_own, each_change}
 use Rattle.draft.specs.Blocks.{set_blocks}
 use Rattle.draft.specs.declared.draft.Draft.{Draft}
-use Rattle.draft.specs.Drafts.{cards_of, image_of, IsKnown, StaysKnown, MakesOver, Makes, HasNow, IsBack}
+use Rattle.draft.specs.Drafts.{cards_of, image_of, IsKnown, StaysKnown, MakesOver, Makes, HasNow}
 use Rattle.draft.specs.Laying.{CanBeLaid, HasEnough, IsRerun, sectors_for}
 use Rattle.draft.specs.Naming.{HasName, DropsNamed, Rewrites, renamed, without_name}
-use Rattle.draft.proofs.BackLaws.{IsMoved, makes, steps}
+use Rattle.draft.proofs.BackLaws.{IsMoved, StandsAgain, makes, steps}
 use Rattle.draft.proofs.KnownLaws.{same_card, held_at}
 use Rattle.draft.proofs.NameLaws.{named_card, directory_is, names_here, blocks_here, named_here, can_lay_names, few_runs, named_stays, named_now, directories, still}
 use Rattle.draft.proofs.RunLaws.{enough}
@@ -122,7 +122,7 @@ module _ (old : Draft) (place : ℕ) (was : Card) (name : List ℕ) (known : IsK
       module _ (new : Draft) (mid_updates next_updates : List Update) (are_names : IsDirectory names)
           (one : (image : Image) → Rewrites (applied old.updates image) (applied mid_updates image) (get_or blocks (at / 15) None) (directory_sector (names_of_block (at / 15) names)))
           (other : (image : Image) → Rewrites (applied mid_updates image) (applied next_updates image) (get_or blocks (length names / 15) None) (directory_sector (names_of_block (length names / 15) names)))
-          (back : IsBack old.nodes place mid_places next_updates (set (cards_of old) place None) new (named_card was blocks names)) where
+          (back : StandsAgain old new place (named_card was blocks names) mid_places next_updates) where
         -- no other sector is written
         unnamed : (i n : ℕ) → times_set n blocks ≡ 0 → get_or blocks i None ≢ Some n
         unnamed i n none is = let some = times_set-at blocks i n is in omega arith
@@ -131,6 +131,7 @@ module _ (old : Draft) (place : ℕ) (was : Card) (name : List ℕ) (known : IsK
         moved = record {
           number = refl;
           run_sectors = refl;
+          runs = refl;
           count = counted ∙ sym (ap (λ (k : NodeKind). blocks_of k (length names)) directory);
           marks = marks;
           len = len;
@@ -154,7 +155,7 @@ module _ (old : Draft) (place : ℕ) (was : Card) (name : List ℕ) (known : IsK
           is = back.is
 
           rerun : IsRerun (named_card was blocks names) is
-          rerun = let laid = back.laid in laid.rerun
+          rerun = back.rerun
 
           abbrev content : ℕ → List ℕ
           content i = directory_sector (names_of_block i names)
@@ -198,8 +199,7 @@ module _ (old : Draft) (place : ℕ) (was : Card) (name : List ℕ) (known : IsK
         pub drop_made : (base : Image) (size stamp : ℕ) → by_stamp names ≡ without (by_stamp was.names) stamp → MakesOver base size old new (DropName was.fields.number stamp)
         drop_made base size stamp map_is draft =
             let is : Card = back.is in
-            let laid = back.laid in
-            let rerun : IsRerun (named_card was blocks names) is = laid.rerun in
+            let rerun : IsRerun (named_card was blocks names) is = back.rerun in
             let held = held_at old.nodes (image_of base old) (mark_by first old.places) (cards_of old) place was draft.laid there in
             let holds : HoldsNames (image_of base old) was = subst (λ (k : NodeKind). HoldsContent (image_of base old) k was) directory held.content in
             makes old new place was (named_card was blocks names) mid_places next_updates known there moved back base size (DropName was.fields.number stamp) draft

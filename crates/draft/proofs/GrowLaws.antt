@@ -22,20 +22,11 @@ use Rattle.draft.proofs.BlockLaws.{length-holes}
 use Rattle.draft.proofs.KnownLaws.{card_at, file_blocks, file_unnamed, content_of_file, made}
 use Rattle.draft.proofs.NodeLaws.{alone_stays, alone_kept, alone_steps}
 
-module _ (old : Draft) (place size : ℕ) (was : Card) (known : IsKnown old) (there : get_or (cards_of old) place None ≡ Some was) (file : was.fields.kind ≡ kind.File) (longer : was.fields.size ≤ size) (few : size ≤ 16777216) where
-  was_known : IsCard was
-  was_known = card_at old.nodes (mark_by (148 + old.nodes) old.places) (cards_of old) place was known.cards there
-
-  abbrev is : Card
-  is = grown was size
-
-  unnamed : was.names ≡ []
-  unnamed = file_unnamed was was_known file
-
-  pub grown_known : IsCard is
+module _ (was : Card) (size : ℕ) (known : IsCard was) (file : was.fields.kind ≡ kind.File) (few : max was.fields.size size ≤ 16777216) where
+  pub grown_known : IsCard (grown was size)
   grown_known =
-      let fits = was_known.fits in
-      let runs = was_known.runs in
+      let fits = known.fits in
+      let runs = known.runs in
       record {
         fits = record {
           number = fits.number;
@@ -50,16 +41,29 @@ module _ (old : Draft) (place size : ℕ) (was : Card) (known : IsKnown old) (th
           acl = fits.acl;
           each_ace = fits.each_ace;
         };
-        number = was_known.number;
-        each_run = was_known.each_run;
-        run_count = was_known.run_count;
+        number = known.number;
+        each_run = known.each_run;
+        run_count = known.run_count;
         runs = record {
-          rising = AreRising-widen 0 (length was.blocks) (length is.blocks) was.runs (omega (arith, length-holes was.blocks (blocks_to size was))) runs.rising;
+          rising = AreRising-widen 0 (length was.blocks) (length (grown was size).blocks) was.runs (omega (arith, length-holes was.blocks (blocks_to size was))) runs.rising;
           same = λ block. holes-at was.blocks (blocks_to size was) block ∙ runs.same block;
         };
-        blocks = omega (arith, length-holes was.blocks (blocks_to size was), file_blocks was was_known file) ∙ sym (ap (λ (k : NodeKind). blocks_of k (max was.fields.size size)) file);
-        content = content_of_file is file unnamed;
+        blocks = omega (arith, length-holes was.blocks (blocks_to size was), file_blocks was known file) ∙ sym (ap (λ (k : NodeKind). blocks_of k (max was.fields.size size)) file);
+        content = content_of_file (grown was size) file (file_unnamed was known file);
       }
+
+module _ (old : Draft) (place size : ℕ) (was : Card) (known : IsKnown old) (there : get_or (cards_of old) place None ≡ Some was) (file : was.fields.kind ≡ kind.File) (longer : was.fields.size ≤ size) (few : size ≤ 16777216) where
+  was_known : IsCard was
+  was_known = card_at old.nodes (mark_by (148 + old.nodes) old.places) (cards_of old) place was known.cards there
+
+  abbrev is : Card
+  is = grown was size
+
+  unnamed : was.names ≡ []
+  unnamed = file_unnamed was was_known file
+
+  is_known : IsCard is
+  is_known = grown_known was size was_known file (omega arith)
 
   same_named : (n : ℕ) → times_set n is.blocks ≡ times_set n was.blocks
   same_named n = let change = each_change n was.blocks in change.grown (blocks_to size was)
@@ -67,7 +71,7 @@ module _ (old : Draft) (place size : ℕ) (was : Card) (known : IsKnown old) (th
   module _ (new : Draft) (same : new.nodes ≡ old.nodes) (places : new.places ≡ old.places) (cards : cards_of new ≡ set (cards_of old) place (Some is))
       (put : (image : Image) → IsPut (applied old.updates image) (applied new.updates image) (148 + place) (inode_sector is.form is.fields)) where
     pub grow_stays : StaysKnown old new
-    grow_stays = alone_stays old new place was is known there refl refl refl same_named grown_known same places cards put
+    grow_stays = alone_stays old new place was is known there refl refl refl same_named is_known same places cards put
 
     size_is : max was.fields.size size ≡ size
     size_is = omega arith
@@ -78,12 +82,12 @@ module _ (old : Draft) (place size : ℕ) (was : Card) (known : IsKnown old) (th
     pub grow_made : (base : Image) (volume : ℕ) → MakesOver base volume old new (SetSize was.fields.number size)
     grow_made base volume draft =
         let gives = grow_file old.nodes (image_of base old) (image_of base new) (mark_by (148 + old.nodes) old.places) (mark_by (148 + old.nodes) new.places) (cards_of old) place was is (blocks_to size was)
-        (alone_steps old new place was is known there refl refl refl same_named grown_known same places cards put base draft.laid)
+        (alone_steps old new place was is known there refl refl refl same_named is_known same places cards put base draft.laid)
         (record {
           files = record { was_file = file; is_file = file; unnamed = unnamed; shows = shows_sized was.fields (max was.fields.size size) };
           blocks = refl;
           longer = omega arith;
-          kept = alone_kept old new place was is known there refl refl refl same_named grown_known same places cards put base;
+          kept = alone_kept old new place was is known there refl refl refl same_named is_known same places cards put base;
         }) in
         made base volume old new place (Some is) (SetSize was.fields.number size) draft same (ap length places) cards gives.laid
         (gives.tree_is ∙ ap (λ (s : ℕ). done (SetSize was.fields.number s) (tree_of base old)) size_is)

@@ -1,5 +1,5 @@
 -- A name that is put, as one edit.
-use Rattle.std.proofs.Common.{◌≡◌, ◌≢◌, ◌≤◌, ◌<◌, ◌+◌, ℕ, zero, suc, Bool, List, [], ◌∷◌, ◌++◌, Option, Some, None, length, get_or, set, max, refl, sym, ap, ◌∙◌, arith, subst, eq-eqb, ne_eqb, inl, inr}
+use Rattle.std.proofs.Common.{◌≡◌, ◌≢◌, ◌≤◌, ◌<◌, ◌+◌, ℕ, zero, suc, Bool, List, [], ◌∷◌, ◌++◌, Option, Some, None, length, get_or, max, refl, sym, ap, ◌∙◌, arith, subst, eq-eqb, ne_eqb, inl, inr}
 use Rattle.std.proofs.lemmas.Bool.{cases_eq}
 use Rattle.std.proofs.lemmas.List.{length-append}
 use Rattle.disk.specs.Moments.{Image, applied}
@@ -28,10 +28,10 @@ use Rattle.layout.proofs.NodeEditLaws.{put_one_name}
 use Rattle.cards.specs.Tables.{charge_of, charge_of_all}
 use Rattle.draft.specs.Blocks.{HaveRegion, GetSectors, WritesOne, set_blocks}
 use Rattle.draft.specs.declared.draft.Draft.{Draft}
-use Rattle.draft.specs.Drafts.{cards_of, image_of, IsKnown, StaysKnown, MakesOver, HasNow, IsBack}
+use Rattle.draft.specs.Drafts.{cards_of, image_of, IsKnown, StaysKnown, MakesOver, HasNow}
 use Rattle.draft.specs.Laying.{CanBeLaid, IsRerun, sectors_for}
 use Rattle.draft.specs.Naming.{CanName, renamed, with_name, blocks_named}
-use Rattle.draft.proofs.BackLaws.{charged, IsMoved, stays, has_now, kept, makes, steps, shows_same, shows_sized}
+use Rattle.draft.proofs.BackLaws.{charged, IsMoved, StandsAgain, stays, has_now, kept, makes, steps, shows_same, shows_sized}
 use Rattle.draft.proofs.CountLaws.{few_numbers, set_most}
 use Rattle.draft.proofs.KnownLaws.{same_card, in_table, card_at, named_once, held_at, directory_known, directory_blocks, content_of_directory, fields_fit}
 
@@ -87,12 +87,12 @@ module _ (old : Draft) (place : ℕ) (was : Card) (known : IsKnown old) (there :
   }
 
   module _ (new : Draft) (blocks : List (Option ℕ)) (names : List Record) (mid_places : List Bool) (mid_updates : List Update) (are_names : IsDirectory names) (stamped : AreStamped names) (moved : IsMoved old was (named_card was blocks names) mid_places mid_updates)
-      (back : IsBack old.nodes place mid_places mid_updates (set (cards_of old) place None) new (named_card was blocks names)) where
+      (back : StandsAgain old new place (named_card was blocks names) mid_places mid_updates) where
     abbrev is : Card
     is = back.is
 
     rerun : IsRerun (named_card was blocks names) is
-    rerun = let laid = back.laid in laid.rerun
+    rerun = back.rerun
 
     is_directory : is.fields.kind ≡ kind.Directory
     is_directory = ap (λ (f : Fields). f.kind) rerun.fields ∙ directory
@@ -186,11 +186,12 @@ module _ (old : Draft) (place : ℕ) (was : Card) (name : List ℕ) (stamp numbe
           let all = charged old place was known there mid_places blocks gets.marks in
           omega (arith, all, gets.len, set_most blocks, counted, longer)
 
-      module _ (new : Draft) (are_names : IsDirectory names) (back : IsBack old.nodes place mid_places mid_updates (set (cards_of old) place None) new (named_card was blocks names)) where
+      module _ (new : Draft) (are_names : IsDirectory names) (back : StandsAgain old new place (named_card was blocks names) mid_places mid_updates) where
         moved : IsMoved old was (named_card was blocks names) mid_places mid_updates
         moved = record {
           number = refl;
           run_sectors = refl;
+          runs = refl;
           count = counted ∙ sym (ap (λ (k : NodeKind). blocks_of k (length names)) directory);
           marks = gets.marks;
           len = gets.len;
@@ -209,8 +210,7 @@ module _ (old : Draft) (place : ℕ) (was : Card) (name : List ℕ) (stamp numbe
         pub put_made : (base : Image) (size : ℕ) → by_stamp names ≡ with (by_stamp was.names) entry.0 entry.1 → MakesOver base size old new (PutName was.fields.number entry.0 entry.1)
         put_made base size map_is draft =
             let is : Card = back.is in
-            let laid = back.laid in
-            let rerun : IsRerun (named_card was blocks names) is = laid.rerun in
+            let rerun : IsRerun (named_card was blocks names) is = back.rerun in
             let held = held_at old.nodes (image_of base old) (mark_by (148 + old.nodes) old.places) (cards_of old) place was draft.laid there in
             let holds : HoldsNames (image_of base old) was = subst (λ (k : NodeKind). HoldsContent (image_of base old) k was) directory held.content in
             let unmoved = still old place was known there directory new blocks names mid_places mid_updates are_names stamped moved back base in

@@ -1,9 +1,10 @@
 -- Bytes that are written over a file, as one edit.
-use Rattle.std.proofs.Common.{◌≡◌, ◌≤◌, ◌<◌, ◌+◌, ℕ, Bool, List, [], Option, Some, None, length, get_or, set, max, refl, sym, ap, ◌∙◌, arith}
+use Rattle.std.proofs.Common.{◌≡◌, ◌≤◌, ◌<◌, ◌+◌, ℕ, Bool, List, [], Option, Some, None, length, get_or, set, max, refl, sym, ap, ◌∙◌, arith, subst}
 use Rattle.disk.specs.Moments.{Image, applied}
 use Rattle.disk.specs.declared.update.Update.{Update}
 use Rattle.freemap.specs.Kept.{free_places}
 use Rattle.inode.specs.Fields.{Fields}
+use Rattle.inode.specs.Spelling.{inode_sector}
 use Rattle.model.specs.declared.node.NodeKind.{NodeKind}
 use Rattle.model.specs.declared.node.NodeKind.TheVariants as kind
 use Rattle.model.specs.Charge.{blocks_of, charge_of_blocks}
@@ -11,19 +12,21 @@ use Rattle.model.specs.Edit.{PutBytes}
 use Rattle.layout.specs.Cards.{Card, byte_at}
 use Rattle.layout.specs.Known.{IsCard}
 use Rattle.layout.specs.Marks.{times, times_set, mark_by}
+use Rattle.layout.proofs.MarkProofs.{mark-front}
 use Rattle.layout.proofs.FileLaws.{over-same, growing}
 use Rattle.layout.proofs.Frame.{byte_at-kept}
 use Rattle.layout.proofs.NodeEditLaws.{write_file}
 use Rattle.layout.proofs.StepLaws.{each_change}
 use Rattle.cards.specs.Tables.{charge_of, charge_of_all}
-use Rattle.draft.specs.Blocks.{HaveRegion, GetSectors, ChangeBlocks, WritesBytes, set_blocks}
+use Rattle.draft.specs.Blocks.{IsPut, HaveRegion, GetSectors, ChangeBlocks, WritesBytes, set_blocks}
 use Rattle.draft.specs.declared.draft.Draft.{Draft}
-use Rattle.draft.specs.Drafts.{cards_of, image_of, IsKnown, StaysKnown, MakesOver, HasNow, IsBack}
+use Rattle.draft.specs.Drafts.{cards_of, image_of, IsKnown, StaysKnown, MakesOver, HasNow}
 use Rattle.draft.specs.Grown.{grown, reaching, blocks_to, CanWrite}
 use Rattle.draft.specs.Laying.{CanBeLaid, sectors_for}
-use Rattle.draft.proofs.BackLaws.{charged, IsMoved, stays, has_now, kept, makes, steps, are_files, file_content, shows_sized}
+use Rattle.draft.proofs.BackLaws.{charged, IsMoved, StandsAgain, put_again, stays, has_now, kept, makes, steps, are_files, file_content, shows_sized}
 use Rattle.draft.proofs.BlockLaws.{length-holes}
 use Rattle.draft.proofs.CountLaws.{few_numbers, set_holes, set_most}
+use Rattle.draft.proofs.GrowLaws.{grown_known}
 use Rattle.draft.proofs.KnownLaws.{same_card, in_table, card_at, named_once, file_blocks, file_unnamed, fields_fit}
 
 module _ (old : Draft) (place end : ℕ) (was : Card) (known : IsKnown old) (there : get_or (cards_of old) place None ≡ Some was) (can : CanWrite (cards_of old) place end) where
@@ -71,6 +74,9 @@ module _ (old : Draft) (place end : ℕ) (was : Card) (known : IsKnown old) (the
     marks : (n : ℕ) → mark_by first mid_places n + times_set n was.blocks ≡ mark_by first old.places n + times_set n blocks
     marks n = omega (arith, gets.marks n, grown_named n)
 
+    pub mid_known : blocks ≡ (grown was end).blocks → IsCard mid_card
+    mid_known alike = subst (λ (b : List (Option ℕ)). IsCard (record (grown was end) { blocks = b })) (sym alike) (grown_known was end is_card file (omega (arith, few, can.low)))
+
     pub can_be_laid : CanBeLaid old.nodes place mid_places mid_card
     can_be_laid = record {
       room = omega (arith, known.small, gets.len);
@@ -79,17 +85,24 @@ module _ (old : Draft) (place end : ℕ) (was : Card) (known : IsKnown old) (the
       marked = λ n. omega (arith, marks n, once n, gets.more n, grown_named n);
     }
 
+    -- no block got a sector: its runs are those that it had
+    pub put_stands : blocks ≡ (grown was end).blocks → (new : Draft) (mid_updates : List Update) → cards_of new ≡ set (set (cards_of old) place None) place (Some mid_card) → new.nodes ≡ old.nodes → new.places ≡ mid_places
+        → ((image : Image) → IsPut (applied mid_updates image) (applied new.updates image) (148 + place) (inode_sector was.form mid_card.fields)) → StandsAgain old new place mid_card mid_places mid_updates
+    put_stands alike new mid_updates = put_again old new place mid_card mid_places mid_updates (mid_known alike)
+        (omega (arith, in_table old.nodes (mark_by first old.places) (cards_of old) place was known.cards there, once (148 + place), mark-front first old.places (148 + place)))
+
     -- no sector was free for its runs
     pub charged_last : free_places mid_places + length was.fields.run_sectors < sectors_for (set_blocks blocks) → length old.places + charge_of was < charge_of_all (cards_of old) + charge_of_blocks (blocks_to end was)
     charged_last full =
         let all = charged old place was known there mid_places blocks marks in
         omega (arith, all, gets.len, set_most blocks, count, grown_count)
 
-    module _ (new : Draft) (mid_updates : List Update) (changes : ChangeBlocks old.updates mid_updates blocks) (back : IsBack old.nodes place mid_places mid_updates (set (cards_of old) place None) new mid_card) where
+    module _ (new : Draft) (mid_updates : List Update) (changes : ChangeBlocks old.updates mid_updates blocks) (back : StandsAgain old new place mid_card mid_places mid_updates) where
       moved : IsMoved old was mid_card mid_places mid_updates
       moved = record {
         number = refl;
         run_sectors = refl;
+        runs = refl;
         count = count ∙ grown_count ∙ sym (ap (λ (k : NodeKind). blocks_of k (max was.fields.size end)) file);
         marks = marks;
         len = gets.len;
@@ -109,8 +122,7 @@ module _ (old : Draft) (place end : ℕ) (was : Card) (known : IsKnown old) (the
           → MakesOver base size old new (PutBytes was.fields.number offset bytes)
       write_made base size offset bytes end_is writes draft =
           let is : Card = back.is in
-          let laid = back.laid in
-          let rerun = laid.rerun in
+          let rerun = back.rerun in
           let keeps = kept old new place was mid_card mid_places mid_updates known there moved back base in
           makes old new place was mid_card mid_places mid_updates known there moved back base size (PutBytes was.fields.number offset bytes) draft
           (write_file old.nodes (image_of base old) (image_of base new) (mark_by first old.places) (mark_by first new.places) (cards_of old) place was is offset bytes

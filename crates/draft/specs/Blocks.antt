@@ -48,6 +48,11 @@ pub record GetSectors (first : ℕ) (was is : List Bool)
   pub free : free_places is + set_blocks is_blocks ≡ free_places was + set_blocks was_blocks
   pub more : (n : ℕ) → times_set n was_blocks ≤ times_set n is_blocks
 
+-- whether blocks got sectors: each is as it was, or more of them are set
+abbrev pub FillHoles : (filled : Bool) → (was is : List (Option ℕ)) → Type 0
+FillHoles false was is = is ≡ was
+FillHoles true was is = set_blocks was < set_blocks is
+
 -- a block has a sector: it had it, or it was a hole and has taken one
 pub record GetsSector (first : ℕ) (was is : List Bool) (was_blocks is_blocks : List (Option ℕ))
     (block sector : ℕ) : Type 0 where

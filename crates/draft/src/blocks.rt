@@ -5,7 +5,7 @@ ghost use Rattle.disk.specs.Calls.{zero_sector};
 ghost use Rattle.sector.specs.Placed.{placed};
 ghost use Rattle.disk.specs.Moments.{Image, applied};
 ghost use Rattle.freemap.specs.Kept.{free_places};
-ghost use Rattle.draft.specs.Blocks.{IsPut, Takes, HaveRegion, GetSectors, GetsSector, FindsNone, WritesOne, AreWithin, ClearsTail, WritesBytes, ChangeBlocks, set_blocks};
+ghost use Rattle.draft.specs.Blocks.{IsPut, Takes, HaveRegion, GetSectors, GetsSector, FindsNone, WritesOne, AreWithin, ClearsTail, WritesBytes, ChangeBlocks, FillHoles, set_blocks};
 ghost use Rattle.draft.specs.Naming.{Rewrites};
 ghost use Rattle.draft.specs.Updates.{ChangeOne};
 ghost use Rattle.directory.specs.Spelling.{directory_sector};
@@ -101,7 +101,8 @@ fn take_sector(
     Ok(first + place)
 }
 
-/// Writes a part within one block, which gets a sector where it is a hole.
+/// Writes a part within one block, which gets a sector where it is a hole. Tells whether it was
+/// one.
 fn write_block<S: Sectors>(
     updates: &mut Updates,
     places: &mut Bitmap,
@@ -109,7 +110,7 @@ fn write_block<S: Sectors>(
     first: u32,
     blocks: &mut BlockList,
     part: Part<'_>,
-) -> Result<(), DraftFault>
+) -> Result<bool, DraftFault>
     requires region { HaveRegion first places.old blocks.old
         × (first + length places.old ≤ S.size (S.kept base.old)) }
     requires part { (part.block < length blocks.old)
@@ -121,6 +122,7 @@ fn write_block<S: Sectors>(
     ensures gets { OnOk result (GetSectors first places.old places.new blocks.old blocks.new
         × (length blocks.new ≡ length blocks.old)) }
     ensures others { OnOk result (ChangeBlocks updates.old updates.new blocks.new) }
+    ensures fills { IfOk result (λ filled. FillHoles filled blocks.old blocks.new) }
     // What it takes
     ensures count { length updates.new ≤ length updates.old + 1 }
     ensures full { IsErrOf result DraftFault.Full
@@ -134,18 +136,22 @@ fn write_block<S: Sectors>(
         // A whole sector is not read first.
         Some(sector) if part.bytes.len() == SECTOR => {
             write_new(updates, sector, part.from, part.bytes)?;
-            Ok(())
+            Ok(false)
         }
-        Some(sector) => write_over(updates, base, sector, part.from, part.bytes),
+        Some(sector) => {
+            write_over(updates, base, sector, part.from, part.bytes)?;
+            Ok(false)
+        }
         None => {
             let sector = take_sector(places, first, blocks, part.block)?;
             write_new(updates, sector, part.from, part.bytes)?;
-            Ok(())
+            Ok(true)
         }
     }
 }
 
-/// Writes bytes over blocks, part by part; holes on the way get sectors.
+/// Writes bytes over blocks, part by part; holes on the way get sectors. Tells whether there were
+/// any.
 pub(crate) fn write_blocks<S: Sectors>(
     updates: &mut Updates,
     places: &mut Bitmap,
@@ -154,7 +160,7 @@ pub(crate) fn write_blocks<S: Sectors>(
     blocks: &mut BlockList,
     offset: usize,
     bytes: &[u8],
-) -> Result<(), DraftFault>
+) -> Result<bool, DraftFault>
     requires region { HaveRegion first places.old blocks.old
         × (first + length places.old ≤ S.size (S.kept base.old)) }
     requires within { offset + length bytes.now ≤ SECTOR * length blocks.old }
@@ -165,6 +171,7 @@ pub(crate) fn write_blocks<S: Sectors>(
     ensures gets { OnOk result (GetSectors first places.old places.new blocks.old blocks.new
         × (length blocks.new ≡ length blocks.old)) }
     ensures others { OnOk result (ChangeBlocks updates.old updates.new blocks.new) }
+    ensures fills { IfOk result (λ filled. FillHoles filled blocks.old blocks.new) }
     // What it takes
     ensures count { OnOk result (length updates.new
         ≤ length updates.old + (offset % SECTOR + length bytes.now + 4095) / SECTOR) }
@@ -175,6 +182,7 @@ pub(crate) fn write_blocks<S: Sectors>(
     ensures health { Reads (S.health base.old) (S.health base.new)
         (IsErrOf result DraftFault.Device) }
 {
+    let mut filled = false;
     let mut done = 0;
     while done < bytes.len() {
         let at = offset + done;
@@ -185,10 +193,10 @@ pub(crate) fn write_blocks<S: Sectors>(
             from,
             bytes: &bytes[done..done + count],
         };
-        write_block(updates, places, base, first, blocks, part)?;
+        filled |= write_block(updates, places, base, first, blocks, part)?;
         done += count;
     }
-    Ok(())
+    Ok(filled)
 }
 
 /// The sector of a block, which takes one where it is a hole.

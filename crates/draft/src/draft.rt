@@ -1,14 +1,17 @@
 //! One transaction in the making.
 
-ghost use Rattle.std.specs.Prelude.{◌≡◌, ◌≤◌, ◌<◌, ◌+◌, ◌*◌, ◌/◌, ◌%◌, set, [], Some, None, length, slice_index_or, IfOk, OnOk, IsErrOf};
+ghost use Rattle.std.specs.Prelude.{◌≡◌, ◌≤◌, ◌<◌, ◌+◌, ◌*◌, ◌/◌, ◌%◌, ◌^◌, set, [], Some, None, length, slice_index_or, IfOk, OnOk, IsErrOf};
 ghost use Rattle.cards.specs.Overlays.{changed};
 ghost use Rattle.cards.specs.Tables.{HasNot, IsFree};
 ghost use Rattle.directory.specs.Records.{record_from};
+ghost use Rattle.disk.specs.Moments.{Image, applied};
 ghost use Rattle.freemap.specs.Kept.{free_places};
+ghost use Rattle.inode.specs.Fields.{IsInode};
+ghost use Rattle.inode.specs.Spelling.{inode_sector};
 ghost use Rattle.model.specs.Edit.{PutNode, DropNode, Show, PutName, PutBytes, SetSize};
 ghost use Rattle.layout.specs.Cards as layout;
 ghost use Rattle.layout.specs.Health.{Reads};
-ghost use Rattle.draft.specs.Blocks.{set_blocks};
+ghost use Rattle.draft.specs.Blocks.{IsPut, set_blocks};
 ghost use Rattle.draft.specs.Drafts.{cards_of, end_of, IsKnown, StaysKnown, Makes, Edits, EditsOver, Turns, IsBack, IsOvercharged};
 ghost use Rattle.draft.specs.Grown.{grown, reaching, sized, blocks_to, CanWrite, CanGrow, CanCut};
 ghost use Rattle.draft.specs.Laying.{CanBeLaid, HasEnough, sectors_for};
@@ -353,7 +356,7 @@ impl<'a> Draft<'a> {
     {
         let mut card = take_card(&mut self.cards, place)?;
         grow_to(&mut card, (offset + bytes.len()) as u64)?;
-        write_blocks(
+        let filled = write_blocks(
             &mut self.updates,
             &mut self.places,
             base,
@@ -362,7 +365,12 @@ impl<'a> Draft<'a> {
             offset,
             bytes,
         )?;
-        self.lay_back(place, card)?;
+        if filled {
+            self.lay_back(place, card)?;
+        } else {
+            // The runs of its blocks are as they were.
+            self.put_back(place, card)?;
+        }
         Ok(())
     }
 
@@ -385,6 +393,26 @@ impl<'a> Draft<'a> {
     {
         put_marks(&mut self.updates, &self.places, before, 0)?;
         put_marks(&mut self.updates, &self.places, before, 1)?;
+        Ok(())
+    }
+
+    /// Puts a card that was taken out back, and writes its node alone.
+    fn put_back(&mut self, place: u32, card: Card) -> Result<(), AllocError>
+        requires fits { IsInode card.form card.fields }
+        requires within { place < length (cards_of self.old) }
+        requires small { NODES + place < 2 ^ 32 }
+        ensures node { OnOk result ((image : Image) → IsPut (applied self.old.updates image)
+            (applied self.new.updates image) (NODES + place) (inode_sector card.form card.fields)) }
+        ensures cards { OnOk result
+            (cards_of self.new ≡ set (cards_of self.old) place (Some card)) }
+        // In any case
+        ensures nodes { self.new.nodes ≡ self.old.nodes }
+        ensures places { self.new.places ≡ self.old.places }
+        ensures table { self.new.cards.table ≡ self.old.cards.table }
+        ensures count { length self.new.updates ≤ length self.old.updates + 1 }
+    {
+        put_node(&mut self.updates, place, &card)?;
+        put_card(&mut self.cards, place, card)?;
         Ok(())
     }
 

@@ -4,7 +4,7 @@ use Rattle.disk.specs.Calls.{zero_sector}
 use Rattle.disk.specs.Moments.{Image, applied}
 use Rattle.sector.specs.Placed.{placed}
 use Rattle.draft.specs.Blocks.{WritesBytes, GetSectors}
-use Rattle.draft.proofs.BlockLaws.{writes_set, writes_hole, writes_full, sector-within, takes_sector, changes_one, elsewhere, on_ok, on_both}
+use Rattle.draft.proofs.BlockLaws.{writes_set, writes_hole, writes_full, sector-within, takes_sector, changes_one, elsewhere}
 use Rattle.draft.proofs.blocks.write_block.Goals as goal
 
 pub write_over-requires-clause-within : goal.write_over-requires-clause-within
@@ -12,15 +12,15 @@ write_over-requires-clause-within g c =
     let region = c.requires.region.0 in
     sector-within c.args.first _ c.args.places.now c.args.blocks.now c.args.part.block c.in-Some.sector c.requires.region.1 region.marked (sym c.at.ensures ∙ c.in-Some.is)
 
-pub returns-in-Some-2-clause-bytes : goal.returns-in-Some-2-clause-bytes
-returns-in-Some-2-clause-bytes g c word =
+pub returns-in_ok-write_over-in-Some-2-clause-bytes : goal.returns-in_ok-write_over-in-Some-2-clause-bytes
+returns-in_ok-write_over-in-Some-2-clause-bytes g c word =
     let region = c.requires.region.0 in
-    on_both c.write_over.result (c.write_over.ensures.image word) (c.write_over.ensures.whole word) (λ image whole.
-    writes_set c.args.first c.args.places.now _ _ c.args.blocks.now c.args.part.block c.in-Some.sector c.args.part.from c.args.part.bytes.now region.marked (sym c.at.ensures ∙ c.in-Some.is) whole c.requires.part.1 image)
+    writes_set c.args.first c.args.places.now _ _ c.args.blocks.now c.args.part.block c.in-Some.sector c.args.part.from c.args.part.bytes.now region.marked (sym c.at.ensures ∙ c.in-Some.is)
+    (c.in_ok-write_over-in-Some-2.ensures.whole word) c.requires.part.1 (c.in_ok-write_over-in-Some-2.ensures.image word)
 
-pub returns-in-Some-2-clause-others : goal.returns-in-Some-2-clause-others
-returns-in-Some-2-clause-others g c = on_ok c.write_over.result c.write_over.ensures.others (λ alone.
-    changes_one c.args.updates.now c.write_over.new.updates c.args.blocks.now c.args.part.block c.in-Some.sector (sym c.at.ensures ∙ c.in-Some.is) alone)
+pub returns-in_ok-write_over-in-Some-2-clause-others : goal.returns-in_ok-write_over-in-Some-2-clause-others
+returns-in_ok-write_over-in-Some-2-clause-others g c =
+    changes_one c.args.updates.now c.write_over.new.updates c.args.blocks.now c.args.part.block c.in-Some.sector (sym c.at.ensures ∙ c.in-Some.is) c.in_ok-write_over-in-Some-2.ensures.others
 
 pub returns-in_ok-write_new-in-None-clause-bytes : goal.returns-in_ok-write_new-in-None-clause-bytes
 returns-in_ok-write_new-in-None-clause-bytes g c word =

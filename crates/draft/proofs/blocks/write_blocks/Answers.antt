@@ -5,7 +5,7 @@ use Rattle.std.proofs.Math.Seq.{take-add}
 use Rattle.std.proofs.lemmas.List.{length-take}
 use Rattle.disk.specs.Moments.{applied}
 use Rattle.draft.specs.Blocks.{WritesBytes}
-use Rattle.draft.proofs.BlockLaws.{bytes_none, bytes_on, gets_none, gets_on, changes_on, region_on, parts_counted}
+use Rattle.draft.proofs.BlockLaws.{bytes_none, bytes_on, gets_none, gets_on, fills_on, changes_on, region_on, parts_counted}
 use Rattle.draft.proofs.CountLaws.{set_less}
 use Rattle.draft.specs.declared.fault.DraftFault.{DraftFault}
 use Rattle.draft.specs.declared.fault.DraftFault.TheVariants as fault
@@ -18,6 +18,7 @@ loop-done-init g c = record {
   bytes = λ word. bytes_none (applied c.args.updates.now (g.S.Sectors.image (g.S.Sectors.kept c.args.base.now))) c.args.blocks.now c.args.offset;
   gets = gets_none c.args.first c.args.places.now c.args.blocks.now;
   long = refl;
+  fills = refl;
   others = λ image n none. refl;
   border = inl refl;
   none = λ e. omega arith;
@@ -35,11 +36,11 @@ write_block-requires-clause-region g c =
       (let same = ap g.S.Sectors.size inv.kept in omega (arith, gets.len, same, c.requires.region.1)),
     )
 
-pub returns-in_err-write_block-clause-full : goal.returns-in_err-write_block-clause-full
-returns-in_err-write_block-clause-full g c full =
+pub returns-in_err-filled-clause-full : goal.returns-in_err-filled-clause-full
+returns-in_err-filled-clause-full g c full =
     let inv = c.loop-done.invariant in
     let gets = inv.gets in
-    let finds = c.in_err-write_block.ensures.full (ap (λ (f : DraftFault). Err f) (told c.from_residual.result c.in_err-write_block.field-0.0 fault.Full c.from_residual.ensures.1 full)) in
+    let finds = c.in_err-filled.ensures.full (ap (λ (f : DraftFault). Err f) (told c.from_residual.result c.in_err-filled.field-0.0 fault.Full c.from_residual.ensures.1 full)) in
     omega (arith, gets.free, inv.long, finds.full, set_less c.loop-done.blocks ((c.args.offset + c.loop-done.done) / 4096) (omega (arith, inv.long, c.requires.within, c.loop-done-test.true)) finds.hole)
 
 pub loop-done-preserved : goal.loop-done-preserved
@@ -55,18 +56,19 @@ loop-done-preserved g c =
     let at_is : at ≡ c.args.offset + length (take d bytes) = omega (arith, length-take d bytes, c.loop-done-test.true) in
     let whole : take d bytes ++ part ≡ take (d + more) bytes =
     (let n : d + more - d ≡ more = omega arith in ap (λ (n : ℕ). take d bytes ++ take n (drop d bytes)) n) ∙ sym (take-add d more bytes) in
-    let gets = c.in_ok-write_block.ensures.gets in
+    let gets = c.in_ok-filled.ensures.gets in
     let next = gets.0 in
     record {
       within = omega (arith, c.loop-done-test.true);
       bytes = λ word.
           let step : WritesBytes (applied c.loop-done.updates image) (applied c.write_block.new.updates image) c.loop-done.blocks c.write_block.new.blocks at part =
-          subst (λ k. WritesBytes (applied c.loop-done.updates (g.S.Sectors.image k)) (applied c.write_block.new.updates (g.S.Sectors.image k)) c.loop-done.blocks c.write_block.new.blocks at part) inv.kept (c.in_ok-write_block.ensures.bytes word) in
+          subst (λ k. WritesBytes (applied c.loop-done.updates (g.S.Sectors.image k)) (applied c.write_block.new.updates (g.S.Sectors.image k)) c.loop-done.blocks c.write_block.new.blocks at part) inv.kept (c.in_ok-filled.ensures.bytes word) in
           subst (λ (w : List ℕ). WritesBytes (applied c.args.updates.now image) (applied c.write_block.new.updates image) c.args.blocks.now c.write_block.new.blocks c.args.offset w) whole
           (bytes_on (applied c.args.updates.now image) (applied c.loop-done.updates image) (applied c.write_block.new.updates image) c.args.blocks.now c.loop-done.blocks c.write_block.new.blocks c.args.offset at (take d bytes) part at_is (inv.bytes word) step);
       gets = gets_on c.args.first c.args.places.now c.loop-done.places c.write_block.new.places c.args.blocks.now c.loop-done.blocks c.write_block.new.blocks inv.gets gets.0;
       long = gets.1 ∙ inv.long;
-      others = changes_on c.args.updates.now c.loop-done.updates c.write_block.new.updates c.loop-done.blocks c.write_block.new.blocks next.more inv.others c.in_ok-write_block.ensures.others;
+      fills = fills_on c.loop-done.filled c.in_ok-filled.field-0 c.args.blocks.now c.loop-done.blocks c.write_block.new.blocks inv.fills c.in_ok-filled.ensures.fills;
+      others = changes_on c.args.updates.now c.loop-done.updates c.write_block.new.updates c.loop-done.blocks c.write_block.new.blocks next.more inv.others c.in_ok-filled.ensures.others;
       border = elim (cases_lt (length bytes - d) (4096 - (c.args.offset + d) % 4096)) [
         | inl low ↦ inr (inr (omega (arith, c.min-count.ensures, c.loop-done-test.true)))
         | inr high ↦ inr (inl (omega (arith, c.min-count.ensures)))
@@ -74,5 +76,5 @@ loop-done-preserved g c =
       none = λ e. absurd (omega (arith, c.min-count.ensures, c.loop-done-test.true));
       count = parts_counted c.args.offset d more (length bytes) (length c.args.updates.now) (length c.loop-done.updates) (length c.write_block.new.updates) c.loop-done-test.true c.min-count.ensures inv.border inv.none inv.count c.write_block.ensures.count;
       kept = c.write_block.ensures.kept ∙ inv.kept;
-      health = (let reads = c.in_ok-write_block.ensures.health in reads.stays (λ faulted. cc)) ∙ inv.health;
+      health = (let reads = c.in_ok-filled.ensures.health in reads.stays (λ faulted. cc)) ∙ inv.health;
     }

@@ -1,6 +1,6 @@
 use Rattle.std.proofs.Common.{◌≡◌, ◌≤◌, ◌+◌, ◌-◌, ◌/◌, ◌%◌, ◌⊎◌, length, take}
 use Rattle.disk.specs.Moments.{applied}
-use Rattle.draft.specs.Blocks.{GetSectors, WritesBytes, ChangeBlocks}
+use Rattle.draft.specs.Blocks.{GetSectors, WritesBytes, ChangeBlocks, FillHoles}
 use Rattle.draft.proofs.blocks.write_blocks.Given as goal
 
 -- the first bytes are written, up to the border of a block
@@ -10,6 +10,7 @@ invariant-loop-done g l = record {
   bytes : g.S.Sectors.keeps_word → WritesBytes (applied l.fn.updates (g.S.Sectors.image (g.S.Sectors.kept l.fn.base))) (applied l.updates (g.S.Sectors.image (g.S.Sectors.kept l.fn.base))) l.fn.blocks l.blocks l.offset (take l.done l.bytes);
   gets : GetSectors l.first l.fn.places l.places l.fn.blocks l.blocks;
   long : length l.blocks ≡ length l.fn.blocks;
+  fills : FillHoles l.filled l.fn.blocks l.blocks;
   others : ChangeBlocks l.fn.updates l.updates l.blocks;
   border : (l.done ≡ 0) ⊎ (((l.offset + l.done) % 4096 ≡ 0) ⊎ (l.done ≡ length l.bytes));
   none : l.done ≡ 0 → length l.updates ≤ length l.fn.updates;

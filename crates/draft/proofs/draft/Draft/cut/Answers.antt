@@ -10,6 +10,7 @@ use Rattle.draft.specs.Blocks.{HaveMarks, AreWithin, ChangeBlocks, ClearsTail}
 use Rattle.draft.specs.Drafts.{IsBack}
 use Rattle.draft.specs.Grown.{sized}
 use Rattle.draft.specs.Laying.{CanBeLaid, HasEnough}
+use Rattle.draft.proofs.BackLaws.{StandsAgain, laid_again}
 use Rattle.draft.proofs.CutLaws.{cut_card, blocks_marked, sectors_here, can_be_cut, cut_enough, cut_stays, cut_now, cut_made}
 use Rattle.draft.proofs.KnownLaws.{same_card, edits_over, turns}
 use Rattle.draft.proofs.draft.Draft.cut.Goals as goal
@@ -61,11 +62,11 @@ lay_back_fewer-requires-clause-enough g c = subst HasEnough (sym (card_is g c))
     (cut_enough c.args.self.now c.args.place c.args.size c.in_ok-card.card c.requires.known.0 c.in_ok-card.ensures.card c.give_blocks.new.places (marks g c) c.give_blocks.ensures.len (few g c))
 
 module _ (g : given.Over) (c : goal.In_ok-lay_back_fewer g) where
-  back : IsBack c.args.self.now.nodes c.args.place c.give_blocks.new.places c.clear_tail.new.updates (set c.args.self.now.cards.cards c.args.place None) c.lay_back_fewer.new.self (cut_card c.in_ok-card.card c.args.size)
-  back =
+  back : StandsAgain c.args.self.now c.lay_back_fewer.new.self c.args.place (cut_card c.in_ok-card.card c.args.size) c.give_blocks.new.places c.clear_tail.new.updates
+  back = laid_again c.args.self.now c.lay_back_fewer.new.self c.args.place (cut_card c.in_ok-card.card c.args.size) c.give_blocks.new.places c.clear_tail.new.updates (
       subst (λ (one : Card). IsBack c.args.self.now.nodes c.args.place c.give_blocks.new.places c.clear_tail.new.updates (set c.args.self.now.cards.cards c.args.place None) c.lay_back_fewer.new.self one) (card_is g c.before.before.before)
       (subst (λ (l : List (Option Card)). IsBack c.args.self.now.nodes c.args.place c.give_blocks.new.places c.clear_tail.new.updates l c.lay_back_fewer.new.self
-      (record (cut_card (seen c.card.inside.form c.card.inside.inode c.card.inside.runs.items c.card.inside.blocks c.card.inside.names) c.args.size) { blocks = c.cut.new.self })) c.in_ok-card.ensures.cards c.in_ok-lay_back_fewer.ensures.back)
+      (record (cut_card (seen c.card.inside.form c.card.inside.inode c.card.inside.runs.items c.card.inside.blocks c.card.inside.names) c.args.size) { blocks = c.cut.new.self })) c.in_ok-card.ensures.cards c.in_ok-lay_back_fewer.ensures.back))
 
 pub returns-clause-known : goal.returns-clause-known
 returns-clause-known g c =

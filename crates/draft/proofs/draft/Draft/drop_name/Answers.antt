@@ -16,6 +16,7 @@ use Rattle.draft.specs.Blocks.{HaveMarks, set_blocks}
 use Rattle.draft.specs.Drafts.{IsBack}
 use Rattle.draft.specs.Laying.{CanBeLaid, HasEnough}
 use Rattle.draft.specs.Naming.{Rewrites, without_name}
+use Rattle.draft.proofs.BackLaws.{StandsAgain, laid_again}
 use Rattle.draft.proofs.CutLaws.{blocks_marked}
 use Rattle.draft.proofs.DropLaws.{stamped_was, drop_few, drop_can, drop_enough, drop_stays, drop_now, drop_made, dropped}
 use Rattle.draft.proofs.KnownLaws.{turns}
@@ -139,11 +140,11 @@ module _ (c : goal.After-drop-entry-2) where
   other image = written (applied c.rewrite_names.new.updates image) (applied c.rewrite_names-2.new.updates image) c.cut.new.self blocks (c.count-left.result / 15) (length names / 15) names it.cut_is
       (ap (λ (p : ℕ). p / 15) c.count-left.ensures.count) (c.in_ok-rewrite_names-2.ensures.names image)
 
-  back : IsBack c.args.self.now.nodes c.args.place c.give_blocks.new.places c.rewrite_names-2.new.updates (set c.args.self.now.cards.cards c.args.place None) c.lay_back_fewer.new.self (named_card was blocks names)
-  back =
+  back : StandsAgain c.args.self.now c.lay_back_fewer.new.self c.args.place (named_card was blocks names) c.give_blocks.new.places c.rewrite_names-2.new.updates
+  back = laid_again c.args.self.now c.lay_back_fewer.new.self c.args.place (named_card was blocks names) c.give_blocks.new.places c.rewrite_names-2.new.updates (
       subst (λ (one : Card). IsBack c.args.self.now.nodes c.args.place c.give_blocks.new.places c.rewrite_names-2.new.updates (set c.args.self.now.cards.cards c.args.place None) c.lay_back_fewer.new.self one) it.now_is
       (subst (λ (l : List (Option Card)). IsBack c.args.self.now.nodes c.args.place c.give_blocks.new.places c.rewrite_names-2.new.updates l c.lay_back_fewer.new.self
-      (record mid_card { fields = record mid_card.fields { size = c.count-left.result }; blocks = c.cut.new.self; names = names })) c.in_ok-card.ensures.cards c.in_ok-lay_back_fewer.ensures.back)
+      (record mid_card { fields = record mid_card.fields { size = c.count-left.result }; blocks = c.cut.new.self; names = names })) c.in_ok-card.ensures.cards c.in_ok-lay_back_fewer.ensures.back))
 
   map_is : (entry : Record) → entry_of name was.names ≡ Some entry → by_stamp names ≡ without (by_stamp was.names) entry.0
   map_is entry found =

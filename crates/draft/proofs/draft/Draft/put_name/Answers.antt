@@ -17,6 +17,7 @@ use Rattle.draft.specs.declared.fault.SpaceFault.TheVariants as space
 use Rattle.draft.specs.Drafts.{IsBack}
 use Rattle.draft.specs.Laying.{CanBeLaid, sectors_for}
 use Rattle.draft.specs.Naming.{with_name, blocks_named}
+use Rattle.draft.proofs.BackLaws.{StandsAgain, laid_again}
 use Rattle.draft.proofs.FaultLaws.{told}
 use Rattle.draft.proofs.KnownLaws.{edits, turns, overcharged}
 use Rattle.draft.proofs.NameLaws.{named_card, unnamed, unused, stamped_was, named_region, block_within, named_first, can_be_named, named_few, named_last, put_stays, put_now, put_made}
@@ -145,12 +146,12 @@ module _ (c : goal.In_ok-lay_back) where
       ∙ ap (λ (l : List Record). with (without_entry (by_stamp l) (entry_of c.args.name.now l)) c.args.stamp entry.1) inside
       ∙ ap (λ (found : Option Record). with (without_entry (by_stamp was.names) found) c.args.stamp entry.1) none
 
-  back : IsBack c.args.self.now.nodes c.args.place c.write_names.new.places c.write_names.new.updates (set c.args.self.now.cards.cards c.args.place None) c.lay_back.new.self (named_card was blocks names)
-  back =
+  back : StandsAgain c.args.self.now c.lay_back.new.self c.args.place (named_card was blocks names) c.write_names.new.places c.write_names.new.updates
+  back = laid_again c.args.self.now c.lay_back.new.self c.args.place (named_card was blocks names) c.write_names.new.places c.write_names.new.updates (
       subst (λ (one : Card). IsBack c.args.self.now.nodes c.args.place c.write_names.new.places c.write_names.new.updates (set c.args.self.now.cards.cards c.args.place None) c.lay_back.new.self one)
       (card_is was card c.card.view_is blocks names c.count.result c.count.ensures.count)
       (subst (λ (l : List (Option Card)). IsBack c.args.self.now.nodes c.args.place c.write_names.new.places c.write_names.new.updates l c.lay_back.new.self
-      (record card { fields = record card.fields { size = c.count.result }; blocks = blocks; names = names })) c.in_ok-card.ensures.cards c.in_ok-lay_back.ensures.back)
+      (record card { fields = record card.fields { size = c.count.result }; blocks = blocks; names = names })) c.in_ok-card.ensures.cards c.in_ok-lay_back.ensures.back))
 
 pub returns-clause-known : goal.returns-clause-known
 returns-clause-known c =
