@@ -1,17 +1,37 @@
 -- The open that a stateid names.
-use Rattle.std.proofs.Common.{ℕ, true, false, ◌||◌, ◌-◌, ◌^◌, nat_le, List, length, take, Option, Some, None, ◌≡◌, ◌==◌, ◌&&◌, ◌∙◌, ap, sym, Bor, bytes_eq}
-use Rattle.std.specs.Prelude.{IfSome, is_none, if◌then◌else◌}
+use Rattle.std.proofs.Common.{ℕ, Bool, true, false, ◌||◌, ◌-◌, ◌^◌, ◌≤◌, ◌≢◌, nat_le, List, [], ◌∷◌, length, map, take, Option, Some, None, ◌≡◌, ◌==◌, ◌&&◌, ◌∙◌, refl, ap, sym, arith, Bor, bytes_eq, ne_eqb}
+use Rattle.std.specs.Prelude.{IfSome, find, is_none, if◌then◌else◌}
 use Rattle.std.specs.Int.{w32, to_be_bytes}
 use Rattle.model.specs.Keyed.{at}
 use Rattle.model.specs.Opens.{Open, Opens}
-use Rattle.model.specs.StateIds.{is_table_full, open_like, open_named}
+use Rattle.model.specs.StateIds.{is_like, is_table_full, open_like, open_named}
 use Rattle.opens.specs.declared.open.Entry.{Entry}
-use Rattle.opens.specs.Views.{serial_in, IsAt, IsNamed}
+use Rattle.opens.specs.Views.{entry_of, serial_in, IsAt, IsNamed}
 
 -- an open that joins another finds room
 pub is_not_full : (most : ℕ) (opens : Opens) (asked : Open) (like : ℕ × Open) → open_like opens asked ≡ Some like → false ≡ is_table_full most opens asked
 is_not_full most opens asked like is =
     ap (λ found. is_none found && (nat_le most (length opens.known) || nat_le (2 ^ 64 - 1) opens.given)) (sym is)
+
+-- and so one that joins none finds it where the table has it
+pub is_full_then : (most : ℕ) (opens : Opens) (asked : Open) → open_like opens asked ≡ None → is_table_full most opens asked ≡ (nat_le most (length opens.known) || nat_le (2 ^ 64 - 1) opens.given)
+is_full_then most opens asked is =
+    ap (λ found. is_none found && (nat_le most (length opens.known) || nat_le (2 ^ 64 - 1) opens.given)) is
+
+-- on a file whose number has more than 64 bits none is joined
+
+unlike : (client owner number : Bool) → number ≡ false → (client && (owner && number)) ≡ false
+unlike true true number is = is
+unlike true false number is = refl
+unlike false owner number is = refl
+
+pub none_like : (asked : Open) → 2 ^ 64 ≤ asked.number → (entries : List Entry) → find (is_like asked) (map entry_of entries) ≡ None
+none_like asked high [] = refl
+none_like asked high (entry ∷ entries) =
+    let low = entry.state.numbered in
+    let apart : entry.state.number ≢ asked.number = omega (arith, low, high) in
+    rw (unlike (entry.state.client == asked.client) (bytes_eq entry.state.owner.items asked.owner) (entry.state.number == asked.number) (ne_eqb entry.state.number asked.number apart))
+    (none_like asked high entries)
 
 pub named_at : (run serial : ℕ) (other : List ℕ) (opens : Opens) → (bytes_eq (take 4 other) (to_be_bytes w32 run) && (length other == 12)) ≡ true → serial_in other ≡ serial
     → open_named opens run other ≡ at serial opens.known

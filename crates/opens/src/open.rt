@@ -1,8 +1,6 @@
 //! One open.
 
-ghost use Rattle.std.specs.Prelude.{◌≡◌, ◌==◌, ◌&&◌, IfOk};
-ghost use Rattle.model.specs.StateIds.{is_like, upgraded, new_open};
-ghost use Rattle.opens.specs.Views.{entry_of, open_of};
+ghost use Rattle.std.specs.Prelude.{◌<◌, ◌^◌};
 
 use crate::access::Access;
 use crate::found::Standing;
@@ -20,6 +18,7 @@ pub struct Open {
     pub access: Access,
     /// How often it was opened: after `u32::MAX` comes 1.
     pub seqid: u32,
+    ghost numbered: { number < 2 ^ 64 },
 }
 
 /// An open that stands, under its serial.
@@ -30,6 +29,10 @@ pub struct Entry {
 }
 
 impl Open {
+    ghost use Rattle.std.specs.Prelude.{◌≡◌, IfOk};
+    ghost use Rattle.model.specs.StateIds.{upgraded, new_open};
+    ghost use Rattle.opens.specs.Views.{open_of};
+
     /// What a client asks for. The owner is copied.
     pub fn new(
         alloc: Global,
@@ -63,6 +66,10 @@ impl Open {
 }
 
 impl Entry {
+    ghost use Rattle.std.specs.Prelude.{◌≡◌, ◌==◌, ◌&&◌};
+    ghost use Rattle.model.specs.StateIds.{is_like};
+    ghost use Rattle.opens.specs.Views.{entry_of, open_of};
+
     /// Whether it is an open of the same client and owner on the same file.
     pub(crate) fn is_like(&self, asked: &Open) -> bool
         ensures { result ≡ is_like (open_of asked.now) (entry_of self.now) }

@@ -21,9 +21,10 @@ pub struct Opens {
 
 #[tactic(auto, unfolding(crate::specs::Views::opens_of, crate::specs::Views::HasMemory, model::specs::StateIds::found, model::specs::StateIds::opened))]
 impl Opens {
-    ghost use Rattle.std.specs.Prelude.{◌≡◌, None, map, IfOk, OnOk, IfSome, IfNone};
+    ghost use Rattle.std.specs.Prelude.{◌≡◌, ◌≤◌, ◌-◌, ◌^◌, ◌||◌, nat_le, None, length, map, IfOk, OnOk, IfSome, IfNone};
     ghost use Rattle.model.specs.Context.{Context};
     ghost use Rattle.model.specs.Keyed.{at};
+    ghost use Rattle.model.specs.Opens as model;
     ghost use Rattle.model.specs.Opens.{no_opens};
     ghost use Rattle.model.specs.StateIds.{found, is_table_full, open_like, open_named, opened, without_clients, without_number, without_open};
     ghost use Rattle.wire.specs.SmallViews.{state_view};
@@ -54,8 +55,19 @@ impl Opens {
     {
         match self.position_like(asked) {
             Some(_) => false,
-            None => most <= self.list.len() || u64::MAX <= self.given,
+            None => self.has_no_room(most),
         }
+    }
+
+    /// Whether an open that joins no other can't be made: `most` stand, or no serial is left. None
+    /// is joined on a file whose number would have more than 64 bits.
+    pub fn has_no_room(&self, most: usize) -> bool
+        ensures room { result ≡ (nat_le most (length (opens_of self.now).known)
+            || nat_le (2 ^ 64 - 1) (opens_of self.now).given) }
+        ensures high { (asked : model.Open) → 2 ^ 64 ≤ asked.number
+            → result ≡ is_table_full most (opens_of self.now) asked }
+    {
+        most <= self.list.len() || u64::MAX <= self.given
     }
 
     // The first open of the same client and owner on the same file.
