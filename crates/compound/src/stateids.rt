@@ -9,6 +9,7 @@ use wire::StateId;
 impl Running<'_> {
     ghost use Rattle.std.specs.Prelude.{◌≡◌};
     ghost use Rattle.fs.specs.Files.{IsVerdict};
+    ghost use Rattle.fs.specs.Verdicts.{IsPossible};
     ghost use Rattle.model.specs.Step.{State};
     ghost use Rattle.opens.specs.Views.{opens_of, StandsAt};
     ghost use Rattle.wire.specs.SmallViews.{state_view};
@@ -37,9 +38,10 @@ impl Running<'_> {
         stateid: &StateId,
         access: Access,
     ) -> Result<(), Status>
-        ensures { (state : State) → state.opens ≡ opens_of opens.now
+        ensures is { (state : State) → state.opens ≡ opens_of opens.now
             → state.context ≡ (in_progress_of self.now).context
             → IsVerdict state access.0 (state_view stateid.now) result }
+        ensures possible { IsPossible result }
     {
         match opens.find(&self.standing(), stateid).refuse_access(access) {
             None => Ok(()),

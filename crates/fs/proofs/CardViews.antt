@@ -14,7 +14,7 @@ use Rattle.model.specs.Keyed.{Keyed, at, with, in_place_of, before_or_behind}
 use Rattle.model.specs.Directory.{number_named}
 use Rattle.model.specs.Need.{granted_on}
 use Rattle.model.specs.Rename.{has_names}
-use Rattle.model.specs.Tree.{Tree, Node, Content, File, Directory, is_directory, is_directory_node, is_directory_at, names_of, names_at, names_of_node, entry_of}
+use Rattle.model.specs.Tree.{Tree, Node, Content, Directory, is_directory, is_directory_node, is_directory_at, names_of, names_at, names_of_node, entry_of}
 use Rattle.fs.specs.Removing.{may_remove}
 use Rattle.volume.specs.Nodes.{IsNodeOf, ShowsContent}
 

@@ -42,4 +42,5 @@ pub mod SettingPlans
 pub mod SettingSteps
 pub mod SettingTests
 pub mod SizePlans
+pub mod VerdictLaws
 pub mod WrittenLaws

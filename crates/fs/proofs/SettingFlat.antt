@@ -23,7 +23,7 @@ use Rattle.model.specs.Refusal.{Refusals, first_refusal}
 use Rattle.model.specs.SetAttr.{kind_at, set_attributes, sets, sets_size, shown_set, size_edits}
 use Rattle.model.specs.Stamp.{next_stamp, is_stamp_left}
 use Rattle.model.specs.Step.{State, does}
-use Rattle.model.specs.Tree.{Tree, Node, File, Directory, bytes_of, is_directory_at}
+use Rattle.model.specs.Tree.{Tree, Node, File, bytes_of, is_directory_at}
 use Rattle.model.specs.WellFormed.{IsWellFormed}
 use Rattle.model.proofs.RefusalLaws.{none_in_front, none_in_both}
 use Rattle.model.proofs.NodeChangeLaws.{length-resized}

@@ -19,5 +19,6 @@ pub mod Removing
 pub mod RenameTests
 pub mod Renaming
 pub mod Setting
+pub mod Verdicts
 pub mod Views
 pub mod Writing

@@ -28,6 +28,7 @@ impl<D: Device> Fs<D> {
     ghost use Rattle.fs.specs.Views.{fs_of, Alters};
     ghost use Rattle.fs.specs.Operations.{IsOn};
     ghost use Rattle.fs.specs.Reading.{Reads, part_at, read_operation, reading_ending};
+    ghost use Rattle.fs.specs.Verdicts.{IsPossible};
     ghost use Rattle.volume.specs.Changes.{IsTree};
     ghost use Rattle.volume.specs.Reading.{HasFile};
 
@@ -50,6 +51,7 @@ impl<D: Device> Fs<D> {
         count: u32,
         out: &mut Vec<u8>,
     ) -> Result<bool, FsFault>
+        requires possible { IsPossible verdict }
         ensures step { (state : State) (now : ℕ) (stateid : StateId)
             → IsOn (fs_of self.old) cred.now number state
             → IsVerdict state read_access stateid verdict

@@ -83,6 +83,7 @@ impl<D: Device> Fs<D> {
     ghost use Rattle.fs.specs.Refusals.{fault_of};
     ghost use Rattle.fs.specs.Setting.{IsSetting, SetsAsPlanned, SetsAttributes, SetsTree};
     ghost use Rattle.fs.specs.Setting.{setting_tests, shown_with};
+    ghost use Rattle.fs.specs.Verdicts.{IsPossible};
     ghost use Rattle.volume.specs.Nodes.{IsNodeOf};
 
     /// SETATTR (RFC 8881, section 18.30) of a node, by this caller at this moment, in nanoseconds
@@ -105,7 +106,8 @@ impl<D: Device> Fs<D> {
         asked: Setting<'_>,
         has_room: bool,
     ) -> Result<(), FsFault>
-        requires { length asked.attributes.bitmap.now ≤ 8 }
+        requires few { length asked.attributes.bitmap.now ≤ 8 }
+        requires possible { IsPossible asked.verdict }
         ensures step { (state : State) (arguments : SetAttrArguments)
             → IsOn (fs_of self.old) cred.now asked.entry.number state
             → IsSetting state asked.entry arguments

@@ -30,6 +30,7 @@ impl<D: Device> Fs<D> {
     ghost use Rattle.fs.specs.Operations.{IsOn, IsNotDone};
     ghost use Rattle.fs.specs.Planned.{IsPlanned};
     ghost use Rattle.fs.specs.Refusals.{fault_of};
+    ghost use Rattle.fs.specs.Verdicts.{IsPossible};
     ghost use Rattle.fs.specs.Writing.{Commits, IsPut, IsWriting, Writes, WritesBy, WritesTree, bytes_taken};
     ghost use Rattle.volume.specs.Changes.{IsTree};
     ghost use Rattle.volume.specs.Edits.{edited_by};
@@ -56,6 +57,7 @@ impl<D: Device> Fs<D> {
         asked: Writing<'_>,
         has_room: bool,
     ) -> Result<u32, FsFault>
+        requires possible { IsPossible verdict }
         ensures step { (state : State) (arguments : WriteArguments)
             → IsOn (fs_of self.old) cred.now number state
             → IsWriting state verdict asked.entry arguments

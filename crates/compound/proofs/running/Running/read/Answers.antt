@@ -69,7 +69,7 @@ returns-in_ok-finish-in-Ok-read-clause-gives g c = λ now keeps table.
     (record { number_is = refl; values_are = sym (c.in_ok-finish-in-Ok-read.ensures.ok c.in_ok-values.values.items part (c.in-Ok-read.ensures.bytes keeps) c.in_ok-values.ensures.ok few) }) refl
     (read_ok now fs opens request arguments table answer
     (λ state there known. c.in-Ok-read.ensures.step state now arguments.state (is_on fs request c.in-Ok.number state c.requires.run c.in-Ok.ensures.ok.0 c.in-Ok.ensures.ok.1 there)
-    (c.verdict-verdict.ensures state known there.context_is))))
+    (c.verdict-verdict.ensures.is state known there.context_is))))
 
 pub returns-in_ok-finish-in-Ok-read-clause-volume : goal.returns-in_ok-finish-in-Ok-read-clause-volume
 returns-in_ok-finish-in-Ok-read-clause-volume g c = λ now table.
@@ -94,7 +94,7 @@ tell_fault-requires g c =
     let arguments = read_view c.args.arguments.now in
     read_up 0 fs (opens_of c.args.opens.now) request arguments c.in-Err-read.fault c.requires.up
     (λ state there known. c.in-Err-read.ensures.step state 0 arguments.state (is_on fs request c.in-Ok.number state c.requires.run c.in-Ok.ensures.ok.0 c.in-Ok.ensures.ok.1 there)
-    (c.verdict-verdict.ensures state known there.context_is))
+    (c.verdict-verdict.ensures.is state known there.context_is))
 
 pub returns-in-Err-read-clause-gives : goal.returns-in-Err-read-clause-gives
 unfolding in_progress_of
@@ -107,7 +107,7 @@ returns-in-Err-read-clause-gives g c = λ now keeps.
     subst (λ (r : Result Operated Fault). IfOk r (ChangesTreeAndOpens fs new opens opens now request (Argument.Read arguments))) (sym c.tell_fault.ensures)
     (told_reads now fs opens request arguments g.D.Device.keeps_word new _ _ Bool c.in-Err-read.fault
     (λ state there known. c.in-Err-read.ensures.step state now arguments.state (is_on fs request c.in-Ok.number state c.requires.run c.in-Ok.ensures.ok.0 c.in-Ok.ensures.ok.1 there)
-    (c.verdict-verdict.ensures state known there.context_is)) c.in-Err-read.ensures.volume)
+    (c.verdict-verdict.ensures.is state known there.context_is)) c.in-Err-read.ensures.volume)
 
 pub returns-in-Err-read-clause-answered : goal.returns-in-Err-read-clause-answered
 unfolding in_progress_of
@@ -119,7 +119,7 @@ returns-in-Err-read-clause-answered g c =
     (told_spelled request 25 c.in-Err-read.fault (omega arith)
     (read_up 0 fs (opens_of c.args.opens.now) request arguments c.in-Err-read.fault c.requires.up
     (λ state there known. c.in-Err-read.ensures.step state 0 arguments.state (is_on fs request c.in-Ok.number state c.requires.run c.in-Ok.ensures.ok.0 c.in-Ok.ensures.ok.1 there)
-    (c.verdict-verdict.ensures state known there.context_is))))
+    (c.verdict-verdict.ensures.is state known there.context_is))))
 
 pub returns-in-Err-read-clause-volume : goal.returns-in-Err-read-clause-volume
 unfolding in_progress_of
@@ -133,4 +133,4 @@ returns-in-Err-read-clause-volume g c = λ now table.
     (sym c.tell_fault.ensures)
     (told_changes now fs opens request arguments g.D.Device.keeps_word new _ _ Bool table c.in-Err-read.fault c.requires.up
     (λ state there known. c.in-Err-read.ensures.step state now arguments.state (is_on fs request c.in-Ok.number state c.requires.run c.in-Ok.ensures.ok.0 c.in-Ok.ensures.ok.1 there)
-    (c.verdict-verdict.ensures state known there.context_is)) c.in-Err-read.ensures.volume)
+    (c.verdict-verdict.ensures.is state known there.context_is)) c.in-Err-read.ensures.volume)

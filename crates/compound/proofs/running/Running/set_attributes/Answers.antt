@@ -64,7 +64,7 @@ returns-in-Ok-set_attributes-clause-gives g c = λ keeps table.
     (done_runs c.args.now fs request kind (on_tree c.args.now fs request arguments) new table opens opens request.context (was_set arguments)
     (λ state there known. does_set c.args.now fs request arguments new opens state there known
     (c.in-Ok-set_attributes.ensures.step state arguments (is_on fs request _ state c.requires.run c.in-Ok.ensures.ok.0 c.in-Ok.ensures.ok.1 there)
-    (record { verdict_is = c.verdict-verdict.ensures state known there.context_is; attributes_are = given_is _ _ (sym c.as_slice.ensures.numbers) }) keeps))))
+    (record { verdict_is = c.verdict-verdict.ensures.is state known there.context_is; attributes_are = given_is _ _ (sym c.as_slice.ensures.numbers) }) keeps))))
 
 pub returns-in-Ok-set_attributes-clause-answered : goal.returns-in-Ok-set_attributes-clause-answered
 unfolding in_progress_of
@@ -86,7 +86,7 @@ returns-in-Ok-set_attributes-clause-volume g c = λ table.
     let arguments = set_attr_view c.args.arguments.now in
     changes_by g.D.Device.keeps_word _ _
     (set_makes c.args.now fs request arguments table opens _ c.requires.run c.in-Ok.ensures.ok.0 c.in-Ok.ensures.ok.1
-    (λ state there known. record { verdict_is = c.verdict-verdict.ensures state known there.context_is; attributes_are = given_is _ _ (sym c.as_slice.ensures.numbers) })
+    (λ state there known. record { verdict_is = c.verdict-verdict.ensures.is state known there.context_is; attributes_are = given_is _ _ (sym c.as_slice.ensures.numbers) })
     _ c.has_set_room-has_room.ensures c.in-Ok-set_attributes.ensures.room)
     _ _ _ _ _ c.in-Ok-set_attributes.ensures.volume
 
@@ -101,7 +101,7 @@ tell_fault-requires g c =
     let arguments = set_attr_view c.args.arguments.now in
     set_up c.args.now fs request arguments opens c.in-Err-set_attributes.fault c.requires.up
     (λ state there known. c.in-Err-set_attributes.ensures.step state arguments (is_on fs request _ state c.requires.run c.in-Ok.ensures.ok.0 c.in-Ok.ensures.ok.1 there)
-    (record { verdict_is = c.verdict-verdict.ensures state known there.context_is; attributes_are = given_is _ _ (sym c.as_slice.ensures.numbers) }))
+    (record { verdict_is = c.verdict-verdict.ensures.is state known there.context_is; attributes_are = given_is _ _ (sym c.as_slice.ensures.numbers) }))
 
 pub returns-in-Err-set_attributes-clause-gives : goal.returns-in-Err-set_attributes-clause-gives
 unfolding in_progress_of
@@ -116,7 +116,7 @@ returns-in-Err-set_attributes-clause-gives g c = λ keeps.
     (told_gives c.args.now fs request kind (on_tree c.args.now fs request arguments) _ (sized c.args.now fs request arguments _ c.has_set_room-has_room.ensures)
     g.D.Device.keeps_word _ new _ _ c.requires.up _ opens opens c.in-Err-set_attributes.fault refl
     (λ state there known. c.in-Err-set_attributes.ensures.step state arguments (is_on fs request _ state c.requires.run c.in-Ok.ensures.ok.0 c.in-Ok.ensures.ok.1 there)
-    (record { verdict_is = c.verdict-verdict.ensures state known there.context_is; attributes_are = given_is _ _ (sym c.as_slice.ensures.numbers) }))
+    (record { verdict_is = c.verdict-verdict.ensures.is state known there.context_is; attributes_are = given_is _ _ (sym c.as_slice.ensures.numbers) }))
     c.in-Err-set_attributes.ensures.no_room c.in-Err-set_attributes.ensures.volume)
 
 pub returns-in-Err-set_attributes-clause-answered : goal.returns-in-Err-set_attributes-clause-answered
@@ -129,7 +129,7 @@ returns-in-Err-set_attributes-clause-answered g c =
     subst (λ (r : Result Operated Fault). IfOk r (IsAnswered request)) (sym c.tell_fault.ensures)
     (told_spelled request 34 c.in-Err-set_attributes.fault (omega arith) (set_up c.args.now fs request arguments opens c.in-Err-set_attributes.fault c.requires.up
     (λ state there known. c.in-Err-set_attributes.ensures.step state arguments (is_on fs request _ state c.requires.run c.in-Ok.ensures.ok.0 c.in-Ok.ensures.ok.1 there)
-    (record { verdict_is = c.verdict-verdict.ensures state known there.context_is; attributes_are = given_is _ _ (sym c.as_slice.ensures.numbers) }))))
+    (record { verdict_is = c.verdict-verdict.ensures.is state known there.context_is; attributes_are = given_is _ _ (sym c.as_slice.ensures.numbers) }))))
 
 pub returns-in-Err-set_attributes-clause-kept : goal.returns-in-Err-set_attributes-clause-kept
 returns-in-Err-set_attributes-clause-kept g c = λ table.
@@ -144,7 +144,7 @@ returns-in-Err-set_attributes-clause-volume g c = λ table.
     let request = in_progress_of c.args.self.now in
     let arguments = set_attr_view c.args.arguments.now in
     let kind = Argument.SetAttr arguments in
-    let setting = λ (state : State) (there : IsHere fs request state) (known : state.opens ≡ opens). let is : IsSetting state _ arguments = record { verdict_is = c.verdict-verdict.ensures state known there.context_is; attributes_are = given_is _ _ (sym c.as_slice.ensures.numbers) } in is in
+    let setting = λ (state : State) (there : IsHere fs request state) (known : state.opens ≡ opens). let is : IsSetting state _ arguments = record { verdict_is = c.verdict-verdict.ensures.is state known there.context_is; attributes_are = given_is _ _ (sym c.as_slice.ensures.numbers) } in is in
     let step = λ (state : State) (there : IsHere fs request state) (known : state.opens ≡ opens). c.in-Err-set_attributes.ensures.step state arguments (is_on fs request _ state c.requires.run c.in-Ok.ensures.ok.0 c.in-Ok.ensures.ok.1 there) (setting state there known) in
     subst (λ (r : Result Operated Fault). Changes g.D.Device.keeps_word (OperationGives (shared fs table opens) request c.args.now kind) fs new (fs_failures c.args.fs.now) (fs_failures c.set_attributes.new.self) (ending r))
     (sym c.tell_fault.ensures)

@@ -64,7 +64,7 @@ returns-in-Ok-write-clause-gives g c = λ keeps table.
     (done_runs c.args.now fs request kind (write_on_tree c.args.now fs request arguments) new table opens opens request.context answer
     (λ state there known. does_write c.args.now fs request arguments new opens c.in-Ok-write.count state there known
     (c.in-Ok-write.ensures.step state arguments (is_on fs request _ state c.requires.run c.in-Ok.ensures.ok.0 c.in-Ok.ensures.ok.1 there)
-    (record { verdict_is = c.verdict-verdict.ensures state known there.context_is; offset_is = refl; bytes_are = refl; stable_is = c.is_to_be_stable.ensures }) keeps))))
+    (record { verdict_is = c.verdict-verdict.ensures.is state known there.context_is; offset_is = refl; bytes_are = refl; stable_is = c.is_to_be_stable.ensures }) keeps))))
 
 pub returns-in-Ok-write-clause-answered : goal.returns-in-Ok-write-clause-answered
 unfolding in_progress_of
@@ -88,7 +88,7 @@ returns-in-Ok-write-clause-volume g c = λ table.
     let arguments = write_view c.args.arguments.now in
     changes_by g.D.Device.keeps_word _ _
     (write_makes c.args.now fs request arguments table opens _ _ _ c.requires.run c.in-Ok.ensures.ok.0 c.in-Ok.ensures.ok.1
-    (λ state there known. record { verdict_is = c.verdict-verdict.ensures state known there.context_is; offset_is = refl; bytes_are = refl; stable_is = c.is_to_be_stable.ensures })
+    (λ state there known. record { verdict_is = c.verdict-verdict.ensures.is state known there.context_is; offset_is = refl; bytes_are = refl; stable_is = c.is_to_be_stable.ensures })
     _ c.has_written_room-has_room.ensures c.in-Ok-write.ensures.room)
     _ _ _ _ _ c.in-Ok-write.ensures.volume
 
@@ -103,7 +103,7 @@ tell_fault-requires g c =
     let arguments = write_view c.args.arguments.now in
     write_up c.args.now fs request arguments opens c.in-Err-write.fault c.requires.up
     (λ state there known. c.in-Err-write.ensures.step state arguments (is_on fs request _ state c.requires.run c.in-Ok.ensures.ok.0 c.in-Ok.ensures.ok.1 there)
-    (record { verdict_is = c.verdict-verdict.ensures state known there.context_is; offset_is = refl; bytes_are = refl; stable_is = c.is_to_be_stable.ensures }))
+    (record { verdict_is = c.verdict-verdict.ensures.is state known there.context_is; offset_is = refl; bytes_are = refl; stable_is = c.is_to_be_stable.ensures }))
 
 pub returns-in-Err-write-clause-gives : goal.returns-in-Err-write-clause-gives
 unfolding in_progress_of
@@ -118,7 +118,7 @@ returns-in-Err-write-clause-gives g c = λ keeps.
     (told_gives c.args.now fs request kind (write_on_tree c.args.now fs request arguments) _ (write_sized c.args.now fs request arguments _ c.has_written_room-has_room.ensures)
     g.D.Device.keeps_word _ new _ _ c.requires.up _ opens opens c.in-Err-write.fault refl
     (λ state there known. c.in-Err-write.ensures.step state arguments (is_on fs request _ state c.requires.run c.in-Ok.ensures.ok.0 c.in-Ok.ensures.ok.1 there)
-    (record { verdict_is = c.verdict-verdict.ensures state known there.context_is; offset_is = refl; bytes_are = refl; stable_is = c.is_to_be_stable.ensures }))
+    (record { verdict_is = c.verdict-verdict.ensures.is state known there.context_is; offset_is = refl; bytes_are = refl; stable_is = c.is_to_be_stable.ensures }))
     c.in-Err-write.ensures.no_room c.in-Err-write.ensures.volume)
 
 pub returns-in-Err-write-clause-answered : goal.returns-in-Err-write-clause-answered
@@ -131,7 +131,7 @@ returns-in-Err-write-clause-answered g c =
     subst (λ (r : Result Operated Fault). IfOk r (IsAnswered request)) (sym c.tell_fault.ensures)
     (told_spelled request 38 c.in-Err-write.fault (omega arith) (write_up c.args.now fs request arguments opens c.in-Err-write.fault c.requires.up
     (λ state there known. c.in-Err-write.ensures.step state arguments (is_on fs request _ state c.requires.run c.in-Ok.ensures.ok.0 c.in-Ok.ensures.ok.1 there)
-    (record { verdict_is = c.verdict-verdict.ensures state known there.context_is; offset_is = refl; bytes_are = refl; stable_is = c.is_to_be_stable.ensures }))))
+    (record { verdict_is = c.verdict-verdict.ensures.is state known there.context_is; offset_is = refl; bytes_are = refl; stable_is = c.is_to_be_stable.ensures }))))
 
 pub returns-in-Err-write-clause-kept : goal.returns-in-Err-write-clause-kept
 returns-in-Err-write-clause-kept g c = λ table.
@@ -146,7 +146,7 @@ returns-in-Err-write-clause-volume g c = λ table.
     let request = in_progress_of c.args.self.now in
     let arguments = write_view c.args.arguments.now in
     let kind = Argument.Write arguments in
-    let writing = λ (state : State) (there : IsHere fs request state) (known : state.opens ≡ opens). let is : IsWriting state _ _ arguments = record { verdict_is = c.verdict-verdict.ensures state known there.context_is; offset_is = refl; bytes_are = refl; stable_is = c.is_to_be_stable.ensures } in is in
+    let writing = λ (state : State) (there : IsHere fs request state) (known : state.opens ≡ opens). let is : IsWriting state _ _ arguments = record { verdict_is = c.verdict-verdict.ensures.is state known there.context_is; offset_is = refl; bytes_are = refl; stable_is = c.is_to_be_stable.ensures } in is in
     let step = λ (state : State) (there : IsHere fs request state) (known : state.opens ≡ opens). c.in-Err-write.ensures.step state arguments (is_on fs request _ state c.requires.run c.in-Ok.ensures.ok.0 c.in-Ok.ensures.ok.1 there) (writing state there known) in
     subst (λ (r : Result Operated Fault). Changes g.D.Device.keeps_word (OperationGives (shared fs table opens) request c.args.now kind) fs new (fs_failures c.args.fs.now) (fs_failures c.write.new.self) (ending r))
     (sym c.tell_fault.ensures)
