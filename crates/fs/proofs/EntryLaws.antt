@@ -1,9 +1,14 @@
 -- The entries of a list that a node may have.
-use Rattle.std.proofs.Common.{◌≡◌, ◌≤◌, ◌<◌, ◌+◌, ◌^◌, ℕ, true, ◌&&◌, bit_and, List, [], ◌∷◌, length, sym, arith, subst}
+use Rattle.std.proofs.Common.{◌≡◌, ◌≤◌, ◌<◌, ◌+◌, ◌^◌, ℕ, true, ◌&&◌, bit_and, List, [], ◌∷◌, length, option_map, sym, ap, ◌∙◌, arith, subst}
 use Rattle.std.specs.List.{AllByRecursion, list_all}
 use Rattle.std.proofs.lemmas.Bool.{and_parts, eqb-true, leb-true, ltb-true}
 use Rattle.std.proofs.lemmas.Nat.{and_le_l}
+use Rattle.std.proofs.Math.Logic.{∥∥₁_elim}
+use Rattle.std.proofs.Props.{props}
+use Rattle.edits.specs.Outlines.{blank_node, blanked}
+use Rattle.edits.proofs.BlankLaws.{at-blanked}
 use Rattle.inode.specs.Fields.{IsAce, id_of}
+use Rattle.layout.specs.Cards.{Card}
 use Rattle.model.specs.declared.acl.Ace.{Ace}
 use Rattle.model.specs.declared.acl.Who.{Who}
 use Rattle.model.specs.declared.acl.Who.TheVariants as who
@@ -18,7 +23,10 @@ use Rattle.model.proofs.FileStepLaws.{list_given, list_is_set}
 use Rattle.model.proofs.LimitLaws.{modes_keep_limits, inheritance_keeps_limits}
 use Rattle.settings.specs.declared.said.Settings.{Settings}
 use Rattle.settings.specs.Given.{AreWithin}
+use Rattle.fs.specs.FileSystem.{FileSystem}
 use Rattle.fs.specs.Planned.{IsList}
+use Rattle.fs.specs.Ready.{MayStand}
+use Rattle.volume.specs.Nodes.{IsNodeOf}
 
 -- no other flag than those of inheritance, and of a file's entries none at all
 few_for : (of : NodeKind) (flags : ℕ) → are_flags_for of flags ≡ true → flags < 16
@@ -58,6 +66,16 @@ small_list limits of acl is =
     let front = and_parts _ _ is in
     let parts = and_parts _ _ front.0 in
     record { each = each_spelled of acl parts.0; few = leb-true (length acl) limits.aces parts.1 }
+
+-- no node has more entries than the limit, whatever its form has room for
+pub few_listed : (fs : FileSystem) → MayStand fs.volume fs.changes → fs.volume.limits ≡ limits_of fs.volume.sectors fs.volume.limits.nodes
+    → (number : ℕ) (card : Card) → IsNodeOf fs.volume.tree number card → length card.fields.acl ≤ 40
+few_listed fs formed limited number card node = ∥∥₁_elim formed.well_formed (Prim.hlevel props) (λ well.
+    let is = well.nodes number (blank_node node.node) (at-blanked fs.volume.tree number ∙ ap (option_map blank_node) node.there) in
+    let small = small_list fs.volume.limits _ node.node.acl is.entries in
+    let most : fs.volume.limits.aces ≡ 40 = ap (λ (l : Limits). l.aces) limited in
+    let same : length node.node.acl ≡ length card.fields.acl = ap (λ (l : List Ace). length l) node.acl in
+    omega (arith, small.few, most, same))
 
 -- the list of a new node is one, where the list that is given is
 pub given_list_fits : (limits : Limits) (sectors nodes : ℕ) → limits ≡ limits_of sectors nodes → (of : NodeKind) (parent : List Ace) → IsList limits kind.Directory parent

@@ -68,7 +68,7 @@ module _ (fs : FileSystem) (formed : MayStand fs.volume fs.changes) (counted : f
       ∙ ap (λ (o : Option Node). touched o own now) parent.node.there
 
   parent_entries : AreEntries (shown_of parent_shown).acl
-  parent_entries = entries_shown card parent.fit parent_shown stamp now shown_is
+  parent_entries = entries_shown fs formed limited number card parent.node parent.fit parent_shown stamp now shown_is
 
   pub doable : AreDoable tree edits
   doable = subst (AreDoable tree) (sym list_is)

@@ -9,7 +9,6 @@ use Rattle.draft.specs.Nodes.{shown_of}
 use Rattle.edits.specs.declared.edit.Edit.{Edit}
 use Rattle.edits.specs.declared.edit.Edit.TheVariants as edit
 use Rattle.edits.specs.Edits.{AreEntries, AreDoable, edits_of}
-use Rattle.inode.proofs.Parts.{stored_entries}
 use Rattle.layout.specs.Cards.{Card}
 use Rattle.layout.specs.Known.{IsCard}
 use Rattle.model.specs.declared.acl.Ace.{Ace}
@@ -37,6 +36,7 @@ use Rattle.fs.proofs.RemovedLaws as laws
 use Rattle.volume.specs.Edits.{edited_by, front_of}
 use Rattle.volume.specs.Formed.{IsFormed}
 use Rattle.volume.specs.Nodes.{IsNodeOf}
+use Rattle.fs.proofs.EntryLaws.{few_listed}
 
 -- What a card shows is what its node does
 
@@ -53,8 +53,10 @@ shown_touched tree number card is stamp now =
 pub change_shown : (tree : Tree) (number : ℕ) (card : Card) (is : IsNodeOf tree number card) → change_of (at number tree) ≡ card.fields.change
 change_shown tree number card is = ap change_of is.there ∙ is.change
 
-pub entries_shown : (card : Card) (fit : IsCard card) (shown : Shown) (stamp now : ℕ) → shown_of shown ≡ shown_by card.fields stamp now → AreEntries (shown_of shown).acl
-entries_shown card fit shown stamp now is = subst (λ (s : model.Shown). AreEntries s.acl) (sym is) (record { few = omega (arith, fit.fits.acl, stored_entries card.form); each = fit.fits.each_ace })
+pub entries_shown : (fs : FileSystem) → MayStand fs.volume fs.changes → fs.volume.limits ≡ limits_of fs.volume.sectors fs.volume.limits.nodes → (number : ℕ) (card : Card) → IsNodeOf fs.volume.tree number card
+    → (fit : IsCard card) (shown : Shown) (stamp now : ℕ) → shown_of shown ≡ shown_by card.fields stamp now → AreEntries (shown_of shown).acl
+entries_shown fs formed limited number card node fit shown stamp now is =
+    subst (λ (s : model.Shown). AreEntries s.acl) (sym is) (record { few = few_listed fs formed limited number card node; each = fit.fits.each_ace })
 
 module _ (fs : FileSystem) (formed : MayStand fs.volume fs.changes) (counted : fs.changes < 2 ^ 32) (limited : fs.volume.limits ≡ limits_of fs.volume.sectors fs.volume.limits.nodes)
     (cred : Cred) (now number : ℕ) (card : Card) (spelled : Bor (List ℕ)) (entry_stamp target : ℕ) (node : IsNodeOf fs.volume.tree number card) (fit_card : IsCard card)
@@ -95,7 +97,7 @@ module _ (fs : FileSystem) (formed : MayStand fs.volume fs.changes) (counted : f
       (
         record {
           there = laws.directory_there fs formed counted limited cred now number spelled.now entry found passed;
-          entries = entries_shown card fit_card shown stamp now shown_is;
+          entries = entries_shown fs formed limited number card node fit_card shown stamp now shown_is;
         },
         tt,
       ),

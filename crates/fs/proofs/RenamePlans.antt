@@ -224,10 +224,10 @@ module _ (fs : FileSystem) (formed : MayStand fs.volume fs.changes) (counted : f
   to_then = to_told ∙ ap (λ (s : ℕ). shown_by moving.to.now.fields s now) stamp_is ∙ shown_touched fs.volume.tree asked.to moving.to.now moved.to stamp_now now
 
   from_list : AreEntries (shown_of from_shown).acl
-  from_list = entries_shown moving.from.now moved.from_fits from_shown stamp now from_told
+  from_list = entries_shown fs formed limited asked.from moving.from.now moved.from moved.from_fits from_shown stamp now from_told
 
   to_list : AreEntries (shown_of to_shown).acl
-  to_list = entries_shown moving.to.now moved.to_fits to_shown stamp now to_told
+  to_list = entries_shown fs formed limited asked.to moving.to.now moved.to moved.to_fits to_shown stamp now to_told
 
   edits_are : edits ≡ replacing asked.to asked.new_name target ++ moving_edits asked moving.stamp moving.number stamp_now from_shown to_shown
   edits_are = edits_told ∙ ap (λ (s : ℕ). replacing asked.to asked.new_name target ++ moving_edits asked moving.stamp moving.number s from_shown to_shown) stamp_is

@@ -95,7 +95,7 @@ module _ (fs : FileSystem) (formed : MayStand fs.volume fs.changes) (counted : f
       low = omega (arith, low, most);
     },
     (
-      record { there = sized_there; entries = entries_shown card fit_card shown stamp now shown_is },
+      record { there = sized_there; entries = entries_shown fs formed limited number card node fit_card shown stamp now shown_is },
       tt,
     ),
   )

@@ -10,7 +10,6 @@ use Rattle.edits.specs.declared.edit.Edit.{Edit}
 use Rattle.edits.specs.declared.edit.Edit.TheVariants as edit
 use Rattle.edits.specs.Doing.{updates_of_all}
 use Rattle.edits.specs.Edits.{AreEntries, AreDoable, edits_of, size_of}
-use Rattle.inode.proofs.Parts.{stored_entries}
 use Rattle.layout.specs.Cards.{Card}
 use Rattle.layout.specs.Known.{IsCard}
 use Rattle.layout.specs.Stands.{Kept}
@@ -51,6 +50,7 @@ use Rattle.volume.specs.Edits.{edited_by}
 use Rattle.volume.specs.Formed.{IsFormed}
 use Rattle.volume.specs.Nodes.{IsNodeOf, IsFile, ShowsContent}
 use Rattle.volume.specs.Held.{with_tree}
+use Rattle.fs.proofs.EntryLaws.{few_listed}
 
 -- In each state of the operation
 
@@ -220,7 +220,7 @@ module _ (fs : FileSystem) (formed : MayStand fs.volume fs.changes) (counted : f
     (
       record {
         there = ap is_some put_there;
-        entries = subst (λ (s : model.Shown). AreEntries s.acl) (sym shown_is) (record { few = omega (arith, fit_card.fits.acl, stored_entries card.form); each = fit_card.fits.each_ace });
+        entries = subst (λ (s : model.Shown). AreEntries s.acl) (sym shown_is) (record { few = few_listed fs formed limited number card node; each = fit_card.fits.each_ace });
       },
       tt,
     ),

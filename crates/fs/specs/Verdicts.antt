@@ -1,6 +1,6 @@
--- Which verdicts on a stateid READ, WRITE and SETATTR may be told: RFC 8881, sections 8.2.2 to
--- 8.2.4. An open that is none of theirs, an old one, or one without the access; each of them in
--- some state, so that no promise of such a call is empty.
+-- The verdicts on a stateid that READ, WRITE and SETATTR may be handed (RFC 8881, sections 8.2.2 to
+-- 8.2.4): no refusal; or that it names no open, an old seqid of one, or one without this access.
+-- Each is given in some state.
 use Rattle.std.specs.Prelude.{ℕ, Result, Ok, Err, Some, None, [], codes, ◌≡◌, ◌≤◌, ◌<◌, ◌^◌, ◌⊎◌, IsTrue, IsFalse}
 use Rattle.model.specs.declared.acl.Cred.{Cred}
 use Rattle.model.specs.declared.status.Status.{Status}

@@ -21,7 +21,7 @@ use Rattle.server.specs.declared.server.Server.{Server}
 use Rattle.disk.specs.declared.device.Device.{Ghosts}
 
 -- a server that was just mounted, and begins a run with this tree, which is well formed and from
--- before its stamps, and these seats: a stop now leaves them
+-- before its stamps, and with these seats: a stop now leaves them
 pub record IsMounted (run : ℕ) (start : Kept) (first : Seen) : Type 0 where
   pub serves :
       first.serving ≡ mounted (server_limits first.volume.limits) run start.tree start.seats

@@ -57,7 +57,7 @@ files_of server = fs_of server.fs
 unfoldable pub volume_of : {D : Type 0} {g : Ghosts D} → Server D g → Held
 volume_of server = (fs_of server.fs).volume
 
--- it has the tree of its volume and its seats, and no client, no session and no connection
+-- it has the tree and the seats of its volume, and no client, session or connection
 abbrev pub BeginsEmpty : {D : Type 0} {g : Ghosts D} → Server D g → Type 0
 BeginsEmpty server = world_of server
     ≡ mounted_world (server_limits (volume_of server).limits) (volume_of server).run
