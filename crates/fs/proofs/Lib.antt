@@ -16,6 +16,7 @@ pub mod FlatWrites
 pub mod FrontLaws
 pub mod HandleLaws
 pub mod KeptLaws
+pub mod LastPlans
 pub mod ListLaws
 pub mod LookupTests
 pub mod MakingLaws

@@ -4,7 +4,7 @@ use Rattle.std.proofs.Math.Logic.{∥∥₁_elim}
 use Rattle.std.proofs.Props.{props}
 use Rattle.std.proofs.lemmas.Bool.{lt-ltb}
 use Rattle.std.specs.Option.{ForSome}
-use Rattle.std.specs.Prelude.{IsTrue, option_map}
+use Rattle.std.specs.Prelude.{IsTrue, Result, option_map}
 use Rattle.draft.specs.declared.nodes.Shown.{Shown}
 use Rattle.draft.specs.Nodes.{shown_of}
 use Rattle.edits.specs.declared.edit.Edit.{Edit}
@@ -19,6 +19,7 @@ use Rattle.model.specs.declared.acl.Cred.{Cred}
 use Rattle.model.specs.declared.limits.Limits.{Limits}
 use Rattle.model.specs.declared.node.NodeKind.{NodeKind}
 use Rattle.model.specs.declared.node.NodeKind.TheVariants as kind
+use Rattle.model.specs.declared.status.Status.{Status}
 use Rattle.model.specs.declared.status.Status.TheVariants as status
 use Rattle.model.specs.Attribute.{attribute_refusals, attributes_of, is_empty, settable_at_setattr, size_given}
 use Rattle.model.specs.Charge.{fits}
@@ -42,11 +43,13 @@ use Rattle.settings.specs.Given.{AreSettings, AreWithin, given_of}
 use Rattle.fs.specs.declared.setting.Setting.{Setting}
 use Rattle.fs.specs.FileSystem.{FileSystem}
 use Rattle.fs.specs.Files.{verdict_refusals}
+use Rattle.fs.specs.Making.{last_refusal}
 use Rattle.fs.specs.Operations.{IsOn, does_on}
 use Rattle.fs.specs.Planned.{IsList, IsPlanned}
 use Rattle.fs.specs.Ready.{MayStand}
 use Rattle.fs.specs.Setting.{IsSet, IsSetting, after_setting, may_set, resizing, setting_tests, shown_with, sized_refusals}
 use Rattle.fs.proofs.KeptLaws.{planned_by}
+use Rattle.fs.proofs.LastPlans.{resized_room, resizing_doable, told_as}
 use Rattle.fs.proofs.SettingFlat as flat
 use Rattle.fs.proofs.SettingLaws as laws
 use Rattle.volume.specs.Edits.{edited_by}
@@ -73,6 +76,49 @@ listed fs formed number card is = ∥∥₁_elim formed.well_formed (Prim.hlevel
     let own = (well.nodes number (blank_node is.node) (at-blanked fs.volume.tree number ∙ ap (option_map blank_node) is.there)).entries in
     subst (λ (acl : List Ace). IsList fs.volume.limits card.fields.kind acl) is.acl
     (subst (λ (of : NodeKind). IsList fs.volume.limits of is.node.acl) (kind_blank is.node.content ∙ kind_shown card.fields.kind card is.node.content is.content) own))
+
+-- A size is set of a file
+
+sized_file : (is_sized is_directory : Bool) (verdict : Result (Unit {0}) Status) → is_sized ≡ true → first_refusal (sized_refusals is_sized is_directory verdict) ≡ None → is_directory ≡ false
+sized_file true is_directory verdict told none = (none_in_front is_directory status.IsDir (first_refusal (verdict_refusals verdict)) none).0
+sized_file false is_directory verdict told none = absurd (cc)
+
+pub no_directory_at : (fs : FileSystem) (cred : Cred) (asked : Setting) → first_refusal (setting_tests fs.volume.limits fs.volume.tree cred asked.number asked.verdict (given_of asked.attributes)) ≡ None
+    → sets_size (given_of asked.attributes) ≡ true → is_directory_at fs.volume.tree asked.number ≡ false
+no_directory_at fs cred asked passed sized =
+    let tree = fs.volume.tree in
+    let given = given_of asked.attributes in
+    let stale = none_in_front (not (is_key asked.number tree)) status.Stale _ passed in
+    let values = none_in_both (attribute_refusals fs.volume.limits (kind_at tree asked.number) settable_at_setattr given) _ stale.1 in
+    let both = none_in_both (sized_refusals (sets_size given) (is_directory_at tree asked.number) asked.verdict)
+    ((not (may_set (granted_on (at asked.number tree) cred) (attributes_of given.bitmap)), status.Access) ∷ []) values.1 in
+    sized_file (sets_size given) (is_directory_at tree asked.number) asked.verdict sized both.0
+
+low_size : (limits : Limits) (of : NodeKind) (settings : Settings) → AreWithin limits of settings → (size : ℕ) → settings.size ≡ Some size → size ≤ limits.file_bytes
+low_size limits of settings within size is = (subst (λ (o : Option ℕ). ForSome o (λ (n : ℕ). n ≤ limits.file_bytes)) is within.size) size refl
+
+-- Where no stamp is left
+
+module _ (fs : FileSystem) (formed : MayStand fs.volume fs.changes) (limited : fs.volume.limits ≡ limits_of fs.volume.sectors fs.volume.limits.nodes)
+    (cred : Cred) (now : ℕ) (asked : Setting) (card : Card) (is_node : IsNodeOf fs.volume.tree asked.number card)
+    (passed : first_refusal (setting_tests fs.volume.limits fs.volume.tree cred asked.number asked.verdict (given_of asked.attributes)) ≡ None)
+    (settings : Settings) (are : AreSettings settings (given_of asked.attributes)) (within : AreWithin fs.volume.limits card.fields.kind settings) where
+  pub last_doable : AreDoable fs.volume.tree (resizing asked.number settings.size)
+  last_doable = resizing_doable fs formed limited asked.number is_node.node is_node.there settings.size
+      (λ sized. no_directory_at fs cred asked passed (ap is_some (sym are.size) ∙ sized))
+      (low_size fs.volume.limits card.fields.kind settings within)
+
+  pub last_refused : settings.is_empty ≡ false → is_stamp_left fs.changes ≡ false → (state : State) (arguments : SetAttrArguments) → IsOn fs cred asked.number state → IsSetting state asked arguments
+      → does_on fs state now (Argument.SetAttr arguments) ≡ refused state (Argument.SetAttr arguments) (last_refusal fs (edited_by fs.volume (resizing asked.number settings.size)))
+  last_refused some none state arguments on is =
+      let given = given_of asked.attributes in
+      let shown = shown_set (Some is_node.node) given (next_stamp fs.volume.run fs.changes) now in
+      let not_empty = sym are.empty ∙ some in
+      told_as fs (λ (reason : Status). does_on fs state now (Argument.SetAttr arguments) ≡ refused state (Argument.SetAttr arguments) reason)
+      (edited (size_edits asked.number (size_given given) ++ (Show asked.number shown ∷ [])) fs.volume.tree) (edited_by fs.volume (resizing asked.number settings.size))
+      (resized_room fs formed limited asked.number (size_given given) shown ∙ ap (λ (size : Option ℕ). fits fs.volume.limits (edited_by fs.volume (resizing asked.number size))) (sym are.size))
+      (laws.full fs cred now asked state arguments on is passed not_empty is_node.node is_node.there)
+      (λ fit. laws.used_up fs cred now asked state arguments on is passed not_empty is_node.node is_node.there fit none)
 
 module _ (fs : FileSystem) (formed : MayStand fs.volume fs.changes) (counted : fs.changes < 2 ^ 32) (limited : fs.volume.limits ≡ limits_of fs.volume.sectors fs.volume.limits.nodes)
     (cred : Cred) (now : ℕ) (asked : Setting) (card : Card) (is_node : IsNodeOf fs.volume.tree asked.number card)
@@ -138,15 +184,7 @@ module _ (fs : FileSystem) (formed : MayStand fs.volume fs.changes) (counted : f
 
   -- a size is set of a file, which has few bytes before it
   no_directory : sets_size given ≡ true → is_directory_at tree number ≡ false
-  no_directory sized =
-      let stale = none_in_front (not (is_key number tree)) status.Stale _ passed in
-      let values = none_in_both (attribute_refusals limits (kind_at tree number) settable_at_setattr given) _ stale.1 in
-      let both = none_in_both (sized_refusals (sets_size given) (is_directory_at tree number) asked.verdict) ((not (may_set (granted_on (at number tree) cred) (attributes_of given.bitmap)), status.Access) ∷ []) values.1 in
-      by_size (sets_size given) sized both.0
-    where
-      by_size : (b : Bool) → b ≡ true → first_refusal (sized_refusals b (is_directory_at tree number) asked.verdict) ≡ None → is_directory_at tree number ≡ false
-      by_size true told none = (none_in_front (is_directory_at tree number) status.IsDir (first_refusal (verdict_refusals asked.verdict)) none).0
-      by_size false told none = absurd (cc)
+  no_directory sized = no_directory_at fs cred asked passed sized
 
   few_bytes : (content : Content) → IsContent limits (blank content) → length (bytes_of content) ≤ limits.file_bytes
   few_bytes (File bytes) is = (let low = is.1 in omega (arith, low, length-zeros (length bytes)))
@@ -160,7 +198,7 @@ module _ (fs : FileSystem) (formed : MayStand fs.volume fs.changes) (counted : f
       omega (arith, few, same))
 
   low : (size : ℕ) → size_given given ≡ Some size → size ≤ limits.file_bytes
-  low size said = (subst (λ (o : Option ℕ). ForSome o (λ (n : ℕ). n ≤ limits.file_bytes)) (are.size ∙ said) within.size) size refl
+  low size said = low_size limits card.fields.kind settings within size (are.size ∙ said)
 
   key_sized : (size : ℕ) → is_key number (done (SetSize number size) tree) ≡ true
   key_sized size =

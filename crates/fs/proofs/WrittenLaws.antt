@@ -39,6 +39,7 @@ use Rattle.model.proofs.NodeChangeLaws.{altered-once}
 use Rattle.fs.specs.declared.writing.Writing.{Writing}
 use Rattle.fs.specs.FileSystem.{FileSystem}
 use Rattle.fs.specs.Files.{permit_refusals}
+use Rattle.fs.specs.Making.{last_refusal}
 use Rattle.fs.specs.Operations.{IsOn, does_on}
 use Rattle.fs.specs.Planned.{IsPlanned, shown_by}
 use Rattle.fs.specs.Ready.{MayStand}
@@ -46,6 +47,7 @@ use Rattle.fs.specs.Writing.{IsPut, IsWriting, WritesTree, after_write, bytes_ta
 use Rattle.fs.proofs.FileSteps as steps
 use Rattle.fs.proofs.FlatWrites as flat
 use Rattle.fs.proofs.KeptLaws.{planned_by}
+use Rattle.fs.proofs.LastPlans.{file_to, put_room, told_as}
 use Rattle.volume.specs.Edits.{edited_by}
 use Rattle.volume.specs.Formed.{IsFormed}
 use Rattle.volume.specs.Nodes.{IsNodeOf, IsFile, ShowsContent}
@@ -140,6 +142,35 @@ puts_tree fs cred now number verdict asked edits step then lasts made = (
   λ lasting. unless_stable (has_bytes made.arguments) (is_done (does_on fs made.state now (Argument.Write made.arguments)).outcome) asked.is_stable (made.arguments.stable == 0)
       made.writing.stable_is (sym made.lasting_is ∙ lasting),
 )
+
+-- Where no stamp is left
+
+module _ (fs : FileSystem) (formed : MayStand fs.volume fs.changes) (limited : fs.volume.limits ≡ limits_of fs.volume.sectors fs.volume.limits.nodes)
+    (cred : Cred) (now number : ℕ) (verdict : Result (Unit {0}) Status) (asked : Writing) (card : Card) (node : IsNodeOf fs.volume.tree number card) (file : card.fields.kind ≡ kind.File)
+    (low : asked.offset + length (bytes_taken fs asked) ≤ fs.volume.limits.file_bytes) (place : ℕ) (spelled : Bor (List ℕ)) (place_is : place ≡ asked.offset) (spelled_is : spelled.now ≡ bytes_taken fs asked) where
+  abbrev put : List Edit
+  put = edit.PutBytes number place spelled ∷ []
+
+  of_file : IsFile card.fields.size node.node.content
+  of_file = subst (λ (of : NodeKind). ShowsContent of card node.node.content) file node.content
+
+  pub last_doable : AreDoable fs.volume.tree put
+  last_doable =
+      let count : length spelled.now ≡ length (bytes_taken fs asked) = ap (λ (l : List ℕ). length l) spelled_is in
+      (file_to fs formed limited number node.node node.there (place + length spelled.now) (ap is_directory_node node.there ∙ ap is_directory of_file.file) (omega (arith, low, count, place_is)), tt)
+
+  pub last_refused : first_refusal (permit_refusals fs.volume.tree cred number write_data verdict) ≡ None → 0 < length asked.bytes.now → are_bytes asked.bytes.now ≡ true → is_stamp_left fs.changes ≡ false
+      → (state : State) (arguments : WriteArguments) → IsOn fs cred number state → IsWriting state verdict asked arguments
+      → does_on fs state now (Argument.Write arguments) ≡ refused state (Argument.Write arguments) (last_refusal fs (edited_by fs.volume put))
+  last_refused passed some bytes none state arguments on is =
+      let shown = touched (Some node.node) (next_stamp fs.volume.run fs.changes) now in
+      let part = bytes_taken fs asked in
+      told_as fs (λ (reason : Status). does_on fs state now (Argument.Write arguments) ≡ refused state (Argument.Write arguments) reason)
+      (edited (PutBytes number asked.offset part ∷ Show number shown ∷ []) fs.volume.tree) (edited_by fs.volume put)
+      (put_room fs formed limited number asked.offset part shown
+      ∙ ap₂ (λ (offset : ℕ) (l : List ℕ). fits fs.volume.limits (done (PutBytes number offset l) fs.volume.tree)) (sym place_is) (sym spelled_is))
+      (full fs cred now number verdict asked bytes state arguments on is passed some low node.node node.there)
+      (λ fit. used_up fs cred now number verdict asked bytes state arguments on is passed some low node.node node.there fit none)
 
 -- The edits, as they stand in memory
 

@@ -1,5 +1,5 @@
 -- A node and its name more, whichever operation makes them.
-use Rattle.std.specs.Prelude.{◌≡◌, ◌≤◌, ◌∷◌, [], ℕ, zero, suc, not, List, None}
+use Rattle.std.specs.Prelude.{◌≡◌, ◌≤◌, ◌∷◌, [], ℕ, zero, suc, not, List, None, if◌then◌else◌}
 use Rattle.edits.specs.declared.edit.Edit.{Edit}
 use Rattle.edits.specs.declared.edit.Edit.TheVariants as edit
 use Rattle.edits.specs.Outlines.{zeros}
@@ -7,6 +7,7 @@ use Rattle.layout.specs.Cards.{Card}
 use Rattle.layout.specs.Known.{IsCard}
 use Rattle.model.specs.declared.node.NodeKind.{NodeKind}
 use Rattle.model.specs.declared.node.NodeKind.TheVariants as kind
+use Rattle.model.specs.declared.status.Status.{Status}
 use Rattle.model.specs.declared.status.Status.TheVariants as status
 use Rattle.model.specs.Changes.{made_edits}
 use Rattle.model.specs.Charge.{fits}
@@ -39,6 +40,10 @@ abbrev pub room_tests : FileSystem → (after : Tree) → Refusals
 room_tests fs after = (not (fits fs.volume.limits after), status.NoSpc)
     ∷ (not (is_stamp_left fs.changes), status.ServerFault)
     ∷ []
+
+-- where no stamp is left, what refuses a change whose tree has room as this one has
+abbrev pub last_refusal : FileSystem → Tree → Status
+last_refusal fs tree = if fits fs.volume.limits tree then status.ServerFault else status.NoSpc
 
 -- what the next change leaves, where it makes this node under a name
 abbrev pub tree_with : FileSystem → (directory : ℕ) → (name : List ℕ) → Node → (now : ℕ) → Tree

@@ -1,6 +1,6 @@
 //! Changes of the tree: the edits that they are made of, and keeping them.
 
-ghost use Rattle.std.specs.Prelude.{◌≡◌, ◌⊎◌, ◌+◌, ◌∷◌, [], ◌++◌, false, IfOk, IfErr, OnOk, MatchOption, ◌≤◌, ◌^◌};
+ghost use Rattle.std.specs.Prelude.{◌≡◌, ◌⊎◌, ◌+◌, ◌<◌, ◌∷◌, [], ◌++◌, false, IfOk, IfErr, OnOk, MatchOption, ◌≤◌, ◌^◌};
 ghost use Rattle.draft.specs.Nodes.{shown_of};
 ghost use Rattle.edits.specs.declared.edit.Edit.TheVariants as edit;
 ghost use Rattle.fs.specs.Making.{sizing};
@@ -14,6 +14,8 @@ use cards::Card;
 use disk::Device;
 use draft::Shown;
 use edits::Edit;
+use model::not_done::NotDone;
+use model::status::Status;
 use std::alloc::{AllocError, Global};
 
 /// A node whose content a change alters: what it shows then.
@@ -148,8 +150,10 @@ pub(crate) fn set_edits<'a>(
 impl<D: Device> Fs<D> {
     ghost use Rattle.fs.specs.Changes.{fs_ending};
     ghost use Rattle.fs.specs.Views.{fs_of, Alters};
+    ghost use Rattle.edits.specs.Edits.{AreDoable};
+    ghost use Rattle.fs.specs.Making.{last_refusal};
     ghost use Rattle.fs.specs.Planned.{IsPlanned};
-    ghost use Rattle.model.specs.Stamp.{next_stamp};
+    ghost use Rattle.model.specs.Stamp.{next_stamp, is_stamp_left};
     ghost use Rattle.volume.specs.Changes.{IsTree};
     ghost use Rattle.volume.specs.Edits.{IsEdited, edited_by};
     ghost use Rattle.volume.specs.Formed.{Shows};
@@ -163,6 +167,46 @@ impl<D: Device> Fs<D> {
     {
         let first = u64::from(self.restart_count()) * 0x1_0000_0000;
         first.checked_add(u64::from(self.changes) + 1)
+    }
+
+    /// The same, where the run has a stamp left.
+    pub(crate) fn stamp_left(&self) -> Option<u64>
+        ensures { MatchOption result (is_stamp_left (fs_of self.now).changes ≡ false) (λ stamp.
+            (stamp ≡ next_stamp (fs_of self.now).volume.run (fs_of self.now).changes)
+            × ((fs_of self.now).changes + 1 < 2 ^ 32)) }
+    {
+        if self.changes == u32::MAX {
+            return None;
+        }
+        let first = u64::from(self.restart_count()) * 0x1_0000_0000;
+        Some(first + (u64::from(self.changes) + 1))
+    }
+
+    /// Why a change is refused for which no stamp is left: NOSPC where the tree after these edits
+    /// has no room, and else SERVERFAULT. They need no stamp, since which numbers stand in a tree
+    /// does not matter to its room, and no memory is taken.
+    pub(crate) fn refuse_last(&self, edits: &[Edit<'_>]) -> NotDone
+        requires { AreDoable (fs_of self.now).volume.tree edits.now }
+        ensures { result ≡ NotDone.Status (last_refusal (fs_of self.now)
+            (edited_by (fs_of self.now).volume edits.now)) }
+    {
+        if self.volume.fits(edits) {
+            NotDone::Status(Status::ServerFault)
+        } else {
+            NotDone::Status(Status::NoSpc)
+        }
+    }
+
+    /// The same, of a change that sets a node's size, or of one that sets none.
+    pub(crate) fn refuse_last_size(&self, number: u64, size: Option<u64>) -> NotDone
+        requires { AreDoable (fs_of self.now).volume.tree (resizing number size) }
+        ensures { result ≡ NotDone.Status (last_refusal (fs_of self.now)
+            (edited_by (fs_of self.now).volume (resizing number size))) }
+    {
+        match size {
+            None => self.refuse_last(&[]),
+            Some(size) => self.refuse_last(&[Edit::SetSize { file: number, size }]),
+        }
     }
 
     /// Makes a change, and counts it. A stop may lose it until the next flush.

@@ -36,6 +36,7 @@ impl<D: Device> Fs<D> {
     ghost use Rattle.model.specs.Open.{cuts, given_by, known_refusals, new_refusals};
     ghost use Rattle.model.specs.Operation.{Argument, OpenArguments, Unchecked};
     ghost use Rattle.model.specs.Refusal.{first_refusal};
+    ghost use Rattle.model.specs.Stamp.{is_stamp_left};
     ghost use Rattle.model.specs.Step.{State};
     ghost use Rattle.settings.specs.Given.{given_of, AreSettings, AreWithin, IsChecked, IsCheckedInMemory};
     ghost use Rattle.fs.specs.Changes.{fs_ending};
@@ -320,21 +321,20 @@ impl<D: Device> Fs<D> {
         // Its tests, in their order
         ensures tests { IsCheckedInMemory (room_tests (fs_of self.now)
             (tree_cut (fs_of self.now) number now)) result }
+        ensures memory { is_stamp_left (fs_of self.now).changes ≡ false
+            → IsErrOf result NotDone.Memory → ⊥ }
         // Where none holds
         ensures planned { IfOk result (λ edits. IsPlanned (fs_of self.now) edits.items) }
         ensures after { IfOk result (λ edits. edited_by (fs_of self.now).volume edits.items
             ≡ tree_cut (fs_of self.now) number now) }
     {
-        let Some(stamp) = self.next_stamp() else {
-            return Err(NotDone::Memory);
+        let Some(stamp) = self.stamp_left() else {
+            return Err(self.refuse_last_size(number, Some(0)));
         };
         let shown = touched(self.alloc, card, stamp, now)?;
         let edits = set_edits(self.alloc, number, Some(0), shown)?;
         if !self.volume.fits(&edits) {
             return Err(NotDone::Status(Status::NoSpc));
-        }
-        if self.changes == u32::MAX {
-            return Err(NotDone::Status(Status::ServerFault));
         }
         Ok(edits)
     }

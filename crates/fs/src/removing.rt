@@ -48,6 +48,7 @@ impl<D: Device> Fs<D> {
     ghost use Rattle.layout.specs.Known.{IsCard};
     ghost use Rattle.model.specs.Directory.{number_named};
     ghost use Rattle.model.specs.Operation.{Argument};
+    ghost use Rattle.model.specs.Stamp.{is_stamp_left};
     ghost use Rattle.model.specs.Step.{State};
     ghost use Rattle.model.specs.Tree.{entry_of, names_at};
     ghost use Rattle.settings.specs.Given.{IsChecked};
@@ -68,7 +69,7 @@ impl<D: Device> Fs<D> {
     /// Refused by the first of these that holds: STALE, NOTDIR, a name that is none, NOENT, ACCESS
     /// with neither the right to delete the node nor that to delete a child of the directory,
     /// NOTEMPTY, and SERVERFAULT where the run has used up its stamps; then `NoRoom`. It is never
-    /// NOSPC. Memory may run out before or after any of them.
+    /// NOSPC. Memory may run out before or after any of them, but not where no stamp is left.
     pub fn remove(
         &mut self,
         cred: &Cred,
@@ -89,6 +90,8 @@ impl<D: Device> Fs<D> {
         ensures no_room { IsErrOf result FsFault.NoRoom → has_room ≡ false }
         ensures down { (fs_of self.old).volume.is_down ≡ true → IsErrOf result FsFault.Down }
         ensures device_room { IsErrOf result FsFault.Device → has_room ≡ true }
+        ensures memory { is_stamp_left (fs_of self.old).changes ≡ false
+            → IsErrOf result FsFault.Memory → ⊥ }
     {
         if self.is_down() {
             return Err(FsFault::Down);
@@ -121,15 +124,14 @@ impl<D: Device> Fs<D> {
         ensures refused { (state : State) → IsOn (fs_of self.now) cred.now directory state
             → IfErr result (λ refusal. IsNotDone (fs_of self.now) state now
             (Argument.Remove name.now) (fault_of refusal)) }
+        ensures memory { is_stamp_left (fs_of self.now).changes ≡ false
+            → IsErrOf result NotDone.Memory → ⊥ }
     {
         let removal = self.permit_removal(cred, directory, name)?;
         let holder = removal.directory;
-        let Some(stamp) = self.next_stamp() else {
-            return Err(NotDone::Memory);
-        };
-        if self.changes == u32::MAX {
+        let Some(stamp) = self.stamp_left() else {
             return Err(NotDone::Status(Status::ServerFault));
-        }
+        };
         let shown = touched(self.alloc, holder, stamp, now)?;
         let edits = removed_edits(
             self.alloc,

@@ -162,17 +162,14 @@ impl<D: Device> Fs<D> {
         if settings.is_empty {
             return Ok(None);
         }
-        let Some(stamp) = self.next_stamp() else {
-            return Err(NotDone::Memory);
-        };
         let size = settings.size;
+        let Some(stamp) = self.stamp_left() else {
+            return Err(self.refuse_last_size(asked.number, size));
+        };
         let shown = self.shown_set(card, settings, stamp, now)?;
         let edits = set_edits(self.alloc, asked.number, size, shown)?;
         if !self.volume.fits(&edits) {
             return Err(NotDone::Status(Status::NoSpc));
-        }
-        if self.changes == u32::MAX {
-            return Err(NotDone::Status(Status::ServerFault));
         }
         Ok(Some(edits))
     }

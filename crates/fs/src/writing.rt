@@ -24,6 +24,7 @@ impl<D: Device> Fs<D> {
     ghost use Rattle.std.specs.Prelude.{◌≡◌, ◌+◌, ◌<◌, ◌≤◌, ◌⊎◌, true, false, ℕ, length, take, OnOk, IfOk, IfErr, IfSome, IfNone, IsErrOf, IsTrue};
     ghost use Rattle.model.specs.Files.{are_bytes};
     ghost use Rattle.model.specs.Operation.{Argument, CommitArguments, WriteArguments};
+    ghost use Rattle.model.specs.Stamp.{is_stamp_left};
     ghost use Rattle.model.specs.Step.{State};
     ghost use Rattle.fs.specs.Changes.{fs_ending};
     ghost use Rattle.fs.specs.Views.{fs_of, Alters};
@@ -47,7 +48,7 @@ impl<D: Device> Fs<D> {
     /// Refused by the first of these that holds: STALE, ISDIR, the verdict's refusal, ACCESS
     /// without the right to write, FBIG where the bytes pass the limit of a file, NOSPC, and
     /// SERVERFAULT where the run has used up its stamps; then `NoRoom`. Memory may run out before
-    /// or after any of the last three.
+    /// or after any of the last three, but not where no stamp is left.
     pub fn write(
         &mut self,
         cred: &Cred,
@@ -72,6 +73,8 @@ impl<D: Device> Fs<D> {
         ensures no_room { IsErrOf result FsFault.NoRoom → has_room ≡ false }
         ensures down { (fs_of self.old).volume.is_down ≡ true → IsErrOf result FsFault.Down }
         ensures device_room { IsErrOf result FsFault.Device → has_room ≡ true }
+        ensures memory { is_stamp_left (fs_of self.old).changes ≡ false
+            → IsErrOf result FsFault.Memory → ⊥ }
     {
         if self.is_down() {
             return Err(FsFault::Down);
@@ -114,22 +117,25 @@ impl<D: Device> Fs<D> {
             → IsWriting state verdict asked.entry arguments
             → IfErr result (λ refusal. IsNotDone (fs_of self.now) state now
             (Argument.Write arguments) (fault_of refusal)) }
+        ensures memory { is_stamp_left (fs_of self.now).changes ≡ false
+            → IsErrOf result NotDone.Memory → ⊥ }
     {
         let part = self.taken(asked.bytes);
         let card = self.permit_file(cred, number, verdict, Mask::WRITE_DATA)?;
         let Some(offset) = self.place_in_file(asked.offset, part.len()) else {
             return Err(NotDone::Status(Status::FBig));
         };
-        let Some(stamp) = self.next_stamp() else {
-            return Err(NotDone::Memory);
+        let Some(stamp) = self.stamp_left() else {
+            return Err(self.refuse_last(&[Edit::PutBytes {
+                file: number,
+                offset,
+                bytes: part,
+            }]));
         };
         let shown = touched(self.alloc, card, stamp, now)?;
         let edits = written_edits(self.alloc, number, offset, part, shown)?;
         if !self.volume.fits(&edits) {
             return Err(NotDone::Status(Status::NoSpc));
-        }
-        if self.changes == u32::MAX {
-            return Err(NotDone::Status(Status::ServerFault));
         }
         Ok(edits)
     }

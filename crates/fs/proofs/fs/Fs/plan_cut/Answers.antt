@@ -1,14 +1,38 @@
-use Rattle.std.proofs.Common.{◌≡◌, ◌+◌, ◌^◌, ◌∙◌, ap, sym, subst, arith}
-use Rattle.std.proofs.lemmas.Bool.{le-ltb, lt-ltb}
+use Rattle.std.proofs.Common.{◌≡◌, ◌+◌, ◌^◌, ◌∙◌, Some, ap, sym, subst, arith}
+use Rattle.std.proofs.lemmas.Bool.{lt-ltb}
 use Rattle.edits.specs.Edits.{AreDoable}
+use Rattle.model.specs.declared.not_done.NotDone.{NotDone}
+use Rattle.model.specs.Changes.{touched}
 use Rattle.model.specs.Charge.{fits}
+use Rattle.model.specs.Keyed.{at}
+use Rattle.model.specs.Stamp.{next_stamp}
+use Rattle.settings.specs.Given.{IsRefusedBy}
 use Rattle.fs.specs.Views.{fs_of}
+use Rattle.fs.specs.Making.{room_tests}
 use Rattle.fs.specs.Opening.{tree_cut}
-use Rattle.fs.proofs.NodePlans.{no_room, no_stamp, has_room}
+use Rattle.fs.specs.Setting.{resizing}
+use Rattle.fs.proofs.LastPlans.{file_of, file_to, refused_as, resized_room}
+use Rattle.fs.proofs.NodePlans.{no_room, has_room}
 use Rattle.fs.proofs.SizePlans as plans
 use Rattle.volume.specs.Edits.{edited_by}
 use Rattle.volume.specs.Views.{held_of}
 use Rattle.fs.proofs.fs.Fs.plan_cut.Goals as goal
+
+pub refuse_last_size-requires : goal.refuse_last_size-requires
+unfolding fs_of held_of
+refuse_last_size-requires g c =
+    let fs = fs_of c.args.self.now in
+    let node = c.requires.node in
+    (file_to fs (c.args.self.now.ready c.requires.up) c.args.self.now.volume.limited c.args.number node.node node.there 0 (file_of fs.volume.tree c.args.number c.args.card.now node c.requires.file) (omega arith), tt)
+
+pub returns-in_default-clause-tests : goal.returns-in_default-clause-tests
+unfolding fs_of held_of
+returns-in_default-clause-tests g c =
+    let fs = fs_of c.args.self.now in
+    subst (λ (reason : NotDone). IsRefusedBy (room_tests fs (tree_cut fs c.args.number c.args.now)) reason) (sym c.refuse_last_size.ensures)
+    (refused_as fs (tree_cut fs c.args.number c.args.now) (edited_by fs.volume (resizing c.args.number (Some 0)))
+    (resized_room fs (c.args.self.now.ready c.requires.up) c.args.self.now.volume.limited c.args.number (Some 0) (touched (at c.args.number fs.volume.tree) (next_stamp fs.volume.run fs.changes) c.args.now))
+    c.in_default.ensures)
 
 pub fits-requires : goal.fits-requires
 unfolding fs_of held_of
@@ -17,7 +41,7 @@ fits-requires g c =
     subst (AreDoable fs.volume.tree) (sym c.deref.ensures.value)
     (plans.doable fs (c.args.self.now.ready c.requires.up) c.args.self.now.counted c.args.self.now.volume.limited c.args.now c.args.number c.args.card.now
     c.requires.node c.requires.file c.requires.fit 0 (omega arith) c.in-Some.stamp c.in_ok-shown.shown c.in_ok-edits.edits.items
-    c.in-Some.ensures c.in_ok-shown.ensures c.in_ok-edits.ensures)
+    c.in-Some.ensures.0 c.in_ok-shown.ensures c.in_ok-edits.ensures)
 
 pub returns-then-not-fits-clause-tests : goal.returns-then-not-fits-clause-tests
 unfolding fs_of held_of
@@ -26,19 +50,8 @@ returns-then-not-fits-clause-tests g c =
     let told : c.fits.result ≡ fits fs.volume.limits (edited_by fs.volume c.in_ok-edits.edits.items) = rw (← c.deref.ensures.value) c.fits.ensures in
     let after = plans.after fs (c.args.self.now.ready c.requires.up) c.args.self.now.counted c.args.self.now.volume.limited c.args.now c.args.number c.args.card.now
     c.requires.node c.requires.file c.requires.fit 0 (omega arith) c.in-Some.stamp c.in_ok-shown.shown c.in_ok-edits.edits.items
-    c.in-Some.ensures c.in_ok-shown.ensures c.in_ok-edits.ensures in
+    c.in-Some.ensures.0 c.in_ok-shown.ensures c.in_ok-edits.ensures in
     no_room fs (tree_cut fs c.args.number c.args.now) (ap (fits fs.volume.limits) (sym after) ∙ (sym told ∙ c.if-not-fits.true))
-
-pub returns-then-self-clause-tests : goal.returns-then-self-clause-tests
-unfolding fs_of held_of
-returns-then-self-clause-tests g c =
-    let fs = fs_of c.args.self.now in
-    let told : c.fits.result ≡ fits fs.volume.limits (edited_by fs.volume c.in_ok-edits.edits.items) = rw (← c.deref.ensures.value) c.fits.ensures in
-    let after = plans.after fs (c.args.self.now.ready c.requires.up) c.args.self.now.counted c.args.self.now.volume.limited c.args.now c.args.number c.args.card.now
-    c.requires.node c.requires.file c.requires.fit 0 (omega arith) c.in-Some.stamp c.in_ok-shown.shown c.in_ok-edits.edits.items
-    c.in-Some.ensures c.in_ok-shown.ensures c.in_ok-edits.ensures in
-    no_stamp fs (tree_cut fs c.args.number c.args.now) (ap (fits fs.volume.limits) (sym after) ∙ (sym told ∙ c.if-not-fits.false))
-    (le-ltb (fs.changes + 1) (2 ^ 32) (omega (arith, c.if-self.true)))
 
 pub returns-clause-tests : goal.returns-clause-tests
 unfolding fs_of held_of
@@ -47,9 +60,9 @@ returns-clause-tests g c =
     let told : c.fits.result ≡ fits fs.volume.limits (edited_by fs.volume c.in_ok-edits.edits.items) = rw (← c.deref.ensures.value) c.fits.ensures in
     let after = plans.after fs (c.args.self.now.ready c.requires.up) c.args.self.now.counted c.args.self.now.volume.limited c.args.now c.args.number c.args.card.now
     c.requires.node c.requires.file c.requires.fit 0 (omega arith) c.in-Some.stamp c.in_ok-shown.shown c.in_ok-edits.edits.items
-    c.in-Some.ensures c.in_ok-shown.ensures c.in_ok-edits.ensures in
+    c.in-Some.ensures.0 c.in_ok-shown.ensures c.in_ok-edits.ensures in
     has_room fs (tree_cut fs c.args.number c.args.now) (ap (fits fs.volume.limits) (sym after) ∙ (sym told ∙ c.if-not-fits.false))
-    (lt-ltb (fs.changes + 1) (2 ^ 32) (omega (arith, c.args.self.now.counted, c.if-self.false)))
+    (lt-ltb (fs.changes + 1) (2 ^ 32) c.in-Some.ensures.1)
 
 pub returns-clause-planned : goal.returns-clause-planned
 unfolding fs_of held_of
@@ -58,8 +71,8 @@ returns-clause-planned g c =
     let told : c.fits.result ≡ fits fs.volume.limits (edited_by fs.volume c.in_ok-edits.edits.items) = rw (← c.deref.ensures.value) c.fits.ensures in
     plans.planned fs (c.args.self.now.ready c.requires.up) c.args.self.now.counted c.args.self.now.volume.limited c.args.now c.args.number c.args.card.now
     c.requires.node c.requires.file c.requires.fit 0 (omega arith) c.in-Some.stamp c.in_ok-shown.shown c.in_ok-edits.edits.items
-    c.in-Some.ensures c.in_ok-shown.ensures c.in_ok-edits.ensures
-    (sym told ∙ c.if-not-fits.false) (omega (arith, c.args.self.now.counted, c.if-self.false))
+    c.in-Some.ensures.0 c.in_ok-shown.ensures c.in_ok-edits.ensures
+    (sym told ∙ c.if-not-fits.false) c.in-Some.ensures.1
 
 pub returns-clause-after : goal.returns-clause-after
 unfolding fs_of held_of
@@ -67,4 +80,4 @@ returns-clause-after g c =
     let fs = fs_of c.args.self.now in
     plans.after fs (c.args.self.now.ready c.requires.up) c.args.self.now.counted c.args.self.now.volume.limited c.args.now c.args.number c.args.card.now
     c.requires.node c.requires.file c.requires.fit 0 (omega arith) c.in-Some.stamp c.in_ok-shown.shown c.in_ok-edits.edits.items
-    c.in-Some.ensures c.in_ok-shown.ensures c.in_ok-edits.ensures
+    c.in-Some.ensures.0 c.in_ok-shown.ensures c.in_ok-edits.ensures

@@ -1,5 +1,5 @@
-use Rattle.std.proofs.Common.{rules, ◌+◌, ◌^◌, ap, arith}
-use Rattle.std.proofs.lemmas.Bool.{le-ltb, lt-ltb}
+use Rattle.std.proofs.Common.{rules, ◌+◌, ◌^◌, ap}
+use Rattle.std.proofs.lemmas.Bool.{lt-ltb}
 use Rattle.std.proofs.lemmas.Result.{err_from_is_err_and}
 use Rattle.directory.specs.Records.{record_from}
 use Rattle.layout.specs.Cards.{Card}
@@ -15,14 +15,14 @@ returns-in_err-removal-clause-refused g c state on =
     let p = err_from_is_err_and c.from_residual.result c.from_residual.ensures.1 in
     rw (p.1, p.2) (laws.early_refusal fs c.args.cred.now c.args.now c.args.directory c.args.name.now state on c.in_err-removal.field-0.0 c.in_err-removal.ensures.tests)
 
-pub returns-then-self-clause-refused : goal.returns-then-self-clause-refused
+pub returns-in_default-clause-refused : goal.returns-in_default-clause-refused
 unfolding fs_of held_of
-returns-then-self-clause-refused g c state on =
+returns-in_default-clause-refused g c state on =
     let fs = fs_of c.args.self.now in
     let removal = c.in_ok-removal.removal in
     laws.used_up fs (c.args.self.now.ready c.requires.up) c.args.self.now.counted c.args.self.now.volume.limited c.args.cred.now c.args.now c.args.directory c.args.name.now
     (record_from removal.stamp c.args.name.now removal.number) c.in_ok-removal.ensures.entry c.in_ok-removal.ensures.tests
-    state on (le-ltb (fs.changes + 1) (2 ^ 32) (omega (arith, c.if-self.true)))
+    state on c.in_default.ensures
 
 pub returns-clause-planned : goal.returns-clause-planned
 unfolding fs_of held_of
@@ -32,8 +32,8 @@ returns-clause-planned g c =
     plans.planned fs (c.args.self.now.ready c.requires.up) c.args.self.now.counted c.args.self.now.volume.limited c.args.cred.now c.args.now c.args.directory
     removal.directory.now c.args.name removal.stamp removal.number c.in_ok-removal.ensures.directory c.in_ok-removal.ensures.fit
     c.in_ok-removal.ensures.entry c.in_ok-removal.ensures.tests
-    c.in-Some.stamp c.in_ok-shown.shown c.in_ok-edits.edits.items c.in-Some.ensures c.in_ok-shown.ensures c.in_ok-edits.ensures
-    (omega (arith, c.args.self.now.counted, c.if-self.false))
+    c.in-Some.stamp c.in_ok-shown.shown c.in_ok-edits.edits.items c.in-Some.ensures.0 c.in_ok-shown.ensures c.in_ok-edits.ensures
+    c.in-Some.ensures.1
 
 pub returns-clause-step : goal.returns-clause-step
 unfolding fs_of held_of
@@ -43,8 +43,8 @@ returns-clause-step g c state on =
     plans.goes_on fs (c.args.self.now.ready c.requires.up) c.args.self.now.counted c.args.self.now.volume.limited c.args.cred.now c.args.now c.args.directory
     removal.directory.now c.args.name removal.stamp removal.number c.in_ok-removal.ensures.directory c.in_ok-removal.ensures.fit
     c.in_ok-removal.ensures.entry c.in_ok-removal.ensures.tests
-    c.in-Some.stamp c.in_ok-shown.shown c.in_ok-edits.edits.items c.in-Some.ensures c.in_ok-shown.ensures c.in_ok-edits.ensures
-    state on (lt-ltb (fs.changes + 1) (2 ^ 32) (omega (arith, c.args.self.now.counted, c.if-self.false)))
+    c.in-Some.stamp c.in_ok-shown.shown c.in_ok-edits.edits.items c.in-Some.ensures.0 c.in_ok-shown.ensures c.in_ok-edits.ensures
+    state on (lt-ltb (fs.changes + 1) (2 ^ 32) c.in-Some.ensures.1)
     c.holder.inside.inode.change (ap (λ (it : Card). it.fields.change) c.holder.view_is)
 
 pub returns-clause-gone : goal.returns-clause-gone

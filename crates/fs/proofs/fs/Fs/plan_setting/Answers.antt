@@ -1,8 +1,12 @@
-use Rattle.std.proofs.Common.{◌≡◌, ◌+◌, ◌^◌, ◌∙◌, sym, subst, arith}
-use Rattle.std.proofs.lemmas.Bool.{le-ltb, lt-ltb}
+use Rattle.std.proofs.Common.{◌≡◌, ◌+◌, ◌^◌, ◌∙◌, sym, subst}
+use Rattle.std.proofs.lemmas.Bool.{lt-ltb}
 use Rattle.std.proofs.lemmas.Result.{err_from_is_err_and}
 use Rattle.edits.specs.Edits.{AreDoable}
+use Rattle.model.specs.declared.not_done.NotDone.{NotDone}
 use Rattle.model.specs.Charge.{fits}
+use Rattle.model.specs.Operation.{Argument}
+use Rattle.fs.specs.Operations.{IsNotDone}
+use Rattle.fs.specs.Refusals.{fault_of}
 use Rattle.fs.specs.Views.{fs_of}
 use Rattle.fs.proofs.SettingLaws as laws
 use Rattle.fs.proofs.SettingPlans as plans
@@ -20,6 +24,20 @@ returns-then-settings-clause-step g c state arguments on is =
     laws.stays (fs_of c.args.self.now) c.args.cred.now c.args.now c.args.asked state arguments on is c.in_ok-card.ensures.tests
     (sym c.in_ok-card.ensures.settings.empty ∙ c.if-settings.true)
 
+pub refuse_last_size-requires : goal.refuse_last_size-requires
+unfolding fs_of held_of
+refuse_last_size-requires g c =
+    plans.last_doable (fs_of c.args.self.now) (c.args.self.now.ready c.requires.up) c.args.self.now.volume.limited c.args.cred.now c.args.now c.args.asked c.in_ok-card.card.now
+    c.in_ok-card.ensures.node c.in_ok-card.ensures.tests c.in_ok-card.settings c.in_ok-card.ensures.settings c.in_ok-card.ensures.within
+
+pub returns-in_default-clause-refused : goal.returns-in_default-clause-refused
+unfolding fs_of held_of
+returns-in_default-clause-refused g c state arguments on is =
+    let fs = fs_of c.args.self.now in
+    subst (λ (reason : NotDone). IsNotDone fs state c.args.now (Argument.SetAttr arguments) (fault_of reason)) (sym c.refuse_last_size.ensures)
+    (plans.last_refused fs (c.args.self.now.ready c.requires.up) c.args.self.now.volume.limited c.args.cred.now c.args.now c.args.asked c.in_ok-card.card.now
+    c.in_ok-card.ensures.node c.in_ok-card.ensures.tests c.in_ok-card.settings c.in_ok-card.ensures.settings c.in_ok-card.ensures.within c.if-settings.false c.in_default.ensures state arguments on is)
+
 pub shown_set-requires-clause-listed : goal.shown_set-requires-clause-listed
 unfolding fs_of held_of
 shown_set-requires-clause-listed g c =
@@ -32,7 +50,7 @@ fits-requires g c =
     subst (AreDoable fs.volume.tree) (sym c.deref.ensures.value)
     (plans.doable fs (c.args.self.now.ready c.requires.up) c.args.self.now.counted c.args.self.now.volume.limited c.args.cred.now c.args.now c.args.asked c.in_ok-card.card.now
     c.in_ok-card.ensures.node c.in_ok-card.ensures.tests c.in_ok-card.settings c.in_ok-card.ensures.settings c.in_ok-card.ensures.within c.if-settings.false
-    c.in-Some.stamp c.in_ok-shown.shown c.in_ok-edits.edits.items c.in-Some.ensures c.in_ok-shown.ensures.shown c.in_ok-shown.ensures.entries c.in_ok-edits.ensures)
+    c.in-Some.stamp c.in_ok-shown.shown c.in_ok-edits.edits.items c.in-Some.ensures.0 c.in_ok-shown.ensures.shown c.in_ok-shown.ensures.entries c.in_ok-edits.ensures)
 
 pub returns-then-not-fits-clause-refused : goal.returns-then-not-fits-clause-refused
 unfolding fs_of held_of
@@ -41,18 +59,8 @@ returns-then-not-fits-clause-refused g c state arguments on is =
     let told : c.fits.result ≡ fits fs.volume.limits (edited_by fs.volume c.in_ok-edits.edits.items) = rw (← c.deref.ensures.value) c.fits.ensures in
     plans.plan_full fs (c.args.self.now.ready c.requires.up) c.args.self.now.counted c.args.self.now.volume.limited c.args.cred.now c.args.now c.args.asked c.in_ok-card.card.now
     c.in_ok-card.ensures.node c.in_ok-card.ensures.tests c.in_ok-card.settings c.in_ok-card.ensures.settings c.in_ok-card.ensures.within c.if-settings.false
-    c.in-Some.stamp c.in_ok-shown.shown c.in_ok-edits.edits.items c.in-Some.ensures c.in_ok-shown.ensures.shown c.in_ok-shown.ensures.entries c.in_ok-edits.ensures
+    c.in-Some.stamp c.in_ok-shown.shown c.in_ok-edits.edits.items c.in-Some.ensures.0 c.in_ok-shown.ensures.shown c.in_ok-shown.ensures.entries c.in_ok-edits.ensures
     state arguments on is (sym told ∙ c.if-not-fits.true)
-
-pub returns-then-self-clause-refused : goal.returns-then-self-clause-refused
-unfolding fs_of held_of
-returns-then-self-clause-refused g c state arguments on is =
-    let fs = fs_of c.args.self.now in
-    let told : c.fits.result ≡ fits fs.volume.limits (edited_by fs.volume c.in_ok-edits.edits.items) = rw (← c.deref.ensures.value) c.fits.ensures in
-    plans.plan_used_up fs (c.args.self.now.ready c.requires.up) c.args.self.now.counted c.args.self.now.volume.limited c.args.cred.now c.args.now c.args.asked c.in_ok-card.card.now
-    c.in_ok-card.ensures.node c.in_ok-card.ensures.tests c.in_ok-card.settings c.in_ok-card.ensures.settings c.in_ok-card.ensures.within c.if-settings.false
-    c.in-Some.stamp c.in_ok-shown.shown c.in_ok-edits.edits.items c.in-Some.ensures c.in_ok-shown.ensures.shown c.in_ok-shown.ensures.entries c.in_ok-edits.ensures
-    state arguments on is (sym told ∙ c.if-not-fits.false) (le-ltb (fs.changes + 1) (2 ^ 32) (omega (arith, c.if-self.true)))
 
 pub returns-clause-planned : goal.returns-clause-planned
 unfolding fs_of held_of
@@ -61,8 +69,8 @@ returns-clause-planned g c =
     let told : c.fits.result ≡ fits fs.volume.limits (edited_by fs.volume c.in_ok-edits.edits.items) = rw (← c.deref.ensures.value) c.fits.ensures in
     plans.planned fs (c.args.self.now.ready c.requires.up) c.args.self.now.counted c.args.self.now.volume.limited c.args.cred.now c.args.now c.args.asked c.in_ok-card.card.now
     c.in_ok-card.ensures.node c.in_ok-card.ensures.tests c.in_ok-card.settings c.in_ok-card.ensures.settings c.in_ok-card.ensures.within c.if-settings.false
-    c.in-Some.stamp c.in_ok-shown.shown c.in_ok-edits.edits.items c.in-Some.ensures c.in_ok-shown.ensures.shown c.in_ok-shown.ensures.entries c.in_ok-edits.ensures
-    (sym told ∙ c.if-not-fits.false) (omega (arith, c.args.self.now.counted, c.if-self.false))
+    c.in-Some.stamp c.in_ok-shown.shown c.in_ok-edits.edits.items c.in-Some.ensures.0 c.in_ok-shown.ensures.shown c.in_ok-shown.ensures.entries c.in_ok-edits.ensures
+    (sym told ∙ c.if-not-fits.false) c.in-Some.ensures.1
 
 pub returns-clause-step : goal.returns-clause-step
 unfolding fs_of held_of
@@ -71,5 +79,5 @@ returns-clause-step g c state arguments on is =
     let told : c.fits.result ≡ fits fs.volume.limits (edited_by fs.volume c.in_ok-edits.edits.items) = rw (← c.deref.ensures.value) c.fits.ensures in
     plans.plan_goes_on fs (c.args.self.now.ready c.requires.up) c.args.self.now.counted c.args.self.now.volume.limited c.args.cred.now c.args.now c.args.asked c.in_ok-card.card.now
     c.in_ok-card.ensures.node c.in_ok-card.ensures.tests c.in_ok-card.settings c.in_ok-card.ensures.settings c.in_ok-card.ensures.within c.if-settings.false
-    c.in-Some.stamp c.in_ok-shown.shown c.in_ok-edits.edits.items c.in-Some.ensures c.in_ok-shown.ensures.shown c.in_ok-shown.ensures.entries c.in_ok-edits.ensures
-    state arguments on is (sym told ∙ c.if-not-fits.false) (lt-ltb (fs.changes + 1) (2 ^ 32) (omega (arith, c.args.self.now.counted, c.if-self.false)))
+    c.in-Some.stamp c.in_ok-shown.shown c.in_ok-edits.edits.items c.in-Some.ensures.0 c.in_ok-shown.ensures.shown c.in_ok-shown.ensures.entries c.in_ok-edits.ensures
+    state arguments on is (sym told ∙ c.if-not-fits.false) (lt-ltb (fs.changes + 1) (2 ^ 32) c.in-Some.ensures.1)

@@ -1,11 +1,15 @@
-use Rattle.std.proofs.Common.{◌≡◌, ◌≤◌, ◌+◌, ◌^◌, ◌∙◌, length, sym, subst, arith}
-use Rattle.std.proofs.lemmas.Bool.{le-ltb, lt-ltb}
+use Rattle.std.proofs.Common.{◌≡◌, ◌≤◌, ◌+◌, ◌^◌, ◌∙◌, length, sym, subst}
+use Rattle.std.proofs.lemmas.Bool.{lt-ltb}
 use Rattle.std.proofs.lemmas.Result.{err_from_is_err_and}
 use Rattle.edits.specs.Edits.{AreDoable}
+use Rattle.model.specs.declared.not_done.NotDone.{NotDone}
 use Rattle.model.specs.Charge.{fits}
+use Rattle.model.specs.Operation.{Argument}
+use Rattle.fs.specs.Operations.{IsNotDone}
+use Rattle.fs.specs.Refusals.{fault_of}
 use Rattle.fs.specs.Views.{fs_of}
 use Rattle.fs.specs.Writing.{bytes_taken}
-use Rattle.fs.proofs.WrittenLaws.{early, too_big, doable, planned, plan_full, plan_used_up, plan_goes_on}
+use Rattle.fs.proofs.WrittenLaws.{early, too_big, doable, last_doable, last_refused, planned, plan_full, plan_goes_on}
 use Rattle.volume.specs.Edits.{edited_by}
 use Rattle.volume.specs.Views.{held_of}
 use Rattle.fs.proofs.fs.Fs.plan_write.Goals as goal
@@ -22,6 +26,24 @@ returns-in_default-clause-refused g c state arguments on is =
     too_big fs c.args.cred.now c.args.now c.args.number c.args.verdict c.args.asked c.taken-part.ensures.bytes state arguments on is
     c.in_ok-card.ensures.tests c.requires.some (rw (← c.taken-part.ensures.taken) c.in_default.ensures.none)
 
+pub refuse_last-requires : goal.refuse_last-requires
+unfolding fs_of held_of
+refuse_last-requires g c =
+    let fs = fs_of c.args.self.now in
+    let low : c.args.asked.offset + length (bytes_taken fs c.args.asked) ≤ fs.volume.limits.file_bytes = rw (← c.taken-part.ensures.taken) c.in-Some.ensures.some.1 in
+    last_doable fs (c.args.self.now.ready c.requires.up) c.args.self.now.volume.limited c.args.cred.now c.args.now c.args.number c.args.verdict c.args.asked c.in_ok-card.card.now
+    c.in_ok-card.ensures.node c.in_ok-card.ensures.file low c.in-Some.offset c.taken-part.result c.in-Some.ensures.some.0 c.taken-part.ensures.taken
+
+pub returns-in_default-stamp_left-clause-refused : goal.returns-in_default-stamp_left-clause-refused
+unfolding fs_of held_of
+returns-in_default-stamp_left-clause-refused g c state arguments on is =
+    let fs = fs_of c.args.self.now in
+    let low : c.args.asked.offset + length (bytes_taken fs c.args.asked) ≤ fs.volume.limits.file_bytes = rw (← c.taken-part.ensures.taken) c.in-Some.ensures.some.1 in
+    subst (λ (reason : NotDone). IsNotDone fs state c.args.now (Argument.Write arguments) (fault_of reason)) (sym c.refuse_last.ensures)
+    (last_refused fs (c.args.self.now.ready c.requires.up) c.args.self.now.volume.limited c.args.cred.now c.args.now c.args.number c.args.verdict c.args.asked c.in_ok-card.card.now
+    c.in_ok-card.ensures.node c.in_ok-card.ensures.file low c.in-Some.offset c.taken-part.result c.in-Some.ensures.some.0 c.taken-part.ensures.taken
+    c.in_ok-card.ensures.tests c.requires.some c.taken-part.ensures.bytes c.in_default-stamp_left.ensures state arguments on is)
+
 pub fits-requires : goal.fits-requires
 unfolding fs_of held_of
 fits-requires g c =
@@ -30,8 +52,8 @@ fits-requires g c =
     subst (AreDoable fs.volume.tree) (sym c.deref.ensures.value)
     (doable fs (c.args.self.now.ready c.requires.up) c.args.self.now.counted c.args.self.now.volume.limited c.args.cred.now c.args.now c.args.number c.args.verdict c.args.asked c.in_ok-card.card.now
     c.in_ok-card.ensures.node c.in_ok-card.ensures.file c.in_ok-card.ensures.fit c.in_ok-card.ensures.tests c.requires.some low
-    c.in-Some-next_stamp.stamp c.in-Some.offset c.taken-part.result c.in_ok-shown.shown c.in_ok-edits.edits.items
-    c.in-Some-next_stamp.ensures c.in-Some.ensures.some.0 c.taken-part.ensures.taken c.in_ok-shown.ensures c.in_ok-edits.ensures)
+    c.in-Some-stamp_left.stamp c.in-Some.offset c.taken-part.result c.in_ok-shown.shown c.in_ok-edits.edits.items
+    c.in-Some-stamp_left.ensures.0 c.in-Some.ensures.some.0 c.taken-part.ensures.taken c.in_ok-shown.ensures c.in_ok-edits.ensures)
 
 pub returns-then-not-fits-clause-refused : goal.returns-then-not-fits-clause-refused
 unfolding fs_of held_of
@@ -41,22 +63,9 @@ returns-then-not-fits-clause-refused g c state arguments on is =
     let told : c.fits.result ≡ fits fs.volume.limits (edited_by fs.volume c.in_ok-edits.edits.items) = rw (← c.deref.ensures.value) c.fits.ensures in
     plan_full fs (c.args.self.now.ready c.requires.up) c.args.self.now.counted c.args.self.now.volume.limited c.args.cred.now c.args.now c.args.number c.args.verdict c.args.asked c.in_ok-card.card.now
     c.in_ok-card.ensures.node c.in_ok-card.ensures.file c.in_ok-card.ensures.fit c.in_ok-card.ensures.tests c.requires.some low
-    c.in-Some-next_stamp.stamp c.in-Some.offset c.taken-part.result c.in_ok-shown.shown c.in_ok-edits.edits.items
-    c.in-Some-next_stamp.ensures c.in-Some.ensures.some.0 c.taken-part.ensures.taken c.in_ok-shown.ensures c.in_ok-edits.ensures
+    c.in-Some-stamp_left.stamp c.in-Some.offset c.taken-part.result c.in_ok-shown.shown c.in_ok-edits.edits.items
+    c.in-Some-stamp_left.ensures.0 c.in-Some.ensures.some.0 c.taken-part.ensures.taken c.in_ok-shown.ensures c.in_ok-edits.ensures
     c.taken-part.ensures.bytes state arguments on is (sym told ∙ c.if-not-fits.true)
-
-pub returns-then-self-clause-refused : goal.returns-then-self-clause-refused
-unfolding fs_of held_of
-returns-then-self-clause-refused g c state arguments on is =
-    let fs = fs_of c.args.self.now in
-    let low : c.args.asked.offset + length (bytes_taken fs c.args.asked) ≤ fs.volume.limits.file_bytes = rw (← c.taken-part.ensures.taken) c.in-Some.ensures.some.1 in
-    let told : c.fits.result ≡ fits fs.volume.limits (edited_by fs.volume c.in_ok-edits.edits.items) = rw (← c.deref.ensures.value) c.fits.ensures in
-    plan_used_up fs (c.args.self.now.ready c.requires.up) c.args.self.now.counted c.args.self.now.volume.limited c.args.cred.now c.args.now c.args.number c.args.verdict c.args.asked c.in_ok-card.card.now
-    c.in_ok-card.ensures.node c.in_ok-card.ensures.file c.in_ok-card.ensures.fit c.in_ok-card.ensures.tests c.requires.some low
-    c.in-Some-next_stamp.stamp c.in-Some.offset c.taken-part.result c.in_ok-shown.shown c.in_ok-edits.edits.items
-    c.in-Some-next_stamp.ensures c.in-Some.ensures.some.0 c.taken-part.ensures.taken c.in_ok-shown.ensures c.in_ok-edits.ensures
-    c.taken-part.ensures.bytes state arguments on is (sym told ∙ c.if-not-fits.false)
-    (le-ltb (fs.changes + 1) (2 ^ 32) (omega (arith, c.if-self.true)))
 
 pub returns-clause-planned : goal.returns-clause-planned
 unfolding fs_of held_of
@@ -66,9 +75,9 @@ returns-clause-planned g c =
     let told : c.fits.result ≡ fits fs.volume.limits (edited_by fs.volume c.in_ok-edits.edits.items) = rw (← c.deref.ensures.value) c.fits.ensures in
     planned fs (c.args.self.now.ready c.requires.up) c.args.self.now.counted c.args.self.now.volume.limited c.args.cred.now c.args.now c.args.number c.args.verdict c.args.asked c.in_ok-card.card.now
     c.in_ok-card.ensures.node c.in_ok-card.ensures.file c.in_ok-card.ensures.fit c.in_ok-card.ensures.tests c.requires.some low
-    c.in-Some-next_stamp.stamp c.in-Some.offset c.taken-part.result c.in_ok-shown.shown c.in_ok-edits.edits.items
-    c.in-Some-next_stamp.ensures c.in-Some.ensures.some.0 c.taken-part.ensures.taken c.in_ok-shown.ensures c.in_ok-edits.ensures
-    (sym told ∙ c.if-not-fits.false) (omega (arith, c.args.self.now.counted, c.if-self.false))
+    c.in-Some-stamp_left.stamp c.in-Some.offset c.taken-part.result c.in_ok-shown.shown c.in_ok-edits.edits.items
+    c.in-Some-stamp_left.ensures.0 c.in-Some.ensures.some.0 c.taken-part.ensures.taken c.in_ok-shown.ensures c.in_ok-edits.ensures
+    (sym told ∙ c.if-not-fits.false) c.in-Some-stamp_left.ensures.1
 
 pub returns-clause-step : goal.returns-clause-step
 unfolding fs_of held_of
@@ -78,7 +87,7 @@ returns-clause-step g c state arguments on is =
     let told : c.fits.result ≡ fits fs.volume.limits (edited_by fs.volume c.in_ok-edits.edits.items) = rw (← c.deref.ensures.value) c.fits.ensures in
     plan_goes_on fs (c.args.self.now.ready c.requires.up) c.args.self.now.counted c.args.self.now.volume.limited c.args.cred.now c.args.now c.args.number c.args.verdict c.args.asked c.in_ok-card.card.now
     c.in_ok-card.ensures.node c.in_ok-card.ensures.file c.in_ok-card.ensures.fit c.in_ok-card.ensures.tests c.requires.some low
-    c.in-Some-next_stamp.stamp c.in-Some.offset c.taken-part.result c.in_ok-shown.shown c.in_ok-edits.edits.items
-    c.in-Some-next_stamp.ensures c.in-Some.ensures.some.0 c.taken-part.ensures.taken c.in_ok-shown.ensures c.in_ok-edits.ensures
+    c.in-Some-stamp_left.stamp c.in-Some.offset c.taken-part.result c.in_ok-shown.shown c.in_ok-edits.edits.items
+    c.in-Some-stamp_left.ensures.0 c.in-Some.ensures.some.0 c.taken-part.ensures.taken c.in_ok-shown.ensures c.in_ok-edits.ensures
     c.taken-part.ensures.bytes state arguments on is (sym told ∙ c.if-not-fits.false)
-    (lt-ltb (fs.changes + 1) (2 ^ 32) (omega (arith, c.args.self.now.counted, c.if-self.false)))
+    (lt-ltb (fs.changes + 1) (2 ^ 32) c.in-Some-stamp_left.ensures.1)
