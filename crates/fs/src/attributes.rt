@@ -12,12 +12,13 @@ use wire_attributes::{Attribute, AttributesAnswer, NodeAttributes, is_asked};
 
 #[tactic(auto, unfolding(crate::specs::Views::fs_of))]
 impl<D: Device> Fs<D> {
-    ghost use Rattle.std.specs.Prelude.{◌≡◌, true, ℕ, IfOk, IsErrOf};
+    ghost use Rattle.std.specs.Prelude.{◌≡◌, ◌≤◌, true, ℕ, length, IfOk, IsErrOf};
     ghost use Rattle.layout.specs.Known.{IsCard};
     ghost use Rattle.model.specs.Step.{State};
     ghost use Rattle.fs.specs.Attributes.{AreAttributes, GetsAttributes, ShowsCard};
     ghost use Rattle.fs.specs.Views.{fs_of};
     ghost use Rattle.fs.specs.Operations.{IsOn};
+    ghost use Rattle.model.specs.declared.acl.TheConstants.Acl.{MAX_STORED};
     ghost use Rattle.wire_attributes.specs.NodeValues.{HasFewEntries};
 
     /// GETATTR (RFC 8881, section 18.7) of what a bitmap, of any length, asks of the node of this
@@ -70,7 +71,8 @@ impl<D: Device> Fs<D> {
 
     /// What the node of a card shows.
     pub(crate) fn shown<'a>(&self, card: &'a Card) -> NodeAttributes<'a>
-        requires { IsCard card.now }
+        requires fits { IsCard card.now }
+        requires few { length card.now.fields.acl ≤ MAX_STORED }
         ensures shows { ShowsCard (fs_of self.now).volume.limits card.entry.now result }
         ensures few { HasFewEntries result }
     {

@@ -59,10 +59,11 @@ pub struct Unmounted<D: Device> {
 
 #[tactic(auto, unfolding(crate::specs::Views::held_of, crate::specs::Views::volume_failures))]
 impl<D: Device> Volume<D> {
-    ghost use Rattle.std.specs.Prelude.{◌≡◌, ◌≤◌, ◌↔◌, ◌⊎◌, true, None};
+    ghost use Rattle.std.specs.Prelude.{◌≡◌, ◌≤◌, ◌↔◌, ◌⊎◌, true, None, length};
     ghost use Rattle.std.specs.Prelude.{IfSome, IfNone, IfOk, IfErr, OnOk, IsErrOf};
     ghost use Rattle.journal.specs.Journal.{log_of, failures_of};
     ghost use Rattle.layout.specs.Known.{IsCard};
+    ghost use Rattle.model.specs.declared.acl.TheConstants.Acl.{MAX_STORED};
     ghost use Rattle.model.specs.Keyed.{at};
     ghost use Rattle.volume.specs.Changes.{IsTree, Stays, ending_of};
     ghost use Rattle.volume.specs.Formed.{Shows};
@@ -206,6 +207,7 @@ impl<D: Device> Volume<D> {
         ensures some { IfSome result (λ card. IsNodeOf (held_of self.now).tree number card.now) }
         ensures none { IfNone result (at number (held_of self.now).tree ≡ None) }
         ensures fit { IfSome result (λ card. IsCard card.now) }
+        ensures few { IfSome result (λ card. length card.now.fields.acl ≤ MAX_STORED) }
     {
         let place = self.table.find(number)?;
         self.table.card(place)

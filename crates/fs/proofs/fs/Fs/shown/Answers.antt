@@ -11,7 +11,7 @@ unfolding fs_of
 returns-clause-shows g c bitmap =
     let limits = (fs_of c.args.self.now).volume.limits in
     let acl = ap (λ (it : Card). it.fields.acl) c.card.view_is in
-    shows c.args.card.now c.requires limits _
+    shows c.args.card.now c.requires.fits limits _
     (ap (λ (it : Card). it.fields.kind) c.card.view_is) (ap (λ (it : Card). it.fields.number) c.card.view_is)
     (ap (λ (it : Card). it.fields.owner) c.card.view_is) (ap (λ (it : Card). it.fields.group) c.card.view_is)
     (c.as_slice.ensures ∙ acl) (c.mode_of.ensures.value ∙ ap mode_of (c.as_slice-2.ensures ∙ acl))

@@ -1,8 +1,12 @@
-use Rattle.std.proofs.Common.{◌+◌}
+use Rattle.std.proofs.Common.{◌≡◌, ◌≤◌, ◌+◌, ℕ, length, ap, arith}
 use Rattle.journal.specs.Journal.{log_of}
 use Rattle.journal.specs.Log.{contents}
 use Rattle.draft.proofs.KnownLaws.{card_at}
+use Rattle.inode.specs.Fields.{most_entries}
+use Rattle.layout.specs.Cards.{Card}
+use Rattle.layout.specs.Known.{IsCard}
 use Rattle.layout.specs.Marks.{mark_by}
+use Rattle.layout.specs.Stands.{current}
 use Rattle.volume.specs.Views.{held_of}
 use Rattle.volume.proofs.NodeLaws.{node_there, none_there}
 use Rattle.volume.proofs.ServeLaws.{if_some_so}
@@ -28,4 +32,18 @@ returns-clause-fit g c =
     let nodes = volume.limits.nodes in
     if_some_so c.card.result _ _
     (λ card there. card_at nodes (mark_by (148 + nodes) volume.places) volume.table c.in_ok-place.place card.now volume.known.are_cards there)
+    c.card.ensures.some
+
+-- a node of form one
+few_of : (place : ℕ) (card : Card) → IsCard card → card.form ≡ current.form place → length card.fields.acl ≤ 40
+few_of place card fit form = (let most : most_entries card.form ≡ 40 = ap most_entries form in omega (arith, fit.fits.acl, most))
+
+pub returns-clause-few : goal.returns-clause-few
+returns-clause-few g c =
+    let volume = c.args.self.now in
+    let nodes = volume.limits.nodes in
+    if_some_so c.card.result _ _
+    (λ card there. few_of c.in_ok-place.place card.now
+    (card_at nodes (mark_by (148 + nodes) volume.places) volume.table c.in_ok-place.place card.now volume.known.are_cards there)
+    (volume.known.forms c.in_ok-place.place card.now there))
     c.card.ensures.some
