@@ -1,1 +1,3 @@
-pub mod Chains
+pub mod Carried
+pub mod Made
+pub mod Tallies

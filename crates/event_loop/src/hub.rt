@@ -30,10 +30,8 @@ const PAUSE_MILLIS: u64 = 10;
 /// How long nothing comes before the server uses the time.
 const QUIET_MILLIS: u64 = 1;
 
-/// For how long a peer may be quiet while another one waits for its place, and how often that is
-/// looked at.
-const PATIENCE_SECONDS: u64 = 60;
-
+/// How often it is looked at whether a peer has been quiet for so long that another one may have its
+/// place.
 const GLANCE_SECONDS: u64 = 1;
 
 /// How many of the device's sectors are kept in memory, 16 MB: sixteen peers work on more than a
@@ -309,11 +307,11 @@ impl<D: Device> Hub<D> {
         Ok(Pace::Goes)
     }
 
-    /// Ends the peer that was quiet longest, if that was long, and has nothing half sent: its
-    /// sessions live on, and its client connects again.
+    /// Ends the peer that was quiet longest, of those that were quiet for long: its sessions live on,
+    /// and its client connects again.
     fn dismiss_the_quietest(&mut self, now: Instant) -> Pace {
         let mut quietest = None;
-        let mut longest = Duration::from_secs(PATIENCE_SECONDS);
+        let mut longest = Duration::ZERO;
         for (key, peer) in self.peers.iter() {
             if let Some(quiet) = peer.quiet_for(now)
                 && quiet >= longest

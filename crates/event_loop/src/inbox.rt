@@ -31,6 +31,7 @@ impl Model for Inbox {
 impl Inbox {
     ghost use Rattle.std.specs.Prelude.{◌≡◌, ◌==◌, [], length, drop, IfOk, OnErr};
     ghost use Rattle.std.specs.Io.KnownBytes.{Consumes, Keeps};
+    ghost use Rattle.event_loop.specs.Streams.{Tells};
 
     /// Nothing has come.
     pub fn new(alloc: Global) -> Result<Inbox, AllocError>
@@ -62,7 +63,9 @@ impl Inbox {
             × Consumes (S.coming stream.old) (S.coming stream.new) self.new) }
         ensures err { OnErr result ((self.new ≡ [])
             × Keeps (S.coming stream.old) (S.coming stream.new)) }
-        ensures gone { S.gone stream.new ≡ S.gone stream.old }
+        ensures told { Tells (S.read_told stream.new) result }
+        ensures kept { (S.gone stream.new ≡ S.gone stream.old)
+            × (S.write_told stream.new ≡ S.write_told stream.old) }
     {
         self.start = 0;
         self.end = 0;

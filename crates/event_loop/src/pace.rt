@@ -1,5 +1,8 @@
 //! How soon the loop goes on.
 
+ghost use Rattle.std.specs.Prelude.{◌≡◌};
+ghost use Rattle.event_loop.specs.Paces.{sooner};
+
 /// How soon the loop goes on.
 #[derive(Clone, Copy, PartialEq, Eq)]
 pub enum Pace {
@@ -13,7 +16,9 @@ pub enum Pace {
 
 impl Pace {
     /// The sooner of two.
-    pub fn or(self, other: Pace) -> Pace {
+    pub fn or(self, other: Pace) -> Pace
+        ensures { result ≡ sooner self other }
+    {
         match (self, other) {
             (Pace::Goes, _) | (_, Pace::Goes) => Pace::Goes,
             (Pace::Pauses, _) | (_, Pace::Pauses) => Pace::Pauses,

@@ -22,8 +22,9 @@ impl Model for Reply {
 }
 
 impl Reply {
-    ghost use Rattle.std.specs.Prelude.{◌≡◌, ◌==◌, length, take, drop, IfOk, OnErr};
+    ghost use Rattle.std.specs.Prelude.{◌≡◌, ◌≤◌, ◌==◌, length, take, drop, IfOk, OnErr};
     ghost use Rattle.std.specs.Io.KnownBytes.{Appends, Keeps};
+    ghost use Rattle.event_loop.specs.Streams.{Tells};
 
     /// Nothing of it is sent.
     pub fn new(bytes: Vec<u8>) -> Reply
@@ -45,8 +46,12 @@ impl Reply {
         ensures sent { IfOk result (λ count. Appends (S.gone stream.old) (S.gone stream.new)
             (take count self.old)) }
         ensures left { IfOk result (λ count. self.new ≡ drop count self.old) }
+        ensures bound { IfOk result (λ count. count ≤ length self.old) }
         ensures err { OnErr result ((self.new ≡ self.old)
             × Keeps (S.gone stream.old) (S.gone stream.new)) }
+        ensures told { Tells (S.write_told stream.new) result }
+        ensures kept { (S.coming stream.new ≡ S.coming stream.old)
+            × (S.read_told stream.new ≡ S.read_told stream.old) }
     {
         let count = stream.send(&self.bytes[self.sent..])?;
         self.sent += count;

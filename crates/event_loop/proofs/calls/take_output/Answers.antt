@@ -1,11 +1,10 @@
-use Rattle.event_loop.proofs.Chains.{gives_output, no_call, same_volume}
+use Rattle.event_loop.proofs.Made.{gives, refuses_output}
 use Rattle.event_loop.proofs.calls.take_output.Goals as goal
 
-pub returns-in-Err-clause-err : goal.returns-in-Err-clause-err
-returns-in-Err-clause-err g c =
-    no_call {old = c.args.server.now} {new = c.take_output.new.self} c.args.conn c.in-Err.ensures.err
-    (same_volume c.args.server.now c.take_output.new.self c.in-Err.ensures.volume)
+pub returns-clause-ok : goal.returns-clause-ok
+returns-clause-ok g c = gives c.args.server.now c.take_output.new.self c.args.conn c.take_output.result c.take_output.ensures.volume c.take_output.ensures.ok
 
-pub returns-in-Ok-clause-ok : goal.returns-in-Ok-clause-ok
-returns-in-Ok-clause-ok g c =
-    gives_output {old = c.args.server.now} {new = c.take_output.new.self} c.args.conn c.in-Ok.output c.in-Ok.ensures.volume c.in-Ok.ensures.ok
+pub returns-clause-refused : goal.returns-clause-refused
+returns-clause-refused g c =
+    refuses_output c.args.server.now c.take_output.new.self c.args.conn c.take_output.result c.take_output.ensures.no_connection c.take_output.ensures.only c.take_output.ensures.err
+    c.take_output.ensures.volume c.take_output.ensures.failures

@@ -1,8 +1,25 @@
-use Rattle.event_loop.proofs.Chains.{not_called, nothing_new, sends_left, sends_nothing}
+use Rattle.std.proofs.Common.{[], refl, sym, append-nil}
+use Rattle.event_loop.specs.Steps.{Dismissed}
+use Rattle.event_loop.proofs.Carried.{quiet, sends_on}
+use Rattle.event_loop.proofs.Tallies.{consumes_none}
 use Rattle.event_loop.proofs.peer.Peer.advance.Goals as goal
 
-pub returns-in-Replies-clause-sent : goal.returns-in-Replies-clause-sent
-returns-in-Replies-clause-sent g c = sends_left c.args.self.now.conn (not_called c.args.server.now _) c.reply.ensures.sent
+pub returns-in-Gathers-clause-ends : goal.returns-in-Gathers-clause-ends
+returns-in-Gathers-clause-ends g c = λ is. let was = c.gather.ensures.does.carries.ends is in let never : ⊥ = cc in absurd never
 
-pub returns-in-Ends-clause-sent : goal.returns-in-Ends-clause-sent
-returns-in-Ends-clause-sent g c = sends_nothing c.args.self.now.conn (not_called c.args.server.now _) (nothing_new _)
+pub returns-in-Runs-clause-does : goal.returns-in-Runs-clause-does
+returns-in-Runs-clause-does g c = c.run.ensures.does.advances
+
+pub returns-in-Runs-clause-ends : goal.returns-in-Runs-clause-ends
+returns-in-Runs-clause-ends g c = λ is. let was = c.run.ensures.does.advances.carries.ends is in let never : ⊥ = cc in absurd never
+
+pub returns-in-Replies-clause-does : goal.returns-in-Replies-clause-does
+returns-in-Replies-clause-does g c = sends_on c.args.server.now c.args.self.now c.reply.new.self c.reply.result c.reply.ensures.does
+
+pub returns-in-Replies-clause-ends : goal.returns-in-Replies-clause-ends
+returns-in-Replies-clause-ends g c = λ is. absurd (c.reply.ensures.does.stays is)
+
+pub returns-in-Ends-clause-does : goal.returns-in-Ends-clause-does
+returns-in-Ends-clause-does g c =
+    quiet c.args.server.now c.args.self.now c.args.self.now [] _ (consumes_none _) (sym (append-nil c.args.self.now.inbox)) refl refl refl
+    (λ is. let never : ⊥ = cc in absurd never) (Dismissed c.in-Ends.is)

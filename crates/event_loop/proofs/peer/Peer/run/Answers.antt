@@ -1,8 +1,32 @@
-use Rattle.event_loop.proofs.Chains.{after_call, not_called, nothing_new, sends_nothing}
+use Rattle.std.proofs.Common.{refl}
+use Rattle.std.proofs.lemmas.Result.{err_from_is_err_and}
+use Rattle.event_loop.specs.declared.peer.Parting.TheVariants as partings
+use Rattle.event_loop.specs.Partings.{parting_of}
+use Rattle.event_loop.proofs.Carried.{no_turn, reply_then, turn_alone, turn_parts}
+use Rattle.event_loop.proofs.Made.{not_called, refused_turn}
+use Rattle.event_loop.proofs.Tallies.{nothing}
 use Rattle.event_loop.proofs.peer.Peer.run.Goals as goal
 
-pub returns-in_err-moment-clause-sent : goal.returns-in_err-moment-clause-sent
-returns-in_err-moment-clause-sent g c = sends_nothing c.args.self.now.conn (not_called c.args.server.now _) (nothing_new _)
+pub returns-in_default-clause-does : goal.returns-in_default-clause-does
+returns-in_default-clause-does g c = no_turn c.args.self.now partings.Clock (not_called c.args.server.now) tt
 
-pub returns-in-Answered-clause-sent : goal.returns-in-Answered-clause-sent
-returns-in-Answered-clause-sent g c = after_call c.args.self.now.conn c.turn.ensures c.take_reply.ensures.sent
+pub returns-in_err-turn-clause-does : goal.returns-in_err-turn-clause-does
+returns-in_err-turn-clause-does g c =
+    let fault = c.in_err-turn.field-0.0 in
+    let told = err_from_is_err_and c.from_residual.result c.from_residual.ensures.1 in
+    rw (told.1, told.2)
+    (no_turn c.args.self.now (parting_of fault) (refused_turn c.args.self.now.conn fault c.in_err-turn.ensures.refused)
+    (turn_parts c.args.server.now c.turn.new.server c.args.self.now nothing fault c.in_err-turn.ensures.refused))
+
+pub returns-in-Idle-clause-does : goal.returns-in-Idle-clause-does
+returns-in-Idle-clause-does g c =
+    turn_alone c.args.self.now _ _ _ c.in_ok-turn.ensures.ok refl refl refl (rw c.requires refl) (λ is. let never : ⊥ = cc in never)
+
+pub returns-in-Ran-clause-does : goal.returns-in-Ran-clause-does
+returns-in-Ran-clause-does g c =
+    turn_alone c.args.self.now _ _ _ c.in_ok-turn.ensures.ok refl refl refl refl (λ is. let was = c.requires in let never : ⊥ = cc in never)
+
+pub returns-in-Answered-clause-does : goal.returns-in-Answered-clause-does
+returns-in-Answered-clause-does g c =
+    reply_then c.args.self.now c.args.self.now c.take_reply.new.self _ _ c.take_reply.result c.in_ok-turn.ensures.ok refl refl refl refl
+    (λ is. let was = c.requires in let never : ⊥ = cc in never) c.take_reply.ensures.does

@@ -1,0 +1,90 @@
+-- The calls of the server that the loop makes.
+use Rattle.std.specs.Prelude.{ℕ, List, [], ◌∷◌, false, true, ◌≡◌, ◌⊎◌, Option, None, Result, Ok, Err}
+use Rattle.disk.specs.declared.device.Device.{Ghosts}
+use Rattle.model.specs.Runs.{Arrives, Turns, HangsUp}
+use Rattle.model.specs.Tree.{Tree}
+use Rattle.model.specs.World.{Connection}
+use Rattle.server.specs.Refused.{IsUntouched, connection_at, view}
+use Rattle.server.specs.Seen.{Call, Did, Failed, Took, Done, IsServed}
+use Rattle.server.specs.Views.{seen_with, volume_of}
+use Rattle.server.specs.declared.fault.ServerFault.{ServerFault}
+use Rattle.server.specs.declared.fault.ServerFault.TheVariants as faults
+use Rattle.server.specs.declared.server.Server.{Server}
+use Rattle.volume.specs.Held.{IsRecent}
+
+-- Calls of a kind, the newest first, each as the server has it: from the trees that a crash might
+-- leave before them to those that it may leave after them.
+pub record Makes {D : Type 0} {g : Ghosts D} (old new : Server D g) (recent : List Tree)
+    (kind : List Call → Type 0) : Type 0 where
+  pub after : List Tree
+  pub calls : List Call
+  pub ready : IsRecent (volume_of new) after
+  pub are : kind calls
+  pub served : IsServed (seen_with old recent) calls (seen_with new after)
+
+-- The server made calls of this kind and no others: on a device that keeps its word, as long as it
+-- has not failed, and whichever trees a crash might leave before.
+pub record Goes {D : Type 0} {g : Ghosts D} (keeps : Type 0) (old new : Server D g)
+    (kind : List Call → Type 0) : Type 0 where
+  pub up : (volume_of new).is_down ≡ false → (volume_of old).is_down ≡ false
+  pub made : keeps → (volume_of new).is_down ≡ false
+      → (recent : List Tree) → IsRecent (volume_of old) recent → Makes old new recent kind
+
+-- Kinds
+
+abbrev pub IsNone : List Call → Type 0
+IsNone calls = calls ≡ []
+
+abbrev pub IsOne : Call → List Call → Type 0
+IsOne call calls = calls ≡ call ∷ []
+
+-- turns of a connection, at one moment
+abbrev pub IsTurn : (connection now : ℕ) → Call → Type 0
+IsTurn connection now (Did (Turns number moment) said) = (number ≡ connection) × (moment ≡ now)
+IsTurn connection now (Did event said) = ⊥
+IsTurn connection now (Failed event) = ⊥
+
+abbrev pub AreTurns : (connection now : ℕ) → List Call → Type 0
+AreTurns connection now [] = Unit {0}
+AreTurns connection now (call ∷ calls) = IsTurn connection now call × AreTurns connection now calls
+
+-- a hang-up, before which a request that has begun is run to its end
+abbrev pub IsHangUp : (connection now : ℕ) → List Call → Type 0
+IsHangUp connection now [] = ⊥
+IsHangUp connection now (call ∷ calls) =
+    (call ≡ Did (HangsUp connection) Done) × AreTurns connection now calls
+
+-- The end of a connection: a hang-up, or for want of memory turns alone, or nothing
+abbrev pub IsEnd : (connection : ℕ) → List Call → Type 0
+IsEnd connection calls =
+    (now : ℕ) × (IsHangUp connection now calls ⊎ AreTurns connection now calls)
+
+-- it is there no longer, unless there was no memory or the device failed
+abbrev pub HasGone : Result Unit ServerFault → Option Connection → Type 0
+HasGone (Ok done) left = left ≡ None
+HasGone (Err faults.NoConnection) left = left ≡ None
+HasGone (Err faults.Closed) left = left ≡ None
+HasGone (Err faults.Full) left = left ≡ None
+HasGone (Err faults.Device) left = Unit {0}
+HasGone (Err faults.Memory) left = Unit {0}
+
+-- Refusals
+
+-- bytes: the connection closes with them, or nothing was done
+abbrev pub RefusesBytes : {D : Type 0} {g : Ghosts D} → (keeps : Type 0) → (old new : Server D g)
+    → (connection : ℕ) → (piece : List ℕ) → ServerFault → Type 0
+RefusesBytes keeps old new connection piece faults.Closed =
+    Goes keeps old new (IsOne (Did (Arrives connection piece) (Took None)))
+RefusesBytes keeps old new connection piece faults.NoConnection =
+    (connection_at (view old) connection ≡ None) × IsUntouched (view old) (view new)
+RefusesBytes keeps old new connection piece faults.Device =
+    ((volume_of new).is_down ≡ true) × IsUntouched (view old) (view new)
+RefusesBytes keeps old new connection piece faults.Memory = ⊥
+RefusesBytes keeps old new connection piece faults.Full = ⊥
+
+-- a reply that is asked for of no connection
+pub record RefusesOutput {D : Type 0} {g : Ghosts D} (old new : Server D g) (connection : ℕ)
+    (fault : ServerFault) : Type 0 where
+  pub told : fault ≡ faults.NoConnection
+  pub none : connection_at (view old) connection ≡ None
+  pub same : IsUntouched (view old) (view new)
