@@ -8,12 +8,16 @@ use os::FromRawFd;
 use std::env::Env;
 use std::io::ErrorKind;
 use std::net::{Net, SocketAddr};
-use std::{env, io, net};
+use std::process::Process;
+use std::{env, io, net, process};
 
-/// The socket that a service manager hands over is this descriptor, and so many are told of.
+/// The socket that a service manager hands over is this descriptor; so many are told of, and which
+/// process they are for (sd_listen_fds(3)).
 const HANDED_OVER: i32 = 3;
 
 const HOW_MANY: &str = "LISTEN_FDS";
+
+const FOR_WHOM: &str = "LISTEN_PID";
 
 /// The listening socket, and the connection that waits for a place. Others wait in the system.
 #[derive(Drop)]
@@ -30,14 +34,19 @@ impl Door {
         Ok(Door::of(TcpListener::bind(rt, address)?))
     }
 
-    /// Listens on the socket that a service manager has handed over: systemd, by LISTEN_FDS=1.
+    /// Listens on the socket that a service manager has handed over to this process: systemd, by
+    /// LISTEN_FDS=1 and its number as LISTEN_PID.
     ///
     /// # Errors
     /// Io where it handed none over.
-    pub fn handed_over<R: Net + Env + AllocGlobal>(rt: &R) -> Result<Door, Refused> {
-        match env::var(rt, HOW_MANY) {
-            Ok(count) if count.as_str() == "1" => Ok(Door::of(adopt(rt)?)),
-            _ => Err(Refused::Io),
+    pub fn handed_over<R: Net + Env + AllocGlobal>(
+        rt: &R,
+        process: Process,
+    ) -> Result<Door, Refused> {
+        if is_told(rt, HOW_MANY, 1) && is_told(rt, FOR_WHOM, process::id(process)) {
+            Ok(Door::of(adopt(rt)?))
+        } else {
+            Err(Refused::Io)
         }
     }
 
@@ -89,6 +98,15 @@ impl Door {
     /// Whether a connection was found waiting, and has no place yet.
     pub fn is_kept_waiting(&self) -> bool {
         self.waiting.is_some()
+    }
+}
+
+/// Whether the environment has this number under the name. A process inherits the variables of the
+/// one that started it, and not what stood at its descriptors.
+fn is_told<R: Env + AllocGlobal>(rt: &R, name: &str, number: u32) -> bool {
+    match env::var(rt, name) {
+        Ok(word) => matches!(word.as_str().parse::<u32>(), Ok(told) if told == number),
+        Err(_) => false,
     }
 }
 

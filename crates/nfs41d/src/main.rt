@@ -38,7 +38,7 @@ fn serve_file(rt: &HostRuntime, request: &Request<'_>) -> Result<(), Refused> {
     let device = open_volume(rt, request.file)?;
     let door = match request.address {
         Some(address) => Door::listen(rt, address)?,
-        None => Door::handed_over(rt)?,
+        None => Door::handed_over(rt, rt.process())?,
     };
     serve(
         rt,
