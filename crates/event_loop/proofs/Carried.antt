@@ -152,24 +152,33 @@ works_after a b peer (Wrote some) = Wrote (simp length-append (omega arith))
 works_after a b peer (Read_broken is) = Read_broken is
 works_after a b peer (Write_broken is) = Write_broken is
 
+-- calls alone are made: no byte comes, and none is written
+carries_calls : {D S : Type 0} {g : Ghosts D} {h : stream.Ghosts S} {keeps : Type 0} {old new : Server D g} (before after : Peer S h)
+    (shown : List (List ℕ)) (taken : List ℕ) (turns : ℕ) → Goes keeps old new (IsTallied before.conn (record nothing { shown = shown; taken = taken; turns = turns }))
+    → taken ++ after.inbox ≡ before.inbox → after.stream ≡ before.stream → after.conn ≡ before.conn → unsent after.stage ≡ unsent before.stage
+    → (after.stage ≡ stages.Ends → ⊥) → Carries keeps old new before after (record nothing { shown = shown; taken = taken; turns = turns })
+carries_calls {h = h} before after shown taken turns calls fed same conn left stays = record {
+  calls = calls;
+  consumed = rw same (consumes_none (h.coming before.stream));
+  fed = fed ∙ sym (append-nil before.inbox);
+  appended = rw same (appends_none (h.gone before.stream));
+  sent = left ∙ sym (append-nil (unsent before.stage));
+  conn = conn;
+  ends = λ is. absurd (stays is);
+}
+
 -- bytes that are taken, and what follows
 pub bytes_then : {D S : Type 0} {g : Ghosts D} {h : stream.Ghosts S} {keeps : Type 0} {old between new : Server D g} (before mid after : Peer S h) (count : ℕ)
     (result : Result Pace Parting) → Goes keeps old between (IsOne (Did (Arrives before.conn before.inbox) (Took (Some count))))
     → mid.inbox ≡ drop count before.inbox → mid.stream ≡ before.stream → mid.conn ≡ before.conn
     → unsent mid.stage ≡ unsent before.stage → (mid.stage ≡ stages.Ends → ⊥)
     → Runs keeps between new mid after result → Advances keeps old new before after result
-bytes_then {h = h} {keeps = keeps} {old = old} {between = between} {new = new} before mid after count result one inbox same conn left stays runs =
+bytes_then {keeps = keeps} {old = old} {between = between} {new = new} before mid after count result one inbox same conn left stays runs =
     let first : Tally = record nothing { shown = before.inbox ∷ []; taken = take count before.inbox } in
     let rest : Tally = runs.advances.tally in
-    let took : Carries keeps old between before mid first = record {
-      calls = tally_taken before.conn before.inbox count one;
-      consumed = rw same (consumes_none (h.coming before.stream));
-      fed = rw inbox (take-append-drop count before.inbox ∙ sym (append-nil before.inbox));
-      appended = rw same (appends_none (h.gone before.stream));
-      sent = left ∙ sym (append-nil (unsent before.stage));
-      conn = conn;
-      ends = λ is. absurd (stays is);
-    } in
+    let took : Carries keeps old between before mid first =
+    carries_calls before mid (before.inbox ∷ []) (take count before.inbox) 0 (tally_taken before.conn before.inbox count one)
+    (rw inbox (take-append-drop count before.inbox)) same conn left stays in
     let all : before.inbox ≡ before.inbox ++ rest.came = sym (append-nil before.inbox) ∙ ap (λ came. before.inbox ++ came) (sym runs.unread) in
     record {
       tally = joined first rest;
@@ -184,15 +193,8 @@ turn_carries : {D S : Type 0} {g : Ghosts D} {h : stream.Ghosts S} {keeps : Type
     → Goes keeps old new (IsOne (Did (Turns before.conn now) said))
     → after.stream ≡ before.stream → after.inbox ≡ before.inbox → after.conn ≡ before.conn → unsent after.stage ≡ unsent before.stage
     → (after.stage ≡ stages.Ends → ⊥) → Carries keeps old new before after (record nothing { turns = 1 })
-turn_carries {h = h} before after now said one same inbox conn left stays = record {
-  calls = tally_turn before.conn now said one;
-  consumed = rw same (consumes_none (h.coming before.stream));
-  fed = inbox ∙ sym (append-nil before.inbox);
-  appended = rw same (appends_none (h.gone before.stream));
-  sent = left ∙ sym (append-nil (unsent before.stage));
-  conn = conn;
-  ends = λ is. absurd (stays is);
-}
+turn_carries before after now said one same inbox conn left stays =
+    carries_calls before after [] [] 1 (tally_turn before.conn now said one) inbox same conn left stays
 
 -- a turn, and the reply that it made
 pub reply_then : {D S : Type 0} {g : Ghosts D} {h : stream.Ghosts S} {keeps : Type 0} {old between new : Server D g} (before mid after : Peer S h) (now : ℕ) (said : Said)
@@ -324,17 +326,9 @@ pub gives_none : {D S : Type 0} {g : Ghosts D} {h : stream.Ghosts S} {keeps : Ty
     → Goes keeps old new (IsOne (Did (Takes before.conn) (gave None)))
     → after.stream ≡ before.stream → after.inbox ≡ before.inbox → after.conn ≡ before.conn → unsent after.stage ≡ unsent before.stage
     → (after.stage ≡ stages.Ends → ⊥) → Gives keeps old new before after (Ok paces.Goes)
-gives_none {h = h} before after one same inbox conn left stays = record {
+gives_none before after one same inbox conn left stays = record {
   tally = nothing;
-  carries = record {
-    calls = tally_given before.conn None [] one;
-    consumed = rw same (consumes_none (h.coming before.stream));
-    fed = inbox ∙ sym (append-nil before.inbox);
-    appended = rw same (appends_none (h.gone before.stream));
-    sent = left ∙ sym (append-nil (unsent before.stage));
-    conn = conn;
-    ends = λ is. absurd (stays is);
-  };
+  carries = carries_calls before after [] [] 0 (tally_given before.conn None [] one) inbox same conn left stays;
   unread = refl;
   unshown = refl;
   unturned = refl;
