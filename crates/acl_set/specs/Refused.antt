@@ -6,7 +6,7 @@ use Rattle.model.specs.declared.node.NodeKind.{NodeKind}
 
 -- how many entries a client may set
 abbrev pub most_set : ℕ
-most_set = 32
+most_set = 64
 
 abbrev pub refused_of : ℕ → NodeKind → Option (List Ace) → Option ℕ
 refused_of most of None = None

@@ -17,9 +17,8 @@ use Rattle.edits.specs.Outlines.{zeros, blank_node, blanked, outline_of}
 use Rattle.edits.proofs.BlankLaws.{blanked-with, blanked-without, bytes-none, content-blank, each_outline, overwritten-length}
 use Rattle.edits.proofs.PlaceLaws.{put_forms, IsThere, there_is, outline_put, outline_made, outline_dropped, made_put}
 use Rattle.inode.specs.declared.node.Form.{Form}
-use Rattle.inode.specs.declared.node.Form.TheVariants.{One}
-use Rattle.inode.specs.Fields.{Fields, IsInode}
-use Rattle.inode.proofs.Parts.{least_entries}
+use Rattle.inode.specs.declared.node.Form.TheVariants.{Two}
+use Rattle.inode.specs.Fields.{Fields, IsInode, most_entries}
 use Rattle.layout.specs.Cards.{Card, node_of, node_with, content_of, bytes_in}
 use Rattle.layout.specs.Known.{IsCard}
 use Rattle.layout.specs.Marks.{mark_by}
@@ -117,8 +116,10 @@ node_showing shown card = ap (node_with (fields_showing card.fields shown))
     same kind.Directory = refl
 
 -- and it has a spelling, where its entries have one
-pub shown_fits : (card : Card) (shown : declared_shown.Shown) → IsCard card → AreEntries (shown_of shown).acl → IsInode card.form (fields_showing card.fields (shown_of shown))
-shown_fits card shown is entries =
+pub shown_fits : (card : Card) (shown : declared_shown.Shown) → IsCard card → card.form ≡ Two → AreEntries (shown_of shown).acl
+    → IsInode card.form (fields_showing card.fields (shown_of shown))
+shown_fits card shown is form entries =
+    let most : most_entries card.form ≡ 72 = ap most_entries form in
     let ranges = shown.in_range in
     let fits = is.fits in
     record {
@@ -131,7 +132,7 @@ shown_fits card shown is entries =
       runs = fits.runs;
       run_sectors = fits.run_sectors;
       each_run_sector = fits.each_run_sector;
-      acl = omega (arith, entries.few, least_entries card.form);
+      acl = omega (arith, entries.few, most);
       each_ace = entries.each;
     }
 
@@ -156,14 +157,15 @@ node_unnamed name stamp card is names =
 
 -- New nodes
 
-pub node_fresh : (of : NodeKind) (number : ℕ) (shown : Shown) → node_of (λ n. []) (new_card One (fresh_fields of number shown)) ≡ blank_node (fresh_node of shown)
+pub node_fresh : (of : NodeKind) (number : ℕ) (shown : Shown) → node_of (λ n. []) (new_card Two (fresh_fields of number shown)) ≡ blank_node (fresh_node of shown)
 unfolding node_of
 node_fresh kind.File number shown = ap (λ (bytes : List ℕ). node_with (fresh_fields kind.File number shown) (File bytes)) (bytes-none [] 0)
 node_fresh kind.Directory number shown = refl
 
 -- and it has a spelling
-pub fresh_fits : (form : Form) (of : NodeKind) (number : ℕ) (shown : declared_shown.Shown) → number < 2 ^ 64 → AreEntries (shown_of shown).acl → IsInode form (fresh_fields of number (shown_of shown))
-fresh_fits form of number shown fits entries =
+pub fresh_fits : (form : Form) → form ≡ Two → (of : NodeKind) (number : ℕ) (shown : declared_shown.Shown) → number < 2 ^ 64 → AreEntries (shown_of shown).acl → IsInode form (fresh_fields of number (shown_of shown))
+fresh_fits form is of number shown fits entries =
+    let most : most_entries form ≡ 72 = ap most_entries is in
     let ranges = shown.in_range in
     record {
       number = fits;
@@ -175,7 +177,7 @@ fresh_fits form of number shown fits entries =
       runs = omega arith;
       run_sectors = omega arith;
       each_run_sector = tt;
-      acl = omega (arith, entries.few, least_entries form);
+      acl = omega (arith, entries.few, most);
       each_ace = entries.each;
     }
 
@@ -202,7 +204,7 @@ node_sized size card is =
     ∙ ap (λ (n : ℕ). node_with card.fields (File (zeros n))) (sym (length-resized (bytes_in (λ n. []) card.blocks card.fields.size) size))
     ∙ ap (λ (k : NodeKind). node_with card.fields (File (zeros (length (resized (bytes_of (content_of (λ n. []) k card)) size))))) (sym is)
 
-pub new_is : (card : Card) → card ≡ new_card One card.fields → card ≡ new_card card.form card.fields
+pub new_is : (card : Card) → card ≡ new_card Two card.fields → card ≡ new_card card.form card.fields
 new_is card is = is ∙ ap (λ (form : Form). new_card form card.fields) (sym (ap (λ (one : Card). one.form) is))
 
 pub node_is : (of : NodeKind) (number : ℕ) (shown : Shown) (card : Card) → card.fields ≡ fresh_fields of number shown → new_node card ≡ fresh_node of shown
@@ -210,14 +212,14 @@ node_is of number shown card fields = ap (λ (f : Fields). node_with f (no_conte
 
 pub made_outline : (old new : Draft) (known : IsKnown old) (place : ℕ) (of : NodeKind) (number : ℕ) (shown : Shown) (card : Card)
     → place < length (cards_of old) → get_or (cards_of old) place None ≡ None → HasNot (cards_of old) number
-    → card ≡ new_card One card.fields → card.fields ≡ fresh_fields of number shown → cards_of new ≡ set (cards_of old) place (Some card)
+    → card ≡ new_card Two card.fields → card.fields ≡ fresh_fields of number shown → cards_of new ≡ set (cards_of old) place (Some card)
     → outline_of (cards_of new) ≡ blanked (with (outline_of (cards_of old)) number (fresh_node of shown))
 made_outline old new known place of number shown card within free fresh is fields now =
     ap outline_of now
     ∙ outline_made old.nodes (mark_by (148 + old.nodes) old.places) (cards_of old) known.cards place card within free
     (subst (λ (f : Fields). HasNot (cards_of old) f.number) (sym fields) fresh)
     ∙ ap₂ (λ (n : ℕ) (node : Node). with (outline_of (cards_of old)) n node) (ap (λ (f : Fields). f.number) fields)
-    (ap (node_of (λ n. [])) (is ∙ ap (new_card One) fields) ∙ node_fresh of number shown)
+    (ap (node_of (λ n. [])) (is ∙ ap (new_card Two) fields) ∙ node_fresh of number shown)
     ∙ ap (λ (t : Tree). with t number (blank_node (fresh_node of shown))) (sym (outline_fixed (cards_of old)))
     ∙ sym (blanked-with (outline_of (cards_of old)) number (fresh_node of shown))
 

@@ -58,9 +58,9 @@ edits_of (edit ∷ edits) = edit_of edit ∷ edits_of edits
 
 -- What each asks of the tree before it
 
--- entries that have a spelling, 40 at most
+-- entries that have an encoding, 72 at most
 pub record AreEntries (acl : List Ace) : Type 0 where
-  pub few : length acl ≤ 40
+  pub few : length acl ≤ 72
   pub each : AllByRecursion IsAce acl
 
 pub record IsNewNode (tree : Tree) (number : ℕ) (node : Node) : Type 0 where

@@ -11,7 +11,8 @@ ghost use Rattle.edits.specs.Edits.{IsNewNode, IsShown, IsNewName, IsName, IsFil
 ghost use Rattle.edits.specs.Edits.{CanDo, AreDoable, StayFew, edit_of, fresh_node, fresh_fields};
 ghost use Rattle.edits.specs.Outlines.{outline_of};
 ghost use Rattle.edits.specs.Parts.{PutsBytes, PartsAreBytes};
-ghost use Rattle.inode.specs.declared.node.Form.TheVariants.{One};
+ghost use Rattle.inode.specs.declared.node.Form.TheVariants.{Two};
+ghost use Rattle.layout.specs.Stands.{current, HaveForms};
 ghost use Rattle.layout.specs.Cards.{Card as LaidCard};
 ghost use Rattle.layout.specs.Health.{Reads};
 ghost use Rattle.model.specs.Charge.{few_names};
@@ -48,6 +49,7 @@ fn drop_node(draft: &mut Draft<'_>, number: u64) -> Result<(), AllocError>
 
 fn show(draft: &mut Draft<'_>, number: u64, shown: Shown) -> Result<(), AllocError>
     requires known { IsKnown draft.old }
+    requires forms { HaveForms current (cards_of draft.old) }
     requires can { IsShown (outline_of (cards_of draft.old)) number (shown_of shown) }
     ensures done { OnOk result (DoesAnywhere draft.old draft.new (edit.Show number shown)) }
     ensures table { draft.new.cards.table ≡ draft.old.cards.table }
@@ -99,11 +101,11 @@ fn drop_name(
 
 /// The card of a node without bytes or names.
 fn fresh_card(alloc: Global, number: u64, kind: NodeKind, shown: Shown) -> Card
-    ensures card { result ≡ new_card One result.fields }
+    ensures card { result ≡ new_card Two result.fields }
     ensures fields { result.fields ≡ fresh_fields kind number (shown_of shown) }
 {
     Card {
-        form: Form::One,
+        form: Form::Two,
         inode: Inode {
             kind,
             number,
@@ -215,6 +217,7 @@ fn edit_one<S: Sectors>(
 ) -> Result<(), DraftFault>
     // An edit that can be done
     requires known { IsKnown draft.old × (end_of draft.old ≤ S.size (S.kept base.old)) }
+    requires forms { HaveForms current (cards_of draft.old) }
     requires can { CanDo (outline_of (cards_of draft.old)) edit }
     requires few { IsTrue (few_names Names.MAX_NAMES
         (done (edit_of edit) (outline_of (cards_of draft.old)))) }
@@ -273,6 +276,7 @@ pub(crate) fn edit_all<S: Sectors>(
 ) -> Result<(), DraftFault>
     // An edit that can be done
     requires known { IsKnown draft.old × (end_of draft.old ≤ S.size (S.kept base.old)) }
+    requires forms { HaveForms current (cards_of draft.old) }
     requires can { AreDoable (outline_of (cards_of draft.old)) edits.items }
     requires few { StayFew (outline_of (cards_of draft.old)) edits.items }
     // Done, or full

@@ -69,11 +69,11 @@ small_list limits of acl is =
 
 -- no node has more entries than the limit, whatever its form has room for
 pub few_listed : (fs : FileSystem) → MayStand fs.volume fs.changes → fs.volume.limits ≡ limits_of fs.volume.sectors fs.volume.limits.nodes
-    → (number : ℕ) (card : Card) → IsNodeOf fs.volume.tree number card → length card.fields.acl ≤ 40
+    → (number : ℕ) (card : Card) → IsNodeOf fs.volume.tree number card → length card.fields.acl ≤ 72
 few_listed fs formed limited number card node = ∥∥₁_elim formed.well_formed (Prim.hlevel props) (λ well.
     let is = well.nodes number (blank_node node.node) (at-blanked fs.volume.tree number ∙ ap (option_map blank_node) node.there) in
     let small = small_list fs.volume.limits _ node.node.acl is.entries in
-    let most : fs.volume.limits.aces ≡ 40 = ap (λ (l : Limits). l.aces) limited in
+    let most : fs.volume.limits.aces ≡ 72 = ap (λ (l : Limits). l.aces) limited in
     let same : length node.node.acl ≡ length card.fields.acl = ap (λ (l : List Ace). length l) node.acl in
     omega (arith, small.few, most, same))
 

@@ -11,9 +11,11 @@ pub mod Formatted
 pub mod Frame
 pub mod Knowing
 pub mod Linking
+pub mod MarkOnce
 pub mod MarkProofs
 pub mod NodeEditLaws
 pub mod NumberLaws
 pub mod Rewriting
+pub mod FrontBytes
 pub mod StepLaws
 pub mod Summing

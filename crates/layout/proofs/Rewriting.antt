@@ -1,12 +1,13 @@
 -- A volume that is rewritten in another version stands for the same tree.
-use Rattle.std.proofs.Common.{◌≡◌, ◌≤◌, ◌<◌, ◌+◌, ◌⊎◌, ℕ, zero, suc, List, [], ◌∷◌, Option, Some, None, length, get_or, refl, sym, ap, ap₂, ◌∙◌, subst, arith, ⊎_elim}
+use Rattle.std.proofs.Common.{◌≡◌, ◌≤◌, ◌<◌, ◌+◌, ◌⊎◌, ℕ, zero, suc, List, [], ◌∷◌, Option, Some, None, length, get_or, inr, refl, sym, ap, ap₂, ◌∙◌, subst, arith, ⊎_elim}
+use Rattle.std.proofs.lemmas.Bool.{le-leb, lt-leb}
 use Rattle.disk.specs.Moments.{Image}
 use Rattle.disk.specs.Calls.{zero_sector}
 use Rattle.model.specs.declared.node.NodeKind.{NodeKind}
 use Rattle.model.specs.declared.node.NodeKind.TheVariants as kind
 use Rattle.model.specs.Keyed.{with}
 use Rattle.model.specs.Stamp.{stamp}
-use Rattle.model.specs.Tree.{Tree, Node, File, Directory}
+use Rattle.model.specs.Tree.{Tree, Node}
 use Rattle.model.specs.WellFormed.{IsBefore}
 use Rattle.inode.specs.declared.node.Form.{Form}
 use Rattle.inode.specs.declared.node.Form.TheVariants.{One, Two}
@@ -16,8 +17,9 @@ use Rattle.inode.proofs.ReadBack.{fields-back}
 use Rattle.layout.specs.Cards.{Card, node_sector, cards_in, content_of, node_of, node_with, tree_of}
 use Rattle.layout.specs.Laid.{AreNumbered, HoldsContent, HoldsPlace}
 use Rattle.layout.specs.Marks.{mark_in, named, named_by}
-use Rattle.layout.specs.Rewriting.{in_form, IsRewritten, RewrittenStands, FormStays}
-use Rattle.layout.specs.Stands.{Version, IsLaid}
+use Rattle.layout.specs.Known.{IsPlace, HasContent}
+use Rattle.layout.specs.Rewriting.{in_form, in_second, all_second, second_image, AreRewritten, RewrittenStands, FormStays, IsLaidSecond, LaidSecond, KnownSecond, RewrittenCards, CurrentSecond}
+use Rattle.layout.specs.Stands.{Version, IsLaid, current}
 use Rattle.layout.proofs.CardLaws.{cards-back, zero_first, starts}
 use Rattle.layout.proofs.Changing.{named-at, tree-kept}
 use Rattle.layout.proofs.Frame.{content-held, of_runs, run_sectors-kept, node-kept}
@@ -108,8 +110,8 @@ fits_in_form was is fields roomy fits = record {
   each_ace = fits.each_ace;
 }
 
-module _ (was is : Version) (size nodes run : ℕ) (old new : Image) (cards : List (Option Card)) (laid : IsLaid was size nodes old cards)
-    (below : 148 + nodes ≤ size) (rewritten : IsRewritten was is size nodes run old new) where
+module _ (was is : Version) (size nodes : ℕ) (old new : Image) (cards : List (Option Card)) (laid : IsLaid was size nodes old cards)
+    (below : 148 + nodes ≤ size) (rewritten : AreRewritten was is size nodes old new) where
   abbrev now : List (Option Card)
   now = cards_from is.form 0 cards
 
@@ -189,7 +191,7 @@ pub rewritten_stands : RewrittenStands
 rewritten_stands was is size nodes run later old new tree stands no_less counted rewritten =
     let cards = cards_in nodes old in
     let below = room size nodes stands.sized in
-    let laid = laid_now was is size nodes later old new cards stands.laid below rewritten in
+    let laid = laid_now was is size nodes old new cards stands.laid below rewritten.others in
     let back : cards_in nodes new ≡ cards_from is.form 0 cards = cards-back new nodes (cards_from is.form 0 cards) laid.laid.count laid.laid.held in
     record {
       sized = stands.sized;
@@ -197,7 +199,7 @@ rewritten_stands was is size nodes run later old new tree stands no_less counted
       first = rewritten.first;
       laid = subst (IsLaid is size nodes new) (sym back) laid;
       tree_is = stands.tree_is
-          ∙ (sym (tree_now was is size nodes later old new cards stands.laid below rewritten) ∙ ap (tree_of new) (sym back));
+          ∙ (sym (tree_now was is size nodes old new cards stands.laid below rewritten.others) ∙ ap (tree_of new) (sym back));
       well_formed = stands.well_formed;
       before = before_later (stamp (run + 1) 0) (stamp (later + 1) 0) tree (omega (arith, no_less)) stands.before;
     }
@@ -213,3 +215,96 @@ stays_at version image place (Some card) forms holds =
 pub form_stays : FormStays
 form_stays version size nodes run image tree place stands within =
     stays_at version image place (get_or (cards_in nodes image) place None) (λ one there. stands.laid.forms place one there) (stands.laid.laid.held place within)
+
+-- Cards in form two
+
+second_from : (place : ℕ) (cards : List (Option Card)) → cards_from (λ i. Two) place cards ≡ all_second cards
+second_from place [] = refl
+second_from place (None ∷ cards) = ap (λ (l : List (Option Card)). None ∷ l) (second_from (suc place) cards)
+second_from place (Some card ∷ cards) = ap (λ (l : List (Option Card)). Some (in_its_form Two card) ∷ l) (second_from (suc place) cards)
+
+second_of : (form : ℕ → Form) (place : ℕ) (cards : List (Option Card)) → all_second (cards_from form place cards) ≡ all_second cards
+second_of form place [] = refl
+second_of form place (None ∷ cards) = ap (λ (l : List (Option Card)). None ∷ l) (second_of form (suc place) cards)
+second_of form place (Some card ∷ cards) = ap (λ (l : List (Option Card)). Some (in_its_form Two card) ∷ l) (second_of form (suc place) cards)
+
+pub second_at : (cards : List (Option Card)) (i : ℕ) → get_or (all_second cards) i None ≡ in_second (get_or cards i None)
+second_at [] i = refl
+second_at (card ∷ cards) zero = refl
+second_at (card ∷ cards) (suc i) = second_at cards i
+
+module _ (version : Version) (size nodes : ℕ) (image : Image) (cards : List (Option Card)) (laid : IsLaid version size nodes image cards)
+    (below : 148 + nodes ≤ size) where
+  pub then_second : AreRewritten version current size nodes image (second_image nodes image)
+  then_second = record {
+    roomy = λ place within. inr refl;
+    bitmap = λ n low high. rw (lt-leb 148 n (omega (arith, high)), lt-leb 100 n high) refl;
+    spare = λ n low high. rw (lt-leb 148 n high, le-leb 100 n low) refl;
+    nodes_are = λ place within. rw (le-leb 148 (node_sector place) (omega arith), lt-leb (148 + nodes) (node_sector place) (omega (arith, within))) refl;
+    region = λ n low high. rw (le-leb 148 n (omega (arith, low)), le-leb (148 + nodes) n low) refl;
+  }
+
+  laid_second : IsLaidSecond size nodes image cards
+  laid_second = record {
+    laid = subst (IsLaid current size nodes (second_image nodes image)) (second_from 0 cards)
+        (laid_now version current size nodes image (second_image nodes image) cards laid below then_second);
+    tree = ap (tree_of (second_image nodes image)) (sym (second_from 0 cards))
+        ∙ tree_now version current size nodes image (second_image nodes image) cards laid below then_second;
+    shown = ap (tree_of image) (sym (second_from 0 cards)) ∙ tree_from image (λ i. Two) 0 cards;
+  }
+
+pub laid_as_second : LaidSecond
+laid_as_second version size nodes image cards laid below = laid_second version size nodes image cards laid below
+
+known_content : (of : NodeKind) (card : Card) → HasContent of card → HasContent of (in_its_form Two card)
+known_content kind.File card has = has
+known_content kind.Directory card has = record { count = has.count; names = has.names; stamped = has.stamped }
+
+known_place : (card : Option Card) → IsPlace card → IsPlace (in_second card)
+known_place None is = is
+known_place (Some card) is = record {
+  fits = fits_in_form card.form Two card.fields (inr refl) is.fits;
+  number = is.number;
+  each_run = is.each_run;
+  run_count = is.run_count;
+  runs = is.runs;
+  blocks = is.blocks;
+  content = known_content card.fields.kind card is.content;
+}
+
+some_second : (card : Option Card) (one : Card) → in_second card ≡ Some one → (it : Card) × (card ≡ Some it) × (one ≡ in_its_form Two it)
+some_second None one e = absurd (cc)
+some_second (Some it) one e = (it, refl, cc)
+
+apart_second : (cards : List (Option Card)) → AreNumbered cards → AreNumbered (all_second cards)
+apart_second cards apart i j a b off at_i at_j =
+    let one = some_second (get_or cards i None) a (sym (second_at cards i) ∙ at_i) in
+    let two = some_second (get_or cards j None) b (sym (second_at cards j) ∙ at_j) in
+    λ same. apart i j one.0 two.0 off one.1 two.1
+    (sym (ap (λ (c : Card). c.fields.number) one.2) ∙ (same ∙ ap (λ (c : Card). c.fields.number) two.2))
+
+pub known_as_second : KnownSecond
+known_as_second nodes mark cards known = record {
+  count = ap length (sym (second_from 0 cards)) ∙ (length_from (λ i. Two) 0 cards ∙ known.count);
+  each = λ place within. subst IsPlace (sym (second_at cards place)) (known_place (get_or cards place None) (known.each place within));
+  apart = apart_second cards known.apart;
+  marks = λ n. ap (named n) (sym (second_from 0 cards)) ∙ (named_from n (λ i. Two) 0 cards ∙ known.marks n);
+  behind = known.behind;
+  once = known.once;
+}
+
+pub rewritten_cards : RewrittenCards
+rewritten_cards was is size nodes run later old new tree stands rewritten =
+    let cards = cards_in nodes old in
+    let below = room size nodes stands.sized in
+    let laid = laid_now was is size nodes old new cards stands.laid below rewritten.others in
+    ap all_second (cards-back new nodes (cards_from is.form 0 cards) laid.laid.count laid.laid.held) ∙ second_of is.form 0 cards
+
+second_same : (card : Option Card) → ((one : Card) → card ≡ Some one → one.form ≡ Two) → in_second card ≡ card
+second_same None forms = refl
+second_same (Some card) forms = ap (λ (form : Form). Some (in_its_form form card)) (sym (forms card refl))
+
+pub current_second : CurrentSecond
+current_second [] forms = refl
+current_second (card ∷ cards) forms = ap₂ (λ (one : Option Card) (l : List (Option Card)). one ∷ l)
+    (second_same card (λ one there. forms 0 one there)) (current_second cards (λ place one there. forms (suc place) one there))

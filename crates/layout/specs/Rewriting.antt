@@ -1,14 +1,16 @@
 -- A volume that is rewritten in another version: each node in the form that its place has there,
 -- with the version's spare sectors and number.
-use Rattle.std.specs.Prelude.{◌≡◌, ◌≤◌, ◌<◌, ◌+◌, ◌^◌, ◌⊎◌, ◌==◌, ℕ, List, slice_index, if◌then◌else◌}
+use Rattle.std.specs.Prelude.{◌≡◌, ◌≤◌, ◌<◌, ◌+◌, ◌^◌, ◌⊎◌, ◌==◌, ℕ, List, Option, Some, None, map, nat_le, slice_index, if◌then◌else◌}
 use Rattle.disk.specs.Moments.{Image}
 use Rattle.inode.specs.declared.node.Form.{Form}
 use Rattle.inode.specs.declared.node.Form.TheVariants.{One, Two}
 use Rattle.inode.specs.Reading.{fields_in}
 use Rattle.inode.specs.Spelling.{inode_sector}
 use Rattle.model.specs.Tree.{Tree}
-use Rattle.layout.specs.Cards.{node_sector}
-use Rattle.layout.specs.Stands.{Version, Stands}
+use Rattle.disk.specs.Calls.{zero_sector}
+use Rattle.layout.specs.Cards.{Card, node_sector, cards_in, tree_of}
+use Rattle.layout.specs.Known.{AreCards}
+use Rattle.layout.specs.Stands.{Version, HaveForms, IsLaid, Stands, current}
 use Rattle.layout.specs.Superblock.{superblock}
 
 -- what the sector of a place becomes: the node that is there, in this form; a free place stays
@@ -16,15 +18,20 @@ unfoldable pub in_form : Form → (sector : List ℕ) → List ℕ
 in_form form sector =
     if slice_index sector 0 == 0 then sector else inode_sector form (fields_in sector)
 
--- No form becomes one with less room. What is no node, no spare sector and not the first is kept.
-pub record IsRewritten (was is : Version) (size nodes run : ℕ) (old new : Image) : Type 0 where
+-- No form becomes one with less room. The bitmap and the data region are kept. Sectors 1 to 97 are
+-- left open.
+pub record AreRewritten (was is : Version) (size nodes : ℕ) (old new : Image) : Type 0 where
   pub roomy : (place : ℕ) → place < nodes → (was.form place ≡ One) ⊎ (is.form place ≡ Two)
-  pub first : new 0 ≡ superblock is.number size nodes run
   pub bitmap : (n : ℕ) → 98 ≤ n → n < 100 → new n ≡ old n
   pub spare : (n : ℕ) → 100 ≤ n → n < 148 → new n ≡ is.spare n
   pub nodes_are : (place : ℕ) → place < nodes
       → new (node_sector place) ≡ in_form (is.form place) (old (node_sector place))
   pub region : (n : ℕ) → 148 + nodes ≤ n → n < size → new n ≡ old n
+
+-- and its first sector has a count
+pub record IsRewritten (was is : Version) (size nodes run : ℕ) (old new : Image) : Type 0 where
+  pub first : new 0 ≡ superblock is.number size nodes run
+  pub others : AreRewritten was is size nodes old new
 
 -- The law: then it stands for the tree for which it stood, under the count that it has now
 abbrev pub RewrittenStands : Type 0
@@ -40,3 +47,47 @@ FormStays =
     (version : Version) (size nodes run : ℕ) (image : Image) (tree : Tree) (place : ℕ)
     → Stands version size nodes image run tree → place < nodes
     → in_form (version.form place) (image (node_sector place)) ≡ image (node_sector place)
+
+-- The cards of a volume as they are once each of its nodes has form two
+abbrev pub in_second : Option Card → Option Card
+in_second None = None
+in_second (Some card) = Some (record card { form = Two })
+
+abbrev pub all_second : List (Option Card) → List (Option Card)
+all_second cards = map in_second cards
+
+-- and its sectors
+abbrev pub second_image : (nodes : ℕ) → Image → Image
+second_image nodes image n =
+    if nat_le 148 n then (if nat_le (148 + nodes) n then image n else in_form Two (image n))
+    else (if nat_le 100 n then zero_sector else image n)
+
+-- A volume that is laid is so in form two as well, with the same tree
+pub record IsLaidSecond (size nodes : ℕ) (image : Image) (cards : List (Option Card))
+    : Type 0 where
+  pub laid : IsLaid current size nodes (second_image nodes image) (all_second cards)
+  pub tree : tree_of (second_image nodes image) (all_second cards) ≡ tree_of image cards
+  pub shown : tree_of image (all_second cards) ≡ tree_of image cards
+
+abbrev pub LaidSecond : Type 0
+LaidSecond =
+    (version : Version) (size nodes : ℕ) (image : Image) (cards : List (Option Card))
+    → IsLaid version size nodes image cards → 148 + nodes ≤ size
+    → IsLaidSecond size nodes image cards
+
+-- so are cards, whatever the sectors hold
+abbrev pub KnownSecond : Type 0
+KnownSecond =
+    (nodes : ℕ) (mark : ℕ → ℕ) (cards : List (Option Card))
+    → AreCards nodes mark cards → AreCards nodes mark (all_second cards)
+
+-- and a rewritten volume has the same cards but for their forms
+abbrev pub RewrittenCards : Type 0
+RewrittenCards =
+    (was is : Version) (size nodes run later : ℕ) (old new : Image) (tree : Tree)
+    → Stands was size nodes old run tree → IsRewritten was is size nodes later old new
+    → all_second (cards_in nodes new) ≡ all_second (cards_in nodes old)
+
+-- which are those of a volume in the current version
+abbrev pub CurrentSecond : Type 0
+CurrentSecond = (cards : List (Option Card)) → HaveForms current cards → all_second cards ≡ cards

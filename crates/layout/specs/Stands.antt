@@ -1,10 +1,13 @@
 -- What a volume stands for. Sectors 1 to 97 are the journal's; what it makes of them is settled
 -- before.
-use Rattle.std.specs.Prelude.{◌≡◌, ◌≤◌, ◌<◌, ◌+◌, ◌^◌, ℕ, List, Option, Some, None, IsTrue, slice_index_or}
+use Rattle.std.specs.Prelude.{◌≡◌, ◌≤◌, ◌<◌, ◌+◌, ◌++◌, ◌^◌, ◌==◌, ℕ, ⊤, List, Option, Some, None, IsTrue, codes, nat_le, replicate, slice_index_or, if◌then◌else◌}
+use Rattle.std.specs.Int.{w32, to_be_bytes}
 use Rattle.disk.specs.Moments.{Image}
 use Rattle.disk.specs.Calls.{zero_sector}
 use Rattle.inode.specs.declared.node.Form.{Form}
-use Rattle.inode.specs.declared.node.Form.TheVariants.{One}
+use Rattle.inode.specs.declared.node.Form.TheVariants.{One, Two}
+use Rattle.layout.specs.declared.versions.VersionNumber.{VersionNumber}
+use Rattle.layout.specs.declared.versions.VersionNumber.TheVariants as numbers
 use Rattle.model.specs.Limits.{limits_of}
 use Rattle.model.specs.Seats.{Seats, no_seats}
 use Rattle.model.specs.Stamp.{stamp}
@@ -22,16 +25,58 @@ pub record Version : Type 0 where
   pub form : (place : ℕ) → Form
   pub spare : (sector : ℕ) → List ℕ
 
-abbrev pub version_1 : Version
-version_1 = record { number = 1; form = λ place. One; spare = λ sector. zero_sector }
+-- The mark of a migration: `MIGR`, how many places of the table have nodes of form two, and zeros
+abbrev pub mark_fields : (moved : ℕ) → List ℕ
+mark_fields moved = codes "MIGR" ++ to_be_bytes w32 moved
+
+unfoldable pub mark_sector : (moved : ℕ) → List ℕ
+mark_sector moved = mark_fields moved ++ replicate 4088 0
+
+-- the mark stands in sector 147, and the others hold nothing
+abbrev pub spare_by : (mark : Option ℕ) → (sector : ℕ) → List ℕ
+spare_by None sector = zero_sector
+spare_by (Some moved) sector = if sector == 147 then mark_sector moved else zero_sector
+
+-- how many places a mark tells
+abbrev pub moved_by : (mark : Option ℕ) → ℕ
+moved_by None = 0
+moved_by (Some moved) = moved
+
+-- Version 1: the places that the mark tells have form two, and the others form one
+abbrev pub version_1 : (mark : Option ℕ) → Version
+version_1 mark = record {
+  number = 1;
+  form = λ place. if nat_le (moved_by mark) place then One else Two;
+  spare = spare_by mark;
+}
+
+-- Version 2: all places have form two
+abbrev pub version_2 : (mark : Option ℕ) → Version
+version_2 mark = record { number = 2; form = λ place. Two; spare = spare_by mark }
 
 -- the version that volumes are made in and served in
 abbrev pub current : Version
-current = version_1
+current = version_2 None
+
+abbrev pub number_of : VersionNumber → ℕ
+number_of numbers.One = 1
+number_of numbers.Two = 2
+
+abbrev pub version_by : VersionNumber → (mark : Option ℕ) → Version
+version_by numbers.One mark = version_1 mark
+version_by numbers.Two mark = version_2 mark
+
+-- the marks of a volume of so many nodes: one that migrates tells some of its places, and one that
+-- has migrated all of them
+abbrev pub IsMark : VersionNumber → (nodes : ℕ) → (mark : Option ℕ) → Type 0
+IsMark number nodes None = ⊤
+IsMark numbers.One nodes (Some moved) = (0 < moved) × (moved ≤ nodes)
+IsMark numbers.Two nodes (Some moved) = moved ≡ nodes
 
 -- the versions that a volume of so many nodes may have, each with the seats that it keeps
 pub data IsVersion (nodes : ℕ) : Version → Seats → Type 0 where
-  First : IsVersion nodes version_1 no_seats
+  By : (number : VersionNumber) (mark : Option ℕ) → IsMark number nodes mark
+      → IsVersion nodes (version_by number mark) no_seats
 
 -- each node has its place's form
 abbrev pub HaveForms : Version → List (Option Card) → Type 0

@@ -12,4 +12,5 @@ pub mod node_edits;
 pub mod places;
 pub mod sectors;
 pub mod sums;
+pub mod versions;
 pub mod volumes;

@@ -3,7 +3,8 @@
 ghost use Rattle.layout.specs.CardLaws.{OneTree, OneKept, OneProof};
 ghost use Rattle.layout.specs.FreshLaws.{FreshStands};
 ghost use Rattle.layout.specs.MarkLaws.{KeptAlone, StandsAlone};
-ghost use Rattle.layout.specs.Rewriting.{RewrittenStands, FormStays};
+ghost use Rattle.layout.specs.Rewriting.{RewrittenStands, RewrittenCards, FormStays};
+ghost use Rattle.layout.specs.Rewriting.{LaidSecond, KnownSecond, CurrentSecond};
 
 /// A volume stands for one tree, of one size and one restart count, with one list of seats beside
 /// it; that it does has one proof at most.
@@ -28,5 +29,13 @@ pub fn fresh()
 /// sectors and first sector, stands for the same tree. A node that has its form already stays.
 pub fn rewritten()
     ensures stands { RewrittenStands }
+    ensures cards { RewrittenCards }
     ensures stays { FormStays }
+{}
+
+/// The cards of a volume are those of one in the current version, but for their forms.
+pub fn second()
+    ensures laid { LaidSecond }
+    ensures known { KnownSecond }
+    ensures current { CurrentSecond }
 {}

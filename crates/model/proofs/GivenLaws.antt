@@ -1,5 +1,5 @@
 -- Each change gives the stamp of its run.
-use Rattle.std.proofs.Common.{◌≡◌, ◌≢◌, ◌+◌, ◌≤◌, ℕ, ◌⊎◌, inl, inr, Bool, true, false, cond, List, [], ◌∷◌, ◌++◌, Option, None, Some, Result, Ok, Err, refl, sym, ap, subst, find, slice_get, option_to_list, append-nil}
+use Rattle.std.proofs.Common.{◌≡◌, ◌≢◌, ◌+◌, ◌≤◌, ℕ, ◌⊎◌, inl, inr, Bool, true, false, cond, List, [], ◌∷◌, ◌++◌, Option, None, Some, Result, Ok, Err, refl, sym, subst, find, slice_get, option_to_list, append-nil}
 use Rattle.model.specs.declared.status.Status.{Status}
 use Rattle.model.specs.declared.status.Status.TheVariants as status
 use Rattle.model.specs.declared.limits.Limits.{Limits}
@@ -8,7 +8,7 @@ use Rattle.model.specs.Changes.{IsStamped}
 use Rattle.model.specs.Keyed.{at}
 use Rattle.model.specs.Operation.{Argument, SequenceArguments, operation_of}
 use Rattle.model.specs.Rpc.{CallRead, NoCall, OtherVersion, Calls, Request, Answers, Runs, read_call, request_of}
-use Rattle.model.specs.Runs.{Event, Arrives, Turns, HangsUp, Connects, Takes, executed_of, executed_by, Serving, History, IsRun, Begins, Goes_on, Fails_at, Stays_down, mounted, before, is_done, stamp_in}
+use Rattle.model.specs.Runs.{Event, Arrives, Turns, HangsUp, Connects, Takes, executed_of, executed_by, Serving, History, IsRun, Begins, Goes_on, Fails_at, Stays_down, mounted, is_done}
 use Rattle.model.specs.Session as sessions
 use Rattle.model.specs.Session.{Table, Session}
 use Rattle.model.specs.SoundRuns.{IsStart}

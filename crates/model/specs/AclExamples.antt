@@ -90,11 +90,11 @@ unfolding inherited
 inherited_by_a_directory = refl
 
 -- the parent's list suits a directory and no file; with one entry allowed the second is one too many
-pub parent_suits_a_directory : is_list_for 32 40 node.Directory parent ≡ true
+pub parent_suits_a_directory : is_list_for 64 72 node.Directory parent ≡ true
 unfolding is_list_for
 parent_suits_a_directory = refl
 
-pub parent_suits_no_file : first_refused 32 node.File parent ≡ Some 0
+pub parent_suits_no_file : first_refused 64 node.File parent ≡ Some 0
 unfolding first_refused
 parent_suits_no_file = refl
 
@@ -102,7 +102,7 @@ pub one_too_many : first_refused 1 node.Directory parent ≡ Some 1
 unfolding first_refused
 one_too_many = refl
 
-pub none_refused : first_refused 32 node.Directory parent ≡ None
+pub none_refused : first_refused 64 node.Directory parent ≡ None
 unfolding first_refused
 none_refused = refl
 

@@ -12,8 +12,8 @@ limits_of sectors nodes = record {
   names = 1024;
   name_bytes = 255;
   file_bytes = 16777216;
-  aces_set = 32;
-  aces = 40;
+  aces_set = 64;
+  aces = 72;
   transfer_bytes = 8192;
   opens = 256;
 }

@@ -181,10 +181,10 @@ impl Model for Acl {
 
 impl Acl {
     /// How many entries a client may set.
-    pub const MAX_SET: usize = 32;
+    pub const MAX_SET: usize = 64;
 
     /// How many entries a node's list may have.
-    pub const MAX_STORED: usize = 40;
+    pub const MAX_STORED: usize = 72;
 
     /// A list without entries.
     pub fn new(alloc: Global) -> Acl

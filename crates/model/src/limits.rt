@@ -36,8 +36,8 @@ impl Limits {
             names: 1024,
             name_bytes: 255,
             file_bytes: 16_777_216,
-            aces_set: 32,
-            aces: 40,
+            aces_set: 64,
+            aces: 72,
             transfer_bytes: 8192,
             opens: 256,
         }

@@ -8,8 +8,9 @@ use Rattle.extents.specs.Reading.{runs_in}
 use Rattle.extents.specs.Runs.{AreRunsOf}
 use Rattle.extents.specs.Sector.{IsRun}
 use Rattle.extents.proofs.ReadBack.{runs-back}
-use Rattle.inode.specs.declared.node.Form.TheVariants.{One}
-use Rattle.inode.specs.Fields.{Fields, IsInode}
+use Rattle.inode.specs.declared.node.Form.{Form}
+use Rattle.inode.specs.declared.node.Form.TheVariants.{One, Two}
+use Rattle.inode.specs.Fields.{Fields}
 use Rattle.inode.specs.Spelling.{inode_sector}
 use Rattle.inode.proofs.ReadBack.{one_node}
 use Rattle.layout.specs.Cards.{Card, node_sector}
@@ -48,9 +49,9 @@ one_runs word image sectors count a b w first second enough = ext_get_or no_run 
 one_blocks : (runs : List Run) (a b : List (Option ℕ)) → AreRunsOf runs a → AreRunsOf runs b → length a ≡ length b → a ≡ b
 one_blocks runs a b first second long = ext_get_or None a b long (λ k h. first.same k ∙ sym (second.same k))
 
-pub same_blocks : (word : Type 0) (image : Image) (fields : Fields) (runs others : List Run) (a b : List (Option ℕ)) → word → IsInode One fields → FindsBlocks word image fields runs a → FindsBlocks word image fields others b → a ≡ b
-same_blocks word image fields runs others a b w fits first second =
-    let same : runs ≡ others = one_runs word image fields.run_sectors fields.runs runs others w first.in_sectors second.in_sectors fits.run_sectors in
+pub same_blocks : (word : Type 0) (image : Image) (fields : Fields) (runs others : List Run) (a b : List (Option ℕ)) → word → length fields.run_sectors ≡ (fields.runs + 499) / 500 → FindsBlocks word image fields runs a → FindsBlocks word image fields others b → a ≡ b
+same_blocks word image fields runs others a b w enough first second =
+    let same : runs ≡ others = one_runs word image fields.run_sectors fields.runs runs others w first.in_sectors second.in_sectors enough in
     one_blocks others a b (subst (λ (l : List Run). AreRunsOf l a) same first.laid) second.laid (first.count ∙ sym second.count)
 
 -- What was marked can be read
@@ -83,37 +84,38 @@ marked_card first old new card marked = record { len = marked.len; marks = λ n.
 pub marked_free : (first : ℕ) (places : List Bool) → AreMarked first places places (λ n. named_by n None)
 marked_free first places = record { len = refl; marks = λ n. omega (arith, named-none n) }
 
-starts : (fields : Fields) → get_or (inode_sector One fields) 0 0 ≡ 78
+starts : (form : Form) (fields : Fields) → get_or (inode_sector form fields) 0 0 ≡ 78
 unfolding inode_sector
-starts fields = refl
+starts One fields = refl
+starts Two fields = refl
 
-not_both : (content : List ℕ) (fields : Fields) → content ≡ zero_sector → content ≡ inode_sector One fields → ⊥
-not_both content fields free used = absurd (let e : 0 ≡ 78 = sym (zero_sector-at 0) ∙ ap (λ (l : List ℕ). get_or l 0 0) (sym free ∙ used) ∙ starts fields in omega arith)
+not_both : (form : Form) (content : List ℕ) (fields : Fields) → content ≡ zero_sector → content ≡ inode_sector form fields → ⊥
+not_both form content fields free used = absurd (let e : 0 ≡ 78 = sym (zero_sector-at 0) ∙ ap (λ (l : List ℕ). get_or l 0 0) (sym free ∙ used) ∙ starts form fields in omega arith)
 
 pub fields_there : Option Card → Option Fields
 fields_there None = None
 fields_there (Some card) = Some card.fields
 
-pub found_there : (word : Type 0) (image : Image) (place : ℕ) (card : Option Card) → FindsPlace word image place card → FindsFields word (image (node_sector place)) (fields_there card)
+pub found_there : (word : Type 0) (form : Form) (image : Image) (place : ℕ) (card : Option Card) → FindsPlace word form image place card → FindsFields word form (image (node_sector place)) (fields_there card)
 unfolding fields_there
-found_there word image place None found = found
-found_there word image place (Some card) found = found.node
+found_there word form image place None found = found
+found_there word form image place (Some card) found = found.node
 
-module _ (word : Type 0) (image : Image) (place first : ℕ) (places : List Bool) (fields : Fields) (w : word) (node : FindsNode word (image (node_sector place)) fields) where
-  pub none_there : ((card : Card) → card.fields ≡ fields → FindsRest word image card → CanMark first places (uses card.fields card.blocks) → ⊥) → (card : Option Card) → FindsPlace word image place card
+module _ (word : Type 0) (form : Form) (image : Image) (place first : ℕ) (places : List Bool) (fields : Fields) (w : word) (node : FindsNode word form (image (node_sector place)) fields) where
+  pub none_there : ((card : Card) → card.fields ≡ fields → FindsRest word image card → CanMark first places (uses card.fields card.blocks) → ⊥) → (card : Option Card) → FindsPlace word form image place card
       → CanMark first places (λ n. named_by n card) → ⊥
-  none_there none None found can = not_both (image (node_sector place)) fields (found w) (node.spelled w)
+  none_there none None found can = not_both form (image (node_sector place)) fields (found w) (node.spelled w)
   none_there none (Some card) found can =
-      none card (one_node One One card.fields fields found.node.fits node.fits (sym (found.node.spelled w) ∙ node.spelled w)).1 found.rest (λ n. omega (arith, can n, named-is n card))
+      none card (one_node form form card.fields fields found.node.fits node.fits (sym (found.node.spelled w) ∙ node.spelled w)).1 found.rest (λ n. omega (arith, can n, named-is n card))
 
 pub same_find : (word : Type 0) (image : Image) (numbers others : List ℕ) (count more : ℕ) (runs : List Run) → numbers ≡ others → count ≡ more → FindsRuns word image numbers count runs → FindsRuns word image others more runs
 same_find word image numbers others count more runs a b found = subst (λ (n : ℕ). FindsRuns word image others n runs) b (subst (λ (l : List ℕ). FindsRuns word image l count runs) a found)
 
-pub content_there : (word : Type 0) (image other : Image) (fields : Fields) (card : Card) (runs : List Run) (blocks : List (Option ℕ)) → word → image ≡ other → IsInode One fields → card.fields ≡ fields → FindsRest word image card → FindsBlocks word image fields runs blocks
+pub content_there : (word : Type 0) (image other : Image) (fields : Fields) (card : Card) (runs : List Run) (blocks : List (Option ℕ)) → word → image ≡ other → length fields.run_sectors ≡ (fields.runs + 499) / 500 → card.fields ≡ fields → FindsRest word image card → FindsBlocks word image fields runs blocks
     → FindsContent word other fields.kind fields.size blocks card.names
-content_there word image other fields card runs blocks w moved fits same found read =
+content_there word image other fields card runs blocks w moved enough same found read =
     let there = subst (λ (f : Fields). FindsBlocks word image f card.runs card.blocks) same found.in_blocks in
-    let one : card.blocks ≡ blocks = same_blocks word image fields card.runs runs card.blocks blocks w fits there read in
+    let one : card.blocks ≡ blocks = same_blocks word image fields card.runs runs card.blocks blocks w enough there read in
     subst (λ (i : Image). FindsContent word i fields.kind fields.size blocks card.names) moved
     (subst (λ (l : List (Option ℕ)). FindsContent word image fields.kind fields.size l card.names) one
     (subst (λ (f : Fields). FindsContent word image f.kind f.size card.blocks card.names) same found.content))

@@ -32,7 +32,7 @@ few_at size nodes image place card is holds =
     omega (arith, holds.node.blocks, few_blocks size nodes image card.fields.kind card (subst (IsContent (limits_of size nodes)) (content-is image card) is.content) holds.content)
 
 pub stands_few : StandsIsFew
-stands_few size nodes image run tree stands place card there = ∥∥₁_elim stands.well_formed (Prim.hlevel props) (λ formed.
+stands_few version size nodes image run tree stands place card there = ∥∥₁_elim stands.well_formed (Prim.hlevel props) (λ formed.
     elim (cases_lt place nodes) [
       | inl h ↦
           let laid = stands.laid.laid in

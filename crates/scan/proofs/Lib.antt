@@ -1,6 +1,7 @@
 pub mod CardLaws
 pub mod FewLaws
 pub mod MarkingLaws
+pub mod MigrationLaws
 pub mod NameLaws
 pub mod NumberLaws
 pub mod RunLaws

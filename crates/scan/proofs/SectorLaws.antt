@@ -10,6 +10,7 @@ use Rattle.scan.specs.declared.fault.ScanFault.{ScanFault}
 use Rattle.scan.specs.declared.fault.ScanFault.TheVariants.{Damaged}
 use Rattle.scan.specs.Faults.{of_inode}
 use Rattle.disk.specs.Calls.{zero_sector}
+use Rattle.inode.specs.declared.node.Form.{Form}
 use Rattle.inode.specs.Fields.{Fields}
 use Rattle.scan.specs.Places.{FindsFields}
 use Rattle.scan.specs.Sectors.{AreZeroFrom}
@@ -25,9 +26,9 @@ pub zero-all : (content : List ℕ) (from : ℕ) → content ≡ zero_sector →
 zero-all content from is at h = ap (λ (bytes : List ℕ). get_or bytes at 0) is ∙ zero_sector-at at
 
 -- what is found in an image's sector is found in the same content
-pub finds-here : (word : Type 0) (content there : List ℕ) (fields : Option Fields) → word → content ≡ there → FindsFields word there fields → FindsFields (Unit {0}) content fields
-finds-here word content there None w same found = λ u. same ∙ found w
-finds-here word content there (Some fields) w same found = record { fits = found.fits; number = found.number; spelled = λ u. same ∙ found.spelled w }
+pub finds-here : (word : Type 0) (form : Form) (content there : List ℕ) (fields : Option Fields) → word → content ≡ there → FindsFields word form there fields → FindsFields (Unit {0}) form content fields
+finds-here word form content there None w same found = λ u. same ∙ found w
+finds-here word form content there (Some fields) w same found = record { fits = found.fits; number = found.number; spelled = λ u. same ∙ found.spelled w }
 
 -- What a refusal of a part was, where that of the whole is Damaged
 

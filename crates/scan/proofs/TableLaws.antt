@@ -7,7 +7,6 @@ use Rattle.std.proofs.lemmas.Option.{none-some}
 use Rattle.disk.specs.Moments.{Image}
 use Rattle.freemap.specs.Places.{bit_from}
 use Rattle.inode.specs.declared.node.Form.{Form}
-use Rattle.inode.specs.declared.node.Form.TheVariants.{One}
 use Rattle.inode.specs.Fields.{IsInode}
 use Rattle.inode.specs.Spelling.{inode_sector}
 use Rattle.model.specs.declared.node.NodeKind.{NodeKind}
@@ -27,16 +26,16 @@ content_held : (word : Type 0) (image : Image) (kind : NodeKind) (card : Card) �
 content_held word image kind.File card w found = record { unnamed = found.unnamed; tail = found.tail w }
 content_held word image kind.Directory card w found = record { count = found.count; names = found.directory; stamped = found.stamped; spelled = found.spelled w }
 
-pub place_held : (word : Type 0) (image : Image) (place : ℕ) (card : Option Card) → word → FindsPlace word image place card → HoldsPlace image place card
-place_held word image place None w found = found w
-place_held word image place (Some card) w found =
+pub place_held : (word : Type 0) (form : Form) (image : Image) (place : ℕ) (card : Option Card) → word → FindsPlace word form image place card → HoldsPlace image place card
+place_held word form image place None w found = found w
+place_held word form image place (Some card) w found =
     let rest = found.rest in
     let blocks = rest.in_blocks in
     record {
       node = record {
-        fits = subst (λ (form : Form). IsInode form card.fields) (sym found.form) found.node.fits;
+        fits = subst (λ (f : Form). IsInode f card.fields) (sym found.form) found.node.fits;
         number = found.node.number;
-        sector = found.node.spelled w ∙ ap (λ (form : Form). inode_sector form card.fields) (sym found.form);
+        sector = found.node.spelled w ∙ ap (λ (f : Form). inode_sector f card.fields) (sym found.form);
         each_run = blocks.in_sectors.each;
         run_count = blocks.in_sectors.count_is;
         run_sectors = blocks.in_sectors.spelled w;
@@ -50,13 +49,13 @@ content_known : (word : Type 0) (image : Image) (kind : NodeKind) (card : Card) 
 content_known word image kind.File card found = found.unnamed
 content_known word image kind.Directory card found = record { count = found.count; names = found.directory; stamped = found.stamped }
 
-pub place_known : (word : Type 0) (image : Image) (place : ℕ) (card : Option Card) → FindsPlace word image place card → IsPlace card
-place_known word image place None found = tt
-place_known word image place (Some card) found =
+pub place_known : (word : Type 0) (form : Form) (image : Image) (place : ℕ) (card : Option Card) → FindsPlace word form image place card → IsPlace card
+place_known word form image place None found = tt
+place_known word form image place (Some card) found =
     let rest = found.rest in
     let blocks = rest.in_blocks in
     record {
-      fits = subst (λ (form : Form). IsInode form card.fields) (sym found.form) found.node.fits;
+      fits = subst (λ (f : Form). IsInode f card.fields) (sym found.form) found.node.fits;
       number = found.node.number;
       each_run = blocks.in_sectors.each;
       run_count = blocks.in_sectors.count_is;
@@ -69,14 +68,14 @@ content_found : (word : Type 0) (image : Image) (kind : NodeKind) (card : Card) 
 content_found word image kind.File card holds = record { unnamed = holds.unnamed; tail = λ w. holds.tail }
 content_found word image kind.Directory card holds = record { count = holds.count; directory = holds.names; stamped = holds.stamped; spelled = λ w. holds.spelled }
 
-pub place_found : (word : Type 0) (image : Image) (place : ℕ) (card : Option Card) → ((one : Card) → card ≡ Some one → one.form ≡ One) → ((one : Card) → card ≡ Some one → length one.blocks ≤ 4096) → HoldsPlace image place card → FindsPlace word image place card
-place_found word image place None forms few holds = λ w. holds
-place_found word image place (Some card) forms few holds = record {
+pub place_found : (word : Type 0) (form : Form) (image : Image) (place : ℕ) (card : Option Card) → ((one : Card) → card ≡ Some one → one.form ≡ form) → ((one : Card) → card ≡ Some one → length one.blocks ≤ 4096) → HoldsPlace image place card → FindsPlace word form image place card
+place_found word form image place None forms few holds = λ w. holds
+place_found word form image place (Some card) forms few holds = record {
   form = forms card refl;
   node = record {
-    fits = subst (λ (form : Form). IsInode form card.fields) (forms card refl) holds.node.fits;
+    fits = subst (λ (f : Form). IsInode f card.fields) (forms card refl) holds.node.fits;
     number = holds.node.number;
-    spelled = λ w. holds.node.sector ∙ ap (λ (form : Form). inode_sector form card.fields) (forms card refl);
+    spelled = λ w. holds.node.sector ∙ ap (λ (f : Form). inode_sector f card.fields) (forms card refl);
   };
   rest = record {
     in_blocks = record {
@@ -90,8 +89,8 @@ place_found word image place (Some card) forms few holds = record {
 }
 
 -- so one card at most is found at a place
-pub one_place : (word : Type 0) (image : Image) (place : ℕ) (a b : Option Card) → word → FindsPlace word image place a → FindsPlace word image place b → a ≡ b
-one_place word image place a b w first second = sym (card-back image place a (place_held word image place a w first)) ∙ card-back image place b (place_held word image place b w second)
+pub one_place : (word : Type 0) (form : Form) (image : Image) (place : ℕ) (a b : Option Card) → word → FindsPlace word form image place a → FindsPlace word form image place b → a ≡ b
+one_place word form image place a b w first second = sym (card-back image place a (place_held word form image place a w first)) ∙ card-back image place b (place_held word form image place b w second)
 
 -- Sums of what is named
 
@@ -109,10 +108,10 @@ named-front n (one ∷ front) (card ∷ cards) h same =
     omega (arith, named-front n front cards (omega arith) (λ p below. same (suc p) (omega arith)))
 
 -- of a table whose first places are those that were found, the next one can be marked
-pub next_fits : (word : Type 0) (image : Image) (nodes n : ℕ) (front cards : List (Option Card)) → word → length cards ≡ nodes → length front < nodes → ((p : ℕ) → p < length front → FindsPlace word image p (get_or front p None)) → ArePlaces word image nodes cards
+pub next_fits : (word : Type 0) (form : ℕ → Form) (image : Image) (nodes n : ℕ) (front cards : List (Option Card)) → word → length cards ≡ nodes → length front < nodes → ((p : ℕ) → p < length front → FindsPlace word (form p) image p (get_or front p None)) → ArePlaces word form image nodes cards
     → named n front + named_by n (get_or cards (length front) None) ≤ named n cards
-next_fits word image nodes n front cards w many h found each =
-    named-front n front cards (omega arith) (λ p below. one_place word image p (get_or front p None) (get_or cards p None) w (found p below) (each p (omega arith)))
+next_fits word form image nodes n front cards w many h found each =
+    named-front n front cards (omega arith) (λ p below. one_place word (form p) image p (get_or front p None) (get_or cards p None) w (found p below) (each p (omega arith)))
 
 -- a set of free places marks nothing
 pub mark-none : (first count n : ℕ) → mark_by first (replicate count false) n ≡ 0
@@ -125,14 +124,14 @@ mark-none first count n = elim (cases_lt n first) [
 ]
 
 -- one place more
-pub each_more : (word : Type 0) (image : Image) (cards : List (Option Card)) (card : Option Card) (place : ℕ) → length cards ≡ place → ((p : ℕ) → p < place → FindsPlace word image p (get_or cards p None)) → FindsPlace word image place card
-    → (p : ℕ) → p < place + 1 → FindsPlace word image p (get_or (cards ++ card ∷ []) p None)
-each_more word image cards card place long each found p h = elim (cases_lt p place) [
-  | inl low ↦ subst (FindsPlace word image p) (sym (get_or_append_left cards (card ∷ []) None p (omega arith))) (each p low)
+pub each_more : (word : Type 0) (form : ℕ → Form) (image : Image) (cards : List (Option Card)) (card : Option Card) (place : ℕ) → length cards ≡ place → ((p : ℕ) → p < place → FindsPlace word (form p) image p (get_or cards p None)) → FindsPlace word (form place) image place card
+    → (p : ℕ) → p < place + 1 → FindsPlace word (form p) image p (get_or (cards ++ card ∷ []) p None)
+each_more word form image cards card place long each found p h = elim (cases_lt p place) [
+  | inl low ↦ subst (FindsPlace word (form p) image p) (sym (get_or_append_left cards (card ∷ []) None p (omega arith))) (each p low)
   | inr high ↦
       let e : p ≡ place = omega arith in
       let is : get_or (cards ++ card ∷ []) p None ≡ card = ap (λ (k : ℕ). get_or (cards ++ card ∷ []) k None) (e ∙ sym long) ∙ get_or-append_seam cards card [] None in
-      subst (FindsPlace word image p) (sym is) (subst (λ (k : ℕ). FindsPlace word image k card) (sym e) found)
+      subst (FindsPlace word (form p) image p) (sym is) (subst (λ (k : ℕ). FindsPlace word (form k) image k card) (sym e) found)
 ]
 
 -- Numbers

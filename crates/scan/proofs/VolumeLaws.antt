@@ -1,28 +1,31 @@
 -- A whole volume.
-use Rattle.std.proofs.Common.{◌≡◌, ◌≤◌, ◌<◌, ◌+◌, ◌-◌, ◌*◌, ℕ, zero, suc, Bool, List, Option, Some, None, length, get_or, refl, sym, ap, subst, ◌∙◌, arith, inl, inr, lt-ltb, le-ltb}
+use Rattle.std.proofs.Common.{◌≡◌, ◌≤◌, ◌<◌, ◌+◌, ◌-◌, ◌*◌, ◌^◌, ℕ, zero, suc, Bool, List, Option, Some, None, get_or, refl, sym, ap, subst, ◌∙◌, arith, inl, inr, lt-ltb, le-ltb}
 use Rattle.std.proofs.lemmas.Bool.{cases_lt}
 use Rattle.std.proofs.lemmas.List.{ext_get_or, get_or_past}
 use Rattle.disk.specs.Moments.{Image}
 use Rattle.freemap.specs.Places.{Shows, mark_of, bit_of, bit_in}
+use Rattle.inode.specs.declared.node.Form.{Form}
 use Rattle.layout.specs.Cards.{Card}
 use Rattle.layout.specs.Known.{AreCards}
 use Rattle.layout.specs.Laid.{AreLaid, AreNumbered}
 use Rattle.layout.specs.Marks.{named, mark_in, mark_by}
-use Rattle.layout.specs.Stands.{current, HaveForms, IsLaid}
+use Rattle.layout.specs.Stands.{Version, HaveForms, IsLaid, IsMark, spare_by, version_by}
+use Rattle.layout.specs.declared.versions.VersionNumber.{VersionNumber}
 use Rattle.layout.proofs.CardLaws.{cards-back}
 use Rattle.layout.proofs.MarkProofs.{mark-back, each_mark, marks_laid}
 use Rattle.scan.specs.Cards.{FindsPlace, IsFound, CanHold}
 use Rattle.scan.specs.Sectors.{AreBits, AreSpare}
 use Rattle.scan.specs.Volumes.{AreFew, IsRead}
 use Rattle.scan.proofs.MarkingLaws.{most-in}
+use Rattle.scan.proofs.MigrationLaws.{mark_fits, one_mark, mark_there, spare_there}
 use Rattle.scan.proofs.TableLaws.{place_held, place_known, place_found, one_place}
 
 -- Cards that are laid can be held
 
-pub laid_can : (word : Type 0) (image : Image) (size nodes count : ℕ) (cards : List (Option Card)) → size ≡ 148 + nodes + count → IsLaid current size nodes image cards → AreFew cards → CanHold word image nodes count cards
-laid_can word image size nodes count cards sized laid few = record {
+pub laid_can : (word : Type 0) (version : Version) (image : Image) (size nodes count : ℕ) (cards : List (Option Card)) → size ≡ 148 + nodes + count → IsLaid version size nodes image cards → AreFew cards → CanHold word version.form image nodes count cards
+laid_can word version image size nodes count cards sized laid few = record {
   many = laid.laid.count;
-  each = λ place h. place_found word image place (get_or cards place None) (λ card is. laid.forms place card is) (λ card is. few place card is) (laid.laid.held place h);
+  each = λ place h. place_found word (version.form place) image place (get_or cards place None) (λ card is. laid.forms place card is) (λ card is. few place card is) (laid.laid.held place h);
   once = λ n. elim (cases_lt 0 (mark_in nodes image n)) [
     | inl some ↦
         let low = laid.laid.behind n some in
@@ -34,10 +37,17 @@ laid_can word image size nodes count cards sized laid few = record {
   ];
 }
 
+-- by the one mark that stands there
+pub laid_here : (number : VersionNumber) (a b : Option ℕ) (image : Image) (size nodes : ℕ) (cards : List (Option Card)) → nodes < 2 ^ 32 → IsMark number nodes a → image 147 ≡ spare_by a 147 → IsMark number nodes b → IsLaid (version_by number b) size nodes image cards
+    → IsLaid (version_by number a) size nodes image cards
+laid_here number a b image size nodes cards small is there other laid =
+    let same : b ≡ a = one_mark b a (mark_fits number nodes b small other) (mark_fits number nodes a small is) (sym (mark_there number b image laid.spare) ∙ there) in
+    subst (λ (mark : Option ℕ). IsLaid (version_by number mark) size nodes image cards) same laid
+
 -- and are those that were found
-pub one_table : (word : Type 0) (image : Image) (nodes count : ℕ) (cards others : List (Option Card)) (places : List Bool) → word → IsFound word image nodes count cards places → CanHold word image nodes count others → cards ≡ others
-one_table word image nodes count cards others places w found can =
-    ext_get_or None cards others (found.many ∙ sym can.many) (λ p h. one_place word image p (get_or cards p None) (get_or others p None) w (found.each p (omega (arith, found.many))) (can.each p (omega (arith, found.many))))
+pub one_table : (word : Type 0) (form : ℕ → Form) (image : Image) (nodes count : ℕ) (cards others : List (Option Card)) (places : List Bool) → word → IsFound word form image nodes count cards places → CanHold word form image nodes count others → cards ≡ others
+one_table word form image nodes count cards others places w found can =
+    ext_get_or None cards others (found.many ∙ sym can.many) (λ p h. one_place word (form p) image p (get_or cards p None) (get_or others p None) w (found.each p (omega (arith, found.many))) (can.each p (omega (arith, found.many))))
 
 -- The marks of the bitmap
 
@@ -66,21 +76,21 @@ module _ (nodes : ℕ) (image : Image) (places : List Bool) (marks : (n : ℕ) �
   part_bits (suc (suc part)) h = absurd (omega arith)
 
 -- of cards that are laid the marks that were made are those of the bitmap
-pub same_marks : (word : Type 0) (image : Image) (size nodes count : ℕ) (cards others : List (Option Card)) (places : List Bool) → word → IsFound word image nodes count cards places → CanHold word image nodes count others → IsLaid current size nodes image others
+pub same_marks : (word : Type 0) (version : Version) (image : Image) (size nodes count : ℕ) (cards others : List (Option Card)) (places : List Bool) → word → IsFound word version.form image nodes count cards places → CanHold word version.form image nodes count others → IsLaid version size nodes image others
     → (n : ℕ) → mark_in nodes image n ≡ mark_by (148 + nodes) places n
-same_marks word image size nodes count cards others places w found can laid n =
-    sym (laid.laid.marks n) ∙ ap (named n) (sym (one_table word image nodes count cards others places w found can)) ∙ sym (found.marks n)
+same_marks word version image size nodes count cards others places w found can laid n =
+    sym (laid.laid.marks n) ∙ ap (named n) (sym (one_table word version.form image nodes count cards others places w found can)) ∙ sym (found.marks n)
 
 -- What is found of all is read
 
-module _ (word : Type 0) (image : Image) (size nodes count : ℕ) (cards : List (Option Card)) (places : List Bool) (sized : size ≡ 148 + nodes + count) (small : count ≤ 65536) (found : IsFound word image nodes count cards places)
-    (apart : AreNumbered cards) (low : word → Shows (image 98) places 0) (high : word → Shows (image 99) places 32768) (spare : word → AreSpare image) where
+module _ (word : Type 0) (number : VersionNumber) (mark : Option ℕ) (image : Image) (size nodes count : ℕ) (cards : List (Option Card)) (places : List Bool) (sized : size ≡ 148 + nodes + count) (small : count ≤ 65536) (marked : IsMark number nodes mark)
+    (found : IsFound word (version_by number mark).form image nodes count cards places) (apart : AreNumbered cards) (low : word → Shows (image 98) places 0) (high : word → Shows (image 99) places 32768) (there : word → image 147 ≡ spare_by mark 147) (spare : word → AreSpare image) where
   known : AreCards nodes (mark_by (148 + nodes) places) cards
   known =
       let each = each_mark (148 + nodes) places 0 in
       record {
         count = found.many;
-        each = λ place h. place_known word image place (get_or cards place None) (found.each place h);
+        each = λ place h. place_known word ((version_by number mark).form place) image place (get_or cards place None) (found.each place h);
         apart = apart;
         marks = λ n. sym (found.marks n);
         behind = each.behind;
@@ -95,16 +105,16 @@ module _ (word : Type 0) (image : Image) (size nodes count : ℕ) (cards : List 
       let each = each_mark (148 + nodes) places 0 in
       record {
         count = found.many;
-        held = λ place h. place_held word image place (get_or cards place None) w (found.each place h);
+        held = λ place h. place_held word ((version_by number mark).form place) image place (get_or cards place None) w (found.each place h);
         apart = apart;
         marks = λ n. sym (found.marks n) ∙ sym (same w n);
         behind = λ n some. each.behind n (omega (arith, same w n));
         once = λ n. omega (arith, same w n, each.once n);
       }
 
-  found_at : (place : ℕ) (card : Card) → get_or cards place None ≡ Some card → FindsPlace word image place (Some card)
+  found_at : (place : ℕ) (card : Card) → get_or cards place None ≡ Some card → FindsPlace word ((version_by number mark).form place) image place (Some card)
   found_at place card is = elim (cases_lt place nodes) [
-    | inl h ↦ subst (FindsPlace word image place) is (found.each place h)
+    | inl h ↦ subst (FindsPlace word ((version_by number mark).form place) image place) is (found.each place h)
     | inr past ↦ absurd (none_some card (sym (get_or_past cards place None (omega (arith, found.many))) ∙ is))
   ]
     where
@@ -114,11 +124,12 @@ module _ (word : Type 0) (image : Image) (size nodes count : ℕ) (cards : List 
   few : AreFew cards
   few place card is = let at = found_at place card is in let rest = at.rest in let blocks = rest.in_blocks in blocks.few
 
-  forms : HaveForms current cards
+  forms : HaveForms (version_by number mark) cards
   forms place card is = let at = found_at place card is in at.form
 
-  pub is_read : IsRead word size nodes image cards places
+  pub is_read : IsRead word size nodes number mark image cards places
   is_read = record {
+    marked = marked;
     known = known;
     forms = forms;
     few = few;
@@ -127,7 +138,7 @@ module _ (word : Type 0) (image : Image) (size nodes count : ℕ) (cards : List 
       laid = laid w;
       forms = forms;
       within = λ n h. same w n ∙ (let each = each_mark (148 + nodes) places 0 in each.within n (omega (arith, found.len)));
-      spare = spare w;
+      spare = spare_there number mark image (there w) (spare w);
     };
     read = λ w. let all = laid w in sym (cards-back image nodes cards found.many all.held);
   }

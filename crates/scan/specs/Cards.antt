@@ -5,7 +5,7 @@ use Rattle.disk.specs.Moments.{Image}
 use Rattle.disk.specs.Calls.{zero_sector}
 use Rattle.extents.specs.declared.run.Run.{Run}
 use Rattle.extents.specs.Runs.{AreRunsOf}
-use Rattle.inode.specs.declared.node.Form.TheVariants.{One}
+use Rattle.inode.specs.declared.node.Form.{Form}
 use Rattle.inode.specs.Fields.{Fields}
 use Rattle.layout.specs.Cards.{Card, node_sector, block_count}
 use Rattle.layout.specs.Marks.{times, times_set, named, mark_by}
@@ -31,34 +31,36 @@ pub record FindsRest (word : Type 0) (image : Image) (card : Card) : Type 0 wher
   pub in_blocks : FindsBlocks word image card.fields card.runs card.blocks
   pub content : FindsContent word image card.fields.kind card.fields.size card.blocks card.names
 
--- a place
-pub record FindsCard (word : Type 0) (image : Image) (place : ℕ) (card : Card) : Type 0 where
-  pub form : card.form ≡ One
-  pub node : FindsNode word (image (node_sector place)) card.fields
+-- a place whose own form this is
+pub record FindsCard (word : Type 0) (own : Form) (image : Image) (place : ℕ) (card : Card)
+    : Type 0 where
+  pub form : card.form ≡ own
+  pub node : FindsNode word own (image (node_sector place)) card.fields
   pub rest : FindsRest word image card
 
-abbrev pub FindsPlace : (word : Type 0) → Image → (place : ℕ) → Option Card → Type 0
-FindsPlace word image place None = word → image (node_sector place) ≡ zero_sector
-FindsPlace word image place (Some card) = FindsCard word image place card
+abbrev pub FindsPlace : (word : Type 0) → Form → Image → (place : ℕ) → Option Card → Type 0
+FindsPlace word form image place None = word → image (node_sector place) ≡ zero_sector
+FindsPlace word form image place (Some card) = FindsCard word form image place card
 
--- the places of a table
-abbrev pub ArePlaces : (word : Type 0) → Image → (nodes : ℕ) → List (Option Card) → Type 0
-ArePlaces word image nodes cards =
-    (place : ℕ) → place < nodes → FindsPlace word image place (slice_index_or cards place None)
+-- the places of a table, each in its form
+abbrev pub ArePlaces : (word : Type 0) (form : ℕ → Form) → Image → (nodes : ℕ)
+    → List (Option Card) → Type 0
+ArePlaces word form image nodes cards = (place : ℕ) → place < nodes
+    → FindsPlace word (form place) image place (slice_index_or cards place None)
 
 -- a table, and marks of the data region that are what it names
-pub record IsFound (word : Type 0) (image : Image) (nodes count : ℕ) (cards : List (Option Card))
-    (places : List Bool) : Type 0 where
+pub record IsFound (word : Type 0) (form : ℕ → Form) (image : Image) (nodes count : ℕ)
+    (cards : List (Option Card)) (places : List Bool) : Type 0 where
   pub many : length cards ≡ nodes
-  pub each : ArePlaces word image nodes cards
+  pub each : ArePlaces word form image nodes cards
   pub len : length places ≡ count
   pub marks : (n : ℕ) → mark_by (148 + nodes) places n ≡ named n cards
 
 -- a table that names each sector of the data region once at most, and no other
-pub record CanHold (word : Type 0) (image : Image) (nodes count : ℕ) (cards : List (Option Card))
-    : Type 0 where
+pub record CanHold (word : Type 0) (form : ℕ → Form) (image : Image) (nodes count : ℕ)
+    (cards : List (Option Card)) : Type 0 where
   pub many : length cards ≡ nodes
-  pub each : ArePlaces word image nodes cards
+  pub each : ArePlaces word form image nodes cards
   pub once : (n : ℕ) → named n cards ≤ max_marks (148 + nodes) count n
 
 -- the numbers of the nodes

@@ -4,6 +4,7 @@
 mod fault;
 mod laws;
 mod marks;
+mod migration;
 mod names;
 mod nodes;
 mod numbers;

@@ -1,14 +1,14 @@
 //! The card of a place, and those of a table.
 
-ghost use Rattle.std.specs.Prelude.{◌≡◌, ◌<◌, ◌+◌, ◌^◌, ℕ, List, Option, Some, length};
+ghost use Rattle.std.specs.Prelude.{◌≡◌, ◌<◌, ◌+◌, ◌/◌, ◌^◌, ℕ, List, Option, Some, length};
 ghost use Rattle.std.specs.Prelude.{replicate, false, IfOk, IsErrOf, None, IsTrue, ◌↔◌};
 ghost use Rattle.extents.specs.declared.run.Run.{Run};
-ghost use Rattle.inode.specs.declared.node.Form.TheVariants.{One};
 ghost use Rattle.inode.specs.Fields.{fields_of, IsInode};
 ghost use Rattle.layout.specs.Cards as layout;
 ghost use Rattle.layout.specs.Health.{Reads};
 ghost use Rattle.layout.specs.Laid.{AreNumbered};
 ghost use Rattle.layout.specs.Marks.{named_by};
+ghost use Rattle.layout.specs.Stands.{version_by};
 ghost use Rattle.scan.specs.Names.{AreSetWithin};
 ghost use Rattle.scan.specs.Marking.{CanMark, AreMarked};
 ghost use Rattle.scan.specs.Cards.{uses, FindsBlocks, FindsRest, FindsPlace, IsFound, CanHold};
@@ -26,6 +26,7 @@ use freemap::Bitmap;
 use inode::{Form, Inode};
 use layout::places::NODES;
 use layout::sectors::Sectors;
+use layout::versions::{VersionNumber, form_at};
 use std::alloc::{AllocError, Global};
 
 /// The runs and the blocks of a node.
@@ -43,7 +44,7 @@ fn read_blocks<S: Sectors>(
     first: u32,
     inode: &Inode,
 ) -> Result<Laid, ScanFault>
-    requires fits { IsInode One (fields_of inode.now) }
+    requires enough { length inode.now.run_sectors.items ≡ (inode.now.runs + 499) / 500 }
     requires size { first + length places.old ≡ S.size (S.kept sectors.old) }
     ensures found { IfOk result (λ laid. FindsBlocks S.keeps_word (S.image (S.kept sectors.old))
         (fields_of inode.now) laid.runs.items laid.blocks) }
@@ -78,12 +79,13 @@ fn read_card<S: Sectors>(
     sectors: &mut S,
     places: &mut Bitmap,
     first: u32,
+    form: Form,
     inode: Inode,
 ) -> Result<Card, ScanFault>
-    requires fits { IsInode One (fields_of inode) }
+    requires fits { IsInode form (fields_of inode) }
     requires size { first + length places.old ≡ S.size (S.kept sectors.old) }
     ensures fields { IfOk result (λ card. card.fields ≡ fields_of inode) }
-    ensures form { IfOk result (λ card. card.form ≡ One) }
+    ensures form { IfOk result (λ card. card.form ≡ form) }
     ensures found { IfOk result (FindsRest S.keeps_word (S.image (S.kept sectors.old))) }
     ensures marked { IfOk result (λ card. AreMarked first places.old places.new
         (uses card.fields card.blocks)) }
@@ -100,7 +102,7 @@ fn read_card<S: Sectors>(
     let laid = read_blocks(alloc, sectors, places, first, &inode)?;
     let names = read_content(alloc, sectors, inode.kind, inode.size, &laid.blocks)?;
     Ok(Card {
-        form: Form::One,
+        form,
         inode,
         runs: laid.runs,
         blocks: laid.blocks,
@@ -108,52 +110,58 @@ fn read_card<S: Sectors>(
     })
 }
 
-/// The card of a place; none where it is free.
+/// The card of a place, whose node is to have this form; none where it is free.
 fn read_place<S: Sectors>(
     alloc: Global,
     sectors: &mut S,
     places: &mut Bitmap,
     first: u32,
     place: u32,
+    form: Form,
 ) -> Result<Option<Card>, ScanFault>
     requires place { NODES + place < first }
     requires size { first + length places.old ≡ S.size (S.kept sectors.old) }
-    ensures found { IfOk result (FindsPlace S.keeps_word (S.image (S.kept sectors.old)) place) }
+    ensures found { IfOk result
+        (FindsPlace S.keeps_word form (S.image (S.kept sectors.old)) place) }
     ensures marked { IfOk result (λ card. AreMarked first places.old places.new
         (λ n. named_by n card)) }
     // Refused
     ensures damaged { S.keeps_word → IsErrOf result ScanFault.Damaged
         → (card : Option layout.Card)
-        → FindsPlace S.keeps_word (S.image (S.kept sectors.old)) place card
+        → FindsPlace S.keeps_word form (S.image (S.kept sectors.old)) place card
         → ¬ CanMark first places.old (λ n. named_by n card) }
     // It only reads
     ensures kept { S.kept sectors.new ≡ S.kept sectors.old }
     ensures health { Reads (S.health sectors.old) (S.health sectors.new)
         (IsErrOf result ScanFault.Device) }
 {
-    let Some(inode) = read_node(alloc, sectors, place)? else {
+    let Some(inode) = read_node(alloc, sectors, place, form)? else {
         return Ok(None);
     };
-    let card = read_card(alloc, sectors, places, first, inode)?;
+    let card = read_card(alloc, sectors, places, first, form, inode)?;
     Ok(Some(card))
 }
 
-/// The cards of so many places, and the marks of what they name.
+/// The cards of so many places, in the forms of the version and its mark, and the marks of what
+/// they name.
 pub(crate) fn read_table<S: Sectors>(
     alloc: Global,
     sectors: &mut S,
     places: &mut Bitmap,
     nodes: u32,
+    number: VersionNumber,
+    mark: Option<u32>,
 ) -> Result<Vec<Option<Card>>, ScanFault>
     requires few { NODES + nodes < 2 ^ 32 }
     requires size { NODES + nodes + length places.old ≡ S.size (S.kept sectors.old) }
     requires free { places.old ≡ replicate (length places.old) false }
-    ensures found { IfOk result (λ cards. IsFound S.keeps_word (S.image (S.kept sectors.old)) nodes
-        (length places.old) cards.items places.new) }
+    ensures found { IfOk result (λ cards. IsFound S.keeps_word (version_by number mark).form
+        (S.image (S.kept sectors.old)) nodes (length places.old) cards.items places.new) }
     // Refused
     ensures damaged { S.keeps_word → IsErrOf result ScanFault.Damaged
         → (cards : List (Option layout.Card))
-        → ¬ CanHold S.keeps_word (S.image (S.kept sectors.old)) nodes (length places.old) cards }
+        → ¬ CanHold S.keeps_word (version_by number mark).form (S.image (S.kept sectors.old)) nodes
+        (length places.old) cards }
     // It only reads
     ensures kept { S.kept sectors.new ≡ S.kept sectors.old }
     ensures health { Reads (S.health sectors.old) (S.health sectors.new)
@@ -161,7 +169,8 @@ pub(crate) fn read_table<S: Sectors>(
 {
     let mut cards = Vec::with_capacity(alloc, nodes as usize)?;
     for place in 0..nodes {
-        let card = read_place(alloc, sectors, places, NODES + nodes, place)?;
+        let form = form_at(number, mark, place);
+        let card = read_place(alloc, sectors, places, NODES + nodes, place, form)?;
         cards.push(card)?;
     }
     Ok(cards)

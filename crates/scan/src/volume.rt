@@ -1,23 +1,25 @@
 //! A whole volume.
 
-ghost use Rattle.std.specs.Prelude.{◌≡◌, ◌≤◌, ◌<◌, ◌+◌, ◌*◌, List, Option, IfOk, OnOk, IsErrOf};
+ghost use Rattle.std.specs.Prelude.{◌≡◌, ◌≤◌, ◌<◌, ◌+◌, ◌*◌, ℕ, List, Option, IfOk, OnOk, IsErrOf};
 ghost use Rattle.std.specs.Prelude.{IsTrue};
 ghost use Rattle.freemap.specs.Places.{Shows};
 ghost use Rattle.layout.specs.Cards as layout;
 ghost use Rattle.layout.specs.Health.{Reads};
-ghost use Rattle.layout.specs.Stands.{current, IsLaid};
+ghost use Rattle.layout.specs.Stands.{IsLaid, IsMark, version_by};
 ghost use Rattle.layout.specs.Superblock.{is_size};
 ghost use Rattle.scan.specs.Sectors.{AreBits, AreSpare};
 ghost use Rattle.scan.specs.Volumes.{IsRead, AreFew};
 
 use crate::fault::ScanFault;
+use crate::migration::read_mark;
 use crate::sectors::{are_same, fetch, is_zero_from};
 use crate::table::{are_numbered, read_table};
 use cards::Card;
 use disk::SECTOR;
 use freemap::{Bitmap, SECTOR_PLACES};
-use layout::places::{BITMAP, NODES, SPARE};
+use layout::places::{BITMAP, MARK, NODES, SPARE};
 use layout::sectors::Sectors;
+use layout::versions::VersionNumber;
 use std::alloc::Global;
 
 /// The cards of a volume's nodes by their places, and which places of its data region they use.
@@ -25,6 +27,8 @@ use std::alloc::Global;
 pub struct Contents {
     pub cards: Vec<Option<Card>>,
     pub places: Bitmap,
+    /// How far a migration came, as its mark tells.
+    pub mark: Option<u32>,
 }
 
 /// Sees that sector `part` of the bitmap shows these places and nothing else.
@@ -51,9 +55,9 @@ fn check_marks<S: Sectors>(sectors: &mut S, places: &Bitmap, part: u32) -> Resul
     Ok(())
 }
 
-/// Sees that the spare sectors are zero.
+/// Sees that the spare sectors in front of the mark are zero.
 fn check_spare<S: Sectors>(sectors: &mut S) -> Result<(), ScanFault>
-    requires within { NODES ≤ S.size (S.kept sectors.old) }
+    requires within { MARK ≤ S.size (S.kept sectors.old) }
     ensures found { OnOk result (S.keeps_word → AreSpare (S.image (S.kept sectors.old))) }
     // Refused
     ensures damaged { S.keeps_word → IsErrOf result ScanFault.Damaged
@@ -63,7 +67,7 @@ fn check_spare<S: Sectors>(sectors: &mut S) -> Result<(), ScanFault>
     ensures health { Reads (S.health sectors.old) (S.health sectors.new)
         (IsErrOf result ScanFault.Device) }
 {
-    for n in SPARE..NODES {
+    for n in SPARE..MARK {
         let content = fetch(sectors, n)?;
         if !is_zero_from(&content, 0) {
             return Err(ScanFault::Damaged);
@@ -72,39 +76,47 @@ fn check_spare<S: Sectors>(sectors: &mut S) -> Result<(), ScanFault>
     Ok(())
 }
 
-/// Reads a volume of so many sectors and nodes, as its superblock tells them: the cards that its
-/// sectors hold, and the places of the data region that these use.
+/// Reads a volume of so many sectors and nodes and of this version, as its superblock tells them:
+/// the mark of its migration, the cards that its sectors hold, each in the form of its place, and
+/// the places of the data region that these use.
 ///
 /// # Errors
 ///
-/// [`ScanFault::Damaged`] exactly where the sectors hold no cards of nodes that have 4,096 blocks
-/// at most; [`ScanFault::Device`] where the device failed, and [`ScanFault::Memory`].
+/// [`ScanFault::Damaged`] exactly where the sectors hold no mark with cards of nodes that have
+/// 4,096 blocks at most; [`ScanFault::Device`] where the device failed, and [`ScanFault::Memory`].
 pub fn read_volume<S: Sectors>(
     alloc: Global,
     sectors: &mut S,
     size: u32,
     nodes: u32,
+    number: VersionNumber,
 ) -> Result<Contents, ScanFault>
     requires sized { IsTrue (is_size size nodes) }
     requires size { S.size (S.kept sectors.old) ≡ size }
-    ensures found { IfOk result (λ contents. IsRead S.keeps_word size nodes
+    ensures found { IfOk result (λ contents. IsRead S.keeps_word size nodes number contents.mark
         (S.image (S.kept sectors.old)) contents.cards.items contents.places) }
     // Refused
     ensures damaged { S.keeps_word → IsErrOf result ScanFault.Damaged
-        → (cards : List (Option layout.Card))
-        → IsLaid current size nodes (S.image (S.kept sectors.old)) cards → ¬ AreFew cards }
+        → (mark : Option ℕ) (cards : List (Option layout.Card)) → IsMark number nodes mark
+        → IsLaid (version_by number mark) size nodes (S.image (S.kept sectors.old)) cards
+        → ¬ AreFew cards }
     // It only reads
     ensures kept { S.kept sectors.new ≡ S.kept sectors.old }
     ensures health { Reads (S.health sectors.old) (S.health sectors.new)
         (IsErrOf result ScanFault.Device) }
 {
+    let mark = read_mark(sectors, number, nodes)?;
     let mut places = Bitmap::new(alloc, size - NODES - nodes)?;
-    let cards = read_table(alloc, sectors, &mut places, nodes)?;
+    let cards = read_table(alloc, sectors, &mut places, nodes, number, mark)?;
     if !are_numbered(alloc, &cards)? {
         return Err(ScanFault::Damaged);
     }
     check_marks(sectors, &places, 0)?;
     check_marks(sectors, &places, 1)?;
     check_spare(sectors)?;
-    Ok(Contents { cards, places })
+    Ok(Contents {
+        cards,
+        places,
+        mark,
+    })
 }

@@ -10,6 +10,7 @@ use Rattle.volume.specs.MountAnswers.{NoTree}
 use Rattle.volume.specs.Held.{Held, IsSameVolume, kept_of}
 use Rattle.volume.specs.Stands.{StandsFor, IsBase}
 use Rattle.volume.specs.Superblock.{last_run}
+use Rattle.volume.proofs.FormatLaws.{fresh_stands_for}
 use Rattle.volume.proofs.OneTree.{Kept-set, one_stands}
 use Rattle.model.proofs.Headline.{every_run}
 use Rattle.model.proofs.GivenLaws.{every_stamp_is_given}
@@ -158,12 +159,12 @@ every_run_again stopped device from again remounts found =
 new_leaves : (sectors nodes : ℕ) (new : History) (since : ℕ) → IsNewVolume sectors nodes new since → LeavesGood sectors nodes 0 (λ kept. kept ≡ bare fresh_tree) new since
 new_leaves sectors nodes new since (Formatted {device = device} fresh) = record {
   within = omega arith;
-  leaves = λ image left. stands_more sectors nodes 0 (λ kept. kept ≡ bare fresh_tree) (bare fresh_tree) image refl (fresh image (left_now device image left));
+  leaves = λ image left. stands_more sectors nodes 0 (λ kept. kept ≡ bare fresh_tree) (bare fresh_tree) image refl (fresh_stands_for sectors nodes image (fresh image (left_now device image left)));
 }
 new_leaves sectors nodes new since (Powers {image = was} fresh) = record {
   within = omega arith;
   leaves = λ image left. stands_more sectors nodes 0 (λ kept. kept ≡ bare fresh_tree) (bare fresh_tree) image refl
-      (subst (λ (i : Image). IsFresh sectors nodes i) (sym (rests_left was image left)) fresh);
+      (fresh_stands_for sectors nodes image (subst (λ (i : Image). IsFresh sectors nodes i) (sym (rests_left was image left)) fresh));
 }
 
 pub every_first : EveryFirst

@@ -15,7 +15,9 @@ use Rattle.journal.specs.declared.fault.JournalFault.TheVariants as faults
 use Rattle.journal.proofs.Fronts.{applied_all-push}
 use Rattle.journal.proofs.Joins.{front_moved, moved_contents}
 use Rattle.layout.specs.Cards.{Card, tree_of, cards_in}
-use Rattle.layout.specs.Stands.{Kept, bare}
+use Rattle.layout.specs.Stands as layout
+use Rattle.layout.specs.Stands.{Kept, bare, current}
+use Rattle.layout.proofs.KeptLaws.{bare_stands}
 use Rattle.model.specs.declared.limits.Limits.{Limits}
 use Rattle.model.specs.Tree.{Tree}
 use Rattle.volume.specs.Changes.{Given, Done, Broken, Changes, ending_of}
@@ -25,7 +27,7 @@ use Rattle.volume.specs.Refusals.{fault_of}
 use Rattle.volume.specs.Stands.{Stands}
 use Rattle.volume.specs.Views.{held_by}
 use Rattle.volume.proofs.FrontLaws.{among_more, applied_recent, front_among}
-use Rattle.volume.proofs.ServeLaws.{flush_adds, still_serving, tree_same}
+use Rattle.volume.proofs.ServeLaws.{flush_adds, still_serving, tree_stays}
 use Rattle.volume.proofs.OneTree.{Tree-set}
 use Rattle.volume.proofs.StandLaws.{stands_same}
 
@@ -52,7 +54,7 @@ module _ (limits : Limits) (run : ℕ) (cards : List (Option Card)) (old new : L
   moved_serves = ∥∥₁_elim serving ∥∥₁_prop (still_serving limits.nodes run cards old new same size settled)
 
   pub moved_tree : tree_of (contents new) cards ≡ tree_of (contents old) cards
-  moved_tree = ∥∥₁_elim serving (Tree-set (tree_of (contents new) cards) (tree_of (contents old) cards)) (tree_same limits.nodes run cards old new same)
+  moved_tree = ∥∥₁_elim serving (Tree-set (tree_of (contents new) cards) (tree_of (contents old) cards)) (tree_stays limits.nodes run cards old new same)
 
   covered : (recent : List Tree) → IsRecent (held_by limits run cards old) recent → (count : ℕ) → count ≤ length new.list
       → (tree : Tree) × IsAmong recent tree × ∥ Stands new.size limits.nodes (applied_all (take count new.list) new.base) run (bare tree) ∥₁
@@ -91,7 +93,12 @@ listed_with log updates = record log { list = list_with log updates }
 pub record StandsWith (nodes run : ℕ) (old : Log) (updates : List Update) (is : List (Option Card)) (after : Tree) : Type 0 where
   pub read : is ≡ cards_in nodes (applied updates (contents old))
   pub tree : tree_of (applied updates (contents old)) is ≡ after
-  pub stands : ∥ Stands old.size nodes (applied updates (contents old)) run (bare after) ∥₁
+  pub stands : ∥ layout.Stands current old.size nodes (applied updates (contents old)) run after ∥₁
+
+-- so a volume stands after it
+pub stands_after : (nodes run : ℕ) (old : Log) (updates : List Update) (is : List (Option Card)) (after : Tree) → StandsWith nodes run old updates is after
+    → ∥ Stands old.size nodes (applied updates (contents old)) run (bare after) ∥₁
+stands_after nodes run old updates is after behind = ∥∥₁_map behind.stands (bare_stands old.size nodes (applied updates (contents old)) run after)
 
 -- A transaction makes other cards of those that stand, and the tree is another one.
 module _ (limits : Limits) (run : ℕ) (cards is : List (Option Card)) (old : Log) (updates : List Update) (after : Tree)
@@ -108,15 +115,15 @@ module _ (limits : Limits) (run : ℕ) (cards is : List (Option Card)) (old : Lo
   pub pushed_serves : ∥ IsServing mid limits.nodes run is ∥₁
   pushed_serves = ∥∥₁_map serving (λ served. record {
     read = behind.read ∙ ap (cards_in limits.nodes) (sym pushed);
-    stands = subst (λ (t : Tree). ∥ Stands old.size limits.nodes (contents mid) run (bare t) ∥₁) (sym pushed_tree)
-        (subst (λ (image : Image). ∥ Stands old.size limits.nodes image run (bare after) ∥₁) (sym pushed) behind.stands);
+    stands = subst (λ (t : Tree). ∥ layout.Stands current old.size limits.nodes (contents mid) run t ∥₁) (sym pushed_tree)
+        (subst (λ (image : Image). ∥ layout.Stands current old.size limits.nodes image run after ∥₁) (sym pushed) behind.stands);
     settled = served.settled;
   })
 
   pub pushed_recent : (recent : List Tree) → IsRecent (held_by limits run cards old) recent → IsRecent (held_by limits run is mid) (after ∷ recent)
   pushed_recent recent ready = subst (λ (t : Tree). IsRecent (record (held_by limits run cards old) { tree = t; fronts = fronts_from old.base (list_with old updates) }) (after ∷ recent))
       (sym pushed_tree)
-      (applied_recent (held_by limits run cards old) old refl refl refl updates after behind.stands recent ready)
+      (applied_recent (held_by limits run cards old) old refl refl refl updates after (stands_after limits.nodes run old updates is after behind) recent ready)
 
 -- The journal takes a transaction
 module _ (keeps_word : Type 0) (limits : Limits) (run : ℕ) (cards is : List (Option Card)) (old new : Log) (updates : List Update) (after : Tree) (failed_before failed_after : ℕ)

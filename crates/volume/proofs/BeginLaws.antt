@@ -1,78 +1,76 @@
 -- A run that begins: the nodes that were read are served under the next count.
-use Rattle.std.proofs.Common.{◌≡◌, ◌≤◌, ◌<◌, ◌+◌, ◌⊎◌, ℕ, Bool, List, [], Option, inl, refl, sym, ap, ◌∙◌, subst, arith}
-use Rattle.std.proofs.Math.Logic.{∥∥₁_map, ∥∥₁_elim, ∥∥₁_prop}
+use Rattle.std.proofs.Common.{◌≡◌, ◌+◌, ◌⊎◌, ⊎_elim, ℕ, Bool, List, Option, inl, inr, sym, ap, ◌∙◌, subst}
+use Rattle.std.proofs.Math.Logic.{∥∥₁_map, ∥∥₁_elim}
 use Rattle.disk.specs.declared.update.Update.{Update}
 use Rattle.disk.specs.Moments.{Image, History, AddsOnly}
 use Rattle.disk.proofs.MomentLemmas.{AddsOnly-same}
 use Rattle.journal.specs.Log.{Log, applied_all, contents}
 use Rattle.layout.specs.Cards.{Card, tree_of, cards_in}
-use Rattle.layout.specs.MarkLaws.{SeesSame}
+use Rattle.layout.specs.Stands as layout
 use Rattle.layout.specs.Stands.{Kept, bare, current}
-use Rattle.layout.proofs.KeptLaws.{tree_stands}
-use Rattle.layout.proofs.MarkProofs.{kept_alone}
+use Rattle.layout.proofs.KeptLaws.{bare_stands, stands_by}
 use Rattle.model.specs.declared.limits.Limits.{Limits}
-use Rattle.model.specs.Tree.{Tree}
-use Rattle.volume.specs.Held.{Holds}
+use Rattle.volume.specs.Held.{Holds, LeavesCurrent}
 use Rattle.volume.specs.Known.{IsServing}
 use Rattle.volume.specs.Loads.{IsLoaded}
-use Rattle.volume.specs.Mounts.{StandsOn, StandsForEither, IsRaised, AddsRaised, IsNotBegun}
-use Rattle.volume.specs.Stands.{Stands}
+use Rattle.volume.specs.Mounts.{StandsOn, StandsForEither, AddsRaised, IsNotBegun}
+use Rattle.volume.specs.Starts.{HasStarted}
 use Rattle.volume.specs.Views.{held_by}
 use Rattle.volume.specs.declared.fault.MountFault.{MountFault}
 use Rattle.volume.specs.declared.fault.MountFault.TheVariants as mounts
 use Rattle.volume.specs.declared.mount.Superblock.{Superblock}
 use Rattle.volume.proofs.OneTree.{Tree-set}
 use Rattle.volume.proofs.ServeLaws.{holds_base}
-use Rattle.volume.proofs.StandLaws.{sized}
 
--- where the sectors from 98 on are the same, so are the cards and the tree
-module _ (size nodes run : ℕ) (a b : Image) (cards : List (Option Card)) (same : (n : ℕ) → 98 ≤ n → n < size → b n ≡ a n)
-    (read : cards ≡ cards_in nodes a) where
-  sees : Stands size nodes a run (bare (tree_of a cards)) → SeesSame current size nodes a b (cards_in nodes a)
-  sees stands = let parts = sized size nodes stands.stands.sized in kept_alone current size nodes a b (cards_in nodes a) (omega (arith, parts.room)) (tree_stands size nodes a run (bare (tree_of a cards)) stands).laid same
-
-  read_on : Stands size nodes a run (bare (tree_of a cards)) → cards ≡ cards_in nodes b
-  read_on stands = read ∙ sym (sees stands).same_cards
-
-  tree_on : Stands size nodes a run (bare (tree_of a cards)) → tree_of b cards ≡ tree_of a cards
-  tree_on stands = ap (tree_of b) read ∙ ((sees stands).same_tree ∙ ap (tree_of a) (sym read))
-
-module _ (keeps_word : Type 0) (found : Superblock) (old mid new : Log) (cards : List (Option Card)) (places : List Bool)
-    (loaded : IsLoaded keeps_word found old cards places) (raised : IsRaised keeps_word found mid new)
-    (only : mid ≡ record old { is_down = mid.is_down }) (size : old.size ≡ found.sectors) (new_size : new.size ≡ mid.size) (listed : new.list ≡ []) where
+module _ (keeps_word : Type 0) (found : Superblock) (old mid new : Log) (mark : Option ℕ) (cards : List (Option Card)) (places : List Bool)
+    (loaded : IsLoaded keeps_word found old mark cards places) (started : HasStarted keeps_word found cards mid new)
+    (only : mid ≡ record old { is_down = mid.is_down }) (size : old.size ≡ found.sectors) (new_size : new.size ≡ mid.size) where
   base : mid.base ≡ old.base
   base = ap (λ (log : Log). log.base) only
 
-  mid_size : mid.size ≡ found.sectors
-  mid_size = ap (λ (log : Log). log.size) only ∙ size
+  now_size : found.sectors ≡ new.size
+  now_size = sym (new_size ∙ (ap (λ (log : Log). log.size) only ∙ size))
 
   emptied : contents new ≡ new.base
-  emptied = ap (λ (l : List (List Update)). applied_all l new.base) listed
-
-  same : keeps_word → (n : ℕ) → 98 ≤ n → n < found.sectors → new.base n ≡ old.base n
-  same k n above below = raised.same k n above (subst (λ (s : ℕ). n < s) (sym mid_size) below) ∙ ap (λ (image : Image). image n) base
+  emptied = ap (λ (l : List (List Update)). applied_all l new.base) started.rests.listed
 
   pub same_tree : keeps_word → tree_of (contents new) cards ≡ tree_of old.base cards
-  same_tree k = ap (λ (image : Image). tree_of image cards) emptied
-      ∙ ∥∥₁_elim (loaded.stood k) (Tree-set (tree_of new.base cards) (tree_of old.base cards)) (tree_on found.sectors found.nodes found.run old.base new.base cards (same k) (loaded.read k))
+  same_tree k = ∥∥₁_elim (started.serves k) (Tree-set (tree_of (contents new) cards) (tree_of old.base cards)) (λ serves.
+      ap (λ (image : Image). tree_of image cards) emptied
+      ∙ (ap (tree_of new.base) serves.read ∙ (sym serves.stands.tree_is ∙ ap (λ (image : Image). tree_of image cards) base)))
 
-  stands_now : keeps_word → ∥ Stands found.sectors found.nodes new.base (found.run + 1) (bare (tree_of old.base cards)) ∥₁
-  stands_now k = ∥∥₁_map (loaded.stood k) (λ stood. raised.stands k (bare (tree_of old.base cards)) (subst (λ (image : Image). StandsOn found image (bare (tree_of old.base cards))) (sym base) stood))
+  stands_base : keeps_word → ∥ layout.Stands current new.size found.nodes new.base (found.run + 1) (tree_of (contents new) cards) ∥₁
+  stands_base k = ∥∥₁_map (started.serves k) (λ serves.
+      subst (λ (s : ℕ). layout.Stands current s found.nodes new.base (found.run + 1) (tree_of (contents new) cards)) now_size
+      (subst (layout.Stands current found.sectors found.nodes new.base (found.run + 1))
+      (ap (λ (image : Image). tree_of image cards) base ∙ sym (same_tree k)) serves.stands))
+
+  stands_now : keeps_word → ∥ layout.Stands current new.size found.nodes (contents new) (found.run + 1) (tree_of (contents new) cards) ∥₁
+  stands_now k = subst (λ (image : Image). ∥ layout.Stands current new.size found.nodes image (found.run + 1) (tree_of (contents new) cards) ∥₁) (sym emptied) (stands_base k)
 
   pub begun_serving : keeps_word → ∥ IsServing new found.nodes (found.run + 1) cards ∥₁
-  begun_serving k = ∥∥₁_map (loaded.stood k) (λ stood. record {
-    read = read_on found.sectors found.nodes found.run old.base new.base cards (same k) (loaded.read k) stood ∙ ap (cards_in found.nodes) (sym emptied);
-    stands = subst (λ (s : ℕ). ∥ Stands s found.nodes (contents new) (found.run + 1) (bare (tree_of (contents new) cards)) ∥₁) (sym (new_size ∙ mid_size))
-        (subst (λ (tree : Tree). ∥ Stands found.sectors found.nodes (contents new) (found.run + 1) (bare tree) ∥₁) (sym (same_tree k))
-        (subst (λ (image : Image). ∥ Stands found.sectors found.nodes image (found.run + 1) (bare (tree_of old.base cards)) ∥₁) (sym emptied) (stands_now k)));
-    settled = raised.settled k;
+  begun_serving k = ∥∥₁_map (started.serves k) (λ serves. record {
+    read = serves.read ∙ ap (cards_in found.nodes) (sym emptied);
+    stands = stands_now k;
+    settled = started.settled k;
   })
 
-  pub begun_holds : (limits : Limits) → limits.nodes ≡ found.nodes → keeps_word → Holds (held_by limits (found.run + 1) cards new)
-  begun_holds limits nodes k = holds_base limits (found.run + 1) cards new listed
-      (subst (λ (n : ℕ). ∥ Stands new.size n (contents new) (found.run + 1) (bare (tree_of (contents new) cards)) ∥₁) (sym nodes)
-      (∥∥₁_elim (begun_serving k) ∥∥₁_prop (λ serving. serving.stands)))
-      (raised.settled k)
+  pub begun_stood : keeps_word → ∥ StandsOn found old.base (bare (tree_of old.base cards)) ∥₁
+  begun_stood k = ∥∥₁_map (loaded.stood k) (λ stands. stands_by found.version mark found.sectors found.nodes old.base found.run (tree_of old.base cards) loaded.marked stands)
+
+  module _ (limits : Limits) (nodes : limits.nodes ≡ found.nodes) where
+    pub begun_holds : keeps_word → Holds (held_by limits (found.run + 1) cards new)
+    begun_holds k = holds_base limits (found.run + 1) cards new started.rests.listed
+        (subst (λ (n : ℕ). ∥ layout.StandsAs new.size n (contents new) (found.run + 1) (bare (tree_of (contents new) cards)) ∥₁) (sym nodes)
+        (∥∥₁_map (stands_now k) (λ stands. bare_stands new.size found.nodes (contents new) (found.run + 1) (tree_of (contents new) cards) stands)))
+        (started.settled k)
+
+    pub begun_current : keeps_word → LeavesCurrent (held_by limits (found.run + 1) cards new)
+    begun_current k image left = ∥∥₁_map (stands_base k) (λ stands. (
+      new.base,
+      started.settled k image left,
+      subst (λ (n : ℕ). layout.Stands current new.size n new.base (found.run + 1) (tree_of (contents new) cards)) (sym nodes) stands,
+    ))
 
 pub raised_from : (found : Superblock) (old mid : Log) (new : History) → mid ≡ record old { is_down = mid.is_down }
     → AddsRaised found mid.base mid.history new → AddsRaised found old.base old.history new
@@ -93,12 +91,22 @@ not_loaded found old mid new fault only is damaged reasons =
       only = reasons;
     }
 
--- where the count was not raised, the device failed in it
-pub not_raised : (found : Superblock) (old mid : Log) (after new : History) → mid ≡ record old { is_down = mid.is_down } → new ≡ after
-    → AddsRaised found mid.base mid.history after → IsNotBegun found old.base old.history new mounts.Device
-not_raised found old mid after new only is adds = record {
-  moments = subst (AddsRaised found old.base old.history) (sym is) (raised_from found old mid after only adds);
-  no_tree = λ damaged. (let never : ⊥ = cc in absurd never);
-  untouched = λ other. absurd (other refl);
-  only = inl refl;
+not_damaged : (fault : MountFault) → (fault ≡ mounts.Device) ⊎ (fault ≡ mounts.Memory) → fault ≡ mounts.Damaged → ⊥
+not_damaged fault reasons damaged = ⊎_elim
+    (λ (device : fault ≡ mounts.Device). let both : mounts.Damaged ≡ mounts.Device = sym damaged ∙ device in let never : ⊥ = cc in never)
+    (λ (memory : fault ≡ mounts.Memory). let both : mounts.Damaged ≡ mounts.Memory = sym damaged ∙ memory in let never : ⊥ = cc in never)
+    reasons
+
+-- where the run did not begin, the device failed in it, or no memory was there for it
+pub not_started : (found : Superblock) (old mid after : Log) (new : History) (fault : MountFault) → mid ≡ record old { is_down = mid.is_down } → new ≡ after.history
+    → AddsRaised found mid.base mid.history after.history → (fault ≡ mounts.Device) ⊎ (fault ≡ mounts.Memory)
+    → (fault ≡ mounts.Memory → after ≡ mid) → IsNotBegun found old.base old.history new fault
+not_started found old mid after new fault only is adds reasons memory = record {
+  moments = subst (AddsRaised found old.base old.history) (sym is) (raised_from found old mid after.history only adds);
+  no_tree = λ damaged. absurd (not_damaged fault reasons damaged);
+  untouched = λ other. ⊎_elim
+      (λ (device : fault ≡ mounts.Device). absurd (other device))
+      (λ (refused : fault ≡ mounts.Memory). is ∙ (ap (λ (log : Log). log.history) (memory refused) ∙ ap (λ (log : Log). log.history) only))
+      reasons;
+  only = ⊎_elim (λ (device : fault ≡ mounts.Device). inl device) (λ (refused : fault ≡ mounts.Memory). inr (inr refused)) reasons;
 }

@@ -26,8 +26,7 @@ use Rattle.layout.specs.Known.{AreCards}
 use Rattle.layout.specs.Laid.{AreNumbered}
 use Rattle.layout.specs.Marks.{mark_by}
 use Rattle.layout.specs.Stands as layout
-use Rattle.layout.specs.Stands.{IsLaid, bare, current}
-use Rattle.layout.proofs.KeptLaws.{bare_stands, tree_stands}
+use Rattle.layout.specs.Stands.{IsLaid, current}
 use Rattle.layout.proofs.CardLaws.{cards-back, only_cards}
 use Rattle.model.specs.declared.limits.Limits.{Limits}
 use Rattle.model.specs.Charge.{fits}
@@ -113,7 +112,7 @@ module _ (word : Type 0) (k : word) (nodes run : ℕ) (log : Log) (cards : List 
         stands = ∥∥₁_elim stands.well_formed ∥∥₁_prop (λ well.
             let both = formed_sound (limits_of log.size nodes) (stamp (run + 1) 0) after formed
             (edited_bytes edits comes.bytes (tree_of image cards) (well_formed_bytes (limits_of log.size nodes) (tree_of image cards) well)) in
-            ∣ bare_stands log.size nodes now run after (record {
+            ∣ record {
               sized = stands.sized;
               counted = stands.counted;
               first = applied-other outcome.updates.items image 0 (not_first log.size outcome.updates.items comes.targets) ∙ stands.first;
@@ -121,16 +120,16 @@ module _ (word : Type 0) (k : word) (nodes run : ℕ) (log : Log) (cards : List 
               tree_is = sym lays.tree_is ∙ ap (tree_of now) (sym back);
               well_formed = both.0;
               before = both.1;
-            }) ∣₁);
+            } ∣₁);
       }
 
   pub behind_serving : ∥ IsServing log nodes run cards ∥₁ → StandsWith nodes run log outcome.updates.items is after
   behind_serving serving = ∥∥₁_elim serving (StandsWith-prop nodes run log outcome.updates.items is after) (λ served.
-      ∥∥₁_elim served.stands (StandsWith-prop nodes run log outcome.updates.items is after) (λ stands. behind_stands served.read (tree_stands log.size nodes image run (bare (tree_of image cards)) stands)))
+      ∥∥₁_elim served.stands (StandsWith-prop nodes run log outcome.updates.items is after) (λ stands. behind_stands served.read stands))
 
 -- What memory keeps after it
 
-own_places : (cards : List (Option Card)) → AreNumbered cards → HaveOwnPlaces cards
+pub own_places : (cards : List (Option Card)) → AreNumbered cards → HaveOwnPlaces cards
 own_places cards apart place other number here there = elim (cases_eq place other) [
   | inl same ↦ same
   | inr off ↦

@@ -11,6 +11,7 @@ use Rattle.journal.specs.declared.fault.JournalFault.TheVariants as journals
 use Rattle.journal.proofs.First.{first_kept}
 use Rattle.layout.specs.Cards.{Card, tree_of}
 use Rattle.layout.specs.Stands.{Kept, bare}
+use Rattle.layout.proofs.KeptLaws.{stands_by}
 use Rattle.volume.specs.Checks.{IsSeen, HasChecked, FailsCheck, Checks}
 use Rattle.volume.specs.Loads.{AreLoaded, HoldsVolume}
 use Rattle.volume.specs.MountAnswers.{first_verdict}
@@ -68,14 +69,14 @@ gate_fails sectors old journals.Down volume damaged = tt
 
 -- what is viewed of a volume
 pub view_holds : (sectors : ℕ) (old : History) (log : Log) (found : Superblock) → 0 < sectors → HasViewed sectors old log → log.size ≡ sectors
-    → seen old.now 0 ≡ superblock found.sectors found.nodes found.run → HoldsVolume found log.size log.base
+    → seen old.now 0 ≡ superblock found.version found.sectors found.nodes found.run → HoldsVolume found log.size log.base
 view_holds sectors old log found some viewed size first = record {
   first = first_kept sectors (seen old.now) log.base some viewed.base ∙ first;
   sectors = λ n within. viewed.sectors n (subst (λ (s : ℕ). n < s) size within);
 }
 
 module _ (sectors : ℕ) (old : History) (found : Superblock) (base : Image) (sectors_is : found.sectors ≡ sectors) (few : found.nodes < 2 ^ 32) (counted : found.run < 2 ^ 32)
-    (volume : first_verdict sectors old ≢ verdicts.NotVolume) (first : seen old.now 0 ≡ superblock found.sectors found.nodes found.run)
+    (volume : first_verdict sectors old ≢ verdicts.NotVolume) (first : seen old.now 0 ≡ superblock found.version found.sectors found.nodes found.run)
     (settles : Settles sectors (seen old.now) base) where
   -- refused by its nodes
   pub nodes_fail : (fault : MountFault) → (fault ≡ mounts.Damaged → (kept : Kept) → StandsOn found base kept → ⊥)
@@ -86,16 +87,16 @@ module _ (sectors : ℕ) (old : History) (found : Superblock) (base : Image) (se
       (λ (damaged : fault ≡ mounts.Damaged). subst (FailsCheck sectors old) (sym damaged) (
         volume,
         λ nodes run kept stands. none damaged kept
-            (found_stands sectors nodes run kept (seen old.now) stands base settles found.sectors found.nodes found.run sectors_is few counted first),
+            (found_stands sectors nodes run kept (seen old.now) stands base settles found.version found.sectors found.nodes found.run sectors_is few counted first),
       ))
       (λ (memory : fault ≡ mounts.Memory). subst (FailsCheck sectors old) (sym memory) tt)
       rest)
       only
 
   -- the tree of its nodes stands
-  pub has_checked : (keeps_word : Type 0) → keeps_word → (cards : List (Option Card)) (places : List Bool) → AreLoaded keeps_word found base cards places
+  pub has_checked : (keeps_word : Type 0) → keeps_word → (mark : Option ℕ) (cards : List (Option Card)) (places : List Bool) → AreLoaded keeps_word found base mark cards places
       → (checked : Checked) → checked.sectors ≡ found.sectors → checked.nodes ≡ found.nodes → checked.count ≡ found.run → HasChecked sectors old checked
-  has_checked keeps_word k cards places loaded checked same_sectors same_nodes same_run = record {
+  has_checked keeps_word k mark cards places loaded checked same_sectors same_nodes same_run = record {
     first = volume;
     sectors_are = same_sectors ∙ sectors_is;
     kept = bare (tree_of base cards);
@@ -104,6 +105,7 @@ module _ (sectors : ℕ) (old : History) (found : Superblock) (base : Image) (se
         (∥∥₁_map (loaded.stood k) (λ stands. record {
           base = base;
           settles = settles;
-          stands = subst (λ (s : ℕ). Stands s found.nodes base found.run (bare (tree_of base cards))) sectors_is stands;
+          stands = subst (λ (s : ℕ). Stands s found.nodes base found.run (bare (tree_of base cards))) sectors_is
+              (stands_by found.version mark found.sectors found.nodes base found.run (tree_of base cards) loaded.marked stands);
         })));
   }

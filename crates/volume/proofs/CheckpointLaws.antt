@@ -1,25 +1,25 @@
 -- A volume that serves, over a checkpoint of its journal: the base has the same sectors, and what waits still waits.
-use Rattle.std.proofs.Common.{◌≡◌, ◌≤◌, ◌⊎◌, ℕ, true, false, List, [], ◌∷◌, Option, inl, ⊎_elim, refl, sym, ap, ◌∙◌, subst, arith, true≢false}
+use Rattle.std.proofs.Common.{◌≡◌, ◌≤◌, ℕ, false, List, [], ◌∷◌, Option, inl, ⊎_elim, refl, sym, ap, ◌∙◌, subst, arith, true≢false}
 use Rattle.std.proofs.Math.Logic.{∥∥₁_map, ∥∥₁_elim}
 use Rattle.std.specs.List.{IsAmong}
 use Rattle.disk.specs.declared.update.Update.{Update}
 use Rattle.disk.specs.Moments.{Image, applied}
 use Rattle.journal.specs.Calls.{IsSafe, HasCheckpointed}
-use Rattle.journal.specs.Log.{Log, contents, applied_all}
+use Rattle.journal.specs.Log.{Log}
 use Rattle.journal.specs.Settled.{AreSame}
 use Rattle.journal.proofs.Fronts.{applied_keeps}
-use Rattle.layout.specs.Cards.{Card, tree_of}
+use Rattle.layout.specs.Cards.{Card}
 use Rattle.layout.specs.Stands.{Kept, bare}
 use Rattle.model.specs.declared.limits.Limits.{Limits}
 use Rattle.model.specs.Tree.{Tree}
 use Rattle.volume.specs.Changes.{Done, Stays, Changes}
-use Rattle.volume.specs.Held.{Held, KeepsRecent, StandsForOne, fronts_from}
+use Rattle.volume.specs.Held.{Held, KeepsRecent, fronts_from}
 use Rattle.volume.specs.Known.{IsServing}
 use Rattle.volume.specs.Stands.{Stands}
 use Rattle.volume.specs.Views.{held_by}
 use Rattle.volume.proofs.FrontLaws.{among_more, among_rest, front_among}
 use Rattle.volume.proofs.OneTree.{Tree-set}
-use Rattle.volume.proofs.ServeLaws.{among_one, flush_adds, tree_same}
+use Rattle.volume.proofs.ServeLaws.{among_one, flush_adds, tree_stays}
 use Rattle.volume.proofs.StandLaws.{stands_same}
 
 -- each front of the one has the sectors of a front of the other
@@ -44,7 +44,7 @@ module _ (keeps_word : Type 0) (limits : Limits) (run : ℕ) (cards : List (Opti
   is = held_by limits run cards new
 
   pub checkpoint_keeps : keeps_word → is.tree ≡ was.tree
-  checkpoint_keeps k = ∥∥₁_elim (serves k) (Tree-set is.tree was.tree) (tree_same limits.nodes run cards old new (done.contents k))
+  checkpoint_keeps k = ∥∥₁_elim (serves k) (Tree-set is.tree was.tree) (tree_stays limits.nodes run cards old new (done.contents k))
 
   -- where the old base stands for a tree, so does the new one
   stands_on : (a b : Image) (tree : Tree) → AreSame old.size a b → Stands old.size limits.nodes a run (bare tree) → Stands new.size limits.nodes b run (bare tree)

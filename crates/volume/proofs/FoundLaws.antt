@@ -10,15 +10,18 @@ use Rattle.journal.specs.Settled.{Settles, SettlesAs}
 use Rattle.journal.specs.declared.fault.JournalFault.{JournalFault}
 use Rattle.journal.specs.declared.fault.JournalFault.TheVariants as journals
 use Rattle.journal.proofs.Recovers.{settles_once}
-use Rattle.layout.specs.Stands.{Kept}
-use Rattle.layout.proofs.KeptLaws.{tree_stands}
+use Rattle.layout.specs.Stands.{Kept, current, Version, number_of}
+use Rattle.layout.specs.Superblock as layout
+use Rattle.layout.specs.declared.versions.VersionNumber.{VersionNumber}
+use Rattle.layout.proofs.KeptLaws.{version_parts}
+use Rattle.layout.proofs.MarkOnce.{version_number}
 use Rattle.volume.specs.declared.fault.MountFault.TheVariants as mounts
 use Rattle.volume.specs.declared.superblock.Verdict.TheVariants.{NotVolume, Worn, Damaged, Sound}
 use Rattle.volume.specs.Refusals.{gate_fault}
-use Rattle.volume.specs.Stands.{Stands, IsBase, StandsFor}
-use Rattle.volume.specs.Superblock.{is_volume, superblock, verdict, word, last_run}
+use Rattle.volume.specs.Stands.{Stands, IsBase, StandsFor, StandsForIn}
+use Rattle.volume.specs.Superblock.{is_volume, superblock, verdict, version_in, word, last_run}
 use Rattle.journal.proofs.First.{first_kept}
-use Rattle.volume.proofs.FirstLaws.{word_nodes, word_run, volume_first}
+use Rattle.volume.proofs.FirstLaws.{word_nodes, word_run, version_back, volume_first}
 use Rattle.volume.proofs.StandLaws.{sized, large, stands_same}
 
 -- Results
@@ -46,17 +49,30 @@ module _ (size nodes run : ℕ) (kept : Kept) (seen : Image) (base : IsBase size
   pub enough : 256 ≤ size
   enough = large size nodes base.stands.stands.sized
 
-  first_is : seen 0 ≡ superblock size nodes run
-  first_is = sym (first_kept size seen base.base (omega (arith, enough)) base.settles) ∙ (tree_stands size nodes base.base run kept base.stands).first
+  abbrev version : VersionNumber
+  version = (version_parts nodes base.stands.version kept.seats base.stands.is_version).0
+
+  number_is : base.stands.version.number ≡ number_of version
+  number_is =
+      let parts = version_parts nodes base.stands.version kept.seats base.stands.is_version in
+      ap (λ (of : Version). of.number) parts.3 ∙ version_number parts.0 parts.1
+
+  first_is : seen 0 ≡ superblock version size nodes run
+  first_is = sym (first_kept size seen base.base (omega (arith, enough)) base.settles)
+      ∙ (base.stands.stands.first ∙ ap (λ (number : ℕ). layout.superblock number size nodes run) number_is)
 
   pub nodes_is : word 16 (seen 0) ≡ nodes
-  nodes_is = ap (word 16) first_is ∙ word_nodes size nodes run few_nodes
+  nodes_is = ap (word 16) first_is ∙ word_nodes version size nodes run few_nodes
 
   pub run_is : word 20 (seen 0) ≡ run
-  run_is = ap (word 20) first_is ∙ word_run size nodes run base.stands.stands.counted
+  run_is = ap (word 20) first_is ∙ word_run version size nodes run base.stands.stands.counted
 
-  pub spelled : seen 0 ≡ superblock size (word 16 (seen 0)) (word 20 (seen 0))
-  spelled = first_is ∙ (ap (λ (n : ℕ). superblock size n run) (sym nodes_is) ∙ ap (λ (r : ℕ). superblock size (word 16 (seen 0)) r) (sym run_is))
+  version_is : version_in (seen 0) ≡ version
+  version_is = ap version_in first_is ∙ version_back version size nodes run
+
+  pub spelled : seen 0 ≡ superblock (version_in (seen 0)) size (word 16 (seen 0)) (word 20 (seen 0))
+  spelled = first_is ∙ (ap (λ (n : ℕ). superblock version size n run) (sym nodes_is) ∙ (ap (λ (r : ℕ). superblock version size (word 16 (seen 0)) r) (sym run_is)
+      ∙ ap (λ (v : VersionNumber). superblock v size (word 16 (seen 0)) (word 20 (seen 0))) (sym version_is)))
 
   never_damaged : (volume worn same : Bool) → same ≡ true → cond (not volume) NotVolume (cond worn Worn (cond same Sound Damaged)) ≡ Damaged → ⊥
   never_damaged true false true is h = cc
@@ -67,8 +83,8 @@ module _ (size nodes run : ℕ) (kept : Kept) (seen : Image) (base : IsBase size
   -- where one stands, the first sector is not damaged
   pub not_damaged : verdict size (seen 0) ≡ Damaged → ⊥
   unfolding verdict
-  not_damaged is = never_damaged (is_volume size (seen 0)) (eqb (word 20 (seen 0)) last_run) (bytes_eq (seen 0) (superblock size (word 16 (seen 0)) (word 20 (seen 0))))
-      ((bytes_decides (seen 0) (superblock size (word 16 (seen 0)) (word 20 (seen 0)))).1 spelled) is
+  not_damaged is = never_damaged (is_volume size (seen 0)) (eqb (word 20 (seen 0)) last_run) (bytes_eq (seen 0) (superblock (version_in (seen 0)) size (word 16 (seen 0)) (word 20 (seen 0))))
+      ((bytes_decides (seen 0) (superblock (version_in (seen 0)) size (word 16 (seen 0)) (word 20 (seen 0)))).1 spelled) is
 
   never_none : (volume worn same : Bool) → volume ≡ true → cond (not volume) NotVolume (cond worn Worn (cond same Sound Damaged)) ≡ NotVolume → ⊥
   never_none true true same is h = cc
@@ -79,8 +95,8 @@ module _ (size nodes run : ℕ) (kept : Kept) (seen : Image) (base : IsBase size
   -- and tells of a volume
   pub is_volume_there : verdict size (seen 0) ≡ NotVolume → ⊥
   unfolding verdict
-  is_volume_there is = never_none (is_volume size (seen 0)) (eqb (word 20 (seen 0)) last_run) (bytes_eq (seen 0) (superblock size (word 16 (seen 0)) (word 20 (seen 0))))
-      (ap (is_volume size) first_is ∙ volume_first size nodes run small few_nodes base.stands.stands.sized) is
+  is_volume_there is = never_none (is_volume size (seen 0)) (eqb (word 20 (seen 0)) last_run) (bytes_eq (seen 0) (superblock (version_in (seen 0)) size (word 16 (seen 0)) (word 20 (seen 0))))
+      (ap (is_volume size) first_is ∙ volume_first version size nodes run small few_nodes base.stands.stands.sized) is
 
   worn_alone : (volume worn same : Bool) → cond (not volume) NotVolume (cond worn Worn (cond same Sound Damaged)) ≡ Worn → worn ≡ true
   worn_alone true true same h = refl
@@ -93,26 +109,29 @@ module _ (size nodes run : ℕ) (kept : Kept) (seen : Image) (base : IsBase size
   unfolding verdict
   count_full is =
       let worn = worn_alone (is_volume size (seen 0)) (eqb (word 20 (seen 0)) last_run)
-      (bytes_eq (seen 0) (superblock size (word 16 (seen 0)) (word 20 (seen 0)))) is in
+      (bytes_eq (seen 0) (superblock (version_in (seen 0)) size (word 16 (seen 0)) (word 20 (seen 0)))) is in
       let full : run ≡ last_run = sym run_is ∙ eqb-true (word 20 (seen 0)) last_run worn in
       omega (arith, full)
 
-  -- a stop within the journal's mount leaves it
-  pub settled_moments : (old new : History) → AddsOnly (SettlesAs size seen) old new
-      → AddsOnly (λ image. StandsFor size nodes run kept image ⊎ StandsFor size nodes (run + 1) kept image) old new
-  settled_moments old new moments = AddsOnly-weaken (SettlesAs size seen) (λ image. StandsFor size nodes run kept image ⊎ StandsFor size nodes (run + 1) kept image) old new
-      (λ image same. inl ∣ record { base = base.base; settles = same base.base base.settles; stands = base.stands } ∣₁) moments
+  -- what may be left of it: in its version and under its count, or in the current one and under the next
+  abbrev Leaves : Image → Type 0
+  Leaves image = StandsForIn base.stands.version.number size nodes run kept image ⊎ StandsForIn current.number size nodes (run + 1) kept image
 
-  module _ (at : Image) (settles : Settles size seen at) (sectors found_nodes found_run : ℕ) (sectors_is : sectors ≡ size)
-      (fits : found_nodes < 2 ^ 32) (counts : found_run < 2 ^ 32) (first : seen 0 ≡ superblock sectors found_nodes found_run) where
-    found_first : superblock size found_nodes found_run ≡ seen 0
-    found_first = ap (λ (n : ℕ). superblock n found_nodes found_run) (sym sectors_is) ∙ sym first
+  -- a stop within the journal's mount leaves it
+  pub settled_moments : (old new : History) → AddsOnly (SettlesAs size seen) old new → AddsOnly Leaves old new
+  settled_moments old new moments = AddsOnly-weaken (SettlesAs size seen) Leaves old new
+      (λ image same. inl ∣ (record { base = base.base; settles = same base.base base.settles; stands = base.stands }, refl) ∣₁) moments
+
+  module _ (at : Image) (settles : Settles size seen at) (told : VersionNumber) (sectors found_nodes found_run : ℕ) (sectors_is : sectors ≡ size)
+      (fits : found_nodes < 2 ^ 32) (counts : found_run < 2 ^ 32) (first : seen 0 ≡ superblock told sectors found_nodes found_run) where
+    found_first : superblock told size found_nodes found_run ≡ seen 0
+    found_first = ap (λ (n : ℕ). superblock told n found_nodes found_run) (sym sectors_is) ∙ sym first
 
     same_nodes : found_nodes ≡ nodes
-    same_nodes = sym (word_nodes size found_nodes found_run fits) ∙ (ap (word 16) found_first ∙ nodes_is)
+    same_nodes = sym (word_nodes told size found_nodes found_run fits) ∙ (ap (word 16) found_first ∙ nodes_is)
 
     same_run : found_run ≡ run
-    same_run = sym (word_run size found_nodes found_run counts) ∙ (ap (word 20) found_first ∙ run_is)
+    same_run = sym (word_run told size found_nodes found_run counts) ∙ (ap (word 20) found_first ∙ run_is)
 
     -- it stands on the base that the journal found
     pub found_stands : Stands sectors found_nodes at found_run kept
@@ -121,16 +140,20 @@ module _ (size nodes run : ℕ) (kept : Kept) (seen : Image) (base : IsBase size
         (subst (λ (r : ℕ). Stands size nodes at r kept) (sym same_run)
         (stands_same size nodes base.base at run kept (settles_once size seen base.base at small base.settles settles) base.stands)))
 
+    told_number : number_of told ≡ base.stands.version.number
+    told_number = ap number_of (sym (version_back told size found_nodes found_run) ∙ (ap version_in found_first ∙ version_is)) ∙ sym number_is
+
     pub found_moments : (old mid new : History) → AddsOnly (SettlesAs size seen) old mid
         → (Stands sectors found_nodes at found_run kept
-        → AddsOnly (λ image. StandsFor sectors found_nodes found_run kept image ⊎ StandsFor sectors found_nodes (found_run + 1) kept image) mid new)
-        → AddsOnly (λ image. StandsFor size nodes run kept image ⊎ StandsFor size nodes (run + 1) kept image) old new
-    found_moments old mid new before after = AddsOnly-join (λ image. StandsFor size nodes run kept image ⊎ StandsFor size nodes (run + 1) kept image) old mid new
+        → AddsOnly (λ image. StandsForIn (number_of told) sectors found_nodes found_run kept image ⊎ StandsForIn current.number sectors found_nodes (found_run + 1) kept image) mid new)
+        → AddsOnly Leaves old new
+    found_moments old mid new before after = AddsOnly-join Leaves old mid new
         (settled_moments old mid before)
-        (subst (λ (s : ℕ). AddsOnly (λ image. StandsFor s nodes run kept image ⊎ StandsFor s nodes (run + 1) kept image) mid new) sectors_is
-        (subst (λ (n : ℕ). AddsOnly (λ image. StandsFor sectors n run kept image ⊎ StandsFor sectors n (run + 1) kept image) mid new) same_nodes
-        (subst (λ (r : ℕ). AddsOnly (λ image. StandsFor sectors found_nodes r kept image ⊎ StandsFor sectors found_nodes (r + 1) kept image) mid new) same_run
-        (after found_stands))))
+        (subst (λ (v : ℕ). AddsOnly (λ image. StandsForIn v size nodes run kept image ⊎ StandsForIn current.number size nodes (run + 1) kept image) mid new) told_number
+        (subst (λ (s : ℕ). AddsOnly (λ image. StandsForIn (number_of told) s nodes run kept image ⊎ StandsForIn current.number s nodes (run + 1) kept image) mid new) sectors_is
+        (subst (λ (n : ℕ). AddsOnly (λ image. StandsForIn (number_of told) sectors n run kept image ⊎ StandsForIn current.number sectors n (run + 1) kept image) mid new) same_nodes
+        (subst (λ (r : ℕ). AddsOnly (λ image. StandsForIn (number_of told) sectors found_nodes r kept image ⊎ StandsForIn current.number sectors found_nodes (r + 1) kept image) mid new) same_run
+        (after found_stands)))))
 
 -- what stands on the base that was found stood in what was seen
 pub seen_stands : (size nodes run sectors found_nodes found_run fs_run : ℕ) (kept : Kept) (seen at : Image) → Settles size seen at → sectors ≡ size → fs_run ≡ found_run + 1

@@ -22,4 +22,4 @@ pub mod ServeLaws
 pub mod ShownLaws
 pub mod SoundLaws
 pub mod StandLaws
-pub mod SuperblockLaws
+pub mod StartLaws

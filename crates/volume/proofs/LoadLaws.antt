@@ -1,25 +1,36 @@
 -- The tree of the nodes that were read.
-use Rattle.std.proofs.Common.{◌≡◌, ◌≤◌, ◌<◌, ◌+◌, ◌^◌, ℕ, List, Option, Some, None, length, get_or, inl, inr, refl, sym, ap, ◌∙◌, subst, arith}
+use Rattle.std.proofs.Common.{◌≡◌, ◌↔◌, ◌≤◌, ◌<◌, ◌+◌, ◌^◌, ℕ, Bool, List, Option, Some, None, length, get_or, inl, inr, refl, sym, ap, ◌∙◌, subst, arith}
 use Rattle.std.proofs.Math.Logic.{∥∥₁_elim}
 use Rattle.std.proofs.Props.{props}
 use Rattle.std.proofs.lemmas.Bool.{cases_lt}
 use Rattle.std.proofs.lemmas.List.{get_or_past}
 use Rattle.std.specs.Prelude.{IsTrue, IsErrOf, Result, Ok, Err}
+use Rattle.cards.specs.Tables.{AreNumbered}
+use Rattle.cards.specs.declared.fault.TableFault.{TableFault}
+use Rattle.cards.specs.declared.fault.TableFault.TheVariants as tables
 use Rattle.disk.specs.Moments.{Image, IsSector}
+use Rattle.draft.proofs.KnownLaws.{card_at}
+use Rattle.edits.proofs.PlaceLaws.{there_at}
 use Rattle.layout.specs.Cards.{Card, tree_of, cards_in}
 use Rattle.layout.specs.Laid.{AreLaid, HoldsPlace, HoldsCard, HoldsContent}
-use Rattle.layout.specs.Marks.{mark_in}
+use Rattle.layout.specs.Marks.{mark_in, mark_by}
 use Rattle.layout.specs.Stands as layout
-use Rattle.layout.specs.Stands.{Kept, IsLaid, bare, current}
-use Rattle.layout.proofs.KeptLaws.{bare_stands, tree_stands}
+use Rattle.inode.specs.declared.node.Form.TheVariants.{Two}
+use Rattle.layout.specs.Known.{AreCards}
+use Rattle.layout.specs.Rewriting.{all_second, in_second, second_image, IsLaidSecond}
+use Rattle.layout.specs.Stands.{Kept, Version, IsLaid, IsMark, current, version_by}
 use Rattle.layout.specs.Superblock.{is_size}
+use Rattle.layout.specs.declared.versions.VersionNumber.{VersionNumber}
+use Rattle.layout.proofs.FirstLaws.{sized_parts}
+use Rattle.layout.proofs.KeptLaws.{version_parts}
+use Rattle.layout.proofs.MarkOnce.{first_number, one_number}
+use Rattle.layout.proofs.Rewriting.{known_as_second, laid_as_second, second_at, then_second}
 use Rattle.model.specs.declared.limits.Limits.{Limits}
 use Rattle.model.specs.declared.node.NodeKind.{NodeKind}
 use Rattle.model.specs.declared.node.NodeKind.TheVariants as kind
 use Rattle.model.specs.Charge.{blocks_of}
 use Rattle.model.specs.Limits.{limits_of}
 use Rattle.model.specs.Stamp.{stamp}
-use Rattle.model.specs.Tree.{Tree}
 use Rattle.model.specs.WellFormed.{IsWellFormed, IsBefore}
 use Rattle.scan.specs.Volumes.{AreFew}
 use Rattle.scan.specs.declared.fault.ScanFault.{ScanFault}
@@ -28,46 +39,103 @@ use Rattle.shape.specs.Nodes.{IsContentAllowed, IsNodeAllowed, AreNodesAllowed}
 use Rattle.shape.specs.ShapeLaws.{HoldBytes}
 use Rattle.shape.specs.WellFormed.{AreWellFormed}
 use Rattle.shape.proofs.WholeLaws.{each_tree}
-use Rattle.volume.specs.Refusals.{mount_fault}
+use Rattle.volume.specs.Refusals.{mount_fault, table_fault}
 use Rattle.volume.specs.declared.fault.MountFault.TheVariants as mounts
+use Rattle.volume.specs.Known.{IsKnown}
 use Rattle.volume.specs.Stands.{Stands}
 use Rattle.volume.specs.Superblock.{superblock}
 
 abbrev HoldsSectors : (size : ℕ) → Image → Type 0
 HoldsSectors size image = (n : ℕ) → n < size → IsSector (image n)
 
-module _ (size nodes run : ℕ) (image : Image) (cards : List (Option Card)) (laid : IsLaid current size nodes image cards)
-    (read : cards ≡ cards_in nodes image) (sectors : HoldsSectors size image) where
-  marked_bytes : HoldBytes image (mark_in nodes image)
-  marked_bytes n marked = elim (cases_lt n size) [
-    | inl within ↦ (sectors n within).bytes
-    | inr past ↦ absurd (omega (arith, marked, laid.within n past))
-  ]
+-- bytes are where a place of the data region is marked
+marked_bytes : (version : Version) (size nodes : ℕ) (image : Image) (cards : List (Option Card)) → IsLaid version size nodes image cards
+    → (bytes : (n : ℕ) → 148 + nodes ≤ n → n < size → IsSector (image n)) → HoldBytes image (mark_in nodes image)
+marked_bytes version size nodes image cards laid bytes n marked = elim (cases_lt n size) [
+  | inl within ↦ (bytes n (laid.laid.behind n marked) within).bytes
+  | inr past ↦ absurd (omega (arith, marked, laid.within n past))
+]
 
-  -- where they are well formed, it stands
-  pub found_stands : IsTrue (is_size size nodes) → run < 2 ^ 32 → image 0 ≡ superblock size nodes run
-      → AreWellFormed (limits_of size nodes) (stamp (run + 1) 0) cards → Stands size nodes image run (bare (tree_of image cards))
-  found_stands sized counted first well_formed =
-      let both = (each_tree nodes image (mark_in nodes image) cards laid.laid marked_bytes (limits_of size nodes) (omega arith) (stamp (run + 1) 0)).0 well_formed in
-      bare_stands size nodes image run (tree_of image cards) (record {
+-- The cards on the sectors, and as they are once each node has form two
+module _ (number : VersionNumber) (mark : Option ℕ) (size nodes run : ℕ) (image : Image) (cards : List (Option Card))
+    (laid : IsLaid (version_by number mark) size nodes image cards) (read : cards ≡ cards_in nodes image) (sectors : HoldsSectors size image)
+    (sized : IsTrue (is_size size nodes)) where
+  below : 148 + nodes ≤ size
+  below = let parts = sized_parts size nodes sized in omega (arith, parts.room)
+
+  abbrev second : List (Option Card)
+  second = all_second cards
+
+  as_second : IsLaidSecond size nodes image cards
+  as_second = laid_as_second (version_by number mark) size nodes image cards laid below
+
+  second_bytes : HoldBytes (second_image nodes image) (mark_in nodes (second_image nodes image))
+  second_bytes = marked_bytes current size nodes (second_image nodes image) second as_second.laid
+      (λ n behind within. subst IsSector (sym ((then_second (version_by number mark) size nodes image cards laid below).region n behind within)) (sectors n within))
+
+  same_tree : tree_of (second_image nodes image) second ≡ tree_of image second
+  same_tree = as_second.tree ∙ sym as_second.shown
+
+  each : AreWellFormed (limits_of size nodes) (stamp (run + 1) 0) second
+      ↔ (IsWellFormed (limits_of size nodes) (tree_of (second_image nodes image) second) × IsBefore (stamp (run + 1) 0) (tree_of (second_image nodes image) second))
+  each = each_tree nodes (second_image nodes image) (mark_in nodes (second_image nodes image)) second as_second.laid.laid second_bytes (limits_of size nodes) (omega arith) (stamp (run + 1) 0)
+
+  -- where they are well formed, their tree stands
+  pub found_stands : run < 2 ^ 32 → image 0 ≡ superblock number size nodes run → AreWellFormed (limits_of size nodes) (stamp (run + 1) 0) second
+      → layout.Stands (version_by number mark) size nodes image run (tree_of image second)
+  found_stands counted first well_formed =
+      let both = each.0 well_formed in
+      record {
         sized = sized;
         counted = counted;
-        first = first;
-        laid = subst (IsLaid current size nodes image) read laid;
-        tree_is = ap (tree_of image) read;
-        well_formed = ∣ both.0 ∣₁;
-        before = both.1;
-      })
-
-  no_tree : (tree : Tree) → (AreWellFormed (limits_of size nodes) (stamp (run + 1) 0) cards → ⊥) → layout.Stands current size nodes image run tree → ⊥
-  no_tree tree never stands = ∥∥₁_elim stands.well_formed (Prim.hlevel props) (λ well_formed.
-      let same : tree ≡ tree_of image cards = stands.tree_is ∙ sym (ap (tree_of image) read) in
-      never ((each_tree nodes image (mark_in nodes image) cards laid.laid marked_bytes (limits_of size nodes) (omega arith) (stamp (run + 1) 0)).1
-      (subst (IsWellFormed (limits_of size nodes)) same well_formed, subst (IsBefore (stamp (run + 1) 0)) same stands.before)))
+        first = first ∙ sym (first_number number mark size nodes run);
+        laid = subst (IsLaid (version_by number mark) size nodes image) read laid;
+        tree_is = as_second.shown ∙ ap (tree_of image) read;
+        well_formed = ∣ subst (IsWellFormed (limits_of size nodes)) same_tree both.0 ∣₁;
+        before = subst (IsBefore (stamp (run + 1) 0)) same_tree both.1;
+      }
 
   -- and where they are not, none does
-  pub none_stands : (kept : Kept) → (AreWellFormed (limits_of size nodes) (stamp (run + 1) 0) cards → ⊥) → Stands size nodes image run kept → ⊥
-  none_stands kept never stands = no_tree kept.tree never (tree_stands size nodes image run kept stands)
+  pub none_stands : (kept : Kept) → (AreWellFormed (limits_of size nodes) (stamp (run + 1) 0) second → ⊥) → Stands size nodes image run kept → ⊥
+  none_stands kept never stands = ∥∥₁_elim stands.stands.well_formed (Prim.hlevel props) (λ well_formed.
+      let same : kept.tree ≡ tree_of (second_image nodes image) second = stands.stands.tree_is ∙ (ap (tree_of image) (sym read) ∙ sym as_second.tree) in
+      never (each.1 (subst (IsWellFormed (limits_of size nodes)) same well_formed, subst (IsBefore (stamp (run + 1) 0)) same stands.stands.before)))
+
+-- what stands is laid in the version that the first sector tells
+pub laid_told : (number : VersionNumber) (size nodes run : ℕ) (image : Image) (kept : Kept) → image 0 ≡ superblock number size nodes run → Stands size nodes image run kept
+    → (mark : Option ℕ) × IsMark number nodes mark × IsLaid (version_by number mark) size nodes image (cards_in nodes image)
+laid_told number size nodes run image kept first stands =
+    let parts = version_parts nodes stands.version kept.seats stands.is_version in
+    let there : layout.Stands (version_by parts.0 parts.1) size nodes image run kept.tree =
+    subst (λ (version : Version). layout.Stands version size nodes image run kept.tree) parts.3 stands.stands in
+    let same : parts.0 ≡ number = one_number parts.0 number size nodes run size nodes run (sym (first_number parts.0 parts.1 size nodes run) ∙ (sym there.first ∙ first)) in (
+      parts.1,
+      subst (λ (n : VersionNumber). IsMark n nodes parts.1) same parts.2,
+      subst (λ (n : VersionNumber). IsLaid (version_by n parts.1) size nodes image (cards_in nodes image)) same there.laid,
+    )
+
+some_form : (cards : List (Option Card)) (place : ℕ) (card : Card) → get_or (all_second cards) place None ≡ Some card → card.form ≡ Two
+some_form cards place card there = form_at (get_or cards place None) card (sym (second_at cards place) ∙ there)
+  where
+    form_at : (one : Option Card) (card : Card) → in_second one ≡ Some card → card.form ≡ Two
+    form_at None card e = absurd (cc)
+    form_at (Some one) card e = cc
+
+-- the cards are known on any device, once each has form two
+pub known_second : (sectors nodes : ℕ) (cards : List (Option Card)) (places : List Bool) → AreCards nodes (mark_by (148 + nodes) places) cards
+    → sectors ≡ 148 + nodes + length places → IsKnown sectors nodes (all_second cards) places
+known_second sectors nodes cards places known whole = record {
+  are_cards = known_as_second nodes (mark_by (148 + nodes) places) cards known;
+  forms = λ place card there. some_form cards place card there;
+  whole = whole;
+}
+
+-- and each has a number
+pub second_numbered : (nodes : ℕ) (mark : ℕ → ℕ) (cards : List (Option Card)) → AreCards nodes mark cards → AreNumbered (all_second cards)
+second_numbered nodes mark cards known place number there =
+    let it = there_at (all_second cards) place number there in
+    let is = card_at nodes mark (all_second cards) place it.card (known_as_second nodes mark cards known) it.there in
+    omega (arith, is.number, it.number_is)
 
 -- what is asked of the table is asked of the cards
 pub asked : (limits told : Limits) (at by : ℕ) (table cards : List (Option Card)) → limits ≡ told → at ≡ by → table ≡ cards
@@ -100,24 +168,25 @@ allowed_few size nodes image mark cards laid allowed place card there = elim (ca
     none_some : (x : Card) → (let none : Option Card = None in none ≡ Some x) → ⊥
     none_some x e = cc
 
-tree_few : (size nodes run : ℕ) (image : Image) (tree : Tree) → HoldsSectors size image → layout.Stands current size nodes image run tree
-    → (AreFew (cards_in nodes image) → ⊥) → ⊥
-tree_few size nodes run image tree sectors stands never = ∥∥₁_elim stands.well_formed (Prim.hlevel props) (λ well_formed.
-    let cards = cards_in nodes image in
-    let are = (each_tree nodes image (mark_in nodes image) cards stands.laid.laid (marked_bytes size nodes run image cards stands.laid refl sectors) (limits_of size nodes) (omega arith) (stamp (run + 1) 0)).1
-    (subst (IsWellFormed (limits_of size nodes)) stands.tree_is well_formed, subst (IsBefore (stamp (run + 1) 0)) stands.tree_is stands.before) in
-    never (allowed_few size nodes image (mark_in nodes image) cards stands.laid.laid are.nodes))
-
 -- so where a tree stands, few blocks do
 pub stands_few : (size nodes run : ℕ) (image : Image) (kept : Kept) → HoldsSectors size image → Stands size nodes image run kept
     → (AreFew (cards_in nodes image) → ⊥) → ⊥
-stands_few size nodes run image kept sectors stands never = tree_few size nodes run image kept.tree sectors (tree_stands size nodes image run kept stands) never
+stands_few size nodes run image kept sectors stands never = ∥∥₁_elim stands.stands.well_formed (Prim.hlevel props) (λ well_formed.
+    let cards = cards_in nodes image in
+    let bytes = marked_bytes stands.version size nodes image cards stands.stands.laid (λ n behind within. sectors n within) in
+    let are = (each_tree nodes image (mark_in nodes image) cards stands.stands.laid.laid bytes (limits_of size nodes) (omega arith) (stamp (run + 1) 0)).1
+    (subst (IsWellFormed (limits_of size nodes)) stands.stands.tree_is well_formed, subst (IsBefore (stamp (run + 1) 0)) stands.stands.tree_is stands.stands.before) in
+    never (allowed_few size nodes image (mark_in nodes image) cards stands.stands.laid.laid are.nodes))
 
 -- how a refusal that is handed on was named below
 pub only_damaged : (fault : ScanFault) → mount_fault fault ≡ mounts.Damaged → fault ≡ scans.Damaged
 only_damaged scans.Damaged is = refl
 only_damaged scans.Device is = absurd (cc)
 only_damaged scans.Memory is = absurd (cc)
+
+pub only_same : (fault : TableFault) → table_fault fault ≡ mounts.Damaged → fault ≡ tables.SameNumber
+only_same tables.SameNumber is = refl
+only_same tables.Memory is = absurd (cc)
 
 pub err_is : {T E : Type 0} (result : Result T E) (one other : E) → result ≡ Err one → IsErrOf result other → one ≡ other
 err_is (Ok done) one other is told = absurd (cc)

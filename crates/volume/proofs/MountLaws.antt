@@ -1,72 +1,113 @@
--- A restart count that is raised.
-use Rattle.std.proofs.Common.{ℕ, [], ◌∷◌, ◌≡◌, ◌≤◌, ◌+◌, ◌<◌, ◌⊎◌, ◌^◌, inl, inr, refl, sym, ap, ◌∙◌, subst, arith}
+-- A restart count that is raised, with the version.
+use Rattle.std.proofs.Common.{ℕ, [], ◌∷◌, ◌≡◌, ◌≤◌, ◌+◌, ◌<◌, ◌⊎◌, ◌^◌, Bool, Option, inl, inr, refl, sym, ap, ◌∙◌, subst, arith, if◌then◌else◌}
+use Rattle.std.proofs.lemmas.Bool.{lt-leb}
 use Rattle.disk.specs.declared.update.Update.{Update}
 use Rattle.disk.specs.Moments.{Image, History, AddsOnly, put, applied}
 use Rattle.disk.proofs.MomentLemmas.{AddsOnly-weaken}
+use Rattle.inode.specs.declared.node.Form.{Form}
+use Rattle.inode.specs.declared.node.Form.TheVariants as forms
 use Rattle.journal.specs.Commit.{AddsEither}
 use Rattle.journal.specs.Settled.{Settles, AreSame}
 use Rattle.journal.proofs.Images.{put_same, put_other}
-use Rattle.layout.specs.Cards.{tree_of, cards_in}
-use Rattle.layout.specs.Stands as layout
-use Rattle.layout.specs.Stands.{Kept, IsLaid, current}
-use Rattle.layout.proofs.KeptLaws.{kept_bare, bare_stands, tree_stands}
-use Rattle.layout.proofs.MarkProofs.{kept_alone}
-use Rattle.model.specs.Stamp.{stamp}
+use Rattle.layout.specs.Cards.{node_sector}
+use Rattle.layout.specs.Rewriting.{all_second, in_form, IsRewritten}
+use Rattle.layout.specs.Stands.{By, IsMark, bare, version_1, version_2, version_by}
+use Rattle.layout.specs.declared.versions.VersionNumber.{VersionNumber}
+use Rattle.layout.specs.declared.versions.VersionNumber.TheVariants.{One, Two}
+use Rattle.layout.proofs.MarkOnce.{version_number, version_spare}
+use Rattle.layout.proofs.Rewriting.{form_stays, rewritten_cards, rewritten_stands}
 use Rattle.model.specs.Tree.{Tree}
-use Rattle.model.specs.WellFormed.{IsBefore}
-use Rattle.volume.specs.Stands.{Stands, StandsFor}
+use Rattle.volume.specs.Mounts.{HasMoved, IsRaisedTo, StandsForEither, StandsIn}
 use Rattle.volume.specs.Superblock.{superblock}
-use Rattle.volume.proofs.StandLaws.{sized, stands_same}
+use Rattle.volume.specs.declared.mount.Superblock.{Superblock}
+use Rattle.volume.proofs.StandLaws.{cards_same, sized, tree_same}
 
 abbrev pub first_update : (sectors nodes run : ℕ) → Update
-first_update sectors nodes run = record { target = 0; content = superblock sectors nodes run }
+first_update sectors nodes run = record { target = 0; content = superblock Two sectors nodes run }
 
-before-later : (a b : ℕ) (tree : Tree) → a ≤ b → IsBefore a tree → IsBefore b tree
-before-later a b tree later before = record {
-  number = λ number node is. let low = before.number number node is in omega (arith, later, low);
-  change = λ number node is. let low = before.change number node is in omega (arith, later, low);
-  entry = λ number node of entry is named. let low = before.entry number node of entry is named in omega (arith, later, low);
-}
+all_two : (version : VersionNumber) (nodes : ℕ) (mark : Option ℕ) → HasMoved version nodes mark → (place : ℕ) → place < nodes
+    → (version_by version mark).form place ≡ forms.Two
+all_two One nodes mark moved place within =
+    ap (λ (m : Option ℕ). (version_1 m).form place) moved
+    ∙ ap (λ (past : Bool). let form : Form = if past then forms.One else forms.Two in form) (lt-leb nodes place within)
+all_two Two nodes mark moved place within = refl
 
-module _ (sectors nodes run : ℕ) (base : Image) (counted : run + 1 < 2 ^ 32) where
+mark_moved : (version : VersionNumber) (nodes : ℕ) (mark : Option ℕ) → HasMoved version nodes mark → IsMark Two nodes mark
+mark_moved One nodes mark moved = subst (IsMark Two nodes) (sym moved) refl
+mark_moved Two nodes mark moved = moved
+
+-- a mark of version 1 that tells all places, or one of version 2
+mark_before : (version : VersionNumber) (sectors nodes : ℕ) (mark : Option ℕ) → 0 < nodes → HasMoved version nodes mark → IsMark version nodes mark
+mark_before One sectors nodes mark some moved = subst (IsMark One nodes) (sym moved) (some, omega arith)
+mark_before Two sectors nodes mark some moved = moved
+
+-- a volume has nodes
+some_nodes : (found : Superblock) (base : Image) (mark : Option ℕ) (tree : Tree) → StandsIn found mark base tree → 0 < found.nodes
+some_nodes found base mark tree stands = let parts = sized found.sectors found.nodes stands.sized in omega (arith, parts.some)
+
+module _ (found : Superblock) (base : Image) (counted : found.run + 1 < 2 ^ 32) where
   abbrev raised : Image
-  raised = put base (first_update sectors nodes (run + 1))
+  raised = put base (first_update found.sectors found.nodes (found.run + 1))
 
   others : (n : ℕ) → 98 ≤ n → raised n ≡ base n
-  others n above = put_other base (first_update sectors nodes (run + 1)) n (λ same. omega (arith, same, above))
+  others n above = put_other base (first_update found.sectors found.nodes (found.run + 1)) n (λ same. omega (arith, same, above))
 
-  -- the count is raised, and nothing else changes
-  tree_raised : (tree : Tree) → layout.Stands current sectors nodes base run tree → layout.Stands current sectors nodes raised (run + 1) tree
-  tree_raised tree stands =
-      let parts = sized sectors nodes stands.sized in
-      let same = kept_alone current sectors nodes base raised (cards_in nodes base) (omega (arith, parts.room)) stands.laid (λ n above below. others n above) in
-      record {
-        sized = stands.sized;
-        counted = counted;
-        first = put_same base (first_update sectors nodes (run + 1)) 0 refl;
-        laid = subst (IsLaid current sectors nodes raised) (sym same.same_cards) same.laid;
-        tree_is = stands.tree_is ∙ (sym same.same_tree ∙ ap (tree_of raised) (sym same.same_cards));
-        well_formed = stands.well_formed;
-        before = before-later (stamp (run + 1) 0) (stamp (run + 1 + 1) 0) tree (omega arith) stands.before;
-      }
+  module _ (mark : Option ℕ) (tree : Tree) (moved : HasMoved found.version found.nodes mark) (stands : StandsIn found mark base tree) where
+    -- the count is raised, the version is 2, and nothing else changes
+    is_rewritten : IsRewritten (version_by found.version mark) (version_2 mark) found.sectors found.nodes (found.run + 1) base raised
+    is_rewritten = record {
+      first = put_same base (first_update found.sectors found.nodes (found.run + 1)) 0 refl;
+      others = record {
+        roomy = λ place within. inr refl;
+        bitmap = λ n low high. others n low;
+        spare = λ n low high. others n (omega (arith, low)) ∙ (stands.laid.spare n low high ∙ version_spare found.version mark n);
+        nodes_are = λ place within. others (node_sector place) (omega arith)
+            ∙ (sym (form_stays (version_by found.version mark) found.sectors found.nodes found.run base tree place stands within)
+            ∙ ap (λ (form : Form). in_form form (base (node_sector place))) (all_two found.version found.nodes mark moved place within));
+        region = λ n low high. others n (omega (arith, low));
+      };
+    }
 
-  pub raised_stands : (kept : Kept) → Stands sectors nodes base run kept → Stands sectors nodes raised (run + 1) kept
-  raised_stands kept stands = subst (Stands sectors nodes raised (run + 1)) (sym (kept_bare sectors nodes base run kept stands))
-      (bare_stands sectors nodes raised (run + 1) kept.tree (tree_raised kept.tree (tree_stands sectors nodes base run kept stands)))
+    raised_to : IsRaisedTo mark found tree base raised
+    raised_to = record {
+      stands = rewritten_stands (version_by found.version mark) (version_2 mark) found.sectors found.nodes found.run (found.run + 1) base raised tree stands (omega arith) counted is_rewritten;
+      cards = rewritten_cards (version_by found.version mark) (version_2 mark) found.sectors found.nodes found.run (found.run + 1) base raised tree stands is_rewritten;
+    }
 
-  pub raised_base : (after : Image) (kept : Kept) → AreSame sectors raised after → Stands sectors nodes base run kept → Stands sectors nodes after (run + 1) kept
-  raised_base after kept same stands = stands_same sectors nodes raised after (run + 1) kept same (raised_stands kept stands)
+    pub raised_base : (after : Image) → AreSame found.sectors raised after → IsRaisedTo mark found tree base after
+    raised_base after same = record {
+      stands = tree_same (version_2 mark) found.sectors found.nodes raised after (found.run + 1) tree same raised_to.stands;
+      cards = ap all_second (cards_same (version_2 mark) found.sectors found.nodes raised after (found.run + 1) tree same raised_to.stands) ∙ raised_to.cards;
+    }
 
-  pub raised_others : (after : Image) → AreSame sectors raised after → (n : ℕ) → 98 ≤ n → n < sectors → after n ≡ base n
-  raised_others after same n above below = sym (same n (inr above, below)) ∙ others n above
-
-  pub raise_moments : (kept : Kept) (old new : History) → Stands sectors nodes base run kept
-      → AddsEither sectors (first_update sectors nodes (run + 1) ∷ []) base old new
-      → AddsOnly (λ image. StandsFor sectors nodes run kept image ⊎ StandsFor sectors nodes (run + 1) kept image) old new
-  raise_moments kept old new stands moments = AddsOnly-weaken
-      (λ image. Settles sectors image base ⊎ Settles sectors image (applied (first_update sectors nodes (run + 1) ∷ []) base))
-      (λ image. StandsFor sectors nodes run kept image ⊎ StandsFor sectors nodes (run + 1) kept image) old new
-      (λ image either. elim either [
-        | inl settles ↦ inl ∣ record { base = base; settles = settles; stands = stands } ∣₁
-        | inr settles ↦ inr ∣ record { base = raised; settles = settles; stands = raised_stands kept stands } ∣₁
-      ]) moments
+    pub raise_moments : (old new : History) → AddsEither found.sectors (first_update found.sectors found.nodes (found.run + 1) ∷ []) base old new
+        → AddsOnly (StandsForEither found (bare tree)) old new
+    raise_moments old new moments = AddsOnly-weaken
+        (λ image. Settles found.sectors image base ⊎ Settles found.sectors image (applied (first_update found.sectors found.nodes (found.run + 1) ∷ []) base))
+        (StandsForEither found (bare tree)) old new
+        (λ image either. elim either [
+          | inl settles ↦ inl ∣ (
+            record {
+              base = base;
+              settles = settles;
+              stands = record {
+                version = version_by found.version mark;
+                is_version = By found.version mark (mark_before found.version found.sectors found.nodes mark (some_nodes found base mark tree stands) moved);
+                stands = stands;
+              };
+            },
+            version_number found.version mark,
+          ) ∣₁
+          | inr settles ↦ inr ∣ (
+            record {
+              base = raised;
+              settles = settles;
+              stands = record {
+                version = version_2 mark;
+                is_version = By Two mark (mark_moved found.version found.nodes mark moved);
+                stands = raised_to.stands;
+              };
+            },
+            refl,
+          ) ∣₁
+        ]) moments

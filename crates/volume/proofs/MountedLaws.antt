@@ -1,5 +1,5 @@
 -- How a mount answers, by what its parts find.
-use Rattle.std.proofs.Common.{◌≡◌, ◌≤◌, ◌<◌, ◌⊎◌, ◌^◌, ◌∙◌, ℕ, inl, inr, ⊎_elim, refl, sym, ap, subst, arith}
+use Rattle.std.proofs.Common.{◌≡◌, ◌<◌, ◌⊎◌, ◌^◌, ◌∙◌, ℕ, inl, inr, ⊎_elim, refl, sym, ap, subst, arith}
 use Rattle.disk.specs.Cause.{IsCounted}
 use Rattle.disk.specs.Moments.{Image, History, AddsOnly, seen, synced}
 use Rattle.journal.specs.declared.fault.JournalFault.{JournalFault}
@@ -34,7 +34,7 @@ untouched_mount sectors old new same nodes run kept base = subst (AddsOnly _ old
 pub refused_untouched : (sectors : ℕ) (old new : History) (fault : MountFault) → new ≡ old → HasReason sectors old new fault → IsMountRefused sectors old new fault
 refused_untouched sectors old new fault same reason = record {
   moments = untouched_mount sectors old new same;
-  writes = λ other. inl (untouched_replays sectors old new same);
+  writes = λ other. untouched_replays sectors old new same;
   reason = reason;
 }
 
@@ -90,7 +90,7 @@ module _ (sectors : ℕ) (old new : History) (sound : first_verdict sectors old 
   gate_refused journals.Memory damaged memory = refused_untouched sectors old new mounts.Memory (memory refl) tt
   gate_refused journals.Damaged damaged memory = record {
     moments = settled_mount;
-    writes = λ other. inl (record { moments = replays; formless = λ none. inr (damaged refl).only_synced });
+    writes = λ other. record { moments = replays; formless = λ none. inr (damaged refl).only_synced };
     reason = record { first = inr sound; no_tree = λ nodes run kept base. (damaged refl).formless base.base base.settles };
   }
   gate_refused journals.Fault damaged memory = failed
@@ -99,7 +99,7 @@ module _ (sectors : ℕ) (old new : History) (sound : first_verdict sectors old 
 
 -- on the base that the journal found
 module _ (sectors : ℕ) (old mid : History) (found : Superblock) (base : Image) (sectors_is : found.sectors ≡ sectors) (few : found.nodes < 2 ^ 32) (counted : found.run < 2 ^ 32)
-    (sound : first_verdict sectors old ≡ verdicts.Sound) (first : seen old.now 0 ≡ superblock found.sectors found.nodes found.run)
+    (sound : first_verdict sectors old ≡ verdicts.Sound) (first : seen old.now 0 ≡ superblock found.version found.sectors found.nodes found.run)
     (settles : Settles sectors (seen old.now) base) (replays : AddsOnly (SettlesAs sectors (seen old.now)) old mid) where
   pub begun_found : (held : Held) → AddsOnly (SettlesAs sectors (seen old.now)) (synced old) mid → HasBegun found base mid held → HasMounted sectors old held
   begun_found held since begun = record {
@@ -109,28 +109,29 @@ module _ (sectors : ℕ) (old mid : History) (found : Superblock) (base : Image)
       raised = begun.run;
       stood = seen_stands sectors held.limits.nodes found.run found.sectors found.nodes found.run held.run (kept_of held) (seen old.now) base settles sectors_is begun.run begun.nodes begun.run begun.stood;
     };
-    moments = λ nodes run kept stands. found_moments sectors nodes run kept (seen old.now) stands base settles found.sectors found.nodes found.run sectors_is few counted first
+    moments = λ nodes run kept stands. found_moments sectors nodes run kept (seen old.now) stands base settles found.version found.sectors found.nodes found.run sectors_is few counted first
         old mid held.history replays (begun.moments kept);
-    since_sync = λ nodes run kept stands. found_moments sectors nodes run kept (seen old.now) stands base settles found.sectors found.nodes found.run sectors_is few counted first
+    since_sync = λ nodes run kept stands. found_moments sectors nodes run kept (seen old.now) stands base settles found.version found.sectors found.nodes found.run sectors_is few counted first
         (synced old) mid held.history since (begun.moments kept);
+    current = begun.current;
     holds = begun.holds;
   }
 
   pub begin_refused : (new : History) (fault : MountFault) → IsNotBegun found base mid new fault → IsMountRefused sectors old new fault
   begin_refused new fault refused = record {
-    moments = λ nodes run kept stands. found_moments sectors nodes run kept (seen old.now) stands base settles found.sectors found.nodes found.run sectors_is few counted first
+    moments = λ nodes run kept stands. found_moments sectors nodes run kept (seen old.now) stands base settles found.version found.sectors found.nodes found.run sectors_is few counted first
         old mid new replays (refused.moments kept);
-    writes = λ other. inl (record {
+    writes = λ other. record {
       moments = subst (λ (h : History). AddsOnly (SettlesAs sectors (seen old.now)) old h) (sym (refused.untouched other)) replays;
       formless = λ none. absurd (none base settles);
-    });
+    };
     reason = ⊎_elim
         (λ (device : fault ≡ mounts.Device). subst (HasReason sectors old new) (sym device) tt)
         (λ (rest : (fault ≡ mounts.Damaged) ⊎ (fault ≡ mounts.Memory)). ⊎_elim
         (λ (damaged : fault ≡ mounts.Damaged). subst (HasReason sectors old new) (sym damaged) (record {
           first = inr sound;
           no_tree = λ nodes run kept stands. refused.no_tree damaged kept
-              (found_stands sectors nodes run kept (seen old.now) stands base settles found.sectors found.nodes found.run sectors_is few counted first);
+              (found_stands sectors nodes run kept (seen old.now) stands base settles found.version found.sectors found.nodes found.run sectors_is few counted first);
         }))
         (λ (memory : fault ≡ mounts.Memory). subst (HasReason sectors old new) (sym memory) tt)
         rest)

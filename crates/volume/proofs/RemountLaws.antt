@@ -1,13 +1,13 @@
 -- A volume between two runs of a server.
-use Rattle.std.proofs.Common.{◌≡◌, ◌+◌, ◌≤◌, ◌⊎◌, ℕ, List, [], ◌∷◌, length, sym, subst, inl, inr, ⊎_elim, arith}
+use Rattle.std.proofs.Common.{◌≡◌, ◌+◌, ◌≤◌, ◌⊎◌, ℕ, [], ◌∷◌, sym, subst, inl, inr, ⊎_elim, arith}
 use Rattle.std.specs.List.{IsAmong}
 use Rattle.std.proofs.Props.{props}
 use Rattle.std.proofs.Math.Logic.{∥∥₁_elim, ∥∥₁_map, ∥∥₁_prop}
 use Rattle.std.proofs.Math.Path.{fun_ext}
 use Rattle.journal.proofs.Moments.{seen-may_hold}
 use Rattle.disk.specs.Moments.{Image, Moment, History, Left, LeftSince, LeftWithin, at_rest, moment, seen}
-use Rattle.layout.specs.Stands.{Kept}
-use Rattle.volume.specs.Stands.{StandsFor}
+use Rattle.layout.specs.Stands.{Kept, current}
+use Rattle.volume.specs.Stands.{StandsFor, StandsForIn}
 use Rattle.volume.specs.Held.{Held, kept_of}
 use Rattle.volume.specs.Remounts.{AddsMount, IsFound, IsFront, Now, Before, Remounts, Stays, Mounts, Ends, Stops, StandsForGood, LeavesGood, ServesGood, EveryRemount, StillStands}
 use Rattle.volume.proofs.OneTree.{one_stands}
@@ -31,6 +31,10 @@ front_left device earlier t image (Before {now = now} {before = before} {past = 
     (λ (was : LeftWithin past t image). inr (inr was))
     left)
 
+-- what stands in a version stands
+in_version : (number sectors nodes run : ℕ) (kept : Kept) (image : Image) → StandsForIn number sectors nodes run kept image → StandsFor sectors nodes run kept image
+in_version number sectors nodes run kept image stands = ∥∥₁_map stands (λ is. is.0)
+
 module _ (sectors nodes run : ℕ) (good : Kept → Type 0) where
   abbrev Good : Image → Type 0
   Good image = StandsForGood sectors nodes run good image
@@ -46,10 +50,18 @@ module _ (sectors nodes run : ℕ) (good : Kept → Type 0) where
             omega (arith, before, later)));
         leaves = λ image left. ∥∥₁_elim now ∥∥₁_prop (λ stood. ∥∥₁_elim stood.3 ∥∥₁_prop (λ base. ⊎_elim
             (λ (before : LeftSince old from image). was.leaves image before)
-            (λ (either : StandsFor sectors nodes (run + stood.2) stood.0 image ⊎ StandsFor sectors nodes (run + stood.2 + 1) stood.0 image). ⊎_elim
-            (λ (same : StandsFor sectors nodes (run + stood.2) stood.0 image). ∣ (stood.0, stood.1, stood.2, same) ∣₁)
-            (λ (more : StandsFor sectors nodes (run + stood.2 + 1) stood.0 image).
-            ∣ (stood.0, stood.1, stood.2 + 1, subst (λ (r : ℕ). StandsFor sectors nodes r stood.0 image) (omega arith) more) ∣₁)
+            (λ (either : StandsForIn base.stands.version.number sectors nodes (run + stood.2) stood.0 image
+            ⊎ StandsForIn current.number sectors nodes (run + stood.2 + 1) stood.0 image). ⊎_elim
+            (λ (same : StandsForIn base.stands.version.number sectors nodes (run + stood.2) stood.0 image).
+            ∣ (stood.0, stood.1, stood.2, in_version base.stands.version.number sectors nodes (run + stood.2) stood.0 image same) ∣₁)
+            (λ (more : StandsForIn current.number sectors nodes (run + stood.2 + 1) stood.0 image).
+            ∣ (
+              stood.0,
+              stood.1,
+              stood.2 + 1,
+              subst (λ (r : ℕ). StandsFor sectors nodes r stood.0 image) (omega arith)
+                  (in_version current.number sectors nodes (run + stood.2 + 1) stood.0 image more),
+            ) ∣₁)
             either)
             ((adds nodes (run + stood.2) stood.0 base).added from image was.within left)));
       }

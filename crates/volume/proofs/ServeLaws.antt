@@ -14,11 +14,11 @@ use Rattle.journal.specs.Log.{Log, IsSettled, StandsForFront, contents, applied_
 use Rattle.journal.specs.Settled.{AreSame}
 use Rattle.layout.specs.Cards.{Card, tree_of, cards_in}
 use Rattle.layout.specs.MarkLaws.{SeesSame}
+use Rattle.layout.specs.Stands as layout
 use Rattle.layout.specs.Stands.{Kept, bare, current}
-use Rattle.layout.proofs.KeptLaws.{tree_stands}
+use Rattle.layout.proofs.KeptLaws.{bare_stands}
 use Rattle.layout.proofs.MarkProofs.{kept_alone}
 use Rattle.model.specs.declared.limits.Limits.{Limits}
-use Rattle.model.specs.Tree.{Tree}
 use Rattle.journal.specs.declared.fault.JournalFault.{JournalFault}
 use Rattle.journal.specs.declared.fault.JournalFault.TheVariants as faults
 use Rattle.volume.specs.Changes.{Given, Done, Nothing, Broken, IsTree, Changes, ending_of}
@@ -29,26 +29,32 @@ use Rattle.volume.specs.Stands.{Stands}
 use Rattle.volume.specs.Views.{held_by}
 use Rattle.volume.proofs.FrontLaws.{front_among}
 use Rattle.volume.proofs.OneTree.{Tree-set}
-use Rattle.volume.proofs.StandLaws.{sized, stands_same}
+use Rattle.volume.proofs.StandLaws.{sized, tree_same}
+
+-- what serves stands with no seats
+pub served_stands : (nodes run : ℕ) (cards : List (Option Card)) (log : Log) → IsServing log nodes run cards
+    → ∥ Stands log.size nodes (contents log) run (bare (tree_of (contents log) cards)) ∥₁
+served_stands nodes run cards log serving = ∥∥₁_map serving.stands (bare_stands log.size nodes (contents log) run (tree_of (contents log) cards))
 
 module _ (nodes run : ℕ) (cards : List (Option Card)) (old new : Log) (same : AreSame old.size (contents old) (contents new)) where
-  sees : Stands old.size nodes (contents old) run (bare (tree_of (contents old) cards))
+  sees : layout.Stands current old.size nodes (contents old) run (tree_of (contents old) cards)
       → SeesSame current old.size nodes (contents old) (contents new) (cards_in nodes (contents old))
   sees stands =
-      let parts = sized old.size nodes stands.stands.sized in
-      kept_alone current old.size nodes (contents old) (contents new) (cards_in nodes (contents old)) (omega (arith, parts.room)) (tree_stands old.size nodes (contents old) run (bare (tree_of (contents old) cards)) stands).laid
+      let parts = sized old.size nodes stands.sized in
+      kept_alone current old.size nodes (contents old) (contents new) (cards_in nodes (contents old)) (omega (arith, parts.room)) stands.laid
       (λ n above below. sym (same n (inr above, below)))
 
   -- the same tree is seen
-  pub tree_same : IsServing old nodes run cards → tree_of (contents new) cards ≡ tree_of (contents old) cards
-  tree_same serving = ∥∥₁_elim serving.stands (Tree-set (tree_of (contents new) cards) (tree_of (contents old) cards)) (λ stands.
+  pub tree_stays : IsServing old nodes run cards → tree_of (contents new) cards ≡ tree_of (contents old) cards
+  tree_stays serving = ∥∥₁_elim serving.stands (Tree-set (tree_of (contents new) cards) (tree_of (contents old) cards)) (λ stands.
       ap (tree_of (contents new)) serving.read ∙ ((sees stands).same_tree ∙ ap (tree_of (contents old)) (sym serving.read)))
 
   pub still_serving : new.size ≡ old.size → IsSettled new → IsServing old nodes run cards → ∥ IsServing new nodes run cards ∥₁
   still_serving size settled serving = ∥∥₁_map serving.stands (λ stands. record {
     read = serving.read ∙ sym (sees stands).same_cards;
-    stands = ∣ subst (λ (s : ℕ). Stands s nodes (contents new) run (bare (tree_of (contents new) cards))) (sym size)
-        (subst (λ (t : Tree). Stands old.size nodes (contents new) run (bare t)) (sym (tree_same serving)) (stands_same old.size nodes (contents old) (contents new) run (bare (tree_of (contents old) cards)) same stands)) ∣₁;
+    stands = ∣ subst (λ (s : ℕ). layout.Stands current s nodes (contents new) run (tree_of (contents new) cards)) (sym size)
+        (subst (layout.Stands current old.size nodes (contents new) run) (sym (tree_stays serving))
+        (tree_same current old.size nodes (contents old) (contents new) run (tree_of (contents old) cards) same stands)) ∣₁;
     settled = settled;
   })
 
@@ -56,7 +62,7 @@ module _ (nodes run : ℕ) (cards : List (Option Card)) (old new : Log) (same : 
 pub flush_keeps : (keeps_word : Type 0) (nodes run : ℕ) (cards : List (Option Card)) (old new : Log) → HasFlushed keeps_word old new → (keeps_word → ∥ IsServing old nodes run cards ∥₁)
     → keeps_word → tree_of (contents new) cards ≡ tree_of (contents old) cards
 flush_keeps keeps_word nodes run cards old new flushed serves k =
-    ∥∥₁_elim (serves k) (Tree-set (tree_of (contents new) cards) (tree_of (contents old) cards)) (tree_same nodes run cards old new (flushed.contents k))
+    ∥∥₁_elim (serves k) (Tree-set (tree_of (contents new) cards) (tree_of (contents old) cards)) (tree_stays nodes run cards old new (flushed.contents k))
 
 -- what a flush adds to what a stop may leave are trees that it may leave already
 pub flush_adds : (limits : Limits) (run : ℕ) (cards : List (Option Card)) (old new : Log) (after : Kept) → AddsFronts old new
@@ -144,7 +150,7 @@ module _ (keeps_word : Type 0) (limits : Limits) (run : ℕ) (cards : List (Opti
 
         holds : keeps_word → Holds is
         holds k = holds_base limits run cards new flushed.emptied
-            (∥∥₁_elim (serves k) ∥∥₁_prop (λ serving. ∥∥₁_elim (still_serving limits.nodes run cards old new (flushed.contents k) safe.size (safe.settled k false_from_ne_true) serving) ∥∥₁_prop (λ now. now.stands)))
+            (∥∥₁_elim (serves k) ∥∥₁_prop (λ serving. ∥∥₁_elim (still_serving limits.nodes run cards old new (flushed.contents k) safe.size (safe.settled k false_from_ne_true) serving) ∥∥₁_prop (served_stands limits.nodes run cards new)))
             (safe.settled k false_from_ne_true)
 
     pub flush_broken : (given : Given) → new.is_down ≡ true → IsCounted before after → Changes keeps_word given was is before after Broken

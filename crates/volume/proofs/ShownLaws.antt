@@ -1,9 +1,9 @@
 -- What is answered of a tree without the bytes of its files does not depend on them.
-use Rattle.std.proofs.Common.{◌≡◌, ℕ, zero, suc, Bool, List, [], ◌∷◌, Option, Some, None, length, refl, sym, ap, ap₂, ◌∙◌}
+use Rattle.std.proofs.Common.{◌≡◌, ℕ, zero, suc, List, [], ◌∷◌, Option, Some, None, length, refl, sym, ap, ap₂, ◌∙◌}
 use Rattle.std.specs.Prelude.{if◌then◌else◌, nat_lt, ◌==◌, option_map}
 use Rattle.std.specs.List.{list_any}
 use Rattle.std.proofs.lemmas.Option.{same_Some}
-use Rattle.edits.specs.Outlines.{blank, blank_node, blanked, zeros}
+use Rattle.edits.specs.Outlines.{blank, blank_node, blanked}
 use Rattle.edits.proofs.BlankLaws.{at-blanked, length-blanked, length-zeros}
 use Rattle.edits.proofs.FitLaws.{fits_alike}
 use Rattle.layout.specs.Cards.{Card}

@@ -1,12 +1,15 @@
 -- What a stop leaves of a volume, by its base alone: no sector of the journal's own is looked at.
-use Rattle.std.proofs.Common.{ℕ, ◌≤◌, inl, inr, refl, rules, arith, sym}
+use Rattle.std.proofs.Common.{ℕ, ◌≡◌, ◌≤◌, inl, inr, refl, rules, arith, sym}
 use Rattle.std.specs.Prelude.{IsTrue}
 use Rattle.disk.specs.Moments.{Image}
 use Rattle.journal.specs.Settled.{AreSame}
+use Rattle.layout.specs.Cards.{cards_in}
+use Rattle.layout.specs.Stands as layout
 use Rattle.layout.specs.Stands.{Kept}
 use Rattle.layout.specs.Superblock.{is_size}
 use Rattle.layout.proofs.FirstLaws.{Sized, sized_parts}
-use Rattle.layout.proofs.MarkProofs.{stands_alone}
+use Rattle.layout.proofs.MarkProofs.{kept_alone, stands_alone}
+use Rattle.model.specs.Tree.{Tree}
 use Rattle.volume.specs.Stands.{Stands}
 
 pub sized : (sectors nodes : ℕ) → IsTrue (is_size sectors nodes) → Sized sectors nodes
@@ -26,3 +29,19 @@ stands_same sectors nodes a b run kept same stands =
       stands = stands_alone stands.version sectors nodes a b run kept.tree stands.stands (sym (same 0 (inl refl, omega (arith, enough))))
           (λ n above below. sym (same n (inr above, below)));
     }
+
+-- so it is in one version
+pub tree_same : (version : layout.Version) (sectors nodes : ℕ) (a b : Image) (run : ℕ) (tree : Tree) → AreSame sectors a b
+    → layout.Stands version sectors nodes a run tree → layout.Stands version sectors nodes b run tree
+tree_same version sectors nodes a b run tree same stands =
+    let enough : 256 ≤ sectors = large sectors nodes stands.sized in
+    stands_alone version sectors nodes a b run tree stands (sym (same 0 (inl refl, omega (arith, enough))))
+    (λ n above below. sym (same n (inr above, below)))
+
+-- and so are the cards
+pub cards_same : (version : layout.Version) (sectors nodes : ℕ) (a b : Image) (run : ℕ) (tree : Tree) → AreSame sectors a b
+    → layout.Stands version sectors nodes a run tree → cards_in nodes b ≡ cards_in nodes a
+cards_same version sectors nodes a b run tree same stands =
+    let parts = sized sectors nodes stands.sized in
+    (kept_alone version sectors nodes a b (cards_in nodes a) (omega (arith, parts.room)) stands.laid
+    (λ n above below. sym (same n (inr above, below)))).same_cards

@@ -3,21 +3,22 @@ use Rattle.std.specs.Prelude.{ℕ, ◌≡◌, ◌⊎◌}
 use Rattle.disk.specs.Calls.{zero_sector}
 use Rattle.disk.specs.declared.update.Update.{Update}
 use Rattle.disk.specs.Moments.{Image, History, AddsOnly, Left}
-use Rattle.inode.specs.declared.node.Form.TheVariants.{One}
+use Rattle.inode.specs.declared.node.Form.TheVariants.{Two}
 use Rattle.inode.specs.Spelling.{inode_sector}
 use Rattle.layout.specs.FreshLaws.{root_fields}
 use Rattle.layout.specs.Cards.{node_sector}
-use Rattle.layout.specs.Stands.{bare}
+use Rattle.journal.specs.Settled.{Settles}
+use Rattle.layout.specs.Stands.{Stands, current}
 use Rattle.model.specs.Fresh.{fresh_tree}
-use Rattle.volume.specs.Stands.{StandsFor}
 
 -- the root at place 0, which alone of a new volume is not zero
 abbrev pub root_update : Update
-root_update = record { target = node_sector 0; content = inode_sector One root_fields }
+root_update = record { target = node_sector 0; content = inode_sector Two root_fields }
 
--- the new volume: an empty root and no seats, which was never mounted
+-- the new volume, of the current version: an empty root, which was never mounted
 abbrev pub IsFresh : (sectors nodes : ℕ) → Image → Type 0
-IsFresh sectors nodes image = StandsFor sectors nodes 0 (bare fresh_tree) image
+IsFresh sectors nodes image = ∥ ((base : Image) × Settles sectors image base
+    × Stands current sectors nodes base 0 fresh_tree) ∥₁
 
 -- what a format adds to what a stop may leave: no volume, or the new one
 abbrev pub AddsFresh : (sectors nodes : ℕ) → (old new : History) → Type 0

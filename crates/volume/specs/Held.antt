@@ -3,7 +3,9 @@ use Rattle.std.specs.Prelude.{ℕ, Bool, false, List, [], ◌∷◌, ◌≡◌, 
 use Rattle.std.specs.List.{IsAmong}
 use Rattle.disk.specs.declared.update.Update.{Update}
 use Rattle.disk.specs.Moments.{History, Image, Left, AddsOnly, applied}
-use Rattle.layout.specs.Stands.{Kept}
+use Rattle.journal.specs.Settled.{Settles}
+use Rattle.layout.specs.Stands as layout
+use Rattle.layout.specs.Stands.{Kept, current}
 use Rattle.model.specs.declared.limits.Limits.{Limits}
 use Rattle.model.specs.Limits.{limits_of}
 use Rattle.model.specs.Seats.{Seats}
@@ -75,6 +77,12 @@ pub record IsRecent (held : Held) (recent : List Tree) : Type 0 where
 -- whichever trees a stop might leave before, it may leave now, and no others
 abbrev pub KeepsRecent : (old new : Held) → Type 0
 KeepsRecent old new = (recent : List Tree) → IsRecent old recent → IsRecent new recent
+
+-- each map that a crash leaves is a volume of the current version, with the tree in memory
+abbrev pub LeavesCurrent : Held → Type 0
+LeavesCurrent held = (image : Image) → Left held.history.now image
+    → ∥ ((base : Image) × Settles held.sectors image base
+    × layout.Stands current held.sectors held.limits.nodes base held.run held.tree) ∥₁
 
 -- a stop leaves the tree in memory
 abbrev pub Holds : Held → Type 0

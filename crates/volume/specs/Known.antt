@@ -4,8 +4,7 @@ use Rattle.journal.specs.Log.{Log, IsSettled, contents}
 use Rattle.layout.specs.Cards.{Card, tree_of, cards_in}
 use Rattle.layout.specs.Known.{AreCards}
 use Rattle.layout.specs.Marks.{mark_by}
-use Rattle.layout.specs.Stands.{current, HaveForms, bare}
-use Rattle.volume.specs.Stands.{Stands}
+use Rattle.layout.specs.Stands.{current, HaveForms, Stands}
 
 -- on any device: cards, and the set of places that they name, which are those of the whole data
 -- region
@@ -19,5 +18,5 @@ pub record IsKnown (sectors nodes : ℕ) (cards : List (Option Card)) (places : 
 -- flushed or not, and what a stop leaves settles to the journal's base
 pub record IsServing (log : Log) (nodes run : ℕ) (cards : List (Option Card)) : Type 0 where
   pub read : cards ≡ cards_in nodes (contents log)
-  pub stands : ∥ Stands log.size nodes (contents log) run (bare (tree_of (contents log) cards)) ∥₁
+  pub stands : ∥ Stands current log.size nodes (contents log) run (tree_of (contents log) cards) ∥₁
   pub settled : IsSettled log

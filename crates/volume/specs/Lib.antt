@@ -18,5 +18,6 @@ pub mod Refusals
 pub mod Remounts
 pub mod Shown
 pub mod Stands
+pub mod Starts
 pub mod Superblock
 pub mod Views

@@ -4,36 +4,40 @@ use Rattle.disk.specs.Moments.{Image, IsSector}
 use Rattle.journal.specs.Log.{Log}
 use Rattle.layout.specs.Cards.{Card, tree_of, cards_in}
 use Rattle.layout.specs.Health.{Health, Reads}
-use Rattle.layout.specs.Stands.{bare}
+use Rattle.layout.specs.Rewriting.{all_second}
+use Rattle.layout.specs.Stands.{IsMark, spare_by}
 use Rattle.model.specs.Limits.{limits_of}
 use Rattle.model.specs.Stamp.{stamp}
 use Rattle.shape.specs.WellFormed.{AreWellFormed}
 use Rattle.volume.specs.Known.{IsKnown}
-use Rattle.volume.specs.Mounts.{StandsOn}
+use Rattle.volume.specs.Mounts.{StandsIn}
 use Rattle.volume.specs.Superblock.{superblock}
 use Rattle.volume.specs.declared.mount.Superblock.{Superblock}
 
 -- the sectors begin with the first one that was found, and are bytes
 pub record HoldsVolume (found : Superblock) (size : ℕ) (image : Image) : Type 0 where
-  pub first : image 0 ≡ superblock found.sectors found.nodes found.run
+  pub first : image 0 ≡ superblock found.version found.sectors found.nodes found.run
   pub sectors : (n : ℕ) → n < size → IsSector (image n)
 
 abbrev pub HoldsBase : Superblock → Log → Type 0
 HoldsBase found log = HoldsVolume found log.size log.base
 
--- The cards are those of the sectors, and a tree stands there
+-- The cards are those of the sectors, as they are once each has form two, and a tree stands there,
+-- in the version that was found and with this mark
 pub record AreLoaded (keeps_word : Type 0) (found : Superblock) (image : Image)
-    (cards : List (Option Card)) (places : List Bool)
-    : Type 0 where
+    (mark : Option ℕ) (cards : List (Option Card)) (places : List Bool) : Type 0 where
   pub known : IsKnown found.sectors found.nodes cards places
   pub well_formed : ∥ AreWellFormed (limits_of found.sectors found.nodes)
       (stamp (found.run + 1) 0) cards ∥₁
-  pub read : keeps_word → cards ≡ cards_in found.nodes image
-  pub stood : keeps_word → ∥ StandsOn found image (bare (tree_of image cards)) ∥₁
+  pub marked : IsMark found.version found.nodes mark
+  pub marks : keeps_word → image 147 ≡ spare_by mark 147
+  pub read : keeps_word → cards ≡ all_second (cards_in found.nodes image)
+  pub stood : keeps_word → ∥ StandsIn found mark image (tree_of image cards) ∥₁
 
-abbrev pub IsLoaded : (keeps_word : Type 0) → Superblock → Log → List (Option Card) → List Bool
-    → Type 0
-IsLoaded keeps_word found log cards places = AreLoaded keeps_word found log.base cards places
+abbrev pub IsLoaded : (keeps_word : Type 0) → Superblock → Log → (mark : Option ℕ)
+    → List (Option Card) → List Bool → Type 0
+IsLoaded keeps_word found log mark cards places =
+    AreLoaded keeps_word found log.base mark cards places
 
 -- the journal is as it was, but where the device failed it is down and counted that
 abbrev health : Log → (failures : ℕ) → Health

@@ -1,12 +1,12 @@
 -- What a mount says by its answer.
-use Rattle.std.specs.Prelude.{ℕ, ⊤, ◌≡◌, ◌≤◌, ◌<◌, ◌+◌, ◌^◌, ◌⊎◌}
+use Rattle.std.specs.Prelude.{ℕ, ⊤, ◌≡◌, ◌≤◌, ◌+◌, ◌^◌, ◌⊎◌}
 use Rattle.disk.specs.Cause.{IsCounted}
 use Rattle.disk.specs.Moments.{Image, History, AddsOnly, seen, synced}
 use Rattle.journal.specs.Settled.{Settles, SettlesAs}
-use Rattle.layout.specs.Stands.{Kept, current}
-use Rattle.volume.specs.Held.{Held, Holds, IsNew}
+use Rattle.layout.specs.Stands.{Kept}
+use Rattle.volume.specs.Held.{Held, Holds, IsNew, LeavesCurrent}
 use Rattle.volume.specs.Remounts.{AddsMount, IsFound}
-use Rattle.volume.specs.Stands.{IsBase, StandsFor}
+use Rattle.volume.specs.Stands.{IsBase}
 use Rattle.volume.specs.Superblock.{verdict}
 use Rattle.volume.specs.declared.fault.MountFault.{MountFault}
 use Rattle.volume.specs.declared.fault.MountFault.TheVariants as mounts
@@ -22,14 +22,15 @@ abbrev pub NoTree : (sectors : ℕ) → History → Type 0
 NoTree sectors old =
     (nodes run : ℕ) (kept : Kept) → IsBase sectors nodes run kept (seen old.now) → ⊥
 
--- A mount that serves: the first sector is sound, the tree that stood is served, and a stop leaves
--- it under the new count
+-- A mount that serves: the first sector is sound, the tree that stood is served, and a crash leaves
+-- it in the current version, under the new count
 pub record HasMounted (sectors : ℕ) (old : History) (held : Held) : Type 0 where
   pub first : first_verdict sectors old ≡ verdicts.Sound
   pub found : IsFound sectors old held
   pub moments : AddsMount sectors old held.history
   -- and from its first sync on nothing of what was left before
   pub since_sync : AddsMount sectors (synced old) held.history
+  pub current : LeavesCurrent held
   pub holds : Holds held
 
 -- Nothing but what an open gate asks for: what it shows is copied home, so that each map left
@@ -38,17 +39,6 @@ pub record OnlyReplays (sectors : ℕ) (old new : History) : Type 0 where
   pub moments : AddsOnly (SettlesAs sectors (seen old.now)) old new
   pub formless : ((settled : Image) → Settles sectors (seen old.now) settled → ⊥)
       → (new ≡ old) ⊎ (new ≡ synced old)
-
--- Or a volume of an earlier version was rewritten as one of the current version, and memory ran out
--- within that: what it keeps stands at each moment. No earlier version is read yet.
-pub record OnlyMigrates (sectors : ℕ) (old new : History) (fault : MountFault) : Type 0 where
-  pub memory : fault ≡ mounts.Memory
-  pub nodes : ℕ
-  pub run : ℕ
-  pub kept : Kept
-  pub stood : IsBase sectors nodes run kept (seen old.now)
-  pub earlier : stood.stands.version.number < current.number
-  pub moments : AddsOnly (StandsFor sectors nodes run kept) old new
 
 -- NotVolume and Worn come by the first sector alone, before Damaged; and where a tree stands, Worn
 -- at a full count alone
@@ -79,8 +69,7 @@ HasReason sectors old new mounts.Device = ⊤
 -- device failed
 pub record IsMountRefused (sectors : ℕ) (old new : History) (fault : MountFault) : Type 0 where
   pub moments : AddsMount sectors old new
-  pub writes : (fault ≡ mounts.Device → ⊥)
-      → OnlyReplays sectors old new ⊎ OnlyMigrates sectors old new fault
+  pub writes : (fault ≡ mounts.Device → ⊥) → OnlyReplays sectors old new
   pub reason : HasReason sectors old new fault
 
 -- the device that comes back, of so many sectors and failures before: Device is answered exactly

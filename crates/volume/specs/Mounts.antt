@@ -1,12 +1,17 @@
 -- What a mount finds on the base of a journal.
-use Rattle.std.specs.Prelude.{ℕ, ⊤, false, [], Result, Ok, Err, ◌≡◌, ◌<◌, ◌≤◌, ◌+◌, ◌^◌, ◌⊎◌, List, IsTrue}
+use Rattle.std.specs.Prelude.{ℕ, ⊤, false, [], Option, Some, Result, Ok, Err, ◌≡◌, ◌<◌, ◌+◌, ◌^◌, ◌⊎◌, List, IsTrue}
 use Rattle.disk.specs.Moments.{Image, History, AddsOnly}
-use Rattle.journal.specs.Layout.{first_target}
 use Rattle.journal.specs.Log.{Log, IsSettled}
-use Rattle.layout.specs.Stands.{Kept}
+use Rattle.layout.specs.Cards.{cards_in}
+use Rattle.layout.specs.Rewriting.{all_second}
+use Rattle.layout.specs.Stands as layout
+use Rattle.layout.specs.Stands.{IsMark, Kept, bare, current, number_of, version_2, version_by}
 use Rattle.layout.specs.Superblock.{is_size}
-use Rattle.volume.specs.Held.{Held, Holds, kept_of}
-use Rattle.volume.specs.Stands.{Stands, StandsFor}
+use Rattle.layout.specs.declared.versions.VersionNumber.{VersionNumber}
+use Rattle.layout.specs.declared.versions.VersionNumber.TheVariants as numbers
+use Rattle.model.specs.Tree.{Tree}
+use Rattle.volume.specs.Held.{Held, Holds, LeavesCurrent, kept_of}
+use Rattle.volume.specs.Stands.{Stands, StandsForIn}
 use Rattle.volume.specs.Superblock.{superblock, verdict}
 use Rattle.volume.specs.declared.fault.MountFault.{MountFault}
 use Rattle.volume.specs.declared.fault.MountFault.TheVariants as mounts
@@ -34,7 +39,7 @@ pub record IsAtRest (log : Log) : Type 0 where
 abbrev pub IsTold : (sectors : ℕ) → (sector : List ℕ) → Result Superblock MountFault → Type 0
 IsTold sectors sector (Ok found) =
     (verdict sectors sector ≡ verdicts.Sound)
-    × (sector ≡ superblock found.sectors found.nodes found.run)
+    × (sector ≡ superblock found.version found.sectors found.nodes found.run)
 IsTold sectors sector (Err mounts.NotVolume) = verdict sectors sector ≡ verdicts.NotVolume
 IsTold sectors sector (Err mounts.Worn) = verdict sectors sector ≡ verdicts.Worn
 IsTold sectors sector (Err mounts.Damaged) = verdict sectors sector ≡ verdicts.Damaged
@@ -45,23 +50,45 @@ IsTold sectors sector (Err mounts.Device) = ⊤
 abbrev pub StandsOn : Superblock → (base : Image) → Kept → Type 0
 StandsOn found base kept = Stands found.sectors found.nodes base found.run kept
 
--- a map stands for them, under the count that was found or the next one
+-- a map stands for them, in the version and under the count that were found, or in the current
+-- version and under the next count
 abbrev pub StandsForEither : Superblock → Kept → Image → Type 0
 StandsForEither found kept image =
-    StandsFor found.sectors found.nodes found.run kept image
-    ⊎ StandsFor found.sectors found.nodes (found.run + 1) kept image
+    StandsForIn (number_of found.version) found.sectors found.nodes found.run kept image
+    ⊎ StandsForIn current.number found.sectors found.nodes (found.run + 1) kept image
 
 -- what a run that begins adds to what a stop may leave: what stands, under either count
 abbrev pub AddsRaised : Superblock → (base : Image) → (old new : History) → Type 0
 AddsRaised found base old new =
     (kept : Kept) → StandsOn found base kept → AddsOnly (StandsForEither found kept) old new
 
--- The count is raised: what stood stands under the next one, and nothing else has changed
+-- The nodes have form two: the version is 2, or the mark tells all places
+abbrev pub HasMoved : VersionNumber → (nodes : ℕ) → (mark : Option ℕ) → Type 0
+HasMoved numbers.One nodes mark = mark ≡ Some nodes
+HasMoved numbers.Two nodes mark = IsMark numbers.Two nodes mark
+
+-- a tree stands on this base, in the version that was found, with this mark
+abbrev pub StandsIn : Superblock → (mark : Option ℕ) → (base : Image) → Tree → Type 0
+StandsIn found mark base tree = layout.Stands (version_by found.version mark)
+    found.sectors found.nodes base found.run tree
+
+-- A tree stands in version 2, under the next count, with the cards that it had but for their forms
+pub record IsRaisedTo (mark : Option ℕ) (found : Superblock) (tree : Tree) (old new : Image)
+    : Type 0 where
+  pub stands : layout.Stands (version_2 mark) found.sectors found.nodes new (found.run + 1) tree
+  pub cards : all_second (cards_in found.nodes new) ≡ all_second (cards_in found.nodes old)
+
+-- The count is raised with the version, once the nodes have moved
+abbrev pub RaisesSafely : Superblock → (old : Log) → (new : History) → Type 0
+RaisesSafely found old new = (mark : Option ℕ) (tree : Tree)
+    → HasMoved found.version found.nodes mark → StandsIn found mark old.base tree
+    → AddsOnly (StandsForEither found (bare tree)) old.history new
+
 pub record IsRaised (keeps_word : Type 0) (found : Superblock) (old new : Log) : Type 0 where
   pub still_up : new.is_down ≡ false
-  pub stands : keeps_word → (kept : Kept) → StandsOn found old.base kept
-      → Stands found.sectors found.nodes new.base (found.run + 1) kept
-  pub same : keeps_word → (n : ℕ) → first_target ≤ n → n < old.size → new.base n ≡ old.base n
+  pub stands : keeps_word → (mark : Option ℕ) (tree : Tree)
+      → HasMoved found.version found.nodes mark → StandsIn found mark old.base tree
+      → IsRaisedTo mark found tree old.base new.base
   pub settled : keeps_word → IsSettled new
 
 -- a run that begins on a base
@@ -70,6 +97,7 @@ pub record HasBegun (found : Superblock) (base : Image) (old : History) (held : 
   pub nodes : held.limits.nodes ≡ found.nodes
   pub stood : ∥ StandsOn found base (kept_of held) ∥₁
   pub moments : AddsRaised found base old held.history
+  pub current : LeavesCurrent held
   pub holds : Holds held
 
 -- one that does not

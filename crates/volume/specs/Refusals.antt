@@ -5,6 +5,8 @@ use Rattle.draft.specs.declared.fault.DraftFault.{DraftFault}
 use Rattle.draft.specs.declared.fault.DraftFault.TheVariants as drafts
 use Rattle.journal.specs.declared.fault.JournalFault.{JournalFault}
 use Rattle.journal.specs.declared.fault.JournalFault.TheVariants as journals
+use Rattle.migration.specs.declared.fault.MigrationFault.{MigrationFault}
+use Rattle.migration.specs.declared.fault.MigrationFault.TheVariants as migrations
 use Rattle.scan.specs.declared.fault.ScanFault.{ScanFault}
 use Rattle.scan.specs.declared.fault.ScanFault.TheVariants as scans
 use Rattle.volume.specs.declared.fault.MountFault.{MountFault}
@@ -32,6 +34,10 @@ gate_fault journals.Damaged = mounts.Damaged
 gate_fault journals.Fault = mounts.Device
 gate_fault journals.TooMany = mounts.Device
 gate_fault journals.Down = mounts.Device
+
+abbrev pub migration_fault : MigrationFault → MountFault
+migration_fault migrations.Device = mounts.Device
+migration_fault migrations.Memory = mounts.Memory
 
 abbrev pub table_fault : TableFault → MountFault
 table_fault tables.SameNumber = mounts.Damaged

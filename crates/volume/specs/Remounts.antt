@@ -2,17 +2,19 @@
 use Rattle.std.specs.Prelude.{ℕ, ◌∷◌, List, ◌≡◌, ◌<◌, ◌≤◌, ◌+◌, ◌⊎◌}
 use Rattle.std.specs.List.{IsAmong}
 use Rattle.disk.specs.Moments.{Image, Moment, History, LeftSince, AddsOnly, at_rest, moment, seen}
-use Rattle.layout.specs.Stands.{Kept}
+use Rattle.layout.specs.Stands.{Kept, current}
 use Rattle.volume.specs.Held.{Held, kept_of}
-use Rattle.volume.specs.Stands.{IsBase, StandsFor}
+use Rattle.volume.specs.Stands.{IsBase, StandsFor, StandsForIn}
 
--- What a mount adds to what a stop may leave, at each moment of it: the tree and the seats that
--- stood, with their restart count or the next one.
+-- What a mount adds to what a crash may leave, at each moment of it: the tree and the seats that
+-- stood, in the version in which they stood and with their restart count, or in the current version
+-- and with the next count.
 abbrev pub AddsMount : (sectors : ℕ) → (old new : History) → Type 0
 AddsMount sectors old new =
-    (nodes run : ℕ) (kept : Kept) → IsBase sectors nodes run kept (seen old.now)
-    → AddsOnly (λ image. StandsFor sectors nodes run kept image
-    ⊎ StandsFor sectors nodes (run + 1) kept image) old new
+    (nodes run : ℕ) (kept : Kept) (stood : IsBase sectors nodes run kept (seen old.now))
+    → AddsOnly (λ image.
+    StandsForIn stood.stands.version.number sectors nodes run kept image
+    ⊎ StandsForIn current.number sectors nodes (run + 1) kept image) old new
 
 -- A mount serves the tree and the seats that stood, and raised their restart count.
 pub record IsFound (sectors : ℕ) (old : History) (held : Held) : Type 0 where

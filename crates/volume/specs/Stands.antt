@@ -18,6 +18,11 @@ pub record IsBase (sectors nodes run : ℕ) (kept : Kept) (image : Image) : Type
 abbrev pub StandsFor : (sectors nodes run : ℕ) → Kept → Image → Type 0
 StandsFor sectors nodes run kept image = ∥ IsBase sectors nodes run kept image ∥₁
 
+-- and in the version of this number
+abbrev pub StandsForIn : (number sectors nodes run : ℕ) → Kept → Image → Type 0
+StandsForIn number sectors nodes run kept image =
+    ∥ ((is : IsBase sectors nodes run kept image) × (is.stands.version.number ≡ number)) ∥₁
+
 -- The law: it stands for one tree with its seats, of one number of nodes, and of one restart count
 pub record IsOne (nodes run other_nodes other_run : ℕ) (kept other : Kept) : Type 0 where
   pub kept_is : kept ≡ other

@@ -1,29 +1,35 @@
 -- What the first sector of a device says of the volume on it.
-use Rattle.std.specs.Prelude.{◌==◌, ◌&&◌, ◌-◌, ◌^◌, ℕ, Bool, not, List, drop, nat_eq, bytes_eq, if◌then◌else◌}
+use Rattle.std.specs.Prelude.{◌==◌, ◌&&◌, ◌||◌, ◌-◌, ◌^◌, ℕ, Bool, not, List, drop, nat_eq, bytes_eq, if◌then◌else◌}
 use Rattle.std.specs.List.{starts_with}
 use Rattle.std.specs.Int.{w32, from_be_bytes}
-use Rattle.layout.specs.Stands.{current}
+use Rattle.layout.specs.Stands.{number_of}
 use Rattle.layout.specs.Superblock as layout
 use Rattle.layout.specs.Superblock.{magic, is_size}
+use Rattle.layout.specs.declared.versions.VersionNumber.{VersionNumber}
+use Rattle.layout.specs.declared.versions.VersionNumber.TheVariants.{One, Two}
 use Rattle.volume.specs.declared.superblock.Verdict.{Verdict}
 use Rattle.volume.specs.declared.superblock.Verdict.TheVariants.{NotVolume, Worn, Damaged, Sound}
 
--- the first sector of a volume of version 1
-abbrev pub superblock : (sectors nodes run : ℕ) → List ℕ
-superblock sectors nodes run = layout.superblock current.number sectors nodes run
+-- the first sector of a volume of this version
+abbrev pub superblock : VersionNumber → (sectors nodes run : ℕ) → List ℕ
+superblock version sectors nodes run = layout.superblock (number_of version) sectors nodes run
 
 -- the number in the four bytes from place i
 unfoldable pub word : (i : ℕ) → List ℕ → ℕ
 word i sector = from_be_bytes w32 (drop i sector)
 
+-- the version that a first sector tells
+abbrev pub version_in : List ℕ → VersionNumber
+version_in sector = if word 8 sector == 1 then One else Two
+
 -- the restart count from which no mount can go on
 abbrev pub last_run : ℕ
 last_run = 2 ^ 32 - 1
 
--- the first sector of a volume of this version on a device of this many sectors
+-- the first sector of a volume of version 1 or 2 on a device of this many sectors
 unfoldable pub is_volume : (sectors : ℕ) → List ℕ → Bool
 is_volume sectors sector =
-    starts_with nat_eq sector magic && (word 8 sector == current.number)
+    starts_with nat_eq sector magic && (word 8 sector == 1 || word 8 sector == 2)
     && (word 12 sector == sectors) && is_size sectors (word 16 sector)
 
 -- what a mount makes of sector 0
@@ -31,5 +37,6 @@ unfoldable pub verdict : (sectors : ℕ) → List ℕ → Verdict
 verdict sectors sector =
     if not (is_volume sectors sector) then NotVolume
     else if word 20 sector == last_run then Worn
-    else if bytes_eq sector (superblock sectors (word 16 sector) (word 20 sector)) then Sound
+    else if bytes_eq sector
+    (superblock (version_in sector) sectors (word 16 sector) (word 20 sector)) then Sound
     else Damaged

@@ -4,6 +4,7 @@ ghost use Rattle.std.specs.Prelude.{◌≡◌};
 
 use cards::TableFault;
 use journal::JournalFault;
+use migration::MigrationFault;
 use scan::ScanFault;
 use std::alloc::AllocError;
 use thiserror::Error;
@@ -25,13 +26,14 @@ pub enum FormatFault {
 /// Why a volume was not mounted.
 #[derive(Clone, Copy, Debug, PartialEq, Eq, Error)]
 pub enum MountFault {
-    /// The device failed; the restart count may be raised.
+    /// The device failed; a volume of version 1 may be migrated in part, and the restart count may be
+    /// raised.
     #[error("Device")]
     Device,
     /// A volume, but no tree stands there.
     #[error("Damaged")]
     Damaged,
-    /// No volume of this version and of the device's size.
+    /// No volume of version 1 or 2 and of the device's size.
     #[error("NotVolume")]
     NotVolume,
     /// The restart count is full.
@@ -120,6 +122,19 @@ impl From<JournalFault> for MountFault {
             JournalFault::Memory => MountFault::Memory,
             JournalFault::Damaged => MountFault::Damaged,
             JournalFault::Fault | JournalFault::TooMany | JournalFault::Down => MountFault::Device,
+        }
+    }
+}
+
+impl From<MigrationFault> for MountFault {
+    ghost use Rattle.volume.specs.Refusals.{migration_fault};
+
+    ghost from_gives = { λ refusal fault. fault ≡ migration_fault refusal };
+
+    fn from(fault: MigrationFault) -> Self {
+        match fault {
+            MigrationFault::Device => MountFault::Device,
+            MigrationFault::Memory => MountFault::Memory,
         }
     }
 }

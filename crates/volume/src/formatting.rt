@@ -14,6 +14,7 @@ use disk::{Device, SECTOR, Update};
 use inode::{Form, Inode, to_sector};
 use journal::Journal;
 use layout::places::NODES;
+use layout::versions::VersionNumber;
 use model::acl::{Ace, AceFlags, AceKind, Acl, Mask, Who};
 use model::node::{NodeKind, ROOT};
 use std::alloc::{AllocError, Global};
@@ -49,7 +50,7 @@ fn fresh_update(alloc: Global) -> Result<Update, AllocError>
 {
     let root = fresh_root(alloc)?;
     let mut content = [0; SECTOR];
-    to_sector(&root, Form::One, &mut content);
+    to_sector(&root, Form::Two, &mut content);
     Ok(Update {
         target: NODES,
         content,
@@ -86,7 +87,7 @@ pub fn format<D: Device>(alloc: Global, device: &mut D, nodes: u32) -> Result<()
         return Err(FormatFault::Size);
     }
     let update = fresh_update(alloc)?;
-    let first = superblock_of(sectors, nodes, 0);
+    let first = superblock_of(VersionNumber::CURRENT, sectors, nodes, 0);
     if Journal::format(device, &first, slice::from_ref(&update)).is_err() {
         return Err(FormatFault::Device);
     }

@@ -1,19 +1,22 @@
 //! The laws of a volume: each is the contract of a function that does nothing.
 
 ghost use Rattle.std.specs.Prelude.{◌≡◌, ◌<◌, ◌^◌, ℕ};
+ghost use Rattle.layout.specs.declared.versions.VersionNumber.{VersionNumber};
 ghost use Rattle.volume.specs.Fronts.{KeepsFronts, AppliedRecent};
 ghost use Rattle.volume.specs.Remounts.{EveryRemount, StillStands};
 ghost use Rattle.volume.specs.Shown.{AnswersByShown};
 ghost use Rattle.volume.specs.Stands.{OneStands};
-ghost use Rattle.volume.specs.Superblock.{superblock, word};
+ghost use Rattle.volume.specs.Superblock.{superblock, version_in, word};
 
-/// The first sector of a volume tells its nodes and its restart count.
-#[tactic(auto, using(crate::proofs::FirstLaws::word_nodes, crate::proofs::FirstLaws::word_run))]
+/// The first sector of a volume tells its version, its nodes and its restart count.
+#[tactic(auto, using(crate::proofs::FirstLaws::version_back, crate::proofs::FirstLaws::word_nodes, crate::proofs::FirstLaws::word_run))]
 pub fn superblock_tells()
-    ensures nodes { (sectors nodes run : ℕ) → nodes < 2 ^ 32
-        → word 16 (superblock sectors nodes run) ≡ nodes }
-    ensures run { (sectors nodes run : ℕ) → run < 2 ^ 32
-        → word 20 (superblock sectors nodes run) ≡ run }
+    ensures version { (version : VersionNumber) (sectors nodes run : ℕ)
+        → version_in (superblock version sectors nodes run) ≡ version }
+    ensures nodes { (version : VersionNumber) (sectors nodes run : ℕ) → nodes < 2 ^ 32
+        → word 16 (superblock version sectors nodes run) ≡ nodes }
+    ensures run { (version : VersionNumber) (sectors nodes run : ℕ) → run < 2 ^ 32
+        → word 20 (superblock version sectors nodes run) ≡ run }
 {}
 
 /// A map that a stop left stands for one tree with its seats, of a volume with one number of nodes

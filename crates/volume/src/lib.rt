@@ -11,6 +11,7 @@ mod formatting;
 mod laws;
 mod load;
 mod mount;
+mod start;
 mod store;
 pub mod superblock;
 mod view_store;

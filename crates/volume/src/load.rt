@@ -2,6 +2,7 @@
 
 ghost use Rattle.std.specs.Prelude.{◌≡◌, ◌⊎◌, IfOk, IfErr, IsErrOf};
 ghost use Rattle.journal.specs.Journal.{log_of, failures_of};
+ghost use Rattle.layout.specs.Rewriting.{all_second, in_second};
 ghost use Rattle.layout.specs.Stands.{Kept};
 ghost use Rattle.parents.specs.Parents.{AreParents};
 ghost use Rattle.layout.specs.Health.{Reads};
@@ -11,22 +12,46 @@ ghost use Rattle.volume.specs.Mounts.{HasSize, IsVolumeOf, IsAtRest, StandsOn};
 use crate::fault::MountFault;
 use crate::mount::Superblock;
 use crate::store::Store;
-use cards::Table;
+use cards::{Card, Table};
 use disk::Device;
 use freemap::Bitmap;
+use inode::Form;
 use layout::sectors::Sectors;
 use model::limits::Limits;
 use parents::Parents;
 use scan::read_volume;
 use shape::are_well_formed;
-use std::alloc::Global;
+use std::alloc::{AllocError, Global};
 
-/// The nodes of a volume, the places of its data region that they name, and their parents.
+/// The nodes of a volume as they are once each has form two, the places of its data region that they
+/// name, and their parents.
 #[derive(Drop)]
 pub(crate) struct Loaded {
+    /// How far a migration came, as its mark tells.
+    pub(crate) mark: Option<u32>,
     pub(crate) table: Table,
     pub(crate) places: Bitmap,
     pub(crate) parents: Parents,
+}
+
+/// The card of a place as it is once its node has form two.
+fn in_second(card: Option<Card>) -> Option<Card>
+    ensures { result ≡ in_second card }
+{
+    let mut card = card?;
+    card.form = Form::Two;
+    Some(card)
+}
+
+/// The cards of all places as they are then.
+fn all_second(alloc: Global, cards: Vec<Option<Card>>) -> Result<Vec<Option<Card>>, AllocError>
+    ensures { IfOk result (λ second. second.items ≡ all_second cards.items) }
+{
+    let mut second = Vec::with_capacity(alloc, cards.len())?;
+    for card in cards {
+        second.push(in_second(card))?;
+    }
+    Ok(second)
 }
 
 /// Reads the nodes of a volume that was found, whatever keeps its sectors: Damaged exactly where no
@@ -40,7 +65,7 @@ pub(crate) fn read_nodes<S: Sectors>(
     requires base { S.keeps_word → HoldsVolume found
         (S.size (S.kept sectors.old)) (S.image (S.kept sectors.old)) }
     ensures loaded { IfOk result (λ loaded. AreLoaded S.keeps_word found
-        (S.image (S.kept sectors.old)) loaded.table loaded.places) }
+        (S.image (S.kept sectors.old)) loaded.mark loaded.table loaded.places) }
     ensures parents { IfOk result (λ loaded. AreParents loaded.table loaded.parents) }
     // It only reads
     ensures kept { S.kept sectors.new ≡ S.kept sectors.old }
@@ -53,14 +78,15 @@ pub(crate) fn read_nodes<S: Sectors>(
         ⊎ ((fault ≡ MountFault.Damaged) ⊎ (fault ≡ MountFault.Memory))) }
 {
     let limits = Limits::of_volume(found.sectors as usize, found.nodes as usize);
-    let contents = read_volume(alloc, sectors, found.sectors, found.nodes)?;
-    let table = Table::from_cards(alloc, contents.cards)?;
+    let contents = read_volume(alloc, sectors, found.sectors, found.nodes, found.version)?;
+    let table = Table::from_cards(alloc, all_second(alloc, contents.cards)?)?;
     let last_stamp = u64::from(found.run) * 0x1_0000_0000 + 0xFFFF_FFFF;
     if !are_well_formed(alloc, &table, &limits, last_stamp)? {
         return Err(MountFault::Damaged);
     }
     let parents = Parents::from_table(alloc, &table)?;
     Ok(Loaded {
+        mark: contents.mark,
         table,
         places: contents.places,
         parents,
@@ -77,7 +103,7 @@ pub(crate) fn load<D: Device>(
     requires rests { IsAtRest (log_of store.old.journal) }
     requires base { D.keeps_word → HoldsBase found (log_of store.old.journal) }
     ensures loaded { IfOk result (λ loaded. IsLoaded D.keeps_word found
-        (log_of store.old.journal) loaded.table loaded.places) }
+        (log_of store.old.journal) loaded.mark loaded.table loaded.places) }
     ensures parents { IfOk result (λ loaded. AreParents loaded.table loaded.parents) }
     // It only reads
     ensures loads { Loads (log_of store.old.journal) (log_of store.new.journal)

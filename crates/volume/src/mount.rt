@@ -1,21 +1,23 @@
-//! Finding a volume, and raising its restart count.
+//! Finding a volume, and raising its restart count with its version.
 
 ghost use Rattle.std.specs.Prelude.{◌≡◌, ◌≤◌, ◌<◌, ◌⊎◌, IfOk, IfErr, OnOk, OnErr, IsErrOf};
 ghost use Rattle.disk.specs.Cause.{IsCounted};
 ghost use Rattle.disk.specs.Moments.{seen};
 ghost use Rattle.journal.specs.Journal.{log_of, failures_of};
 ghost use Rattle.volume.specs.Checks.{IsSeen};
-ghost use Rattle.volume.specs.Mounts.{AddsRaised, HasSize, IsVolumeOf, IsAtRest, IsTold, IsRaised};
+ghost use Rattle.volume.specs.Mounts.{RaisesSafely, HasSize, IsVolumeOf, IsAtRest, IsTold, IsRaised};
 ghost use Rattle.volume.specs.Superblock.{superblock};
 
 use crate::fault::MountFault;
-use crate::superblock::{Verdict, judge, nodes_of, run_of, superblock_of};
+use crate::superblock::{Verdict, judge, nodes_of, run_of, superblock_of, version_of};
 use disk::{Device, SECTOR};
 use journal::{Journal, JournalFault, MIN_SECTORS};
+use layout::versions::VersionNumber;
 
 /// A volume, by its first sector.
 #[derive(Clone, Copy, Debug)]
 pub(crate) struct Superblock {
+    pub(crate) version: VersionNumber,
     pub(crate) sectors: u32,
     pub(crate) nodes: u32,
     /// How often it was mounted.
@@ -76,6 +78,7 @@ pub(crate) fn find<D: Device>(device: &mut D) -> Result<Superblock, MountFault>
         Verdict::Worn => Err(MountFault::Worn),
         Verdict::Damaged => Err(MountFault::Damaged),
         Verdict::Sound => Ok(Superblock {
+            version: version_of(&first),
             sectors,
             nodes: nodes_of(&first),
             run: run_of(&first),
@@ -109,27 +112,30 @@ pub(crate) fn look<D: Device>(device: &mut D) -> Result<Superblock, MountFault>
     if judge(sectors, &first) == Verdict::NotVolume {
         return Err(MountFault::NotVolume);
     }
+    let version = version_of(&first);
     let nodes = nodes_of(&first);
     let run = run_of(&first);
-    if first != superblock_of(sectors, nodes, run) {
+    if first != superblock_of(version, sectors, nodes, run) {
         return Err(MountFault::Damaged);
     }
     Ok(Superblock {
+        version,
         sectors,
         nodes,
         run,
     })
 }
 
-/// Raises the restart count of a volume, by its first sector.
+/// Raises the restart count of a volume whose nodes have form two, and says that it has the current
+/// version: one write of its first sector.
 pub(crate) fn raise<D: Device>(
     journal: &mut Journal<D>,
     found: Superblock,
 ) -> Result<(), JournalFault>
     requires volume { IsVolumeOf (log_of journal.old).size found }
     requires rests { IsAtRest (log_of journal.old) }
-    ensures moments { D.keeps_word → AddsRaised found (log_of journal.old).base
-        (log_of journal.old).history (log_of journal.new).history }
+    ensures moments { D.keeps_word → RaisesSafely found (log_of journal.old)
+        (log_of journal.new).history }
     ensures raised { OnOk result (IsRaised D.keeps_word found
         (log_of journal.old) (log_of journal.new)) }
     ensures cause { OnErr result (IsCounted (failures_of journal.old) (failures_of journal.new)) }
@@ -139,7 +145,12 @@ pub(crate) fn raise<D: Device>(
     ensures size { (log_of journal.new).size ≡ (log_of journal.old).size }
     ensures later { failures_of journal.old ≤ failures_of journal.new }
 {
-    let sector = superblock_of(found.sectors, found.nodes, found.run + 1);
+    let sector = superblock_of(
+        VersionNumber::CURRENT,
+        found.sectors,
+        found.nodes,
+        found.run + 1,
+    );
     journal.superblock(&sector)?;
     Ok(())
 }

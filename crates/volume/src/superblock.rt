@@ -1,23 +1,21 @@
 //! The first sector of a volume, which says that it is one and counts its mounts.
 
-ghost use Rattle.std.specs.Prelude.{◌≡◌, length, take};
+ghost use Rattle.std.specs.Prelude.{◌≡◌, ◌==◌, ◌||◌, length, take};
 ghost use Rattle.layout.specs.Superblock.{is_size, fields};
-ghost use Rattle.layout.specs.Stands.{current};
-ghost use Rattle.volume.specs.Superblock.{is_volume, verdict, superblock, word};
+ghost use Rattle.layout.specs.Stands.{number_of};
+ghost use Rattle.volume.specs.Superblock.{is_volume, verdict, version_in, superblock, word};
 
 use disk::SECTOR;
+use layout::versions::VersionNumber;
 use sector::{put_bytes, put_u32, put_zeros, u32_at};
 
 /// What the first sector begins with.
 const MAGIC: [u8; 8] = *b"NFS41VOL";
 
-/// The layout of `layout`.
-const VERSION: u32 = 1;
-
 /// What a mount makes of sector 0, the first that holds.
 #[derive(Clone, Copy, Debug, PartialEq, Eq)]
 pub enum Verdict {
-    /// No volume of this version and of the device's size.
+    /// No volume of version 1 or 2 and of the device's size.
     NotVolume,
     /// The restart count is full.
     Worn,
@@ -35,12 +33,12 @@ pub fn is_volume_size(sectors: u32, nodes: u32) -> bool
 }
 
 /// Writes the fields of the first sector.
-fn put_fields(sector: &mut [u8; SECTOR], sectors: u32, nodes: u32, run: u32)
-    ensures front { take 24 sector.new ≡ fields current.number sectors nodes run }
+fn put_fields(sector: &mut [u8; SECTOR], version: VersionNumber, sectors: u32, nodes: u32, run: u32)
+    ensures front { take 24 sector.new ≡ fields (number_of version) sectors nodes run }
     ensures len { length sector.new ≡ SECTOR }
 {
     put_bytes(sector, 0, &MAGIC);
-    put_u32(sector, 8, VERSION);
+    put_u32(sector, 8, version.number());
     put_u32(sector, 12, sectors);
     put_u32(sector, 16, nodes);
     put_u32(sector, 20, run);
@@ -48,11 +46,16 @@ fn put_fields(sector: &mut [u8; SECTOR], sectors: u32, nodes: u32, run: u32)
 
 /// The first sector of a volume.
 #[tactic(auto, unfolding(layout::specs::Superblock::superblock))]
-pub(crate) fn superblock_of(sectors: u32, nodes: u32, run: u32) -> [u8; SECTOR]
-    ensures { result ≡ superblock sectors nodes run }
+pub(crate) fn superblock_of(
+    version: VersionNumber,
+    sectors: u32,
+    nodes: u32,
+    run: u32,
+) -> [u8; SECTOR]
+    ensures { result ≡ superblock version sectors nodes run }
 {
     let mut sector = [0; SECTOR];
-    put_fields(&mut sector, sectors, nodes, run);
+    put_fields(&mut sector, version, sectors, nodes, run);
     put_zeros(&mut sector, 24, SECTOR - 24);
     sector
 }
@@ -66,7 +69,14 @@ pub fn judge(sectors: u32, sector: &[u8; SECTOR]) -> Verdict
         Verdict::NotVolume
     } else if run_of(sector) == u32::MAX {
         Verdict::Worn
-    } else if *sector == superblock_of(sectors, nodes_of(sector), run_of(sector)) {
+    } else if *sector
+        == superblock_of(
+            version_of(sector),
+            sectors,
+            nodes_of(sector),
+            run_of(sector),
+        )
+    {
         Verdict::Sound
     } else {
         Verdict::Damaged
@@ -78,9 +88,30 @@ fn has_header(sectors: u32, sector: &[u8; SECTOR]) -> bool
     ensures { result ≡ is_volume sectors sector.now }
 {
     sector.starts_with(&MAGIC)
-        && u32_at(sector, 8) == VERSION
+        && has_version(sector)
         && u32_at(sector, 12) == sectors
         && is_volume_size(sectors, nodes_of(sector))
+}
+
+/// Whether a sector tells of version 1 or 2.
+#[tactic(auto, unfolding(crate::specs::Superblock::word))]
+fn has_version(sector: &[u8; SECTOR]) -> bool
+    ensures { result ≡ (word 8 sector.now == 1 || word 8 sector.now == 2) }
+{
+    let number = u32_at(sector, 8);
+    number == VersionNumber::One.number() || number == VersionNumber::Two.number()
+}
+
+/// The version in the first sector of a volume.
+#[tactic(auto, unfolding(crate::specs::Superblock::word))]
+pub(crate) fn version_of(sector: &[u8; SECTOR]) -> VersionNumber
+    ensures { result ≡ version_in sector.now }
+{
+    if u32_at(sector, 8) == VersionNumber::One.number() {
+        VersionNumber::One
+    } else {
+        VersionNumber::Two
+    }
 }
 
 /// The number of nodes in the first sector of a volume.

@@ -14,7 +14,8 @@ ghost use Rattle.volume.specs.KnownProps.{IsKnown-prop, IsFormed-prop};
 
 use crate::fault::{MountFault, VolumeFault};
 use crate::load::load;
-use crate::mount::{Superblock, find, raise};
+use crate::mount::{Superblock, find};
+use crate::start::start;
 use crate::store::Store;
 use cards::{Card, Table};
 use disk::Device;
@@ -75,8 +76,9 @@ impl<D: Device> Volume<D> {
     ghost use Rattle.volume.specs.Views.{held_of, volume_failures, Alters};
 
     /// Mounts the volume: finds it by its first sector, copies home what an open gate shows, reads
-    /// its nodes, and raises the restart count. Every map that a stop leaves from then on has the
-    /// new count, which is this mount's run. Its journal keeps 64 sectors in memory.
+    /// its nodes, migrates one of version 1, and raises the restart count. Every map that a crash
+    /// leaves from then on has the new count, which is this mount's run. Its journal keeps 64
+    /// sectors in memory.
     ///
     /// # Errors
     ///
@@ -152,21 +154,21 @@ impl<D: Device> Volume<D> {
                 });
             }
         };
-        if raise(&mut store.journal, found).is_err() {
-            return Err(Unmounted {
-                fault: MountFault::Device,
+        match start(alloc, &mut store.journal, found, &loaded) {
+            Ok(()) => Ok(Volume {
+                alloc,
+                store,
+                limits: Limits::of_volume(found.sectors as usize, found.nodes as usize),
+                run: found.run + 1,
+                table: loaded.table,
+                places: loaded.places,
+                parents: loaded.parents,
+            }),
+            Err(fault) => Err(Unmounted {
+                fault,
                 device: store.journal.into_device(),
-            });
+            }),
         }
-        Ok(Volume {
-            alloc,
-            store,
-            limits: Limits::of_volume(found.sectors as usize, found.nodes as usize),
-            run: found.run + 1,
-            table: loaded.table,
-            places: loaded.places,
-            parents: loaded.parents,
-        })
     }
 
     /// The run of this mount: the restart count that it wrote.

@@ -125,4 +125,4 @@ answer_view answer = attributes_answered answer.node answer.asked.now
 
 -- a list that a node may have
 abbrev pub HasFewEntries : NodeAttributes → Type 0
-HasFewEntries node = length node.acl.now ≤ 40
+HasFewEntries node = length node.acl.now ≤ 72

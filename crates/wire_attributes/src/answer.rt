@@ -57,7 +57,7 @@ impl AttributesAnswer<'_> {
     fn asked_size(&self, attribute: Attribute) -> usize
         requires { HasFewEntries self.now.node }
         ensures value { result ≡ length (asked_text self.now.node self.now.asked.now attribute) }
-        ensures bound { result ≤ 4096 }
+        ensures bound { result ≤ 4400 }
         ensures whole { result % 4 ≡ 0 }
     {
         if !self.asks(attribute) {
@@ -71,7 +71,7 @@ impl AttributesAnswer<'_> {
         requires { HasFewEntries self.now.node }
         ensures value { result
             ≡ length (flat_map (asked_text self.now.node self.now.asked.now) every_attribute) }
-        ensures bound { result ≤ 4096 * 26 }
+        ensures bound { result ≤ 4400 * 26 }
         ensures whole { result % 4 ≡ 0 }
     {
         let mut size = 0;

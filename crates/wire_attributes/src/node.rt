@@ -85,7 +85,7 @@ fn aces_size(acl: &[Ace]) -> usize
     requires { length acl.now ≤ Acl.MAX_STORED }
     ensures value { result
         ≡ length (flat_map (λ ace. acl_entry.spelling (entry_text ace)) acl.now) }
-    ensures bound { result ≤ 2400 }
+    ensures bound { result ≤ 4320 }
     ensures whole { result % 4 ≡ 0 }
 {
     let mut size = 0;
@@ -202,7 +202,7 @@ impl NodeAttributes<'_> {
     pub(crate) fn value_size(&self, attribute: Attribute) -> usize
         requires { HasFewEntries self.now }
         ensures value { result ≡ length (value_spelled self.now attribute) }
-        ensures bound { result ≤ 4096 }
+        ensures bound { result ≤ 4400 }
         ensures whole { result % 4 ≡ 0 }
     {
         match attribute {

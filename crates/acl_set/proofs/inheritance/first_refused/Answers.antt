@@ -14,5 +14,5 @@ pub returns : goal.returns
 unfolding first_refused
 returns c =
     rw (c.then_some.ensures, c.min-place.ensures, c.unwrap_or.ensures, c.first_unfit.ensures)
-    (ap (λ place. then_some (nat_lt place (length c.args.acl.now)) place) (first_or_limit (λ (ace : Ace). not (is_entry_for c.args.kind ace)) c.args.acl.now 32)
+    (ap (λ place. then_some (nat_lt place (length c.args.acl.now)) place) (first_or_limit (λ (ace : Ace). not (is_entry_for c.args.kind ace)) c.args.acl.now 64)
     ∙ some_if _ _)

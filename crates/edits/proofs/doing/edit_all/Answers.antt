@@ -29,6 +29,7 @@ loop-edit-preserved g c =
     record {
       known = first.known.known;
       within = omega (arith, first.known.nodes, first.known.places, so_far.within);
+      forms = first.forms so_far.forms;
       can = still_doable S.keeps_word (S.image kept) (S.size kept) old mid edit first rest (subst (AreDoable (outline_of (cards_of old))) next so_far.can);
       few = still_few S.keeps_word (S.image kept) (S.size kept) old mid edit first rest (subst (StayFew (outline_of (cards_of old))) next so_far.few);
       does = λ new does. so_far.does new (subst (λ (l : List Edit). Does S.keeps_word (S.image kept) (S.size kept) old new l) (sym next)

@@ -20,7 +20,7 @@ make-requires-clause-node c =
     record {
       is = new_is card c.fresh_card.ensures.card;
       number = subst (λ (f : Fields). 0 < f.number) (sym fields) c.requires.can.some;
-      fits = subst (IsInode card.form) (sym fields) (fresh_fits card.form c.args.kind c.args.number c.args.shown c.ranges.number.fits c.requires.can.entries);
+      fits = subst (IsInode card.form) (sym fields) (fresh_fits card.form (ap (λ (one : Card). one.form) c.fresh_card.ensures.card) c.args.kind c.args.number c.args.shown c.ranges.number.fits c.requires.can.entries);
     }
 
 pub make-requires-clause-fresh : goal.make-requires-clause-fresh

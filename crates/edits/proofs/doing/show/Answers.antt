@@ -16,7 +16,7 @@ show-requires-clause-node c =
       card = it.card;
       there = it.there;
       fits = shown_fits it.card c.args.shown
-          (card_at old.nodes (mark_by (148 + old.nodes) old.places) (cards_of old) c.place_of-place.result it.card c.requires.known.cards it.there) c.requires.can.entries;
+          (card_at old.nodes (mark_by (148 + old.nodes) old.places) (cards_of old) c.place_of-place.result it.card c.requires.known.cards it.there) (c.requires.forms c.place_of-place.result it.card it.there) c.requires.can.entries;
     }
 
 pub returns-clause-done : goal.returns-clause-done

@@ -23,7 +23,7 @@ returns-in_err-blocks-clause-damaged g c = λ word is runs blocks found can.
     let image = g.S.Sectors.image (g.S.Sectors.kept c.args.sectors.now) in
     let inode = c.args.inode.now in
     let read = same_find g.S.Sectors.keeps_word image c.deref-2.result.now inode.run_sectors.items c.from.result inode.runs c.in_ok-runs.runs.items c.deref-2.ensures.value c.from.ensures c.in_ok-runs.ensures.found in
-    let same : runs ≡ c.in_ok-runs.runs.items = one_runs g.S.Sectors.keeps_word image inode.run_sectors.items inode.runs runs c.in_ok-runs.runs.items word found.in_sectors read c.requires.fits.run_sectors in
+    let same : runs ≡ c.in_ok-runs.runs.items = one_runs g.S.Sectors.keeps_word image inode.run_sectors.items inode.runs runs c.in_ok-runs.runs.items word found.in_sectors read c.requires.enough in
     c.in_err-blocks.ensures.damaged (ap (λ (e : ScanFault). Err e) (same_fault c.from_residual-in_err-blocks.result c.in_err-blocks.field-0.0 c.from_residual-in_err-blocks.ensures.1 is)) blocks
     (subst (λ (l : List Run). AreRunsOf l blocks) (same ∙ sym c.deref-3.ensures.value) found.laid) found.count found.few
 
@@ -34,7 +34,7 @@ returns-then-not-mark_blocks-clause-damaged g c = λ word is runs blocks found c
     let marked = subst (λ (l : List ℕ). AreMarked c.args.first c.args.places.now c.mark_sectors.new.places (λ n. times n l)) c.deref.ensures.value (c.mark_sectors.ensures.marked c.if-not-mark_sectors.false) in
     let read = same_find g.S.Sectors.keeps_word image c.deref-2.result.now inode.run_sectors.items c.from.result inode.runs c.in_ok-runs.runs.items c.deref-2.ensures.value c.from.ensures c.in_ok-runs.ensures.found in
     let mine : FindsBlocks g.S.Sectors.keeps_word image (fields_of inode) c.in_ok-runs.runs.items c.in_ok-blocks.blocks = record { in_sectors = read; laid = subst (λ (l : List Run). AreRunsOf l c.in_ok-blocks.blocks) c.deref-3.ensures.value c.in_ok-blocks.ensures.runs; count = c.in_ok-blocks.ensures.count; few = c.in_ok-blocks.ensures.few } in
-    let same : blocks ≡ c.in_ok-blocks.blocks = same_blocks g.S.Sectors.keeps_word image (fields_of inode) runs c.in_ok-runs.runs.items blocks c.in_ok-blocks.blocks word c.requires.fits found mine in
+    let same : blocks ≡ c.in_ok-blocks.blocks = same_blocks g.S.Sectors.keeps_word image (fields_of inode) runs c.in_ok-runs.runs.items blocks c.in_ok-blocks.blocks word c.requires.enough found mine in
     c.mark_blocks.ensures.refused c.if-not-mark_blocks.true
     (can_blocks c.args.first c.args.places.now c.mark_sectors.new.places (fields_of inode) c.in_ok-blocks.blocks marked (subst (λ (l : List (Option ℕ)). CanMark c.args.first c.args.places.now (uses (fields_of inode) l)) same can))
 

@@ -80,7 +80,7 @@ returns g c =
       ok = λ k.
           has_checked size old found log.base c.in-Ok.ensures.volume.size (omega (arith, parts.few)) c.in-Ok.ensures.volume.counted
           (c.in-Ok.ensures.seen k).0 (c.in-Ok.ensures.seen k).1 (viewed k).base D.keeps_word k
-          c.in-Ok-read_nodes.loaded.table c.in-Ok-read_nodes.loaded.places c.in-Ok-read_nodes.ensures.loaded _ refl refl refl;
+          c.in-Ok-read_nodes.loaded.mark c.in-Ok-read_nodes.loaded.table c.in-Ok-read_nodes.loaded.places c.in-Ok-read_nodes.ensures.loaded _ refl refl refl;
       err = λ k. tt;
       never_worn = λ is. let never : ⊥ = cc in never;
       cause = λ is. let never : ⊥ = cc in absurd never;

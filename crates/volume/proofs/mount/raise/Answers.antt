@@ -1,29 +1,29 @@
-use Rattle.std.proofs.Common.{ℕ, List, [], ◌∷◌, ◌+◌, ◌<◌, subst, sym}
+use Rattle.std.proofs.Common.{ℕ, List, [], ◌∷◌, ◌+◌, subst, sym}
 use Rattle.disk.specs.declared.update.Update.{Update}
 use Rattle.disk.specs.Moments.{put}
 use Rattle.journal.specs.Commit.{AddsEither}
 use Rattle.journal.specs.Journal.{log_of}
 use Rattle.journal.specs.Log.{Log}
 use Rattle.journal.specs.Settled.{AreSame}
-use Rattle.volume.proofs.MountLaws.{first_update, raise_moments, raised_base, raised_others}
+use Rattle.volume.proofs.MountLaws.{first_update, raise_moments, raised_base}
 use Rattle.volume.proofs.mount.raise.Goals as goal
 
 pub returns-in_err-superblock-clause-moments : goal.returns-in_err-superblock-clause-moments
-returns-in_err-superblock-clause-moments g c = λ k tree stands.
+returns-in_err-superblock-clause-moments g c = λ k mark tree moved stands.
     let found = c.args.found in
     let old : Log = log_of c.args.journal.now in
     let history = (log_of c.superblock.new.self).history in
-    raise_moments found.sectors found.nodes found.run old.base c.requires.volume.counted tree old.history history stands
+    raise_moments found old.base c.requires.volume.counted mark tree moved stands old.history history
     (subst (λ (n : ℕ). AddsEither n (first_update found.sectors found.nodes (found.run + 1) ∷ []) old.base old.history history) (sym c.requires.volume.size)
     (subst (λ (content : List ℕ). AddsEither old.size ((let u : Update = record { target = 0; content = content } in u) ∷ []) old.base old.history history) c.superblock_of-sector.ensures
     (c.in_err-superblock.ensures.moments k)))
 
 pub returns-clause-moments : goal.returns-clause-moments
-returns-clause-moments g c = λ k tree stands.
+returns-clause-moments g c = λ k mark tree moved stands.
     let found = c.args.found in
     let old : Log = log_of c.args.journal.now in
     let history = (log_of c.superblock.new.self).history in
-    raise_moments found.sectors found.nodes found.run old.base c.requires.volume.counted tree old.history history stands
+    raise_moments found old.base c.requires.volume.counted mark tree moved stands old.history history
     (subst (λ (n : ℕ). AddsEither n (first_update found.sectors found.nodes (found.run + 1) ∷ []) old.base old.history history) (sym c.requires.volume.size)
     (subst (λ (content : List ℕ). AddsEither old.size ((let u : Update = record { target = 0; content = content } in u) ∷ []) old.base old.history history) c.superblock_of-sector.ensures
     (c.in_ok-superblock.ensures.moments k)))
@@ -39,7 +39,6 @@ returns-clause-raised g c =
     (c.in_ok-superblock.ensures.ok.ok k)) in
     record {
       still_up = c.in_ok-superblock.ensures.answers.stays_up c.requires.rests.up (λ e. absurd (cc));
-      stands = λ k tree. raised_base found.sectors found.nodes found.run old.base c.requires.volume.counted after tree (same k);
-      same = λ k n above below. raised_others found.sectors found.nodes found.run old.base c.requires.volume.counted after (same k) n above (subst (λ (s : ℕ). n < s) (sym c.requires.volume.size) below);
+      stands = λ k mark tree moved stands. raised_base found old.base c.requires.volume.counted mark tree moved stands after (same k);
       settled = c.in_ok-superblock.ensures.ok.settled;
     }

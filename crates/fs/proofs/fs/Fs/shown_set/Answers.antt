@@ -17,5 +17,5 @@ returns-clause-entries g c =
     (set_list held.limits held.sectors held.limits.nodes c.args.self.now.volume.limited fields.kind fields.acl c.requires.listed c.args.settings c.requires.within) in
     let small = small_list held.limits fields.kind c.in_ok-acl.acl list in
     let few = small.few in
-    let most : held.limits.aces ≡ 40 = ap (λ (l : Limits). l.aces) c.args.self.now.volume.limited in
+    let most : held.limits.aces ≡ 72 = ap (λ (l : Limits). l.aces) c.args.self.now.volume.limited in
     record { few = omega (arith, few, most); each = small.each }

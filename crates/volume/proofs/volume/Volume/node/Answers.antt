@@ -34,9 +34,9 @@ returns-clause-fit g c =
     (λ card there. card_at nodes (mark_by (148 + nodes) volume.places) volume.table c.in_ok-place.place card.now volume.known.are_cards there)
     c.card.ensures.some
 
--- a node of form one
-few_of : (place : ℕ) (card : Card) → IsCard card → card.form ≡ current.form place → length card.fields.acl ≤ 40
-few_of place card fit form = (let most : most_entries card.form ≡ 40 = ap most_entries form in omega (arith, fit.fits.acl, most))
+-- a node has no more entries than its form has room for
+few_of : (place : ℕ) (card : Card) → IsCard card → card.form ≡ current.form place → length card.fields.acl ≤ 72
+few_of place card fit form = (let most : most_entries card.form ≡ 72 = ap most_entries form in omega (arith, fit.fits.acl, most))
 
 pub returns-clause-few : goal.returns-clause-few
 returns-clause-few g c =

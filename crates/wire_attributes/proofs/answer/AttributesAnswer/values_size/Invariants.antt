@@ -5,7 +5,7 @@ use Rattle.wire_attributes.proofs.answer.AttributesAnswer.values_size.Given as g
 
 pub record SoFar (size index text : ℕ) : Type 0 where
   pub value : size ≡ text
-  pub bound : size ≤ 4096 * index
+  pub bound : size ≤ 4400 * index
   pub whole : size % 4 ≡ 0
 
 abbrev pub invariant-loop-attribute : goal.invariant-loop-attribute

@@ -1,0 +1,98 @@
+-- Which version a volume has, by its first sector and by its mark.
+use Rattle.std.proofs.Common.{ℕ, ◌≡◌, ◌<◌, ◌^◌, List, Option, Some, None, get_or, drop, refl, sym, ap, ◌∙◌, subst, arith}
+use Rattle.std.specs.Int.{w32, from_be_bytes}
+use Rattle.std.proofs.lemmas.Nat.{from_be_bytes-to_be_bytes_4}
+use Rattle.disk.specs.Moments.{Image}
+use Rattle.disk.specs.Calls as calls
+use Rattle.disk.specs.Calls.{zero_sector}
+use Rattle.layout.specs.Stands as marks
+use Rattle.layout.specs.Stands.{IsMark, Kept, Stands, StandsAs, mark_sector, number_of, spare_by, version_by}
+use Rattle.layout.specs.Superblock as first
+use Rattle.layout.specs.Superblock.{superblock}
+use Rattle.layout.specs.declared.versions.VersionNumber.{VersionNumber}
+use Rattle.layout.specs.declared.versions.VersionNumber.TheVariants.{One, Two}
+use Rattle.layout.proofs.KeptLaws.{version_parts}
+
+-- the four bytes from place 4 of a mark, and from place 8 of a first sector
+
+moved_back : (moved : ℕ) → moved < 2 ^ 32 → from_be_bytes w32 (drop 4 (mark_sector moved)) ≡ moved
+unfolding marks.mark_sector
+moved_back moved fits = from_be_bytes-to_be_bytes_4 moved fits
+
+begins : (moved : ℕ) → get_or (mark_sector moved) 0 0 ≡ 77
+unfolding marks.mark_sector
+begins moved = refl
+
+zero_begins : get_or zero_sector 0 0 ≡ 0
+unfolding calls.zero_sector
+zero_begins = refl
+
+number_back : (number sectors nodes run : ℕ) → number < 2 ^ 32 → from_be_bytes w32 (drop 8 (superblock number sectors nodes run)) ≡ number
+unfolding first.superblock
+number_back number sectors nodes run fits = from_be_bytes-to_be_bytes_4 number fits
+
+not_mark : (moved : ℕ) → zero_sector ≡ mark_sector moved → ⊥
+not_mark moved same =
+    let apart : get_or zero_sector 0 0 ≡ get_or (mark_sector moved) 0 0 = ap (λ (s : List ℕ). get_or s 0 0) same in
+    omega (arith, apart, zero_begins, begins moved)
+
+same_moved : (a b : ℕ) → a < 2 ^ 32 → b < 2 ^ 32 → mark_sector a ≡ mark_sector b → a ≡ b
+same_moved a b a_fits b_fits same = sym (moved_back a a_fits) ∙ (ap (λ (s : List ℕ). from_be_bytes w32 (drop 4 s)) same ∙ moved_back b b_fits)
+
+-- a volume's mark fits four bytes
+mark_fits : (number : VersionNumber) (nodes moved : ℕ) → nodes < 2 ^ 32 → IsMark number nodes (Some moved) → moved < 2 ^ 32
+mark_fits One nodes moved fits is = omega (arith, fits, is.1)
+mark_fits Two nodes moved fits is = omega (arith, fits, is)
+
+-- the sector of the mark tells it
+pub one_mark : (number : VersionNumber) (nodes : ℕ) (a b : Option ℕ) → nodes < 2 ^ 32 → IsMark number nodes a → IsMark number nodes b
+    → spare_by a 147 ≡ spare_by b 147 → a ≡ b
+one_mark number nodes None None fits one other same = refl
+one_mark number nodes None (Some b) fits one other same = absurd (not_mark b same)
+one_mark number nodes (Some a) None fits one other same = absurd (not_mark a (sym same))
+one_mark number nodes (Some a) (Some b) fits one other same =
+    ap (λ (moved : ℕ). Some moved) (same_moved a b (mark_fits number nodes a fits one) (mark_fits number nodes b fits other) same)
+
+numbers_fit : (number : VersionNumber) → number_of number < 2 ^ 32
+numbers_fit One = omega arith
+numbers_fit Two = omega arith
+
+numbers_apart : (a b : VersionNumber) → number_of a ≡ number_of b → a ≡ b
+numbers_apart One One same = refl
+numbers_apart Two Two same = refl
+numbers_apart One Two same = absurd (cc)
+numbers_apart Two One same = absurd (cc)
+
+-- and the first sector the number
+pub one_number : (a b : VersionNumber) (sectors nodes run other_sectors other_nodes other_run : ℕ)
+    → superblock (number_of a) sectors nodes run ≡ superblock (number_of b) other_sectors other_nodes other_run → a ≡ b
+one_number a b sectors nodes run other_sectors other_nodes other_run same = numbers_apart a b
+    (sym (number_back (number_of a) sectors nodes run (numbers_fit a))
+    ∙ (ap (λ (s : List ℕ). from_be_bytes w32 (drop 8 s)) same ∙ number_back (number_of b) other_sectors other_nodes other_run (numbers_fit b)))
+
+pub version_number : (number : VersionNumber) (mark : Option ℕ) → (version_by number mark).number ≡ number_of number
+version_number One mark = refl
+version_number Two mark = refl
+
+pub version_spare : (number : VersionNumber) (mark : Option ℕ) (n : ℕ) → (version_by number mark).spare n ≡ spare_by mark n
+version_spare One mark n = refl
+version_spare Two mark n = refl
+
+pub first_number : (number : VersionNumber) (mark : Option ℕ) (size nodes run : ℕ) → superblock (version_by number mark).number size nodes run ≡ superblock (number_of number) size nodes run
+first_number number mark size nodes run = ap (λ (n : ℕ). superblock n size nodes run) (version_number number mark)
+
+-- so what stands on sectors stands in the version that both tell
+pub stands_told : (number : VersionNumber) (mark : Option ℕ) (size nodes : ℕ) (image : Image) (run : ℕ) (kept : Kept) (sectors other_nodes other_run : ℕ) → nodes < 2 ^ 32
+    → IsMark number nodes mark → image 0 ≡ superblock (number_of number) sectors other_nodes other_run → image 147 ≡ spare_by mark 147
+    → StandsAs size nodes image run kept → Stands (version_by number mark) size nodes image run kept.tree
+stands_told number mark size nodes image run kept sectors other_nodes other_run fits is first marked stands =
+    let parts = version_parts nodes stands.version kept.seats stands.is_version in
+    let there : Stands (version_by parts.0 parts.1) size nodes image run kept.tree =
+    subst (λ version. Stands version size nodes image run kept.tree) parts.3 stands.stands in
+    let same : parts.0 ≡ number = one_number parts.0 number size nodes run sectors other_nodes other_run
+    (sym (first_number parts.0 parts.1 size nodes run) ∙ (sym there.first ∙ first)) in
+    let mark_is : IsMark number nodes parts.1 = subst (λ (n : VersionNumber). IsMark n nodes parts.1) same parts.2 in
+    let same_mark : parts.1 ≡ mark = one_mark number nodes parts.1 mark fits mark_is is
+    (sym (version_spare parts.0 parts.1 147) ∙ (sym (there.laid.spare 147 (omega arith) (omega arith)) ∙ marked)) in
+    subst (λ (m : Option ℕ). Stands (version_by number m) size nodes image run kept.tree) same_mark
+    (subst (λ (n : VersionNumber). Stands (version_by n parts.1) size nodes image run kept.tree) same there)

@@ -1,0 +1,143 @@
+-- Transactions that are flushed one after the other, at each moment of it.
+use Rattle.std.proofs.Common.{◌≡◌, ◌≤◌, ◌<◌, ℕ, zero, suc, List, [], ◌∷◌, ◌++◌, length, take, drop, refl, sym, ap, ◌∙◌, subst, arith}
+use Rattle.disk.specs.declared.update.Update.{Update}
+use Rattle.disk.specs.Moments.{Image, AddsOnly, applied}
+use Rattle.disk.proofs.MomentLemmas.{AddsOnly-same, AddsOnly-weaken, AddsOnly-join}
+use Rattle.journal.specs.Calls.{IsSafe, HasApplied, list_with}
+use Rattle.journal.specs.Log.{Log, StandsForFront, applied_all}
+use Rattle.journal.specs.Settled.{AreSame, Settles}
+use Rattle.journal.proofs.Fronts.{settles_same, applied_keeps, applied_all-push}
+use Rattle.journal.proofs.Joins.{front_moved}
+use Rattle.migration.specs.Commits.{Commits, HasCommitted}
+use Rattle.migration.specs.Migrations.{Rests}
+
+-- One transaction
+
+no_front : (list : List (List Update)) (c : ℕ) (base : Image) → list ≡ [] → applied_all (take c list) base ≡ base
+no_front [] zero base none = refl
+no_front [] (suc c) base none = refl
+no_front (us ∷ list) c base none = absurd (cc)
+
+pub first_commits : (keeps_word : Type 0) (us : List Update) (old mid : Log) → old.list ≡ [] → IsSafe keeps_word old mid → Commits keeps_word (us ∷ []) old mid
+first_commits keeps_word us old mid none safe = record {
+  size = safe.size;
+  moments = λ word. AddsOnly-weaken (StandsForFront old.size old.base old.list) (StandsForFront old.size old.base (us ∷ [])) old.history mid.history
+      (λ image front. record {
+        count = 0;
+        within = omega arith;
+        settles = subst (Settles old.size image) (no_front old.list front.count old.base none) front.settles;
+      })
+      (safe.moments word);
+}
+
+pub both_commit : (keeps_word : Type 0) (us : List Update) (old mid new : Log) → old.list ≡ [] → IsSafe keeps_word old mid → HasApplied keeps_word us old mid
+    → IsSafe keeps_word mid new → Commits keeps_word (us ∷ []) old new
+both_commit keeps_word us old mid new none safe has flushed = record {
+  size = flushed.size ∙ safe.size;
+  moments = λ word. AddsOnly-join (StandsForFront old.size old.base (us ∷ [])) old.history mid.history new.history
+      ((first_commits keeps_word us old mid none safe).moments word)
+      (AddsOnly-weaken (StandsForFront mid.size mid.base mid.list) (StandsForFront old.size old.base (us ∷ [])) mid.history new.history
+      (λ image front.
+      let before = front_moved (list_with old us) old mid (has.moved word) front.count front.within in
+      subst (λ (list : List (List Update)). StandsForFront old.size old.base list image) (ap (λ (l : List (List Update)). l ++ us ∷ []) none)
+      (record {
+        count = before.0;
+        within = before.1;
+        settles = settles_same old.size image (applied_all (take front.count mid.list) mid.base) (applied_all (take before.0 (list_with old us)) old.base)
+            (λ n k. sym (before.2 n k)) (subst (λ (size : ℕ). Settles size image (applied_all (take front.count mid.list) mid.base)) safe.size front.settles);
+      }))
+      (flushed.moments word));
+}
+
+-- Several
+
+-- so many of them are in the base, and the rest is still to come
+pub record Going (keeps_word : Type 0) (list rest : List (List Update)) (old now : Log) : Type 0 where
+  pub count : ℕ
+  pub within : count ≤ length list
+  pub rest_is : drop count list ≡ rest
+  pub size : now.size ≡ old.size
+  pub base : keeps_word → AreSame old.size (applied_all (take count list) old.base) now.base
+  pub moments : keeps_word → AddsOnly (StandsForFront old.size old.base list) old.history now.history
+
+pub going_starts : (keeps_word : Type 0) (list : List (List Update)) (old : Log) → Going keeps_word list list old old
+going_starts keeps_word list old = record {
+  count = 0;
+  within = omega arith;
+  rest_is = refl;
+  size = refl;
+  base = λ word n k. refl;
+  moments = λ word. AddsOnly-same (StandsForFront old.size old.base list) old.history;
+}
+
+record IsNext (list : List (List Update)) (count : ℕ) (us : List Update) (rest : List (List Update)) : Type 0 where
+  within : count < length list
+  front : take (suc count) list ≡ take count list ++ us ∷ []
+  behind : drop (suc count) list ≡ rest
+
+next : (list : List (List Update)) (count : ℕ) (us : List Update) (rest : List (List Update)) → drop count list ≡ us ∷ rest → IsNext list count us rest
+next [] zero us rest e = absurd (cc)
+next [] (suc count) us rest e = absurd (cc)
+next (vs ∷ list) zero us rest e = record { within = omega arith; front = ap (λ (x : List Update). x ∷ []) cc; behind = cc }
+next (vs ∷ list) (suc count) us rest e =
+    let there = next list count us rest e in
+    record { within = omega (arith, there.within); front = ap (λ (l : List (List Update)). vs ∷ l) there.front; behind = there.behind }
+
+module _ (keeps_word : Type 0) (list rest : List (List Update)) (us : List Update) (old now new : Log) (going : Going keeps_word list (us ∷ rest) old now)
+    (commits : Commits keeps_word (us ∷ []) now new) where
+  there : IsNext list going.count us rest
+  there = next list going.count us rest going.rest_is
+
+  -- with this one
+  with_one : keeps_word → AreSame old.size (applied_all (take (suc going.count) list) old.base) (applied us now.base)
+  with_one word n k =
+      ap (λ (l : List (List Update)). applied_all l old.base n) there.front
+      ∙ ap (λ (f : Image). f n) (applied_all-push (take going.count list) us old.base)
+      ∙ applied_keeps old.size us (applied_all (take going.count list) old.base) now.base (going.base word) n k
+
+  front_here : keeps_word → (image : Image) (c : ℕ) → c ≤ 1 → Settles old.size image (applied_all (take c (us ∷ [])) now.base) → StandsForFront old.size old.base list image
+  front_here word image zero few settles = record {
+    count = going.count;
+    within = going.within;
+    settles = settles_same old.size image now.base (applied_all (take going.count list) old.base) (λ n k. sym (going.base word n k)) settles;
+  }
+  front_here word image (suc zero) few settles = record {
+    count = suc going.count;
+    within = there.within;
+    settles = settles_same old.size image (applied us now.base) (applied_all (take (suc going.count) list) old.base) (λ n k. sym (with_one word n k)) settles;
+  }
+  front_here word image (suc (suc c)) few settles = absurd (omega arith)
+
+  pub going_stops : Commits keeps_word list old new
+  going_stops = record {
+    size = commits.size ∙ going.size;
+    moments = λ word. AddsOnly-join (StandsForFront old.size old.base list) old.history now.history new.history (going.moments word)
+        (AddsOnly-weaken (StandsForFront now.size now.base (us ∷ [])) (StandsForFront old.size old.base list) now.history new.history
+        (λ image front. front_here word image front.count front.within (subst (λ (size : ℕ). Settles size image (applied_all (take front.count (us ∷ [])) now.base)) going.size front.settles))
+        (commits.moments word));
+  }
+
+  pub going_on : HasCommitted keeps_word (us ∷ []) now new → Going keeps_word list rest old new
+  going_on has = record {
+    count = suc going.count;
+    within = there.within;
+    rest_is = there.behind;
+    size = going_stops.size;
+    base = λ word n k. with_one word n k ∙ subst (λ (size : ℕ). AreSame size (applied us now.base) new.base) going.size (has.base word) n k;
+    moments = going_stops.moments;
+  }
+
+take-none_left : (list : List (List Update)) (count : ℕ) → drop count list ≡ [] → take count list ≡ list
+take-none_left [] zero none = refl
+take-none_left [] (suc count) none = refl
+take-none_left (us ∷ list) zero none = absurd (cc)
+take-none_left (us ∷ list) (suc count) none = ap (λ (l : List (List Update)). us ∷ l) (take-none_left list count none)
+
+pub going_commits : (keeps_word : Type 0) (list rest : List (List Update)) (old now : Log) → Going keeps_word list rest old now → Commits keeps_word list old now
+going_commits keeps_word list rest old now going = record { size = going.size; moments = going.moments }
+
+pub going_ends : (keeps_word : Type 0) (list : List (List Update)) (old now : Log) → Going keeps_word list [] old now → Rests now → HasCommitted keeps_word list old now
+going_ends keeps_word list old now going rests = record {
+  rests = rests;
+  base = λ word. subst (λ (l : List (List Update)). AreSame old.size (applied_all l old.base) now.base) (take-none_left list going.count going.rest_is) (going.base word);
+}

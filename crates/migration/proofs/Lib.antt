@@ -1,0 +1,4 @@
+pub mod Committing
+pub mod Migrating
+pub mod Reaching
+pub mod Transactions

@@ -1,0 +1,150 @@
+-- What one transaction of a migration writes, sector by sector.
+use Rattle.std.proofs.Common.{◌≡◌, ◌≤◌, ◌<◌, ◌+◌, ◌-◌, ◌*◌, ◌⊎◌, ◌++◌, ℕ, zero, suc, List, [], ◌∷◌, Option, Some, None, length, map, min, get_or, inl, inr, refl, sym, ap, ◌∙◌, subst, arith, ⊎_elim}
+use Rattle.std.specs.List.{flat_map, range_with_len}
+use Rattle.std.proofs.lemmas.Bool.{cases_eq}
+use Rattle.std.proofs.lemmas.List.{append-nil, append_assoc, length-append}
+use Rattle.disk.specs.declared.update.Update.{Update}
+use Rattle.disk.specs.Moments.{Image, put, applied}
+use Rattle.journal.specs.Layout.{targets}
+use Rattle.journal.proofs.Images.{Out, Fit, Out-join, put_same, put_other, applied_out}
+use Rattle.journal.proofs.Lists.{applied_at, applied-push, targets-push, targets_of-Fit}
+use Rattle.layout.specs.Cards.{Card, node_sector}
+use Rattle.layout.specs.Stands.{mark_sector}
+use Rattle.migration.specs.Commits.{AreTransactions, IsTransaction}
+use Rattle.migration.specs.Plans.{moved_node, mark_update, step, step_at}
+
+-- the nodes of so many places
+abbrev pub nodes_of : List (Option Card) → (from count : ℕ) → List Update
+nodes_of cards from count = flat_map (λ place. moved_node place (get_or cards place None)) (range_with_len from count)
+
+applied-append : (a b : List Update) (image : Image) → applied (a ++ b) image ≡ applied b (applied a image)
+applied-append [] b image = refl
+applied-append (u ∷ a) b image = applied-append a b (put image u)
+
+targets-append : (a b : List Update) → targets (a ++ b) ≡ targets a ++ targets b
+targets-append [] b = refl
+targets-append (u ∷ a) b = ap (λ (ts : List ℕ). u.target ∷ ts) (targets-append a b)
+
+-- Which sectors
+
+node_out : (place : ℕ) (card : Option Card) (n : ℕ) → (node_sector place ≡ n → ⊥) → Out (targets (moved_node place card)) n
+node_out place None n other = tt
+node_out place (Some card) n other = (other, tt)
+
+node_short : (place : ℕ) (card : Option Card) → length (moved_node place card) ≤ 1
+node_short place None = omega arith
+node_short place (Some card) = omega arith
+
+nodes_out : (cards : List (Option Card)) (from count n : ℕ) → (n < node_sector from) ⊎ (node_sector (from + count) ≤ n) → Out (targets (nodes_of cards from count)) n
+nodes_out cards from zero n far = tt
+nodes_out cards from (suc count) n far =
+    let node = moved_node from (get_or cards from None) in
+    subst (λ (ts : List ℕ). Out ts n) (sym (targets-append node (nodes_of cards (from + 1) count)))
+    (Out-join (targets node) (targets (nodes_of cards (from + 1) count)) n
+    (node_out from (get_or cards from None) n (λ same. ⊎_elim (λ (low : n < node_sector from). omega arith) (λ (high : node_sector (from + suc count) ≤ n). omega arith) far))
+    (nodes_out cards (from + 1) count n
+    (⊎_elim (λ (low : n < node_sector from). inl (omega arith)) (λ (high : node_sector (from + suc count) ≤ n). inr (omega arith)) far)))
+
+nodes_short : (cards : List (Option Card)) (from count : ℕ) → length (nodes_of cards from count) ≤ count
+nodes_short cards from zero = omega arith
+nodes_short cards from (suc count) =
+    let node = moved_node from (get_or cards from None) in
+    omega (
+      arith,
+      length-append node (nodes_of cards (from + 1) count),
+      node_short from (get_or cards from None),
+      nodes_short cards (from + 1) count,
+    )
+
+node_fit : (size place : ℕ) (card : Option Card) (rest : List Update) → node_sector place < size → Out (targets rest) (node_sector place) → Fit size (targets rest)
+    → Fit size (targets (moved_node place card ++ rest))
+node_fit size place None rest below out fit = fit
+node_fit size place (Some card) rest below out fit = (omega arith, below, out, fit)
+
+nodes_fit : (size : ℕ) (cards : List (Option Card)) (from count : ℕ) → node_sector (from + count) ≤ size → Fit size (targets (nodes_of cards from count))
+nodes_fit size cards from zero below = tt
+nodes_fit size cards from (suc count) below =
+    node_fit size from (get_or cards from None) (nodes_of cards (from + 1) count) (omega arith)
+    (nodes_out cards (from + 1) count (node_sector from) (inl (omega arith))) (nodes_fit size cards (from + 1) count (omega arith))
+
+Fit-push : (size : ℕ) (ts : List ℕ) (x : ℕ) → 98 ≤ x → x < size → Fit size ts → Out ts x → Fit size (ts ++ x ∷ [])
+Fit-push size [] x low high fit out = (low, high, tt, tt)
+Fit-push size (t ∷ ts) x low high fit out =
+    (fit.0, fit.1, Out-join ts (x ∷ []) t fit.2 ((λ same. out.0 (sym same)), tt), Fit-push size ts x low high fit.3 out.1)
+
+pub step_takes : (size : ℕ) (cards : List (Option Card)) (from count : ℕ) → count ≤ 47 → 148 ≤ size → node_sector (from + count) ≤ size
+    → IsTransaction size (step cards from count)
+step_takes size cards from count few large below =
+    let nodes = nodes_of cards from count in
+    record {
+      few = omega (arith, few, length-append nodes (mark_update (from + count) ∷ []), nodes_short cards from count);
+      fit = targets_of-Fit size (targets (step cards from count))
+          (subst (Fit size) (sym (targets-push nodes (mark_update (from + count))))
+          (Fit-push size (targets nodes) 147 (omega arith) (omega arith) (nodes_fit size cards from count below) (nodes_out cards from count 147 (inl (omega arith)))));
+    }
+
+-- all transactions from one on
+pub steps_take : (size : ℕ) (cards : List (Option Card)) (moved k i : ℕ) → node_sector (length cards) ≤ size → moved + 47 * (i + k) < length cards + 47
+    → AreTransactions size (map (step_at cards moved) (range_with_len i k))
+steps_take size cards moved zero i below within = tt
+steps_take size cards moved (suc k) i below within = (
+  step_takes size cards (moved + 47 * i) (min 47 (length cards - (moved + 47 * i))) (omega arith) (omega arith) (omega arith),
+  steps_take size cards moved k (i + 1) below (omega arith),
+)
+
+-- What they hold then
+
+module _ (cards : List (Option Card)) (from count : ℕ) (image : Image) where
+  with_nodes : Image
+  with_nodes = applied (nodes_of cards from count) image
+
+  marked : applied (step cards from count) image ≡ put (applied (nodes_of cards from count) image) (mark_update (from + count))
+  marked = applied-push (nodes_of cards from count) (mark_update (from + count)) image
+
+  pub mark_written : applied (step cards from count) image 147 ≡ mark_sector (from + count)
+  mark_written = ap (λ (i : Image). i 147) marked ∙ put_same (applied (nodes_of cards from count) image) (mark_update (from + count)) 147 refl
+
+  unmarked : (n : ℕ) → (147 ≡ n → ⊥) → applied (step cards from count) image n ≡ applied (nodes_of cards from count) image n
+  unmarked n other = ap (λ (i : Image). i n) marked ∙ put_other (applied (nodes_of cards from count) image) (mark_update (from + count)) n other
+
+  pub far_stays : (n : ℕ) → (147 ≡ n → ⊥) → (n < node_sector from) ⊎ (node_sector (from + count) ≤ n) → applied (step cards from count) image n ≡ image n
+  far_stays n other far = unmarked n other ∙ applied_out (nodes_of cards from count) image n (nodes_out cards from count n far)
+
+node_at : (cards : List (Option Card)) (from count place : ℕ) (image : Image) → from ≤ place → place < from + count
+    → applied (nodes_of cards from count) image (node_sector place) ≡ applied (moved_node place (get_or cards place None)) image (node_sector place)
+node_at cards from zero place image low high = absurd (omega arith)
+node_at cards from (suc count) place image low high =
+    let first = moved_node from (get_or cards from None) in
+    let rest = nodes_of cards (from + 1) count in
+    ap (λ (i : Image). i (node_sector place)) (applied-append first rest image)
+    ∙ ⊎_elim
+    (λ (same : place ≡ from).
+    applied_out rest (applied first image) (node_sector place) (nodes_out cards (from + 1) count (node_sector place) (inl (omega arith)))
+    ∙ ap (λ (p : ℕ). applied (moved_node p (get_or cards p None)) image (node_sector place)) (sym same))
+    (λ (other : place ≡ from → ⊥).
+    let behind : from + 1 ≤ place = omega (arith, ne_less place from other low) in
+    node_at cards (from + 1) count place (applied first image) behind (omega arith)
+    ∙ applied_at (moved_node place (get_or cards place None)) (applied first image) image (node_sector place)
+    (applied_out first image (node_sector place) (node_out from (get_or cards from None) (node_sector place) (λ e. omega arith))))
+    (cases_eq place from)
+  where
+    ne_less : (a b : ℕ) → (a ≡ b → ⊥) → b ≤ a → b < a
+    ne_less a b other le = omega arith
+
+pub node_written : (cards : List (Option Card)) (from count place : ℕ) (image : Image) → from ≤ place → place < from + count
+    → applied (step cards from count) image (node_sector place) ≡ applied (moved_node place (get_or cards place None)) image (node_sector place)
+node_written cards from count place image low high =
+    unmarked cards from count image (node_sector place) (λ e. omega arith) ∙ node_at cards from count place image low high
+
+-- one place more
+pub nodes_more : (cards : List (Option Card)) (from count : ℕ) → nodes_of cards from (suc count) ≡ nodes_of cards from count ++ moved_node (from + count) (get_or cards (from + count) None)
+nodes_more cards from zero =
+    append-nil (moved_node from (get_or cards from None))
+    ∙ ap (λ (p : ℕ). moved_node p (get_or cards p None)) (let q : from ≡ from + 0 = omega arith in q)
+nodes_more cards from (suc count) =
+    let node = moved_node from (get_or cards from None) in
+    let rest = nodes_of cards (from + 1) count in
+    ap (λ (us : List Update). node ++ us)
+    (nodes_more cards (from + 1) count
+    ∙ ap (λ (p : ℕ). rest ++ moved_node p (get_or cards p None)) (let q : from + 1 + count ≡ from + suc count = omega arith in q))
+    ∙ sym (append_assoc node rest (moved_node (from + suc count) (get_or cards (from + suc count) None)))

@@ -1,0 +1,33 @@
+use Rattle.std.proofs.Common.{◌≡◌, ◌≤◌, ◌+◌, ◌-◌, ◌++◌, ◌∙◌, ◌∷◌, [], ℕ, suc, List, Option, Some, None, Vec, Global, get_or, sym, ap, arith}
+use Rattle.std.proofs.lemmas.List.{append-nil}
+use Rattle.disk.specs.declared.update.Update.{Update}
+use Rattle.layout.specs.Cards.{Card}
+use Rattle.migration.specs.Plans.{moved_node}
+use Rattle.migration.proofs.Transactions.{nodes_of, nodes_more}
+use Rattle.migration.proofs.plan.transaction.Goals as goal
+use Rattle.migration.proofs.plan.transaction.Goals.{in-Some+in_ok-push, in_default}
+
+pub moved_node-requires-clause-fit : goal.moved_node-requires-clause-fit
+moved_node-requires-clause-fit c = c.requires.fit c.loop-place.place c.in-Some.card.now c.in-Some.ensures.some
+
+-- one place more, which holds this
+more : (cards : List (Option Card)) (from place : ℕ) (card : Option Card) (updates : List Update) → from ≤ place → get_or cards place None ≡ card
+    → updates ≡ nodes_of cards from (place - from) ++ moved_node place card → updates ≡ nodes_of cards from (place + 1 - from)
+more cards from place card updates low there are =
+    are
+    ∙ ap (λ (one : Option Card). nodes_of cards from (place - from) ++ moved_node place one) (sym there)
+    ∙ ap (λ (p : ℕ). nodes_of cards from (place - from) ++ moved_node p (get_or cards p None)) (let q : place ≡ from + (place - from) = omega arith in q)
+    ∙ sym (nodes_more cards from (place - from))
+    ∙ ap (nodes_of cards from) (let q : suc (place - from) ≡ place + 1 - from = omega arith in q)
+
+pub loop-place-preserved : goal.loop-place-preserved
+loop-place-preserved c =
+    let nodes = nodes_of c.args.table.now c.args.from (c.loop-place.place - c.args.from) in
+    elim c.match-card.branch [
+      | in-Some+in_ok-push w ↦ more c.args.table.now c.args.from c.loop-place.place (Some w.in-Some.card.now) c.match-card.updates.items c.loop-place.auto.place w.in-Some.ensures.some
+          (ap (λ (v : Vec Update Global). v.items) w.updates-is ∙ w.in_ok-push.ensures.items
+          ∙ ap (λ (l : List Update). l ++ w.moved_node.result ∷ []) c.loop-place.invariant
+          ∙ ap (λ (l : List Update). nodes ++ l) (sym w.moved_node.ensures))
+      | in_default w ↦ more c.args.table.now c.args.from c.loop-place.place None c.match-card.updates.items c.loop-place.auto.place w.in_default.ensures.none
+          (ap (λ (v : Vec Update Global). v.items) w.updates-is ∙ c.loop-place.invariant ∙ sym (append-nil nodes))
+    ]

@@ -1,0 +1,13 @@
+-- How a refusal of the journal is answered.
+use Rattle.journal.specs.declared.fault.JournalFault.{JournalFault}
+use Rattle.journal.specs.declared.fault.JournalFault.TheVariants as journals
+use Rattle.migration.specs.declared.fault.MigrationFault.{MigrationFault}
+use Rattle.migration.specs.declared.fault.MigrationFault.TheVariants as faults
+
+-- Memory, Damaged, TooMany and Down never come of a transaction that is flushed
+abbrev pub fault_of : JournalFault → MigrationFault
+fault_of journals.Memory = faults.Memory
+fault_of journals.Fault = faults.Device
+fault_of journals.Damaged = faults.Device
+fault_of journals.TooMany = faults.Device
+fault_of journals.Down = faults.Device

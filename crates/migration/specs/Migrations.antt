@@ -1,0 +1,70 @@
+-- What a migration does to a volume.
+use Rattle.std.specs.Prelude.{◌≡◌, ℕ, false, List, [], Option, Some, length}
+use Rattle.disk.specs.Moments.{Image, AddsOnly}
+use Rattle.journal.specs.Log.{Log}
+use Rattle.journal.specs.Settled.{Settles}
+use Rattle.layout.specs.Cards.{Card, cards_in}
+use Rattle.layout.specs.Rewriting.{all_second}
+use Rattle.layout.specs.Stands.{Version, IsMark, Stands, StandsAs, bare, current, moved_by, version_1, version_2}
+use Rattle.layout.specs.declared.versions.VersionNumber.TheVariants as numbers
+use Rattle.model.specs.Tree.{Tree}
+
+-- a map that a crash leaves stands for the tree, under this restart count, in the version of this
+-- number
+pub record IsStill (number size nodes run : ℕ) (tree : Tree) (image : Image) : Type 0 where
+  pub base : Image
+  pub settles : Settles size image base
+  pub stands : StandsAs size nodes base run (bare tree)
+  pub number_is : stands.version.number ≡ number
+
+abbrev pub StandsStill : (number size nodes run : ℕ) → Tree → Image → Type 0
+StandsStill number size nodes run tree image = ∥ IsStill number size nodes run tree image ∥₁
+
+-- at every moment since, a map left is one left before, or stands for the tree
+abbrev pub AddsStill : (number nodes run : ℕ) → Tree → (old new : Log) → Type 0
+AddsStill number nodes run tree old new =
+    AddsOnly (StandsStill number old.size nodes run tree) old.history new.history
+
+-- What stood in one version stands in the other: the same tree, with the same cards but for their
+-- forms
+pub record IsMoved (is : Version) (nodes run : ℕ) (tree : Tree) (old new : Log) : Type 0 where
+  pub stands : Stands is old.size nodes new.base run tree
+  pub cards : all_second (cards_in nodes new.base) ≡ all_second (cards_in nodes old.base)
+
+-- a journal in which nothing waits
+pub record Rests (log : Log) : Type 0 where
+  pub up : log.is_down ≡ false
+  pub listed : log.list ≡ []
+
+-- What a migration begins with: the tree stands in version 1, whose mark tells so many places, and
+-- the nodes are those of its sectors
+pub record Begins (mark : Option ℕ) (moved run : ℕ) (tree : Tree) (cards : List (Option Card))
+    (log : Log) : Type 0 where
+  pub marked : IsMark numbers.One (length cards) mark
+  pub told : moved_by mark ≡ moved
+  pub stands : Stands (version_1 mark) log.size (length cards) log.base run tree
+  pub read : cards ≡ all_second (cards_in (length cards) log.base)
+
+-- At each moment the tree stands in version 1, under the count that it had
+abbrev pub MovesSafely : (moved : ℕ) → List (Option Card) → (old new : Log) → Type 0
+MovesSafely moved cards old new =
+    (mark : Option ℕ) (run : ℕ) (tree : Tree) → Begins mark moved run tree cards old
+    → AddsStill 1 (length cards) run tree old new
+
+-- and in the end the mark tells all places
+abbrev pub HasMovedAll : (moved : ℕ) → List (Option Card) → (old new : Log) → Type 0
+HasMovedAll moved cards old new =
+    (mark : Option ℕ) (run : ℕ) (tree : Tree) → Begins mark moved run tree cards old
+    → IsMoved (version_1 (Some (length cards))) (length cards) run tree old new
+
+-- The mark is taken away from version 2, in which the tree stands at each moment
+abbrev pub ClearsSafely : (old new : Log) → Type 0
+ClearsSafely old new =
+    (mark : Option ℕ) (nodes run : ℕ) (tree : Tree) → IsMark numbers.Two nodes mark
+    → Stands (version_2 mark) old.size nodes old.base run tree → AddsStill 2 nodes run tree old new
+
+abbrev pub HasCleared : (old new : Log) → Type 0
+HasCleared old new =
+    (mark : Option ℕ) (nodes run : ℕ) (tree : Tree) → IsMark numbers.Two nodes mark
+    → Stands (version_2 mark) old.size nodes old.base run tree
+    → IsMoved current nodes run tree old new

@@ -1,0 +1,54 @@
+//! Moving the nodes of a volume to form two.
+
+ghost use Rattle.std.specs.Prelude.{◌≡◌, ◌≤◌, ◌+◌, length, OnOk, IsErrOf};
+ghost use Rattle.disk.specs.Cause.{IsCounted};
+ghost use Rattle.journal.specs.Journal.{log_of, failures_of};
+ghost use Rattle.migration.specs.Migrations.{HasMovedAll, MovesSafely, Rests};
+ghost use Rattle.migration.specs.Plans.{FitSecond};
+
+use crate::commit::commit_all;
+use crate::fault::MigrationFault;
+use crate::plan::plan;
+use cards::Table;
+use disk::Device;
+use journal::Journal;
+use std::alloc::Global;
+
+/// Moves the nodes of a volume of version 1 to form two, from the place on that its mark tells: by
+/// flushed transactions of 47 places and the mark. All memory is taken before the first of them.
+///
+/// # Errors
+///
+/// [`MigrationFault::Memory`], and then nothing was written; [`MigrationFault::Device`] where the
+/// device failed.
+pub fn migrate<D: Device>(
+    alloc: Global,
+    journal: &mut Journal<D>,
+    table: &Table,
+    moved: u32,
+) -> Result<(), MigrationFault>
+    // Nothing waits in the journal, and the nodes have room on the device and in form two
+    requires rests { Rests (log_of journal.old) }
+    requires room { 148 + length table.now ≤ (log_of journal.old).size }
+    requires within { moved ≤ length table.now }
+    requires fit { FitSecond table.now }
+    // The tree stands at each moment
+    ensures moments { D.keeps_word
+        → MovesSafely moved table.now (log_of journal.old) (log_of journal.new) }
+    ensures rests { OnOk result (Rests (log_of journal.new)) }
+    ensures ok { D.keeps_word → OnOk result
+        (HasMovedAll moved table.now (log_of journal.old) (log_of journal.new)) }
+    ensures size { (log_of journal.new).size ≡ (log_of journal.old).size }
+    // Refused
+    ensures memory { IsErrOf result MigrationFault.Memory
+        → log_of journal.new ≡ log_of journal.old }
+    ensures later { failures_of journal.old ≤ failures_of journal.new }
+    ensures cause { IsErrOf result MigrationFault.Device
+        → IsCounted (failures_of journal.old) (failures_of journal.new) }
+    ensures none { (IsErrOf result MigrationFault.Device → ⊥)
+        → failures_of journal.new ≡ failures_of journal.old }
+{
+    let transactions = plan(alloc, table, moved)?;
+    commit_all(journal, transactions)?;
+    Ok(())
+}

@@ -1,0 +1,28 @@
+use Rattle.std.proofs.Common.{◌≡◌, ◌∙◌, ℕ, subst}
+use Rattle.journal.specs.Journal.{log_of}
+use Rattle.journal.specs.Log.{Log}
+use Rattle.layout.specs.Stands.{moved_by}
+use Rattle.migration.specs.Migrations.{HasMovedAll, MovesSafely}
+use Rattle.volume.proofs.StartLaws.{begins, ends_at_rest, moved_to, moves_safely, or_else_zero, so_moves}
+use Rattle.volume.proofs.start.move_nodes.Goals as goal
+
+pub returns-in-One-clause-moves : goal.returns-in-One-clause-moves
+returns-in-One-clause-moves g c =
+    let word = g.D.Device.keeps_word in
+    let found = c.args.found in
+    let loaded = c.args.loaded.now in
+    let old : Log = log_of c.args.journal.now in
+    let new : Log = log_of c.migrate.new.journal in
+    let told : c.unwrap_or.result ≡ moved_by loaded.mark = c.unwrap_or.ensures ∙ or_else_zero loaded.mark in
+    record {
+      size = c.migrate.ensures.size;
+      rests = ends_at_rest new c.migrate.result c.migrate.ensures.rests;
+      moments = λ k tree stands.
+          moves_safely word found loaded.mark loaded.table loaded.places old new c.requires.volume.size c.in-One.is c.requires.loaded tree
+          (subst (λ (n : ℕ). MovesSafely n loaded.table old new) told (c.migrate.ensures.moments k) loaded.mark found.run tree
+          (begins word found loaded.mark loaded.table loaded.places old new c.requires.volume.size c.in-One.is c.requires.loaded k tree stands));
+      stands = λ k. so_moves c.migrate.result _ _
+          (λ moved. moved_to word found loaded.mark loaded.table loaded.places old new c.requires.volume.size c.in-One.is c.requires.loaded
+          (subst (λ (n : ℕ). HasMovedAll n loaded.table old new) told moved) k)
+          (c.migrate.ensures.ok k);
+    }

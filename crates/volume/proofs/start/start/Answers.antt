@@ -1,0 +1,78 @@
+use Rattle.std.proofs.Common.{◌∙◌, ◌+◌, sym}
+use Rattle.std.proofs.Math.Logic.{∥∥₁_map}
+use Rattle.journal.specs.Journal.{log_of}
+use Rattle.journal.specs.Log.{Log}
+use Rattle.volume.specs.Mounts.{IsRaised}
+use Rattle.volume.proofs.FormatLaws.{on_ok}
+use Rattle.volume.proofs.StartLaws.{after_moves, after_raise, after_unmark, gone, has_moved, mark_is, serves_from}
+use Rattle.volume.proofs.start.start.Goals as goal
+
+pub returns-in_err-move_nodes-clause-moments : goal.returns-in_err-move_nodes-clause-moments
+returns-in_err-move_nodes-clause-moments g c = λ k.
+    let loaded = c.requires.loaded in
+    after_moves c.args.found c.args.loaded.now.mark (log_of c.args.journal.now) loaded.marked (loaded.marks k) (c.requires.base k)
+    (log_of c.move_nodes.new.journal) (c.in_err-move_nodes.ensures.moves.moments k)
+
+pub returns-then-is_err-clause-moments : goal.returns-then-is_err-clause-moments
+returns-then-is_err-clause-moments g c = λ k.
+    let loaded = c.requires.loaded in
+    after_raise c.args.found c.args.loaded.now.mark (log_of c.args.journal.now) loaded.marked (loaded.marks k) (c.requires.base k)
+    (log_of c.move_nodes.new.journal) (c.in_ok-move_nodes.ensures.moves.moments k) (c.in_ok-move_nodes.ensures.moves.stands k)
+    (log_of c.raise.new.journal) (c.raise.ensures.moments k)
+
+pub returns-then-is_err-2-clause-moments : goal.returns-then-is_err-2-clause-moments
+returns-then-is_err-2-clause-moments g c = λ k.
+    let found = c.args.found in
+    let mark = c.args.loaded.now.mark in
+    let old : Log = log_of c.args.journal.now in
+    let moved : Log = log_of c.move_nodes.new.journal in
+    let raised : Log = log_of c.raise.new.journal in
+    let loaded = c.requires.loaded in
+    let moves = c.in_ok-move_nodes.ensures.moves in
+    let is : IsRaised g.D.Device.keeps_word found moved raised = on_ok c.raise.result _ (sym c.is_err.ensures.value ∙ c.if-is_err.false) c.raise.ensures.raised in
+    after_unmark found mark old loaded.marked (loaded.marks k) (c.requires.base k) moved (moves.moments k) (moves.stands k) raised (c.raise.ensures.moments k)
+    (c.requires.volume.size ∙ (sym moves.size ∙ sym c.raise.ensures.size))
+    (λ tree stands. is.stands k _ tree (has_moved found mark old loaded.marked (loaded.marks k) (c.requires.base k)) stands)
+    (log_of c.unmark.new.journal).history
+    (λ tree stands. c.unmark.ensures.clears.moments k _ found.nodes (found.run + 1) tree (mark_is found mark old loaded.marked (loaded.marks k) (c.requires.base k)) stands)
+
+pub returns-clause-moments : goal.returns-clause-moments
+returns-clause-moments g c = λ k.
+    let found = c.args.found in
+    let mark = c.args.loaded.now.mark in
+    let old : Log = log_of c.args.journal.now in
+    let moved : Log = log_of c.move_nodes.new.journal in
+    let raised : Log = log_of c.raise.new.journal in
+    let loaded = c.requires.loaded in
+    let moves = c.in_ok-move_nodes.ensures.moves in
+    let is : IsRaised g.D.Device.keeps_word found moved raised = on_ok c.raise.result _ (sym c.is_err.ensures.value ∙ c.if-is_err.false) c.raise.ensures.raised in
+    after_unmark found mark old loaded.marked (loaded.marks k) (c.requires.base k) moved (moves.moments k) (moves.stands k) raised (c.raise.ensures.moments k)
+    (c.requires.volume.size ∙ (sym moves.size ∙ sym c.raise.ensures.size))
+    (λ tree stands. is.stands k _ tree (has_moved found mark old loaded.marked (loaded.marks k) (c.requires.base k)) stands)
+    (log_of c.unmark.new.journal).history
+    (λ tree stands. c.unmark.ensures.clears.moments k _ found.nodes (found.run + 1) tree (mark_is found mark old loaded.marked (loaded.marks k) (c.requires.base k)) stands)
+
+pub returns-clause-started : goal.returns-clause-started
+returns-clause-started g c =
+    let found = c.args.found in
+    let mark = c.args.loaded.now.mark in
+    let old : Log = log_of c.args.journal.now in
+    let moved : Log = log_of c.move_nodes.new.journal in
+    let raised : Log = log_of c.raise.new.journal in
+    let new : Log = log_of c.unmark.new.journal in
+    let loaded = c.requires.loaded in
+    let moves = c.in_ok-move_nodes.ensures.moves in
+    let fine = sym c.is_err-2.ensures.value ∙ c.if-is_err-2.false in
+    let is : IsRaised g.D.Device.keeps_word found moved raised = on_ok c.raise.result _ (sym c.is_err.ensures.value ∙ c.if-is_err.false) c.raise.ensures.raised in
+    record {
+      rests = on_ok c.unmark.result _ fine c.unmark.ensures.clears.rests;
+      serves = λ k. ∥∥₁_map (loaded.stood k) (λ stood.
+          serves_from found mark old loaded.marked (loaded.marks k) (c.requires.base k) moved (moves.moments k) (moves.stands k) raised (c.raise.ensures.moments k)
+          (c.requires.volume.size ∙ (sym moves.size ∙ sym c.raise.ensures.size))
+          (λ tree stands. is.stands k _ tree (has_moved found mark old loaded.marked (loaded.marks k) (c.requires.base k)) stands)
+          c.args.loaded.now.table new (loaded.read k) stood
+          (λ tree stands. on_ok c.unmark.result _ fine (c.unmark.ensures.clears.stands k) _ found.nodes (found.run + 1) tree
+          (mark_is found mark old loaded.marked (loaded.marks k) (c.requires.base k))
+          (gone found.version found.nodes mark c.is_marked.result c.is_marked.ensures) stands));
+      settled = λ k. on_ok c.unmark.result _ fine (c.unmark.ensures.clears.settled k (is.settled k));
+    }

@@ -1,0 +1,118 @@
+//! Beginning a run: the volume is brought to the current version, and its restart count is raised.
+
+ghost use Rattle.std.specs.Prelude.{◌≡◌, ◌≤◌, ◌<◌, ◌⊎◌, IfErr, OnOk, OnErr, IsErrOf};
+ghost use Rattle.disk.specs.Cause.{IsCounted};
+ghost use Rattle.journal.specs.Journal.{log_of, failures_of};
+ghost use Rattle.migration.specs.Plans.{clearing_updates};
+ghost use Rattle.volume.specs.Loads.{HoldsBase, IsLoaded};
+ghost use Rattle.volume.specs.Mounts.{AddsRaised, IsAtRest, IsVolumeOf};
+ghost use Rattle.volume.specs.Starts.{Clears, Counts, HasStarted, Moves, is_marked};
+
+use crate::fault::MountFault;
+use crate::load::Loaded;
+use crate::mount::{Superblock, raise};
+use disk::{Device, Update};
+use journal::{Journal, JournalFault};
+use layout::versions::VersionNumber;
+use migration::{MigrationFault, clear, clearing, migrate};
+use std::alloc::Global;
+
+/// Moves the nodes of a volume of version 1 to form two.
+fn move_nodes<D: Device>(
+    alloc: Global,
+    journal: &mut Journal<D>,
+    found: Superblock,
+    loaded: &Loaded,
+) -> Result<(), MigrationFault>
+    requires volume { IsVolumeOf (log_of journal.old).size found }
+    requires rests { IsAtRest (log_of journal.old) }
+    requires loaded { IsLoaded D.keeps_word found (log_of journal.old)
+        loaded.now.mark loaded.now.table loaded.now.places }
+    ensures moves { Moves D.keeps_word found loaded.now.mark
+        (log_of journal.old) (log_of journal.new) result }
+    // Refused
+    ensures memory { IsErrOf result MigrationFault.Memory
+        → log_of journal.new ≡ log_of journal.old }
+    ensures later { failures_of journal.old ≤ failures_of journal.new }
+    ensures cause { IsErrOf result MigrationFault.Device
+        → IsCounted (failures_of journal.old) (failures_of journal.new) }
+    ensures none { (IsErrOf result MigrationFault.Device → ⊥)
+        → failures_of journal.new ≡ failures_of journal.old }
+{
+    match found.version {
+        VersionNumber::One => migrate(alloc, journal, &loaded.table, loaded.mark.unwrap_or(0)),
+        VersionNumber::Two => Ok(()),
+    }
+}
+
+/// Whether a mark stands once the nodes have form two.
+fn is_marked(version: VersionNumber, mark: Option<u32>) -> bool
+    ensures { result ≡ is_marked version mark }
+{
+    match version {
+        VersionNumber::One => true,
+        VersionNumber::Two => mark.is_some(),
+    }
+}
+
+/// Takes the mark of a migration away, where there is one.
+fn unmark<D: Device>(
+    journal: &mut Journal<D>,
+    is_marked: bool,
+    updates: Vec<Update>,
+) -> Result<(), JournalFault>
+    requires rests { IsAtRest (log_of journal.old) }
+    requires room { 148 < (log_of journal.old).size }
+    requires clearing { updates.items ≡ clearing_updates }
+    ensures clears { Clears D.keeps_word is_marked
+        (log_of journal.old) (log_of journal.new) result }
+    // Refused
+    ensures later { failures_of journal.old ≤ failures_of journal.new }
+    ensures cause { OnErr result (IsCounted (failures_of journal.old) (failures_of journal.new)) }
+    ensures none { OnOk result (failures_of journal.new ≡ failures_of journal.old) }
+{
+    if !is_marked {
+        return Ok(());
+    }
+    clear(journal, updates)
+}
+
+/// Begins a run on a volume whose nodes were read: one of version 1 is migrated, the restart count
+/// is raised with the version, and the mark is taken away. Its memory is taken before it writes.
+///
+/// # Errors
+///
+/// Memory, and then nothing was written; Device where the device failed.
+pub(crate) fn start<D: Device>(
+    alloc: Global,
+    journal: &mut Journal<D>,
+    found: Superblock,
+    loaded: &Loaded,
+) -> Result<(), MountFault>
+    requires volume { IsVolumeOf (log_of journal.old).size found }
+    requires rests { IsAtRest (log_of journal.old) }
+    requires base { D.keeps_word → HoldsBase found (log_of journal.old) }
+    requires loaded { IsLoaded D.keeps_word found (log_of journal.old)
+        loaded.now.mark loaded.now.table loaded.now.places }
+    ensures moments { D.keeps_word → AddsRaised found (log_of journal.old).base
+        (log_of journal.old).history (log_of journal.new).history }
+    ensures started { OnOk result (HasStarted D.keeps_word found loaded.now.table
+        (log_of journal.old) (log_of journal.new)) }
+    ensures size { (log_of journal.new).size ≡ (log_of journal.old).size }
+    // Refused
+    ensures only { IfErr result (λ fault.
+        (fault ≡ MountFault.Device) ⊎ (fault ≡ MountFault.Memory)) }
+    ensures memory { IsErrOf result MountFault.Memory → log_of journal.new ≡ log_of journal.old }
+    ensures counted { Counts (failures_of journal.old) (failures_of journal.new)
+        (IsErrOf result MountFault.Device) }
+{
+    let updates = clearing(alloc)?;
+    move_nodes(alloc, journal, found, loaded)?;
+    if raise(journal, found).is_err() {
+        return Err(MountFault::Device);
+    }
+    if unmark(journal, is_marked(found.version, loaded.mark), updates).is_err() {
+        return Err(MountFault::Device);
+    }
+    Ok(())
+}
