@@ -101,10 +101,13 @@ fn sizes_that_no_volume_has(rt: HostRuntime) -> Result<(), Fail> {
 }
 
 // a sector, bytes of it that are changed, and what a mount answers
-const CHANGES: [(u32, &[(usize, u8)], MountFault); 17] = [
+const CHANGES: [(u32, &[(usize, u8)], MountFault); 20] = [
     // the magic, the version, the numbers of sectors and nodes
     (0, &[(0, 0)], MountFault::NotVolume),
     (0, &[(11, 0)], MountFault::NotVolume),
+    (0, &[(11, 3)], MountFault::NotVolume),
+    // version 1, where nodes have form one
+    (0, &[(11, 1)], MountFault::Damaged),
     (0, &[(14, 2)], MountFault::NotVolume),
     (0, &[(19, 1)], MountFault::NotVolume),
     // a full count, and a byte after the fields
@@ -120,7 +123,8 @@ const CHANGES: [(u32, &[(usize, u8)], MountFault); 17] = [
     (98, &[(0, 128)], MountFault::Damaged),
     (98, &[(11, 8)], MountFault::Damaged),
     (99, &[(0, 1)], MountFault::Damaged),
-    // a spare sector, and a free place that is not zero
+    // a spare sector, the sector of the mark, and a free place that is not zero
+    (146, &[(9, 1)], MountFault::Damaged),
     (147, &[(9, 1)], MountFault::Damaged),
     (150, &[(4095, 1)], MountFault::Damaged),
     // the root: none, a file, of another number, with one name, of a later run, and another byte
