@@ -4,8 +4,12 @@
 mod caches;
 mod drivers;
 mod files;
+mod filling;
 mod images;
 mod independent;
+mod migrations;
+mod olds;
 mod pages;
 mod rows;
+mod version_1;
 mod volumes;

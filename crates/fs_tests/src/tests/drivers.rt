@@ -12,5 +12,6 @@ pub(super) use asking::ask;
 pub(super) use call::{Answer, Call, Caller, Effect, Given, Make};
 pub(super) use changes::make_dir;
 pub(super) use volumes::{
-    Tree, check, format, image_of, mount, mount_cached, mount_on, mounted, refused, remount,
+    Tree, check, device_of, format, image_of, mount, mount_cached, mount_on, mounted, refused,
+    remount, try_mount,
 };

@@ -1,76 +1,20 @@
 //! Volumes with bytes that are other ones: a check answers what an independent reading finds.
 
-use super::drivers::{
-    Call as Asked, Caller, Given, Make, ask, check, image_of, mounted, refused, remount,
-};
-use super::independent::{Image, Unfit, check_image};
+use super::drivers::{check, device_of, refused};
+use super::filling::filled;
+use super::independent::{Image, Unfit, check_image, copy_image};
+use super::version_1::take_back;
 use disk::{Call, MemDevice};
 use fs::MountFault;
 use std::alloc::Global;
 use std::process::Abort;
 use std::test::Fail;
 
-const SECTORS: u32 = 256;
-
 const NODES: u32 = 16;
-
-/// Who makes the nodes of the volume, and their mode.
-const OWNER: Caller = Caller { uid: 7, now: 5 };
-
-const MODE_755: Given<'static> = Given {
-    bitmap: &[0, 2],
-    values: b"\0\0\x01\xED",
-};
-
-const NEW: Make<'static> = Make::Guarded(MODE_755);
-
-/// The numbers of `a`, `b`, `f` and `g`, the stamps of the changes that make them.
-const A: u64 = 0x1_0000_0001;
-
-const B: u64 = 0x1_0000_0002;
-
-const F: u64 = 0x1_0000_0004;
-
-const G: u64 = 0x1_0000_0006;
-
-/// What fills the volume.
-const FILLING: [Asked<'static>; 8] = [
-    Asked::MakeDir(1, b"a", MODE_755),
-    Asked::MakeDir(A, b"b", MODE_755),
-    Asked::MakeDir(B, b"c", MODE_755),
-    Asked::Open(1, b"f", (2, 0), NEW),
-    Asked::Write(F, 0, &[7; 5_000], true),
-    Asked::Open(1, b"g", (2, 0), NEW),
-    Asked::Write(G, 0, b"first", true),
-    Asked::Write(G, 8_192, b"third", true),
-];
-
-/// A directory `a` with `b` in it and `c` in that, a file `f` of 5,000 bytes, and a file `g` with a
-/// hole, of two runs. It was mounted twice: the second mount copied home what the gate still named,
-/// and closed it.
-///
-/// The nodes are those of the sectors 148 (the root), 163, 162, 161, 160 and 159. From 164 on stand
-/// the block of the root and its run sector, those of `a` and of `b`, two blocks of `f` and its run
-/// sector, and the first block of `g`, its run sector and its other block.
-fn filled(alloc: Global) -> Result<Image, Fail> {
-    let mut fs = mounted(alloc, SECTORS, NODES)?;
-    for call in FILLING {
-        ask(alloc, &mut fs, OWNER, call, &mut Vec::new(alloc))?;
-    }
-    image_of(alloc, &mut remount(alloc, fs)?.into_device())
-}
-
-/// Memory with these sectors.
-fn device_of(alloc: Global, image: Image) -> Result<MemDevice, Fail> {
-    if image.len() > u32::MAX as usize {
-        return Err("too many sectors".into());
-    }
-    Ok(MemDevice::with_sectors(alloc, image)?)
-}
 
 /// What a check of the sectors answers.
 fn checked(alloc: Global, image: &Image) -> Result<Result<(), Unfit>, Fail> {
-    let mut device = device_of(alloc, image.clone()?)?;
+    let mut device = device_of(alloc, copy_image(alloc, image)?)?;
     match check(alloc, &mut device) {
         Ok(()) => Ok(Ok(())),
         Err(MountFault::NotVolume) => Ok(Err(Unfit::NotVolume)),
@@ -116,9 +60,9 @@ fn try_byte(
 fn try_parts(
     rt: &impl Abort,
     alloc: Global,
+    mut image: Image,
     parts: &[(usize, usize, usize)],
 ) -> Result<Seen, Fail> {
-    let mut image = filled(alloc)?;
     let mut seen = Seen { fit: 0, unfit: 0 };
     for (sector, from, to) in parts.iter().copied() {
         for place in from..to {
@@ -134,11 +78,18 @@ fn try_parts(
     Ok(seen)
 }
 
+/// Changes after which a tree stands: none, a list of 72 entries, and the mark of a migration that
+/// has moved all nodes.
+const FITTING: [&[Put]; 3] = [&[], &[(160, 85, &[72])], &[(147, 0, b"MIGR\0\0\0\x10")]];
+
 #[test]
 fn the_volume_is_one(rt: HostRuntime) -> Result<(), Fail> {
-    let image = filled(rt.alloc())?;
-    assert_eq!(rt; check_image(rt.alloc(), &image), Ok(()));
-    assert_eq!(rt; checked(rt.alloc(), &image)?, Ok(()));
+    let mut image = filled(rt.alloc(), NODES)?;
+    for changes in FITTING {
+        put_all(&mut image, changes);
+        assert_eq!(rt; check_image(rt.alloc(), &image), Ok(()));
+        assert_eq!(rt; checked(rt.alloc(), &image)?, Ok(()));
+    }
     Ok(())
 }
 
@@ -153,7 +104,7 @@ fn bytes_in_front_of_the_nodes(rt: HostRuntime) -> Result<(), Fail> {
         (100, 0, 2),
         (147, 4_094, 4_096),
     ];
-    let seen = try_parts(&rt, rt.alloc(), &parts)?;
+    let seen = try_parts(&rt, rt.alloc(), filled(rt.alloc(), NODES)?, &parts)?;
     // a restart count that is not below the run of the newest stamp
     assert!(rt; seen.fit == 12, "{seen:?}");
     Ok(())
@@ -168,8 +119,28 @@ fn bytes_of_nodes(rt: HostRuntime) -> Result<(), Fail> {
         (159, 0, 56),
         (158, 0, 2),
     ];
-    let seen = try_parts(&rt, rt.alloc(), &parts)?;
+    let seen = try_parts(&rt, rt.alloc(), filled(rt.alloc(), NODES)?, &parts)?;
     assert!(rt; seen.fit > 100 && seen.unfit > 1_000, "{seen:?}");
+    Ok(())
+}
+
+/// Of version 1, where 4 of the 16 places are moved.
+#[test]
+fn bytes_of_a_migration(rt: HostRuntime) -> Result<(), Fail> {
+    let mut image = filled(rt.alloc(), NODES)?;
+    take_back(&mut image, 16, 4);
+    let parts = [
+        (0, 8, 12),
+        (147, 0, 12),
+        (147, 4_094, 4_096),
+        (148, 0, 8),
+        (148, 84, 128),
+        (163, 0, 8),
+        (163, 84, 128),
+    ];
+    let seen = try_parts(&rt, rt.alloc(), image, &parts)?;
+    // the mark of a place more, which is free, and an entry more of zeros, which allows nothing
+    assert!(rt; seen.fit == 2, "{seen:?}");
     Ok(())
 }
 
@@ -189,7 +160,7 @@ fn bytes_of_run_sectors_and_names(rt: HostRuntime) -> Result<(), Fail> {
         (175, 0, 8),
         (176, 0, 2),
     ];
-    let seen = try_parts(&rt, rt.alloc(), &parts)?;
+    let seen = try_parts(&rt, rt.alloc(), filled(rt.alloc(), NODES)?, &parts)?;
     assert!(rt; seen.fit > 50 && seen.unfit > 1_000, "{seen:?}");
     Ok(())
 }
@@ -198,7 +169,7 @@ fn bytes_of_run_sectors_and_names(rt: HostRuntime) -> Result<(), Fail> {
 type Put = (usize, usize, &'static [u8]);
 
 /// Volumes on which no tree stands, each of one fault.
-const FAULTS: [&[Put]; 22] = [
+const FAULTS: [&[Put]; 34] = [
     // gates: of no targets, of 97, of the target 97, of the sector after the last, of a target
     // twice
     &[(1, 0, &[0, 0, 0, 1, 0, 0, 0, 0])],
@@ -206,8 +177,19 @@ const FAULTS: [&[Put]; 22] = [
     &[(1, 0, &[0, 0, 0, 1, 0, 0, 0, 1, 0, 0, 0, 97])],
     &[(1, 0, &[0, 0, 0, 1, 0, 0, 0, 1, 0, 0, 1, 0])],
     &[(1, 0, &[0, 0, 0, 1, 0, 0, 0, 2, 0, 0, 0, 148, 0, 0, 0, 148])],
-    // the magic of a node, two nodes of one number
-    &[(160, 3, b"2")],
+    // version 1, which has nodes of form one
+    &[(0, 11, &[1])],
+    // a node: its magic, the byte that has the number of entries in form one, 73 entries, and the
+    // bytes after their number
+    &[(160, 3, b"E")],
+    &[(160, 3, b"E"), (160, 5, &[3]), (160, 85, &[0])],
+    &[(160, 0, b"n")],
+    &[(160, 5, &[3])],
+    &[(160, 84, &[1])],
+    &[(160, 85, &[73])],
+    &[(160, 86, &[1])],
+    &[(160, 127, &[1])],
+    // two nodes of one number
     &[(160, 15, &[6])],
     // a name of no node, two names of one node
     &[(164, 279, &[9])],
@@ -224,14 +206,45 @@ const FAULTS: [&[Put]; 22] = [
     // an entry of no type, and one of rights that there are not
     &[(160, 128, &[2])],
     &[(160, 132, &[1])],
-    // spare sectors
+    // spare sectors: the marks of nothing, of 15 places and of 17, and another byte beside one
     &[(100, 0, &[1])],
     &[(147, 4_095, &[1])],
+    &[(147, 0, b"MIGR\0\0\0\0")],
+    &[(147, 0, b"MIGR\0\0\0\x0F")],
+    &[(147, 0, b"MIGR\0\0\0\x11")],
+    &[(147, 0, b"MIGR\0\0\0\x10\x01")],
     // a name twice, a stamp of a later run, a byte past the size
     &[(164, 289, b"a")],
     &[(164, 280, &[0, 0, 0, 3, 0, 0, 0, 0])],
     &[(171, 904, &[1])],
 ];
+
+/// The same of version 1, where 13 of the 16 places are moved, which have the nodes of the sectors
+/// 148, 159 and 160.
+const MOVING_FAULTS: [&[Put]; 14] = [
+    // marks: none, of no places, of a place too few, of one too many, of more than there are, of
+    // another magic, with another byte beside it
+    &[(147, 0, &[0; 8])],
+    &[(147, 7, &[0])],
+    &[(147, 7, &[12])],
+    &[(147, 7, &[14])],
+    &[(147, 7, &[17])],
+    &[(147, 3, b"S")],
+    &[(147, 8, &[1])],
+    &[(147, 4_095, &[1])],
+    // version 2, not all of whose nodes have form two
+    &[(0, 11, &[2])],
+    // nodes that are moved and should not be, or the other way round
+    &[(160, 3, b"E"), (160, 5, &[3]), (160, 85, &[0])],
+    &[(163, 3, b"2"), (163, 5, &[0]), (163, 85, &[3])],
+    // form one: 41 entries, and the bytes that have their number in form two
+    &[(163, 5, &[41])],
+    &[(163, 84, &[1])],
+    &[(163, 85, &[3])],
+];
+
+/// What is no volume: versions 0 and 3, and one of more bytes.
+const NO_VERSIONS: [&[Put]; 3] = [&[(0, 11, &[0])], &[(0, 11, &[3])], &[(0, 10, &[1])]];
 
 /// Puts bytes into sectors.
 fn put_all(image: &mut Image, changes: &[Put]) {
@@ -245,36 +258,63 @@ fn put_all(image: &mut Image, changes: &[Put]) {
     }
 }
 
-/// A mount of the device answers Damaged, and writes nothing.
-fn expect_damaged(
+/// A mount of the device is refused so, and writes nothing.
+fn expect_refused(
     rt: &impl Abort,
     alloc: Global,
     device: MemDevice,
     changes: &[Put],
+    wanted: MountFault,
 ) -> Result<(), Fail> {
     let Some((fault, device)) = refused(alloc, device) else {
         return Err("mounted".into());
     };
-    assert!(rt; fault == MountFault::Damaged, "{changes:?}: {fault}");
+    assert!(rt; fault == wanted, "{changes:?}: {fault}");
     for call in device.calls() {
         assert!(rt; matches!(call, Call::Sync), "{changes:?} is written to");
     }
     Ok(())
 }
 
-#[test]
-fn faults_are_damaged_and_nothing_is_written(rt: HostRuntime) -> Result<(), Fail> {
-    let good = filled(rt.alloc())?;
-    for changes in FAULTS {
-        let mut image = good.clone()?;
+/// The volume with each of the changes.
+fn try_faults(
+    rt: &impl Abort,
+    alloc: Global,
+    good: &Image,
+    faults: &[&[Put]],
+    wanted: (Unfit, MountFault),
+) -> Result<(), Fail> {
+    let (unfit, fault) = wanted;
+    for changes in faults.iter().copied() {
+        let mut image = copy_image(alloc, good)?;
         put_all(&mut image, changes);
         assert!(rt;
             image.as_slice() != good.as_slice(),
             "{changes:?} changes nothing"
         );
-        assert_eq!(rt; check_image(rt.alloc(), &image), Err(Unfit::Damaged));
-        let device = device_of(rt.alloc(), image)?;
-        expect_damaged(&rt, rt.alloc(), device, changes)?;
+        assert!(rt; check_image(alloc, &image) == Err(unfit), "{changes:?}");
+        assert!(rt; checked(alloc, &image)? == Err(unfit), "{changes:?}");
+        let device = device_of(alloc, image)?;
+        expect_refused(rt, alloc, device, changes, fault)?;
     }
     Ok(())
+}
+
+const DAMAGED: (Unfit, MountFault) = (Unfit::Damaged, MountFault::Damaged);
+
+const NO_VOLUME: (Unfit, MountFault) = (Unfit::NotVolume, MountFault::NotVolume);
+
+#[test]
+fn faults_are_refused_and_nothing_is_written(rt: HostRuntime) -> Result<(), Fail> {
+    let good = filled(rt.alloc(), NODES)?;
+    try_faults(&rt, rt.alloc(), &good, &FAULTS, DAMAGED)?;
+    try_faults(&rt, rt.alloc(), &good, &NO_VERSIONS, NO_VOLUME)
+}
+
+#[test]
+fn faults_of_a_migration_are_refused_and_nothing_is_written(rt: HostRuntime) -> Result<(), Fail> {
+    let mut good = filled(rt.alloc(), NODES)?;
+    take_back(&mut good, 16, 13);
+    try_faults(&rt, rt.alloc(), &good, &MOVING_FAULTS, DAMAGED)?;
+    try_faults(&rt, rt.alloc(), &good, &NO_VERSIONS, NO_VOLUME)
 }

@@ -1,5 +1,5 @@
-//! Whether a tree stands on the sectors of a volume, by docs/FORMAT.md alone: none of the crates
-//! that a mount is made of has a part in it.
+//! What stands on the sectors of a volume of either version, by docs/FORMAT.md alone: none of the
+//! crates that a mount is made of has a part in it.
 
 use std::alloc::{AllocError, AllocFailed, Global};
 use std::str;
@@ -8,12 +8,15 @@ const SECTOR: usize = 4_096;
 
 pub(super) type Image = Vec<[u8; SECTOR]>;
 
-/// The first sectors of the bitmap, of the spare ones and of the node table.
+/// The first sectors of the bitmap and of the spare ones, that of a mark, and the first of the node
+/// table.
 const BITMAP: usize = 98;
 
 const SPARE: usize = 100;
 
-const NODES: usize = 148;
+pub(super) const MARK: usize = 147;
+
+pub(super) const NODES: usize = 148;
 
 /// The runs of a run sector, the names of a directory's sector, and the bytes of a name's record.
 const RUNS: usize = 500;
@@ -45,9 +48,24 @@ impl<T: Drop> From<AllocFailed<T>> for Unfit {
 /// What the superblock says, and the first stamp of a later run.
 #[derive(Clone, Copy)]
 struct Shape {
+    version: u64,
     sectors: usize,
     nodes: usize,
+    count: u64,
     later: u64,
+}
+
+/// What a volume stands for.
+#[derive(Drop)]
+pub(super) struct Standing {
+    pub(super) version: u64,
+    /// How often it was mounted.
+    pub(super) count: u64,
+    /// How many places of its node table are moved to form two, as its mark tells.
+    pub(super) mark: Option<usize>,
+    /// Its sectors as they are read through the gate, without the mark, each node in form two. A
+    /// tree is on those from [`BITMAP`] on.
+    pub(super) sectors: Image,
 }
 
 /// A node, and the sector of each of its blocks, 0 for a hole.
@@ -106,19 +124,27 @@ fn small(bytes: &[u8], place: usize, width: usize) -> usize {
 }
 
 fn are_zero(bytes: &[u8], from: usize, to: usize) -> bool {
-    for i in from..to {
-        if byte(bytes, i) != 0 {
+    for byte in bytes.get(from..to.min(bytes.len())).unwrap_or(&[]) {
+        if *byte != 0 {
             return false;
         }
     }
     true
 }
 
+/// The same sectors once more.
+pub(super) fn copy_image(alloc: Global, image: &[[u8; SECTOR]]) -> Result<Image, AllocError> {
+    let mut copy = Vec::with_capacity(alloc, image.len())?;
+    copy.extend_from_slice(image)?;
+    Ok(copy)
+}
+
 fn shape_of(image: &[[u8; SECTOR]]) -> Result<Shape, Unfit> {
     let first = sector(image, 0);
+    let version = number(first, 8, 4);
     let sectors = small(first, 12, 4);
     let nodes = small(first, 16, 4);
-    let is_form = first.starts_with(b"NFS41VOL") && number(first, 8, 4) == 1;
+    let is_form = first.starts_with(b"NFS41VOL") && (version == 1 || version == 2);
     let is_size = sectors == image.len() && (256..=65_536).contains(&sectors);
     let is_room = (2..=16_384).contains(&nodes) && nodes.saturating_add(164) <= sectors;
     if !(is_form && is_size && is_room) {
@@ -127,16 +153,17 @@ fn shape_of(image: &[[u8; SECTOR]]) -> Result<Shape, Unfit> {
     need(are_zero(first, 24, SECTOR))?;
     let count = number(first, 20, 4);
     Ok(Shape {
+        version,
         sectors,
         nodes,
+        count,
         later: count.saturating_add(1).saturating_mul(1 << 32),
     })
 }
 
 /// The sectors as they are read through the gate.
 fn settled(alloc: Global, image: &[[u8; SECTOR]]) -> Result<Image, Unfit> {
-    let mut found = Vec::with_capacity(alloc, image.len())?;
-    found.extend_from_slice(image)?;
+    let mut found = copy_image(alloc, image)?;
     let gate = sector(image, 1);
     if are_zero(gate, 0, SECTOR) {
         return Ok(found);
@@ -157,6 +184,52 @@ fn settled(alloc: Global, image: &[[u8; SECTOR]]) -> Result<Image, Unfit> {
     Ok(found)
 }
 
+/// The mark of a migration that the volume may have, and the other spare sectors, which are zero.
+fn mark_of(image: &[[u8; SECTOR]], shape: &Shape) -> Result<Option<usize>, Unfit> {
+    for spare in SPARE..MARK {
+        need(are_zero(sector(image, spare), 0, SECTOR))?;
+    }
+    let mark = sector(image, MARK);
+    if are_zero(mark, 0, SECTOR) {
+        return Ok(None);
+    }
+    let moved = small(mark, 4, 4);
+    need(mark.starts_with(b"MIGR") && are_zero(mark, 8, SECTOR))?;
+    need(0 < moved && moved <= shape.nodes)?;
+    need(shape.version == 1 || moved == shape.nodes)?;
+    Ok(Some(moved))
+}
+
+/// A node of form one as it is in form two.
+fn move_node(bytes: &mut [u8; SECTOR]) -> Result<(), Unfit> {
+    let count = bytes[5];
+    need(bytes.starts_with(b"NODE") && count <= 40 && are_zero(bytes, 84, 128))?;
+    bytes[3] = b'2';
+    bytes[5] = 0;
+    bytes[85] = count;
+    Ok(())
+}
+
+/// Brings the nodes that are not moved yet to form two, and takes the mark away.
+fn move_nodes(image: &mut Image, shape: &Shape, mark: Option<usize>) -> Result<(), Unfit> {
+    let first = if shape.version == 1 {
+        mark.unwrap_or(0)
+    } else {
+        shape.nodes
+    };
+    let from = first.saturating_add(NODES);
+    let to = shape.nodes.saturating_add(NODES);
+    for (number, bytes) in image.iter_mut().enumerate() {
+        if number == MARK {
+            *bytes = [0; SECTOR];
+        }
+        if from <= number && number < to && !are_zero(bytes, 0, SECTOR) {
+            move_node(bytes)?;
+        }
+    }
+    Ok(())
+}
+
 /// An entry of a list that a node of this kind may have; answers whether a mode replaces it.
 fn entry_at(bytes: &[u8], place: usize, is_directory: bool) -> Result<bool, Unfit> {
     let at = |i: usize| byte(bytes, place.saturating_add(i));
@@ -175,7 +248,7 @@ fn entry_at(bytes: &[u8], place: usize, is_directory: bool) -> Result<bool, Unfi
 }
 
 fn check_list(bytes: &[u8], count: usize, is_directory: bool) -> Result<(), Unfit> {
-    need(count <= 40)?;
+    need(count <= 72)?;
     let mut others = 0u32;
     for i in 0..count {
         let place = i.saturating_mul(16).saturating_add(128);
@@ -183,7 +256,7 @@ fn check_list(bytes: &[u8], count: usize, is_directory: bool) -> Result<(), Unfi
             others = others.saturating_add(1);
         }
     }
-    need(others <= 32)?;
+    need(others <= 64)?;
     need(are_zero(bytes, count.saturating_mul(16).saturating_add(128), SECTOR))
 }
 
@@ -266,12 +339,12 @@ impl Tree {
     ) -> Result<(), Unfit> {
         let kind = byte(bytes, 4);
         let own = number(bytes, 8, 8);
-        need(bytes.starts_with(b"NODE") && (kind == 1 || kind == 2))?;
+        need(bytes.starts_with(b"NOD2") && (kind == 1 || kind == 2) && byte(bytes, 5) == 0)?;
         need(0 < own && own < shape.later && number(bytes, 24, 8) < shape.later)?;
         need(!self.nodes.iter().any(|node| node.number == own))?;
         let is_directory = kind == 2;
-        check_list(bytes, usize::from(byte(bytes, 5)), is_directory)?;
-        need(are_zero(bytes, 84, 128))?;
+        check_list(bytes, small(bytes, 84, 2), is_directory)?;
+        need(are_zero(bytes, 86, 128))?;
         let size = small(bytes, 40, 8);
         let (most, width) = if is_directory {
             (1_024, NAMES)
@@ -426,33 +499,65 @@ impl Tree {
     }
 }
 
-/// Whether a tree stands on the sectors.
-pub(super) fn check_image(alloc: Global, image: &[[u8; SECTOR]]) -> Result<(), Unfit> {
-    let shape = shape_of(image)?;
-    let image = settled(alloc, image)?;
+/// Whether a tree stands on sectors that are read through the gate, each node in form two.
+fn check_tree(alloc: Global, image: &[[u8; SECTOR]], shape: &Shape) -> Result<(), Unfit> {
     let mut tree = Tree {
         nodes: Vec::new(alloc),
         links: Vec::new(alloc),
         named: Vec::from_elem(alloc, false, shape.sectors)?,
     };
-    for spare in SPARE..NODES {
-        need(are_zero(sector(&image, spare), 0, SECTOR))?;
-    }
     for place in 0..shape.nodes {
-        let bytes = sector(&image, place.saturating_add(NODES));
+        let bytes = sector(image, place.saturating_add(NODES));
         if !are_zero(bytes, 0, SECTOR) {
-            tree.take_node(alloc, &image, &shape, bytes)?;
+            tree.take_node(alloc, image, shape, bytes)?;
         }
     }
     for node in tree.nodes.iter() {
         if node.is_directory {
-            links_of(alloc, &image, node, &shape, &mut tree.links)?;
+            links_of(alloc, image, node, shape, &mut tree.links)?;
         } else {
-            check_tail(&image, node)?;
+            check_tail(image, node)?;
         }
     }
     check_once(&tree.links)?;
     tree.check_links()?;
-    tree.check_charge(&shape)?;
-    tree.check_bitmap(&image, &shape)
+    tree.check_charge(shape)?;
+    tree.check_bitmap(image, shape)
+}
+
+impl Standing {
+    /// Whether the sectors that a tree is on are the same.
+    pub(super) fn has_tree_of(&self, other: &Standing) -> bool {
+        if self.sectors.len() != other.sectors.len() {
+            return false;
+        }
+        for (one, other) in self.sectors.iter().zip(&other.sectors).skip(BITMAP) {
+            for i in 0..SECTOR {
+                if one[i] != other[i] {
+                    return false;
+                }
+            }
+        }
+        true
+    }
+}
+
+/// What would stand on the sectors, whether the nodes are a tree or not.
+pub(super) fn read_image(alloc: Global, image: &[[u8; SECTOR]]) -> Result<Standing, Unfit> {
+    let shape = shape_of(image)?;
+    let mut sectors = settled(alloc, image)?;
+    let mark = mark_of(&sectors, &shape)?;
+    move_nodes(&mut sectors, &shape, mark)?;
+    Ok(Standing {
+        version: shape.version,
+        count: shape.count,
+        mark,
+        sectors,
+    })
+}
+
+/// Whether a tree stands on the sectors.
+pub(super) fn check_image(alloc: Global, image: &[[u8; SECTOR]]) -> Result<(), Unfit> {
+    let standing = read_image(alloc, image)?;
+    check_tree(alloc, &standing.sectors, &shape_of(image)?)
 }

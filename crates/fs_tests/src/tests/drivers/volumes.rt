@@ -24,6 +24,14 @@ pub(crate) fn mount_on<D: Device>(alloc: Global, device: D) -> Option<Fs<D>> {
     }
 }
 
+/// Mounts a device, whatever stands on it, and leaves it. The run, or why it was refused.
+pub(crate) fn try_mount<D: Device>(alloc: Global, device: D) -> Result<u32, MountFault> {
+    match Fs::mount(alloc, device) {
+        Ok(fs) => Ok(fs.restart_count()),
+        Err(refused) => Err(refused.fault),
+    }
+}
+
 /// Mounts a device that holds a volume.
 pub(crate) fn mount(alloc: Global, device: MemDevice) -> Result<Tree, Fail> {
     match mount_on(alloc, device) {
@@ -77,4 +85,12 @@ pub(crate) fn image_of(alloc: Global, device: &mut MemDevice) -> Result<Vec<[u8;
         image.push(content)?;
     }
     Ok(image)
+}
+
+/// Memory with these sectors.
+pub(crate) fn device_of(alloc: Global, image: Vec<[u8; SECTOR]>) -> Result<MemDevice, Fail> {
+    if image.len() > u32::MAX as usize {
+        return Err("too many sectors".into());
+    }
+    Ok(MemDevice::with_sectors(alloc, image)?)
 }
