@@ -69,7 +69,7 @@ module _ (most : ℕ) where
   created_short limits arguments client table None is =
       all-append (keeps_short most) (staying client table) (new_session limits arguments client table)
       (all-filter (keeps_short most) (λ x. not (is_of_clients (replaced_by client table) x)) table.sessions is)
-      (all-replicate (λ slot. is_short_state most slot.state) ((sessions.fore_channel (sessions.limits_for limits (sessions.persists limits arguments client table)) arguments.fore).max_requests) no_slot refl)
+      (all-replicate (λ slot. is_short_state most slot.state) ((sessions.fore_channel (sessions.limits_for limits (sessions.persists arguments client table)) arguments.fore).max_requests) no_slot refl)
 
   abbrev ShortOutcome : CreateSessionOutcome → Type 0
   ShortOutcome o = AllShort o.table.sessions

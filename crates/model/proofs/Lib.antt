@@ -46,6 +46,7 @@ pub mod SeatRunLaws
 pub mod SeatLives
 pub mod SeatReplies
 pub mod SeatsFreed
+pub mod SeatsSit
 pub mod SeatTables
 pub mod SeatsGo
 pub mod SeatWorlds

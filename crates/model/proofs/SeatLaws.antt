@@ -4,8 +4,8 @@ use Rattle.std.specs.List.{IsAmong}
 use Rattle.std.proofs.lemmas.Bool.{true≢false, false_from_ne_true}
 use Rattle.std.proofs.lemmas.Slice.Eq.{bytes_eq-Decides}
 use Rattle.model.specs.Runs.{Stored, freed_between}
-use Rattle.model.specs.SeatRuns.{AreApart, HoldsFrom}
-use Rattle.model.specs.Seats.{HeldReply, Seat, Seats, this_or, seat_of, has_seat, held_in, held_at, freed_if, freed, seated, with_held, holds_if, holding}
+use Rattle.model.specs.SeatRuns.{HoldsFrom}
+use Rattle.model.specs.Seats.{HeldReply, Seat, Seats, this_or, seat_of, has_seat, held_in, held_at, freed_if, freed, seated, with_held, holds_if, holding, AreApart}
 
 pub bytes_apart : (a b : List ℕ) → (a ≡ b → ⊥) → bytes_eq a b ≡ false
 bytes_apart a b apart = false_from_ne_true (bytes_eq a b) (λ same. apart ((bytes_eq-Decides a b).0 same))

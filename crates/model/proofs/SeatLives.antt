@@ -7,8 +7,8 @@ use Rattle.model.specs.declared.status.Status.TheVariants as status
 use Rattle.model.specs.Answer.{Answer, Outcome, Done, Refused}
 use Rattle.model.specs.Operation.{Argument, SequenceArguments, operation_of}
 use Rattle.model.specs.Runs.{Event, Arrives, Turns, HangsUp, Connects, Takes, effect_of, executed_of, executed_by, executed, done_with, Stored, freed_between, freed_of, History, history_after, history_failing, taken_by, Serving, mounted, IsSeatedAfter, MayHold, Fails, IsRun, Begins, Goes_on, Fails_at, Stays_down}
-use Rattle.model.specs.SeatRuns.{run_of, AreApart, AreSeats, Stop, freeing, stored_in, freed_in, executed_in, HoldsFrom, IsFreed, EverySeatStays, EveryRunCanFollow, AreLives, numbers_over, EveryNumberOnce, last_of, WasFreed, EveryReplyStaysHeld}
-use Rattle.model.specs.Seats.{Seat, Seats, seat_of, has_seat, held_in}
+use Rattle.model.specs.SeatRuns.{AreSeats, Stop, freeing, stored_in, freed_in, executed_in, HoldsFrom, IsFreed, EverySeatStays, EveryRunCanFollow, AreLives, numbers_over, EveryNumberOnce, last_of, WasFreed, EveryReplyStaysHeld}
+use Rattle.model.specs.Seats.{Seat, Seats, seat_of, has_seat, held_in, run_of, AreApart}
 use Rattle.model.specs.ServedOnce.{number_by, numbers_in}
 use Rattle.model.specs.Session as sessions
 use Rattle.model.specs.Session.{Table, Session, is_session}

@@ -8,8 +8,8 @@ use Rattle.model.specs.Keyed.{at}
 use Rattle.model.specs.Operation.{Argument, SequenceArguments, operation_of}
 use Rattle.model.specs.Record.{framed}
 use Rattle.model.specs.Rpc.{Success, reply_text}
-use Rattle.model.specs.Runs.{Stored}
-use Rattle.model.specs.SeatRuns.{IsHeldReply, GivesHeld, request_in, EveryReplyIsStored}
+use Rattle.model.specs.Runs.{Stored, is_done}
+use Rattle.model.specs.SeatRuns.{IsHeldReply, GivesHeld, KeepsOrNone, Takes, request_in, EveryReplyIsStored}
 use Rattle.model.specs.Seats.{has_seat, held_at}
 use Rattle.model.specs.Session as sessions
 use Rattle.model.specs.Session.{Table, Session, is_session, finish}
@@ -74,10 +74,30 @@ module _ (world : World) (request : InProgress) where
 put_there : (world : World) (number : ℕ) (connection : Connection) → reply_at (with_connection world number connection) number ≡ reply_in (Some connection)
 put_there world number connection = ap reply_in (at-with_same world.connections number connection)
 
+-- A SEQUENCE that is done leaves its request with the slot
+
+abbrev TakesSlot : SequenceArguments → HasRun → Type 0
+TakesSlot arguments (Gives outcome after left) = is_done outcome ≡ true → left.slot ≡ Some (arguments.session, arguments.slot)
+TakesSlot arguments (Replays result session slot) = Unit {0}
+
+module _ (world : World) (request : InProgress) (arguments : SequenceArguments) where
+  begun_takes : (b : sessions.Begun) → TakesSlot arguments (begun world request arguments b)
+  begun_takes (sessions.Refuses reason) = λ done. absurd (cc)
+  begun_takes (sessions.Replays reply) = tt
+  begun_takes sessions.Runs = by_session (find (is_session arguments.session) world.table.sessions)
+    where
+      by_session : (known : Option Session) → TakesSlot arguments (started_in world request arguments known)
+      by_session None = λ done. absurd (cc)
+      by_session (Some session) = λ done. refl
+
+  run_takes : (now : ℕ) → TakesSlot arguments (run world request now (Argument.Sequence arguments))
+  unfolding run
+  run_takes now = begun_takes _
+
 -- A turn behind a result keeps its request's slot, or gives no reply
 
 abbrev KeepsOr : ℕ → Option (List ℕ × ℕ) → Turned → Type 0
-KeepsOr number slot t = (reply_at t.world number ≡ None) ⊎ (t.keeps ≡ slot)
+KeepsOr number slot t = KeepsOrNone t number slot
 
 closes_keeps : (number : ℕ) (after : World) (request : InProgress) (last : Status) (executed : Option Entry)
     → KeepsOr number request.slot (closes after number request last executed)
@@ -93,6 +113,21 @@ behind_keeps number after request (Done answer) executed =
     either (KeepsOr number request.slot) (is_last request) _ _
     (λ last. closes_keeps number after (with_result request (Done answer)) status.Ok executed)
     (λ more. inl (put_there after number (Busy (with_result request (Done answer)))))
+
+-- and what was executed is as it was
+
+closes_executed : (number : ℕ) (after : World) (request : InProgress) (last : Status) (executed : Option Entry)
+    → (closes after number request last executed).executed ≡ executed
+closes_executed number after request last executed =
+    either (λ (t : Turned). t.executed ≡ executed) (is_to_hold request.slot after.table.seats) _ _ (λ seated. refl) (λ none. refl)
+
+behind_executed : (number : ℕ) (after : World) (request : InProgress) (outcome : Outcome) (executed : Option Entry)
+    → (behind after number request outcome executed).executed ≡ executed
+behind_executed number after request (Refused operation reason) executed = closes_executed number after (with_result request (Refused operation reason)) reason executed
+behind_executed number after request (Done answer) executed =
+    either (λ (t : Turned). t.executed ≡ executed) (is_last request) _ _
+    (λ last. closes_executed number after (with_result request (Done answer)) status.Ok executed)
+    (λ more. refl)
 
 -- and no seat holds it
 
@@ -222,6 +257,36 @@ module _ (limits : ServerLimits) (world : World) (held : Held limits world) (its
     turned_keeps _ (Repeats other operation rest result session slot goes reads ran) =
         absurd (some (sym (same_slot other goes) ∙ run_left other operation rest (Replays result session slot) goes reads ran))
 
+  -- of a SEQUENCE that begins one
+
+  module _ (entry : Entry) (arguments : SequenceArguments) (takes : Takes entry arguments) where
+    -- what the entry of a result says of it
+    one_entry : (done : Entry) (given : Option Entry) → given ≡ Some done → given ≡ Some entry → done ≡ entry
+    one_entry done given first second = let both : Some done ≡ Some entry = sym first ∙ second in cc
+
+    turned_begins : (t : Turned) → IsTurn world number now t → t.executed ≡ Some entry → KeepsOr number (Some (arguments.session, arguments.slot)) t
+    turned_begins _ Idles executed = absurd (cc)
+    turned_begins _ (Says bytes xid reply waits) executed = absurd (cc)
+    turned_begins _ (Closes other last there ended) executed = absurd (cc)
+    turned_begins _ (Unread other operation reason goes) executed =
+        let none : None ≡ Some entry = sym (behind_executed number world other (Refused operation reason) None) ∙ executed in absurd (cc)
+    turned_begins _ (TooBig other operation rest goes reads) executed =
+        let reason = Refused (operation_of operation) status.RepTooBig in
+        let its = executed_entry world (read_of other rest) operation reason world in
+        let same : its ≡ entry = one_entry its _ (behind_executed number world (read_of other rest) reason (Some its)) executed in
+        absurd (true≢false (sym (ap (λ (e : Entry). is_done e.outcome) same ∙ takes.1)))
+    turned_begins _ (Gave other operation rest outcome after left goes reads ran) executed =
+        let its = executed_entry world (read_of other rest) operation outcome after in
+        let same : its ≡ entry = one_entry its _ (behind_executed number after left outcome (Some its)) executed in
+        let asks : operation ≡ Argument.Sequence arguments = ap (λ (e : Entry). e.operation) same ∙ takes.0 in
+        let done : is_done outcome ≡ true = ap (λ (e : Entry). is_done e.outcome) same ∙ takes.1 in
+        let ran_so : run world (read_of other rest) now (Argument.Sequence arguments) ≡ Gives outcome after left =
+        subst (λ (o : Argument). run world (read_of other rest) now o ≡ Gives outcome after left) asks ran in
+        let slot : left.slot ≡ Some (arguments.session, arguments.slot) =
+        subst (TakesSlot arguments) ran_so (run_takes world (read_of other rest) arguments now) done in
+        subst (λ (s : Option (List ℕ × ℕ)). KeepsOr number s (behind after number left outcome (Some its))) slot (behind_keeps number after left outcome (Some its))
+    turned_begins _ (Repeats other operation rest result session slot goes reads ran) executed = absurd (cc)
+
   request_there : (request : InProgress) (there : Option Connection) → request_in there ≡ Some request → there ≡ Some (Busy request)
   request_there request None same = absurd (cc)
   request_there request (Some (Quiet bytes)) same = absurd (cc)
@@ -234,6 +299,7 @@ module _ (limits : ServerLimits) (world : World) (held : Held limits world) (its
   one_held = record {
     held = turned_holds (one world number now) (turn_is world number now);
     kept = λ request there some. turned_keeps request (request_there request (at number world.connections) there) some (one world number now) (turn_is world number now);
+    begun = λ entry arguments executed takes. turned_begins entry arguments takes (one world number now) (turn_is world number now) executed;
   }
 
 pub every_reply_is_stored : EveryReplyIsStored

@@ -11,8 +11,8 @@ use Rattle.model.specs.Answer.{CreateSessionAnswer}
 use Rattle.model.specs.Operation.{CreateSessionArguments, SequenceArguments}
 use Rattle.model.specs.Refusal.{first_refusal}
 use Rattle.model.specs.Runs.{Stored, kept_of, kept_in, kept_at, stored_as, stored_by, freed_between}
-use Rattle.model.specs.SeatRuns.{run_of, AreApart, HoldsFrom, IsFreed}
-use Rattle.model.specs.Seats.{HeldReply, Seat, Seats, is_seat_of, seat_of, has_seat, held_in, held_at, freed, seated, holding}
+use Rattle.model.specs.SeatRuns.{HoldsFrom, IsFreed}
+use Rattle.model.specs.Seats.{HeldReply, Seat, Seats, is_seat_of, seat_of, has_seat, held_in, held_at, freed, seated, holding, run_of, AreApart}
 use Rattle.model.specs.Session.{SessionLimits, Client, Slot, Running, Kept, Session, Table, session_id, is_session, slot_at, no_slot, with_slot, is_client, client_number, is_of_clients, replaced_by, staying, gives_way, seats_staying, persists, limits_for, fore_channel, new_session, new_seat, create_refusals, create_unless, create_again, create_by, create_session, CreateSessionOutcome, next_number, destroy_by, is_running, started, finished_slot, held_reply, held_by, finish}
 use Rattle.model.proofs.Headline.{slice_get-append, slice_get-within}
 use Rattle.model.proofs.SeatLaws.{bytes_apart, bytes_differ, has_freed, apart_freed, was_there, had_seat, stays_or_goes, seated_other, seated_new, apart_seated, has_holding, apart_holding, holding_none, held_here, held_other, holding_was, seat_holds, holds_there, among_left, among_right, freed_listed}
@@ -226,13 +226,13 @@ all_true : {A : Type 0} (p : A → Bool) (xs : List A) → list_all p xs ≡ tru
 all_true p [] all = tt
 all_true p (x ∷ xs) all = let parts = and_parts (p x) (list_all p xs) all in (parts.0, all_true p xs parts.1)
 
-abbrev IsBelow : ℕ → Session → Type 0
+abbrev pub IsBelow : ℕ → Session → Type 0
 IsBelow made session = session.serial ≤ made
 
 below_given : (made : ℕ) (session : Session) → given_serial made session ≡ true → session.serial ≤ made
 below_given made session is = leb-true session.serial made (and_parts (nat_lt 0 session.serial) (nat_le session.serial made) is).1
 
-all_below : (limits : SessionLimits) (made : ℕ) (sessions : List Session) → Sessions limits made sessions → AllByRecursion (IsBelow made) sessions
+pub all_below : (limits : SessionLimits) (made : ℕ) (sessions : List Session) → Sessions limits made sessions → AllByRecursion (IsBelow made) sessions
 all_below limits made sessions holds =
     all-mono (λ (session : Session). given_serial made session ≡ true) (IsBelow made) sessions (below_given made) (all_true (given_serial made) sessions holds.given)
 
@@ -378,8 +378,8 @@ module _ (limits : SessionLimits) (stored : List Stored) (gone : List (List ℕ)
       let none : has_seat its_seat.session table.seats ≡ false
       = new_has_none table.run table stored gone is made refl its_run small (all_below limits table.session_serial table.sessions holds.1) in
       let count : length its_seat.slots ≡ length made.slots =
-      length-replicate (fore_channel (limits_for limits (persists limits arguments client table)) arguments.fore).max_requests None
-      ∙ sym (length-replicate (fore_channel (limits_for limits (persists limits arguments client table)) arguments.fore).max_requests no_slot) in
+      length-replicate (fore_channel (limits_for limits (persists arguments client table)) arguments.fore).max_requests None
+      ∙ sym (length-replicate (fore_channel (limits_for limits (persists arguments client table)) arguments.fore).max_requests no_slot) in
       subst (λ (l : List (List ℕ)). Seated table.run (after_it (seated its_seat (seats_staying client table))) stored (gone ++ l))
       (sym (freed_same its_seat table.seats (seats_staying client table) none))
       (seated_with table.run freed_first stored gone_first freed_is made refl its_run small first_below its_seat refl count)
@@ -392,7 +392,7 @@ module _ (limits : SessionLimits) (stored : List Stored) (gone : List (List ℕ)
       Seated table.run new stored (gone ++ freed_between table.seats new.seats))
   seated_created (Some reason) e = seated_more table.run table stored gone (freed_between table.seats table.seats) is
   seated_created None e =
-      let done = created_by_seat (serial_left limits arguments client table e) (persists limits arguments client table) in
+      let done = created_by_seat (serial_left limits arguments client table e) (persists arguments client table) in
       record { of_run = done.of_run; apart = done.apart; past = done.past; fits = done.fits; old = done.old; kept = done.kept }
 
   abbrev CreatedSo : CreateSessionOutcome → Type 0

@@ -8,8 +8,8 @@ use Rattle.model.specs.Answer.{Answer, Outcome, Done, Refused, ExchangeIdAnswer,
 use Rattle.model.specs.Operation.{Argument, SequenceArguments, CreateSessionArguments, operation_of}
 use Rattle.model.specs.Refusal.{first_refusal}
 use Rattle.model.specs.Runs.{Event, Arrives, Turns, HangsUp, Connects, Takes, effect_of, executed_of, is_done}
-use Rattle.model.specs.SeatRuns.{AreApart, GoesBy, Destroyed, GivesWay, IsFreedBy, EveryFreeingIsAsked}
-use Rattle.model.specs.Seats.{Seat, Seats, is_seat_of, seat_of, has_seat, freed_if, freed, seated}
+use Rattle.model.specs.SeatRuns.{GoesBy, Destroyed, GivesWay, IsFreedBy, EveryFreeingIsAsked}
+use Rattle.model.specs.Seats.{Seat, Seats, is_seat_of, seat_of, has_seat, freed_if, freed, seated, AreApart}
 use Rattle.model.specs.Session as sessions
 use Rattle.model.specs.Session.{SessionLimits, Client, Session, Table, is_session, is_client, is_running, slot_at, gives_way, seats_staying, new_seat, persists, create_refusals, create_unless, create_again, create_by, create_session, CreateSessionOutcome, next_number, destroy_by, destroy_session, held_reply, held_by, finish}
 use Rattle.model.specs.StateIds.{has_opens}
@@ -71,7 +71,7 @@ closes_has id number after request last executed =
     either (λ (t : Turned). (has_seat id t.world.table.seats ≡ has_seat id after.table.seats) × (t.executed ≡ executed)) (is_to_hold request.slot after.table.seats) _ _
     (λ seated. (refl, refl)) (λ none. (kept_has id request.slot (result_of request last) after.table, refl))
 
-behind_has : (id : List ℕ) (number : ℕ) (after : World) (request : InProgress) (outcome : Outcome) (executed : Option Entry)
+pub behind_has : (id : List ℕ) (number : ℕ) (after : World) (request : InProgress) (outcome : Outcome) (executed : Option Entry)
     → (has_seat id (behind after number request outcome executed).world.table.seats ≡ has_seat id after.table.seats)
     × ((behind after number request outcome executed).executed ≡ executed)
 behind_has id number after request (Refused operation reason) executed = closes_has id number after (with_result request (Refused operation reason)) reason executed
@@ -169,7 +169,7 @@ module _ (world : World) (apart : AreApart world.table.seats) where
 
       unless_frees : (refusal : Option Status) → CreatesSo (create_unless limits arguments client world.table refusal)
       unless_frees (Some reason) = none_goes
-      unless_frees None = after_frees (persists limits arguments client world.table)
+      unless_frees None = after_frees (persists arguments client world.table)
 
       again_frees : (kept : Option CreateSessionAnswer) → CreatesSo (create_again limits arguments client world.table kept)
       again_frees None = unless_frees (first_refusal (create_refusals limits arguments client world.table))

@@ -8,8 +8,7 @@ use Rattle.model.specs.Answer.{Answer, Outcome, Done, Refused, ExchangeIdAnswer,
 use Rattle.model.specs.Operation.{Argument, SequenceArguments, CreateSessionArguments, operation_of}
 use Rattle.model.specs.Refusal.{first_refusal}
 use Rattle.model.specs.Runs.{Stored, Event, Arrives, Turns, HangsUp, Connects, Takes, effect_of}
-use Rattle.model.specs.SeatRuns.{run_of, AreApart}
-use Rattle.model.specs.Seats.{HeldReply, Seat, Seats, is_seat_of, seat_of, has_seat, freed_if, freed, seated, with_held, holds_if, holding}
+use Rattle.model.specs.Seats.{HeldReply, Seat, Seats, is_seat_of, seat_of, has_seat, freed_if, freed, seated, with_held, holds_if, holding, run_of, AreApart}
 use Rattle.model.specs.Session as sessions
 use Rattle.model.specs.Session.{SessionLimits, Client, Session, Table, is_session, is_client, is_running, slot_at, gives_way, seats_staying, seats_after, new_seat, persists, create_refusals, create_unless, create_again, create_by, create_session, CreateSessionOutcome, next_number, destroy_by, destroy_session, held_reply, held_by, finish}
 use Rattle.model.specs.StateIds.{has_opens}
@@ -108,7 +107,7 @@ module _ (limits : SessionLimits) (run : ℕ) (small : run < 2 ^ 32) (arguments 
 
   go_unless : (refusal : Option Status) → CreatedGo (create_unless limits arguments client table refusal)
   go_unless (Some reason) = go_same run table.seats table.seats refl
-  go_unless None = then (persists limits arguments client table)
+  go_unless None = then (persists arguments client table)
 
   go_again : (kept : Option CreateSessionAnswer) → CreatedGo (create_again limits arguments client table kept)
   go_again None = go_unless (first_refusal (create_refusals limits arguments client table))

@@ -6,7 +6,7 @@ use Rattle.model.specs.Answer.{CreateSessionAnswer}
 use Rattle.model.specs.Session.{SessionLimits, Table, empty_table, exchange_id, exchange_answer, create_session, destroy_session, begin, started, finish, session_id, Refuses, Replays, Runs}
 
 abbrev limits : SessionLimits
-limits = record { clients = 64; sessions = 32; slots = 8; seat_slots = 2; operations = 16; persistent = false; record_bytes = 16384 }
+limits = record { clients = 64; sessions = 32; slots = 8; seat_slots = 2; operations = 16; record_bytes = 16384 }
 
 abbrev no_opens : ℕ → Bool
 no_opens number = false

@@ -223,7 +223,7 @@ create_unless_stands limits id slot last arguments client table None e stands =
       made = All-append (IsMade (made + 1)) (staying client table) session (All-made_before made (staying client table) fewer.made) (omega arith);
       small = omega arith;
       each = All-append (HasLast id slot last) (staying client table) session fewer.each
-          (new_has_last id slot last made session (fore_channel (limits_for limits (persists limits arguments client table)) arguments.fore).max_requests stands.new_or_old (omega arith) (omega arith) refl);
+          (new_has_last id slot last made session (fore_channel (limits_for limits (persists arguments client table)) arguments.fore).max_requests stands.new_or_old (omega arith) (omega arith) refl);
       new_or_old = new_or_old_later id last made stands.new_or_old;
     }
 

@@ -181,7 +181,7 @@ created_same limits arguments client table None is id place =
     let three = none_in_front _ status.TooSmall _ two.1 in
     let four = none_in_front (list_any bad table.sessions) status.Delay _ three.1 in
     any-append (runs_at id place) (staying client table) (new_session limits arguments client table)
-    (rests_here id place (new_session limits arguments client table) (fresh_rests (fore_channel (limits_for limits (persists limits arguments client table)) arguments.fore).max_requests place))
+    (rests_here id place (new_session limits arguments client table) (fresh_rests (fore_channel (limits_for limits (persists arguments client table)) arguments.fore).max_requests place))
     ∙ any-filter (runs_at id place) (λ x. not (is_of_clients (replaced_by client table) x)) bad table.sessions ends four.0
   where
     bad : Session → Bool

@@ -87,7 +87,7 @@ created_holds : (limits : SessionLimits) (arguments : CreateSessionArguments) (c
     → first_refusal (create_refusals limits arguments client table) ≡ first → Holds limits (create_unless limits arguments client table first).table
 created_holds limits arguments client table holds found (Some reason) is = holds
 created_holds limits arguments client table holds found None none =
-    let slots = few_slots limits arguments.fore.max_requests (persists limits arguments client table) in
+    let slots = few_slots limits arguments.fore.max_requests (persists arguments client table) in
     let behind_number = none_in_front (not (arguments.sequence == client.sequence)) status.SeqMisordered _ none in
     let behind_flags = none_in_front (not (has_only session_flags arguments.flags)) status.Inval _ behind_number.1 in
     let behind_size = none_in_front (is_too_small limits arguments.fore) status.TooSmall _ behind_flags.1 in

@@ -29,9 +29,10 @@ use Rattle.model.specs.World.{World, ServerLimits, mounted_world, one, arrives, 
 abbrev limits : ServerLimits
 limits = record {
   volume = limits_of 256 16;
-  sessions = record { clients = 64; sessions = 32; slots = 8; seat_slots = 2; operations = 16; persistent = true; record_bytes = 16384 };
+  sessions = record { clients = 64; sessions = 32; slots = 8; seat_slots = 2; operations = 16; record_bytes = 16384 };
   records = record { bytes = 16384; fragments = 64 };
   connections = 16;
+  persistent = true;
   reply_bytes = 16368;
 }
 
@@ -424,7 +425,7 @@ one_slot = refl
 
 not_offering : World
 unfolding seated_greeted
-not_offering = record seated_greeted { limits = record limits { sessions = record limits.sessions { persistent = false } } }
+not_offering = record seated_greeted { table = record seated_greeted.table { persistent = false } }
 
 not_offered : answer 1 not_offering 0 (persist_call 1) ≡ Some (created 1 1 1 1 0 8)
 unfolding not_offering answer

@@ -44,6 +44,8 @@ pub mod RpcGrammar
 pub mod RuledOut
 pub mod Runs
 pub mod SeatRuns
+pub mod SeatEdits
+pub mod SeatViews
 pub mod Seats
 pub mod Served
 pub mod ServedOnce

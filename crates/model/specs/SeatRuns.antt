@@ -1,31 +1,21 @@
 -- Exactly once over restarts, on sessions that have a seat: RFC 8881, sections 2.10.6.1 and
 -- 2.10.6.5. What a seat holds outlives a stop, and a session of an earlier run runs nothing.
-use Rattle.std.specs.Prelude.{◌≡◌, ◌≢◌, ◌≤◌, ◌<◌, ◌/◌, ◌^◌, ◌⊎◌, ℕ, Bool, true, false, List, [], ◌∷◌, ◌++◌, take, slice_get, option_to_list, find, Option, None, Some, if◌then◌else◌}
-use Rattle.std.specs.Int.{w64, from_be_bytes}
+use Rattle.std.specs.Prelude.{◌≡◌, ◌≢◌, ◌↔◌, ◌≤◌, ◌<◌, ◌^◌, ◌⊎◌, ℕ, Bool, true, false, List, [], ◌∷◌, ◌++◌, slice_get, option_to_list, find, Option, None, Some, if◌then◌else◌}
 use Rattle.std.specs.List.{IsAmong}
 use Rattle.model.specs.declared.status.Status.{Status}
 use Rattle.model.specs.declared.status.Status.TheVariants as status
+use Rattle.model.specs.Answer.{Answer, Outcome, CreateSessionAnswer}
 use Rattle.model.specs.Keyed.{at}
 use Rattle.model.specs.Operation.{Argument, CreateSessionArguments, SequenceArguments}
 use Rattle.model.specs.Record.{framed}
 use Rattle.model.specs.Rpc.{Success, reply_text}
 use Rattle.model.specs.Runs.{Event, effect_of, executed_of, is_done, Stored, History, Serving, mounted, executed, done_with, stored_by, stored_of, freed_of, MayHold, IsRun}
-use Rattle.model.specs.Seats.{HeldReply, Seat, Seats, seat_of, has_seat, held_at}
+use Rattle.model.specs.Seats.{HeldReply, Seat, Seats, AreApart, run_of, seat_of, has_seat, held_at}
 use Rattle.model.specs.ServedOnce.{numbers_in}
 use Rattle.model.specs.Session.{Client, Table, is_client, gives_way, begin, Refuses, Replays, Runs}
 use Rattle.model.specs.SessionRuns.{CountsFrom, OthersBetween}
 use Rattle.model.specs.Tree.{Tree}
 use Rattle.model.specs.World.{ServerLimits, InProgress, Entry, Connection, Turned, Busy, one, reply_at}
-
--- the run in which a session of this id was made
-abbrev pub run_of : List ℕ → ℕ
-run_of id = from_be_bytes w64 (take 8 id) / 2 ^ 32
-
--- no two seats are of one session
-abbrev pub AreApart : Seats → Type 0
-AreApart [] = Unit {0}
-AreApart (None ∷ seats) = AreApart seats
-AreApart (Some seat ∷ seats) = (has_seat seat.session seats ≡ false) × AreApart seats
 
 -- seats that a run may begin with: of sessions of earlier runs
 pub record AreSeats (run : ℕ) (seats : Seats) : Type 0 where
@@ -134,6 +124,27 @@ EveryDeadSession =
     (limits : ServerLimits) (stop : Stop limits) → stop.serving.is_down ≡ false
     → AnswersBySeats stop.serving stop.run
 
+-- A session has a seat exactly where its CREATE_SESSION was answered with flag 1. One that is
+-- answered again makes no session.
+
+pub record Makes (old new : Table) (executed : Option Entry) (answer : CreateSessionAnswer)
+    : Type 0 where
+  pub entry : Entry
+  pub arguments : CreateSessionArguments
+  pub is : executed ≡ Some entry
+  pub asked : entry.operation ≡ Argument.CreateSession arguments
+  pub answered : entry.outcome ≡ Outcome.Done (Answer.CreateSession answer)
+  pub made : new.session_serial ≢ old.session_serial
+
+abbrev pub EverySessionSits : Type 0
+EverySessionSits =
+    (limits : ServerLimits) (stop : Stop limits) → stop.serving.is_down ≡ false → (event : Event)
+    → (answer : CreateSessionAnswer)
+    → Makes stop.serving.world.table (effect_of stop.serving.world event).table
+    (executed_of stop.serving.world event) answer
+    → (answer.flags ≡ 1)
+    ↔ (has_seat answer.session (effect_of stop.serving.world event).table.seats ≡ true)
+
 -- A seat is freed by a DESTROY_SESSION of its session, or by a CREATE_SESSION for which it gives
 -- way, that is done.
 pub data GoesBy (table : Table) (id : List ℕ) (seat : Seat) : Argument → Type 0 where
@@ -170,13 +181,26 @@ pub record IsHeldReply (turned : Turned) (connection : ℕ) (id : List ℕ) (slo
       ≡ Some (framed (reply_text xid (Success held.result)))
   pub alone : turned.executed ≡ None
 
+-- a SEQUENCE that is done: from here on the request is its slot's
+abbrev pub Takes : Entry → SequenceArguments → Type 0
+Takes entry arguments =
+    (entry.operation ≡ Argument.Sequence arguments) × (is_done entry.outcome ≡ true)
+
+-- the slot keeps the reply, where there is one
+abbrev pub KeepsOrNone : Turned → (connection : ℕ) → (slot : Option (List ℕ × ℕ)) → Type 0
+KeepsOrNone turned connection slot =
+    (reply_at turned.world connection ≡ None) ⊎ (turned.keeps ≡ slot)
+
 -- A turn that gives a request of a slot its reply lets the slot keep it, and a seat that there is
--- then holds it.
+-- then holds it: of a request that had begun, and of a SEQUENCE that stands alone.
 pub record GivesHeld (turned : Turned) (connection : ℕ) (before : Option InProgress) : Type 0 where
   pub held : (id : List ℕ) (slot : ℕ) → turned.keeps ≡ Some (id, slot)
       → has_seat id turned.world.table.seats ≡ true → IsHeldReply turned connection id slot
   pub kept : (request : InProgress) → before ≡ Some request → request.slot ≢ None
-      → (reply_at turned.world connection ≡ None) ⊎ (turned.keeps ≡ request.slot)
+      → KeepsOrNone turned connection request.slot
+  pub begun : (entry : Entry) (arguments : SequenceArguments) → turned.executed ≡ Some entry
+      → Takes entry arguments
+      → KeepsOrNone turned connection (Some (arguments.session, arguments.slot))
 
 abbrev pub request_in : Option Connection → Option InProgress
 request_in (Some (Busy request)) = Some request

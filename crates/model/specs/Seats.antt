@@ -1,7 +1,8 @@
 -- Seats: what a volume keeps of persistent sessions, so that the reply to the last request of each
 -- of their slots outlives a stop: RFC 8881, section 2.10.6.5. How many there are is the volume's;
 -- which of them give way is told by CREATE_SESSION.
-use Rattle.std.specs.Prelude.{ℕ, Bool, true, false, List, [], ◌∷◌, map, Option, None, Some, if◌then◌else◌, slice_index_or, slice_set, is_some, bytes_eq}
+use Rattle.std.specs.Prelude.{◌≡◌, ◌≤◌, ◌/◌, ◌^◌, ℕ, Bool, true, false, List, [], ◌∷◌, map, take, Option, None, Some, if◌then◌else◌, slice_index_or, slice_set, is_some, bytes_eq}
+use Rattle.std.specs.Int.{w64, from_be_bytes}
 
 -- the reply that is held of a slot's request: the request's number, who sent it, and the whole
 -- COMPOUND result
@@ -28,7 +29,7 @@ no_seats = None ∷ None ∷ None ∷ None ∷ None ∷ []
 abbrev pub is_seat_of : List ℕ → Seat → Bool
 is_seat_of id seat = bytes_eq seat.session id
 
--- the seat of a session
+-- The seat of a session
 
 abbrev pub this_or : List ℕ → Option Seat → Option Seat → Option Seat
 this_or id None others = others
@@ -41,7 +42,24 @@ seat_of id (place ∷ seats) = this_or id place (seat_of id seats)
 abbrev pub has_seat : List ℕ → Seats → Bool
 has_seat id seats = is_some (seat_of id seats)
 
--- what is held of a slot of it
+-- Those that a volume keeps
+
+-- the run in which a session of this id was made
+abbrev pub run_of : List ℕ → ℕ
+run_of id = from_be_bytes w64 (take 8 id) / 2 ^ 32
+
+-- no two seats are of one session
+abbrev pub AreApart : Seats → Type 0
+AreApart [] = Unit {0}
+AreApart (None ∷ seats) = AreApart seats
+AreApart (Some seat ∷ seats) = (has_seat seat.session seats ≡ false) × AreApart seats
+
+-- and each is of a session that was made in one of so many runs
+pub record AreOfRuns (count : ℕ) (seats : Seats) : Type 0 where
+  pub apart : AreApart seats
+  pub made : (id : List ℕ) → has_seat id seats ≡ true → (1 ≤ run_of id) × (run_of id ≤ count)
+
+-- What is held of a slot of it
 
 abbrev pub held_in : ℕ → Option Seat → Option HeldReply
 held_in place None = None

@@ -21,8 +21,6 @@ pub record SessionLimits : Type 0 where
   pub slots : ℕ
   pub seat_slots : ℕ
   pub operations : ℕ
-  -- whether a session may have a seat
-  pub persistent : Bool
   -- bytes of a request's or a reply's record
   pub record_bytes : ℕ
 
@@ -60,9 +58,11 @@ pub record Session : Type 0 where
 
 -- All of it, in one run of the server. Records and sessions stand in the order in which they were
 -- made; the serials are those given last. The seats are the volume's: a session that has one is
--- persistent, and a seat whose session is none of this run's is dead.
+-- persistent, and a seat whose session is none of this run's is dead. Whether a new session may
+-- have one is said when the run begins.
 pub record Table : Type 0 where
   pub run : ℕ
+  pub persistent : Bool
   pub client_serial : ℕ
   pub session_serial : ℕ
   pub clients : List Client
@@ -70,9 +70,10 @@ pub record Table : Type 0 where
   pub seats : Seats
 
 -- a run begins with the seats that its mount found, and with nothing else
-abbrev pub loaded_table : ℕ → Seats → Table
-loaded_table run seats = record {
+abbrev pub loaded_table : (run : ℕ) → (persistent : Bool) → Seats → Table
+loaded_table run persistent seats = record {
   run = run;
+  persistent = persistent;
   client_serial = 0;
   session_serial = 0;
   clients = [];
@@ -80,9 +81,9 @@ loaded_table run seats = record {
   seats = seats;
 }
 
--- .. where the volume keeps no session
+-- .. where the volume keeps no session, and no session may be persistent
 abbrev pub empty_table : ℕ → Table
-empty_table run = loaded_table run no_seats
+empty_table run = loaded_table run false no_seats
 
 -- Words
 
@@ -292,9 +293,9 @@ abbrev pub seats_staying : Client → Table → Seats
 seats_staying client table = freed (gives_way client table) table.seats
 
 -- the flag PERSIST is asked of a server that has persistent sessions, and a seat is free then
-abbrev pub persists : SessionLimits → CreateSessionArguments → Client → Table → Bool
-persists limits arguments client table =
-    limits.persistent && has_free (seats_staying client table) && arguments.flags % 2 == 1
+abbrev pub persists : CreateSessionArguments → Client → Table → Bool
+persists arguments client table =
+    table.persistent && has_free (seats_staying client table) && arguments.flags % 2 == 1
 
 abbrev pub create_refusals : SessionLimits → CreateSessionArguments → Client → Table → Refusals
 create_refusals limits arguments client table =
@@ -326,13 +327,18 @@ fore_channel limits asked = record {
   rdma_ird = None;
 }
 
+-- how many slots it has
+abbrev pub slots_given : SessionLimits → CreateSessionArguments → Client → Table → ℕ
+slots_given limits arguments client table =
+    min arguments.fore.max_requests (limits_for limits (persists arguments client table)).slots
+
 abbrev pub create_session_answer : SessionLimits → CreateSessionArguments → Client → Table
     → CreateSessionAnswer
 create_session_answer limits arguments client table = record {
   session = session_id client.number (table.session_serial + 1);
   sequence = arguments.sequence;
-  flags = if persists limits arguments client table then 1 else 0;
-  fore = fore_channel (limits_for limits (persists limits arguments client table)) arguments.fore;
+  flags = if persists arguments client table then 1 else 0;
+  fore = fore_channel (limits_for limits (persists arguments client table)) arguments.fore;
   back = record arguments.back { rdma_ird = None };
 }
 
@@ -341,10 +347,7 @@ new_session limits arguments client table = record {
   client = client.number;
   serial = table.session_serial + 1;
   max_operations = (fore_channel limits arguments.fore).max_operations;
-  slots =
-      replicate
-      (fore_channel (limits_for limits (persists limits arguments client table)) arguments.fore).max_requests
-      no_slot;
+  slots = replicate (slots_given limits arguments client table) no_slot;
 }
 
 -- its seat, which holds no reply yet
@@ -353,15 +356,12 @@ new_seat limits arguments client table = record {
   session = session_id client.number (table.session_serial + 1);
   owner = client.owner;
   principal = client.principal;
-  slots =
-      replicate
-      (fore_channel (limits_for limits (persists limits arguments client table)) arguments.fore).max_requests
-      None;
+  slots = replicate (slots_given limits arguments client table) None;
 }
 
 abbrev pub seats_after : SessionLimits → CreateSessionArguments → Client → Table → Seats
 seats_after limits arguments client table =
-    if persists limits arguments client table
+    if persists arguments client table
     then seated (new_seat limits arguments client table) (seats_staying client table)
     else seats_staying client table
 

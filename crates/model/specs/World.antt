@@ -35,6 +35,8 @@ pub record ServerLimits : Type 0 where
   pub sessions : SessionLimits
   pub records : RecordLimits
   pub connections : ℕ
+  -- whether sessions may be persistent
+  pub persistent : Bool
   -- bytes of a reply's record up to the end of an OK result, the record's header not counted
   pub reply_bytes : ℕ
 
@@ -79,7 +81,7 @@ mounted_world limits run tree seats = record {
   tree = tree;
   changes = 0;
   opens = no_opens;
-  table = sessions.loaded_table run seats;
+  table = sessions.loaded_table run limits.persistent seats;
   connections = [];
 }
 

@@ -14,6 +14,7 @@ pub mod node;
 pub mod not_done;
 pub mod rpc;
 pub mod runs;
+pub mod seats;
 pub mod session;
 pub mod sound;
 pub mod status;

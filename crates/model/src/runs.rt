@@ -2,7 +2,7 @@
 
 ghost use Rattle.model.specs.RuledOut.{NoSkip, NoEarlyReply, NoTakingBack, NoSecondRun, NoForgetting, NoGap, OneATurn, EndsByHolding, HangsUpLast, HangUpIsEvents, EachEventHappens};
 ghost use Rattle.model.specs.Runs.{EveryRun, EveryStamp};
-ghost use Rattle.model.specs.SeatRuns.{EveryReplyIsHeld, EverySeatStays, EveryRunCanFollow, EveryDeadSession, EveryNumberOnce, EveryReplyStaysHeld, EveryReplyIsStored, EveryFreeingIsAsked};
+ghost use Rattle.model.specs.SeatRuns.{EveryReplyIsHeld, EverySeatStays, EveryRunCanFollow, EveryDeadSession, EveryNumberOnce, EveryReplyStaysHeld, EveryReplyIsStored, EverySessionSits, EveryFreeingIsAsked};
 ghost use Rattle.model.specs.ServedOnce.{EveryServedSlot};
 ghost use Rattle.model.specs.StateIdRuns.{EveryOtherRunRefuses, EveryStateIdGoesOn, JoinsAreCounted};
 
@@ -72,6 +72,7 @@ pub fn every_life()
     ensures dead { EveryDeadSession }
     ensures once { EveryNumberOnce }
     ensures still_held { EveryReplyStaysHeld }
+    ensures sits { EverySessionSits }
     ensures stored { EveryReplyIsStored }
     ensures asked { EveryFreeingIsAsked }
 {}

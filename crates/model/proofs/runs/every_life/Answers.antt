@@ -2,6 +2,7 @@ use Rattle.model.proofs.SeatLives.{every_seat_stays, every_run_can_follow, every
 use Rattle.model.proofs.SeatRunLaws.{every_reply_is_held, every_dead_session}
 use Rattle.model.proofs.SeatReplies.{every_reply_is_stored}
 use Rattle.model.proofs.SeatsFreed.{every_freeing_is_asked}
+use Rattle.model.proofs.SeatsSit.{every_session_sits}
 use Rattle.model.proofs.runs.every_life.Goals as goal
 
 pub returns-clause-held : goal.returns-clause-held
@@ -27,3 +28,6 @@ returns-clause-stored c = every_reply_is_stored
 
 pub returns-clause-asked : goal.returns-clause-asked
 returns-clause-asked c = every_freeing_is_asked
+
+pub returns-clause-sits : goal.returns-clause-sits
+returns-clause-sits c = every_session_sits
