@@ -1,0 +1,41 @@
+-- Whatever the code holds can be spelled.
+use Rattle.std.proofs.Common.{List, [], ◌∷◌, Option, Some, None, map, ◌∙◌, arith}
+use Rattle.std.specs.Option.{option_map}
+use Rattle.std.specs.List.{AllByRecursion}
+use Rattle.std.proofs.lemmas.List.{length-map}
+use Rattle.model.specs.SeatViews.{held_view, seat_view, place_view, seats_view}
+use Rattle.model.specs.declared.seats.HeldReply.{HeldReply}
+use Rattle.model.specs.declared.seats.Seat.{Seat}
+use Rattle.model.specs.declared.seats.Seats.{Seats}
+use Rattle.seats.specs.Spelling.{ArePlaces, IsHeld, IsPlace, IsSeat, IsSlot}
+
+pub every_held : (held : HeldReply) → IsHeld (held_view held)
+every_held held = record { number = held.number_fits; uid = held.uid_fits; result = held.short }
+
+every_slot : (slots : List (Option HeldReply)) → AllByRecursion IsSlot (map (option_map held_view) slots)
+every_slot [] = tt
+every_slot (None ∷ slots) = (tt, every_slot slots)
+every_slot (Some held ∷ slots) = (every_held held, every_slot slots)
+
+pub every_seat : (seat : Seat) → IsSeat (seat_view seat)
+every_seat seat =
+    let count = length-map seat.slots.items (option_map held_view) in
+    record {
+      session = seat.sixteen;
+      owner = seat.owned;
+      principal = seat.principal_fits;
+      some = omega (arith, seat.some, count);
+      few = omega (arith, seat.few, count);
+      slots = every_slot seat.slots.items;
+    }
+
+pub every_place : (place : Option Seat) → IsPlace (place_view place)
+every_place None = tt
+every_place (Some seat) = every_seat seat
+
+each_place : (places : List (Option Seat)) → AllByRecursion IsPlace (map place_view places)
+each_place [] = tt
+each_place (place ∷ places) = (every_place place, each_place places)
+
+pub every_seats : (seats : Seats) → ArePlaces (seats_view seats)
+every_seats seats = record { five = length-map seats.places.items place_view ∙ seats.five; each = each_place seats.places.items }

@@ -1,0 +1,5 @@
+pub mod Edits
+pub mod Every
+pub mod Parts
+pub mod ReadBack
+pub mod Sectors

@@ -1,0 +1,149 @@
+-- What is read of the sectors of seats is what was spelled there.
+use Rattle.std.proofs.Common.{◌≡◌, ◌≤◌, ◌<◌, ◌+◌, ◌-◌, ◌*◌, ◌/◌, ◌%◌, ℕ, zero, suc, Bool, true, false, ◌==◌, if◌then◌else◌, List, [], ◌∷◌, ◌++◌, Option, Some, None, length, get_or, take, drop, replicate, refl, ap, ap₂, ◌∙◌, arith, eq-eqb}
+use Rattle.std.specs.Prelude.{slice_index, Result, Err}
+use Rattle.std.specs.Int.{w32, from_be_bytes}
+use Rattle.std.specs.List.{AllByRecursion}
+use Rattle.std.proofs.lemmas.Bool.{ne_eqb}
+use Rattle.std.proofs.lemmas.List.{take_at}
+use Rattle.std.proofs.lemmas.Nat.{from_be_bytes-to_be_bytes_4}
+use Rattle.model.specs.Seats.{HeldReply, Seat, Seats}
+use Rattle.seats.specs.declared.fault.SeatFault.{SeatFault}
+use Rattle.seats.specs.Spelling.{AreSectorsOf, ArePlaces, IsHeld, IsPlace, IsSeat, IsSlot, held_front, seat_sector, seats_sector, slot_text}
+use Rattle.seats.specs.Reading.{SeatsReadBack, held_in, seat_from, seat_in, seats_in, slot_in, slots_in, taken_from, text_from}
+use Rattle.seats.proofs.Parts.{body_of, text_apart, free_sector}
+use Rattle.seats.proofs.Sectors.{number_zero, mark_there, session_there, principal_there, count_there, owner_there, head_there, first_there, second_there}
+
+-- Slots
+
+pub slot_none : (text : List ℕ) → (from_be_bytes w32 text ≡ 1 → ⊥) → slot_in text ≡ None
+unfolding slot_in
+slot_none text other =
+    let apart : from_be_bytes w32 text == 1 ≡ false = ne_eqb (from_be_bytes w32 text) 1 other in
+    ap (λ (b : Bool). if b then Some (held_in text) else None) apart
+
+pub slot_some : (text : List ℕ) → from_be_bytes w32 text ≡ 1 → slot_in text ≡ Some (held_in text)
+unfolding slot_in
+slot_some text e =
+    let same : from_be_bytes w32 text == 1 ≡ true = eq-eqb (from_be_bytes w32 text) 1 e in
+    ap (λ (b : Bool). if b then Some (held_in text) else None) same
+
+pub same_held : (number uid : ℕ) (result : List ℕ) (held : HeldReply) → number ≡ held.number → uid ≡ held.uid → result ≡ held.result
+    → (let made : HeldReply = record { number = number; uid = uid; result = result } in made ≡ held)
+same_held number uid result held a b c = rw (a, b, c) refl
+
+held-back : (held : HeldReply) → IsHeld held → held_in (slot_text (Some held)) ≡ held
+held-back held is =
+    let text : List ℕ = held_front held ++ body_of held in
+    let count : from_be_bytes w32 (drop 12 text) ≡ length held.result = from_be_bytes-to_be_bytes_4 (length held.result) (omega (arith, is.result)) in
+    ap held_in (text_apart held)
+    ∙ same_held (from_be_bytes w32 (drop 4 text)) (from_be_bytes w32 (drop 8 text)) (take (from_be_bytes w32 (drop 12 text)) (drop 24 text)) held
+    (from_be_bytes-to_be_bytes_4 held.number is.number) (from_be_bytes-to_be_bytes_4 held.uid is.uid)
+    (ap (λ (n : ℕ). take n (body_of held)) count ∙ take_at held.result (replicate (16360 - length held.result) 0) (length held.result) refl)
+
+slot-back : (slot : Option HeldReply) → IsSlot slot → slot_in (slot_text slot) ≡ slot
+unfolding slot_text
+slot-back None is = slot_none (slot_text None) (λ e. let none : from_be_bytes w32 (drop 0 (slot_text None)) ≡ 0 = number_zero 16384 0 (omega arith) in absurd (omega arith))
+slot-back (Some held) is =
+    let one : from_be_bytes w32 (slot_text (Some held)) ≡ 1 = ap (from_be_bytes w32) (text_apart held) in
+    slot_some (slot_text (Some held)) one ∙ ap (λ (x : HeldReply). Some x) (held-back held is)
+
+-- none that is spelled is longer than a slot has room for
+pub length_fits : (slot : Option HeldReply) → IsSlot slot → from_be_bytes w32 (drop 12 (slot_text slot)) ≤ 16360
+unfolding slot_text
+length_fits None is = let none : from_be_bytes w32 (drop 12 (slot_text None)) ≡ 0 = number_zero 16384 12 (omega arith) in omega arith
+length_fits (Some held) is =
+    let count : from_be_bytes w32 (drop 12 (slot_text (Some held))) ≡ length held.result =
+    ap (λ (text : List ℕ). from_be_bytes w32 (drop 12 text)) (text_apart held) ∙ from_be_bytes-to_be_bytes_4 (length held.result) (omega (arith, is.result)) in
+    omega (arith, is.result)
+
+slots-back : (slots : List (Option HeldReply)) (first second : List ℕ) → 1 ≤ length slots → length slots ≤ 2 → AllByRecursion IsSlot slots
+    → first ≡ slot_text (get_or slots 0 None) → second ≡ slot_text (get_or slots 1 None)
+    → (if length slots == 2 then slot_in first ∷ slot_in second ∷ [] else slot_in first ∷ []) ≡ slots
+slots-back [] first second some few all a b = absurd (omega arith)
+slots-back (x ∷ []) first second some few all a b = ap (λ (s : Option HeldReply). s ∷ []) (ap slot_in a ∙ slot-back x all.0)
+slots-back (x ∷ y ∷ []) first second some few all a b =
+    ap₂ (λ (s t : Option HeldReply). s ∷ t ∷ []) (ap slot_in a ∙ slot-back x all.0) (ap slot_in b ∙ slot-back y all.1.0)
+slots-back (x ∷ y ∷ z ∷ slots) first second some few all a b = absurd (omega arith)
+
+-- Places
+
+pub same_seat : (session owner : List ℕ) (principal : ℕ) (slots : List (Option HeldReply)) (seat : Seat) → session ≡ seat.session → owner ≡ seat.owner → principal ≡ seat.principal → slots ≡ seat.slots
+    → (let made : Seat = record { session = session; owner = owner; principal = principal; slots = slots } in made ≡ seat)
+same_seat session owner principal slots seat a b c d = rw (a, b, c, d) refl
+
+taken-back : (seat : Seat) (sectors : ℕ → List ℕ) → IsSeat seat → AreSectorsOf sectors (Some seat) → taken_from sectors ≡ seat
+taken-back seat sectors is spelled =
+    let head = head_there seat is sectors spelled in
+    let count : from_be_bytes w32 (drop 24 (sectors 0)) ≡ length seat.slots = ap (λ (h : List ℕ). from_be_bytes w32 (drop 24 h)) head ∙ count_there seat is in
+    same_seat (take 16 (drop 4 (sectors 0))) (take (from_be_bytes w32 (drop 28 (sectors 0))) (drop 32 (sectors 0))) (from_be_bytes w32 (drop 20 (sectors 0))) (slots_in (from_be_bytes w32 (drop 24 (sectors 0))) sectors) seat
+    (ap (λ (h : List ℕ). take 16 (drop 4 h)) head ∙ session_there seat is)
+    (ap (λ (h : List ℕ). take (from_be_bytes w32 (drop 28 h)) (drop 32 h)) head ∙ owner_there seat is)
+    (ap (λ (h : List ℕ). from_be_bytes w32 (drop 20 h)) head ∙ principal_there seat is)
+    (ap (λ (n : ℕ). slots_in n sectors) count
+    ∙ slots-back seat.slots (text_from sectors 1) (text_from sectors 5) is.some is.few is.slots (first_there seat is sectors spelled) (second_there seat is sectors spelled))
+
+pub place_none : (sectors : ℕ → List ℕ) → (slice_index (sectors 0) 0 ≡ 83 → ⊥) → seat_in sectors ≡ None
+unfolding seat_in
+place_none sectors other =
+    let apart : slice_index (sectors 0) 0 == 83 ≡ false = ne_eqb (slice_index (sectors 0) 0) 83 other in
+    ap (λ (b : Bool). if b then Some (taken_from sectors) else None) apart
+
+pub place_some : (sectors : ℕ → List ℕ) → slice_index (sectors 0) 0 ≡ 83 → seat_in sectors ≡ Some (taken_from sectors)
+unfolding seat_in
+place_some sectors e =
+    let same : slice_index (sectors 0) 0 == 83 ≡ true = eq-eqb (slice_index (sectors 0) 0) 83 e in
+    ap (λ (b : Bool). if b then Some (taken_from sectors) else None) same
+
+-- the sectors of a free place begin with no S
+pub no_mark : (sectors : ℕ → List ℕ) → AreSectorsOf sectors None → slice_index (sectors 0) 0 ≡ 83 → ⊥
+no_mark sectors spelled e =
+    let zeros : sectors 0 ≡ replicate 4096 0 = spelled 0 (omega arith) ∙ free_sector 0 in
+    let none : slice_index (sectors 0) 0 ≡ 0 = ap (λ (s : List ℕ). slice_index s 0) zeros in
+    absurd (omega arith)
+
+pub place-back : (place : Option Seat) (sectors : ℕ → List ℕ) → IsPlace place → AreSectorsOf sectors place → seat_in sectors ≡ place
+place-back None sectors is spelled = place_none sectors (no_mark sectors spelled)
+place-back (Some seat) sectors is spelled =
+    let mark : slice_index (sectors 0) 0 ≡ 83 = ap (λ (h : List ℕ). slice_index h 0) (head_there seat is sectors spelled) ∙ mark_there seat is in
+    place_some sectors mark ∙ ap (λ (s : Seat). Some s) (taken-back seat sectors is spelled)
+
+-- where no seat has these sectors, no place has them
+pub no_place : (sectors : ℕ → List ℕ) → slice_index (sectors 0) 0 ≡ 83 → ((seat : Seat) → IsSeat seat → AreSectorsOf sectors (Some seat) → ⊥)
+    → (place : Option Seat) → IsPlace place → AreSectorsOf sectors place → ⊥
+no_place sectors mark none None is spelled = no_mark sectors spelled mark
+no_place sectors mark none (Some seat) is spelled = none seat is spelled
+
+-- All places
+
+five-back : (a b c d e : Option Seat) (seats : Seats) → length seats ≡ 5 → a ≡ get_or seats 0 None → b ≡ get_or seats 1 None → c ≡ get_or seats 2 None → d ≡ get_or seats 3 None → e ≡ get_or seats 4 None
+    → a ∷ b ∷ c ∷ d ∷ e ∷ [] ≡ seats
+five-back a b c d e [] len at_a at_b at_c at_d at_e = absurd (omega arith)
+five-back a b c d e (p ∷ []) len at_a at_b at_c at_d at_e = absurd (omega arith)
+five-back a b c d e (p ∷ q ∷ []) len at_a at_b at_c at_d at_e = absurd (omega arith)
+five-back a b c d e (p ∷ q ∷ r ∷ []) len at_a at_b at_c at_d at_e = absurd (omega arith)
+five-back a b c d e (p ∷ q ∷ r ∷ s ∷ []) len at_a at_b at_c at_d at_e = absurd (omega arith)
+five-back a b c d e (p ∷ q ∷ r ∷ s ∷ t ∷ u ∷ seats) len at_a at_b at_c at_d at_e = absurd (omega arith)
+five-back a b c d e (p ∷ q ∷ r ∷ s ∷ t ∷ []) len at_a at_b at_c at_d at_e = rw (at_a, at_b, at_c, at_d, at_e) refl
+
+place_is : (seats : Seats) (k : ℕ) → AllByRecursion IsPlace seats → IsPlace (get_or seats k None)
+place_is [] k all = tt
+place_is (place ∷ seats) zero all = all.0
+place_is (place ∷ seats) (suc k) all = place_is seats k all.1
+
+module _ (seats : Seats) (sectors : ℕ → List ℕ) (are : ArePlaces seats) (spelled : (n : ℕ) → n < 45 → sectors n ≡ seats_sector n seats) where
+  one-back : (place first : ℕ) → place < 5 → first ≡ 9 * place → seat_from sectors first ≡ get_or seats place None
+  one-back place first few e = place-back (get_or seats place None) (λ (k : ℕ). sectors (first + k)) (place_is seats place are.each)
+      (λ k h.
+      let rest : (first + k) % 9 ≡ k = omega arith in
+      let whole : (first + k) / 9 ≡ place = omega arith in
+      spelled (first + k) (omega arith) ∙ ap₂ (λ (i j : ℕ). seat_sector i (get_or seats j None)) rest whole)
+
+pub seats-back : SeatsReadBack
+unfolding seats_in
+seats-back seats sectors are spelled = five-back (seat_from sectors 0) (seat_from sectors 9) (seat_from sectors 18) (seat_from sectors 27) (seat_from sectors 36) seats are.five
+    (one-back seats sectors are spelled 0 0 (omega arith) (omega arith)) (one-back seats sectors are spelled 1 9 (omega arith) (omega arith)) (one-back seats sectors are spelled 2 18 (omega arith) (omega arith))
+    (one-back seats sectors are spelled 3 27 (omega arith) (omega arith)) (one-back seats sectors are spelled 4 36 (omega arith) (omega arith))
+
+-- the fault of a result that has none but this one
+pub err_is : {A : Type 0} (x y : SeatFault) → (let r : Result A SeatFault = Err x in r ≡ Err y) → x ≡ y
+err_is x y e = cc

@@ -1,0 +1,11 @@
+use Rattle.std.proofs.Common.{ℕ, ◌++◌, List, ap₂, sym, ◌∙◌}
+use Rattle.model.specs.SeatViews.{held_view}
+use Rattle.seats.specs.Padding.{padded}
+use Rattle.seats.proofs.Parts.{first_part_is}
+use Rattle.seats.proofs.writing.first_part.Goals as goal
+
+pub returns : goal.returns
+returns c =
+    c.fill.ensures
+    ∙ ap₂ (λ (a b : List ℕ). a ++ padded 4072 b) c.put_held_front.ensures.front c.deref.ensures.value
+    ∙ sym (first_part_is (held_view c.args.held.now) c.args.held.now.short)

@@ -1,0 +1,148 @@
+//! Reading the sectors of a seat.
+
+ghost use Rattle.std.specs.Prelude.{◌≡◌, ◌<◌, ◌+◌, ◌≤◌, ℕ, length, map, vec_len, Option, Some, IfOk, IsErrOf, IsTrue, ◌↔◌};
+ghost use Rattle.std.specs.Option.{option_map};
+ghost use Rattle.model.specs.Seats as kept;
+ghost use Rattle.model.specs.SeatViews.{held_view, seat_view, place_view};
+ghost use Rattle.seats.specs.Spelling.{AreSectorsOf, IsPlace, IsSeat, IsSlot, sector_of, slot_text};
+ghost use Rattle.seats.specs.Reading.{taken_from, text_from, seat_in};
+ghost use Rattle.seats.specs.Reading as total;
+
+use crate::fault::SeatFault;
+use crate::writing::{OWNER, RESULT, SLOT_SECTORS, seat_sector};
+use model::seats::{HeldReply, MAX_HELD_RESULT, Seat};
+use sector::{SIZE, u32_at};
+use std::alloc::Global;
+
+/// The most bytes of an owner.
+const MAX_OWNER: usize = 1024;
+
+/// The reply that would stand in the four sectors from this one on, whatever stands in the bytes
+/// between its fields.
+fn slot_in(
+    alloc: Global,
+    sectors: &[[u8; SIZE]],
+    first: usize,
+) -> Result<Option<HeldReply>, SeatFault>
+    requires { first + 4 ≤ length sectors.now }
+    ensures value { IfOk result (λ slot. option_map held_view slot
+        ≡ total.slot_in (text_from (sector_of sectors.now) first)) }
+    ensures err { IsErrOf result SeatFault.NotSeat → (slot : Option kept.HeldReply) → IsSlot slot
+        → text_from (sector_of sectors.now) first ≡ slot_text slot → ⊥ }
+{
+    let head = &sectors[first];
+    if u32_at(head, 0) != 1 {
+        return Ok(None);
+    }
+    let len = u32_at(head, 12) as usize;
+    if len > MAX_HELD_RESULT {
+        return Err(SeatFault::NotSeat);
+    }
+    let text = sectors[first..first + SLOT_SECTORS].as_flattened();
+    let result = Vec::from_slice(alloc, &text[RESULT..RESULT + len])?;
+    Ok(Some(HeldReply {
+        number: u32_at(head, 4),
+        uid: u32_at(head, 8),
+        result,
+    }))
+}
+
+/// The slots, one or two, that would stand in the sectors of a seat.
+fn slots_in(
+    alloc: Global,
+    sectors: &[[u8; SIZE]],
+    count: u32,
+) -> Result<Vec<Option<HeldReply>>, SeatFault>
+    requires { length sectors.now ≡ 9 }
+    ensures value { IfOk result (λ slots. map (option_map held_view) slots.items
+        ≡ total.slots_in count (sector_of sectors.now)) }
+    ensures some { IfOk result (λ slots. 1 ≤ vec_len slots) }
+    ensures few { IfOk result (λ slots. vec_len slots ≤ 2) }
+    ensures err { IsErrOf result SeatFault.NotSeat → (seat : kept.Seat) → IsSeat seat
+        → AreSectorsOf (sector_of sectors.now) (Some seat) → ⊥ }
+{
+    let mut slots = Vec::new(alloc);
+    slots.push(slot_in(alloc, sectors, 1)?)?;
+    if count == 2 {
+        slots.push(slot_in(alloc, sectors, 5)?)?;
+    }
+    Ok(slots)
+}
+
+/// The seat that would stand in these sectors, whatever stands in the bytes between its fields.
+fn taken_in(alloc: Global, sectors: &[[u8; SIZE]]) -> Result<Seat, SeatFault>
+    requires { length sectors.now ≡ 9 }
+    ensures value { IfOk result (λ seat. seat_view seat ≡ taken_from (sector_of sectors.now)) }
+    ensures err { IsErrOf result SeatFault.NotSeat → (seat : kept.Seat) → IsSeat seat
+        → AreSectorsOf (sector_of sectors.now) (Some seat) → ⊥ }
+{
+    let head = &sectors[0];
+    let count = u32_at(head, 24);
+    let len = u32_at(head, 28) as usize;
+    if count == 0 {
+        return Err(SeatFault::NotSeat);
+    }
+    if count > 2 {
+        return Err(SeatFault::NotSeat);
+    }
+    if len > MAX_OWNER {
+        return Err(SeatFault::NotSeat);
+    }
+    let slots = slots_in(alloc, sectors, count)?;
+    let owner = Vec::from_slice(alloc, &head[OWNER..OWNER + len])?;
+    let mut session = [0; 16];
+    session.copy_from_slice(&head[4..20]);
+    Ok(Seat {
+        session,
+        owner,
+        principal: u32_at(head, 20),
+        slots,
+    })
+}
+
+/// The place that would stand in these sectors, whatever stands in the bytes between its fields.
+fn place_in(alloc: Global, sectors: &[[u8; SIZE]]) -> Result<Option<Seat>, SeatFault>
+    requires { length sectors.now ≡ 9 }
+    ensures value { IfOk result (λ place. place_view place ≡ seat_in (sector_of sectors.now)) }
+    ensures err { IsErrOf result SeatFault.NotSeat → (place : Option kept.Seat) → IsPlace place
+        → AreSectorsOf (sector_of sectors.now) place → ⊥ }
+{
+    if sectors[0][0] != b'S' {
+        return Ok(None);
+    }
+    let seat = taken_in(alloc, sectors)?;
+    Ok(Some(seat))
+}
+
+/// Whether these sectors are those of the place.
+fn are_sectors_of(sectors: &[[u8; SIZE]], place: &Option<Seat>) -> bool
+    requires { length sectors.now ≡ 9 }
+    ensures { IsTrue result ↔ AreSectorsOf (sector_of sectors.now) (place_view place.now) }
+{
+    for (k, sector) in sectors.iter().enumerate() {
+        if *sector != seat_sector(place, k) {
+            return false;
+        }
+    }
+    true
+}
+
+/// The place for a seat that has these nine sectors.
+///
+/// # Errors
+/// `NotSeat` exactly where no place has them: whatever is read is written again, and has to give
+/// each byte back.
+pub fn read_seat(alloc: Global, sectors: &[[u8; SIZE]]) -> Result<Option<Seat>, SeatFault>
+    requires { length sectors.now ≡ 9 }
+    ensures fits { IfOk result (λ place. IsPlace (place_view place)) }
+    ensures found { IfOk result (λ place.
+        AreSectorsOf (sector_of sectors.now) (place_view place)) }
+    ensures not_seat { IsErrOf result SeatFault.NotSeat → (place : Option kept.Seat) → IsPlace place
+        → AreSectorsOf (sector_of sectors.now) place → ⊥ }
+{
+    let place = place_in(alloc, sectors)?;
+    if !are_sectors_of(sectors, &place) {
+        return Err(SeatFault::NotSeat);
+    }
+    Ok(place)
+}
