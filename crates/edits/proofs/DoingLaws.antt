@@ -22,7 +22,7 @@ use Rattle.inode.specs.Fields.{Fields, IsInode, most_entries}
 use Rattle.layout.specs.Cards.{Card, node_of, node_with, content_of, bytes_in}
 use Rattle.layout.specs.Known.{IsCard}
 use Rattle.layout.specs.Marks.{mark_by}
-use Rattle.layout.specs.Stands.{current, HaveForms}
+use Rattle.layout.specs.Stands.{HaveCurrentForms}
 use Rattle.layout.proofs.StepLaws.{length-bytes_in}
 use Rattle.model.specs.declared.node.NodeKind.{NodeKind}
 use Rattle.model.specs.declared.node.NodeKind.TheVariants as kind
@@ -90,8 +90,8 @@ module _ (old new : Draft) (known : IsKnown old) (place number : ℕ) (it : IsTh
         number_at_there : number_at cards place ≡ Some number
         number_at_there = ap number_of it.there ∙ ap (λ (n : ℕ). Some n) it.number_is
 
-    pub turned_forms : (change it.card).form ≡ it.card.form → HaveForms current cards → HaveForms current (cards_of new)
-    turned_forms form forms = subst (HaveForms current) (sym turns.cards)
+    pub turned_forms : (change it.card).form ≡ it.card.form → HaveCurrentForms cards → HaveCurrentForms (cards_of new)
+    turned_forms form forms = subst HaveCurrentForms (sym turns.cards)
         (put_forms cards place turns.is (place-within cards place it.card it.there) (turns.form ∙ form ∙ forms place it.card it.there) forms)
 
   pub over_number : (base : Image) (size : ℕ) (edit : ℕ → model.Edit) → EditsOver base size old new place edit → MakesOver base size old new (edit number)

@@ -19,7 +19,8 @@ use Rattle.layout.specs.Cards as layout
 use Rattle.layout.specs.Known.{AreCards}
 use Rattle.layout.specs.Laid.{AreLaid}
 use Rattle.layout.specs.Marks.{mark_by}
-use Rattle.layout.specs.Stands.{current, HaveForms, IsLaid}
+use Rattle.layout.specs.Stands.{current, HaveCurrentForms, IsLaid}
+use Rattle.model.specs.Seats.{Seats}
 use Rattle.model.specs.Edit.{edited}
 
 -- a draft that has changed nothing of a table and its places
@@ -63,8 +64,8 @@ module _ (size : ℕ) (table : List (Option Card)) (places : List Bool) (whole :
     as_many : length mid.places ≡ length places
     as_many = does.known.places ∙ ap (λ (l : List Bool). length l) begun.places_are
 
-    forms : HaveForms current (cards_of mid)
-    forms = does.forms (subst (HaveForms current) (sym begun.cards_are) whole.forms)
+    forms : HaveCurrentForms (cards_of mid)
+    forms = does.forms (subst HaveCurrentForms (sym begun.cards_are) whole.forms)
 
     cards : AreCards (length table) (mark_by (148 + length table) outcome.places) (cards_after table outcome)
     cards =
@@ -77,8 +78,8 @@ module _ (size : ℕ) (table : List (Option Card)) (places : List Bool) (whole :
     begun_image : image_of base draft ≡ base
     begun_image = ap (λ (l : List Update). applied l base) begun.no_updates
 
-    begun_draft : IsLaid current size (length table) base table → IsDraft base size draft
-    begun_draft laid = record {
+    begun_draft : (seats : Seats) → IsLaid (current seats) size (length table) base table → IsDraft base size draft
+    begun_draft seats laid = record {
       laid = of_draft (λ nodes marked cards. AreLaid nodes (image_of base draft) (mark_by (148 + nodes) marked) cards)
           (subst (λ (image : Image). AreLaid (length table) image (mark_by (148 + length table) places) table) (sym begun_image)
           (laid_by (length table) base _ _ table laid.laid whole.cards));
@@ -86,8 +87,8 @@ module _ (size : ℕ) (table : List (Option Card)) (places : List Bool) (whole :
       small = omega (arith, whole.few);
     }
 
-    is_whole : IsLaid current size (length table) base table → IsWhole current base size mid
-    is_whole laid = record {
+    is_whole : (seats : Seats) → IsLaid (current seats) size (length table) base table → IsWhole (current seats) base size mid
+    is_whole seats laid = record {
       size_is = omega (arith, whole.size_is, nodes_are, as_many);
       few = whole.few;
       forms = forms;
@@ -95,8 +96,8 @@ module _ (size : ℕ) (table : List (Option Card)) (places : List Bool) (whole :
     }
 
     -- the sectors mark what the table's cards name, and so do the places
-    is_marked : IsLaid current size (length table) base table → IsMarked base places
-    is_marked laid =
+    is_marked : (seats : Seats) → IsLaid (current seats) size (length table) base table → IsMarked base places
+    is_marked seats laid =
         let read = laid.laid in
         let known = whole.cards in
         marked_by (length table) base places (omega (arith, whole.size_is, whole.few)) (λ n. sym (read.marks n) ∙ known.marks n)
@@ -104,15 +105,15 @@ module _ (size : ℕ) (table : List (Option Card)) (places : List Bool) (whole :
     image_is : applied outcome.updates.items base ≡ image_of base last
     image_is = ap (λ (l : List Update). applied l base) updates_are
 
-    lays : word → IsLaid current size (length table) base table → LaysEdited base size table edits outcome
-    lays keeps laid =
-        let edited_tree = does.tree keeps (begun_draft laid) in
-        let left = finishes current base size edited_tree.0 (is_whole laid) (is_marked laid) in
+    lays : word → (seats : Seats) → IsLaid (current seats) size (length table) base table → LaysEdited seats base size table edits outcome
+    lays keeps seats laid =
+        let edited_tree = does.tree keeps (begun_draft seats laid) in
+        let left = finishes (current seats) base size edited_tree.0 (is_whole seats laid) (is_marked seats laid) in
         record {
           laid =
-              subst (λ (image : Image). IsLaid current size (length table) image (cards_after table outcome)) (sym image_is)
-              (subst (λ (l : List (Option Card)). IsLaid current size (length table) (image_of base last) l) (sym after)
-              (subst (λ (n : ℕ). IsLaid current size n (image_of base last) (cards_of mid)) nodes_are left.laid));
+              subst (λ (image : Image). IsLaid (current seats) size (length table) image (cards_after table outcome)) (sym image_is)
+              (subst (λ (l : List (Option Card)). IsLaid (current seats) size (length table) (image_of base last) l) (sym after)
+              (subst (λ (n : ℕ). IsLaid (current seats) size n (image_of base last) (cards_of mid)) nodes_are left.laid));
           tree_is =
               ap₂ layout.tree_of image_is cards_are ∙ left.tree_is ∙ edited_tree.1
               ∙ ap (edited (edits_of edits)) (ap₂ layout.tree_of begun_image begun.cards_are);
@@ -123,7 +124,7 @@ module _ (size : ℕ) (table : List (Option Card)) (places : List Bool) (whole :
       cards = cards;
       as_many = ap (λ (l : List Bool). length l) places_are ∙ as_many;
       outline = ap outline_of after ∙ does.outline ∙ ap (λ (l : List (Option Card)). blanked (edited (edits_of edits) (outline_of l))) begun.cards_are;
-      forms = subst (HaveForms current) (sym after) forms;
+      forms = subst HaveCurrentForms (sym after) forms;
       made = subst (λ (l : List (Option Card)). AreMade table l (made_by edits)) (sym after)
           (subst (λ (l : List (Option Card)). AreMade l (cards_of mid) (made_by edits)) begun.cards_are does.made);
       targets = subst (λ (l : List Update). AreTargets size l) (sym updates_are)

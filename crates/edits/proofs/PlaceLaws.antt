@@ -11,7 +11,8 @@ use Rattle.layout.specs.Cards.{Card, node_of, content_of}
 use Rattle.layout.specs.ChangeLaws.{IsOwnNumber, IsSameNumber}
 use Rattle.layout.specs.Known.{AreCards}
 use Rattle.layout.specs.Laid.{AreNumbered}
-use Rattle.layout.specs.Stands.{current, HaveForms}
+use Rattle.layout.specs.Stands.{current, HaveCurrentForms}
+use Rattle.model.specs.Seats.{no_seats}
 use Rattle.layout.proofs.Answering.{tree-has}
 use Rattle.layout.proofs.Changing.{AreAbove, tree-lacks, tree-put, tree-drop}
 use Rattle.model.specs.declared.node.NodeKind.{NodeKind}
@@ -149,7 +150,7 @@ made_put cards place card numbers within from other number is = elim (cases_eq o
 
 -- The forms after a change of a card
 
-pub none_forms : (cards : List (Option Card)) (place : ℕ) → HaveForms current cards → HaveForms current (set cards place None)
+pub none_forms : (cards : List (Option Card)) (place : ℕ) → HaveCurrentForms cards → HaveCurrentForms (set cards place None)
 none_forms cards place forms other card there = elim (cases_eq other place) [
   | inl e ↦ absurd (gone (get_or (set cards place None) other None) (ap (λ (p : ℕ). get_or (set cards place None) p None) e ∙ none_at cards place) there)
   | inr off ↦ forms other card (sym (get_or-set_other cards place other None None off) ∙ there)
@@ -158,9 +159,9 @@ none_forms cards place forms other card there = elim (cases_eq other place) [
     gone : (found : Option Card) → found ≡ None → found ≡ Some card → ⊥
     gone found none some = cc
 
-pub put_forms : (cards : List (Option Card)) (place : ℕ) (card : Card) → place < length cards → card.form ≡ current.form place → HaveForms current cards → HaveForms current (set cards place (Some card))
+pub put_forms : (cards : List (Option Card)) (place : ℕ) (card : Card) → place < length cards → card.form ≡ (current no_seats).form place → HaveCurrentForms cards → HaveCurrentForms (set cards place (Some card))
 put_forms cards place card within one forms other it there = elim (cases_eq other place) [
-  | inl e ↦ ap (λ (c : Card). c.form) (sym (some_is (sym (get_or-set_same cards place (Some card) None within) ∙ ap (λ (p : ℕ). get_or (set cards place (Some card)) p None) (sym e) ∙ there))) ∙ one ∙ ap (λ (p : ℕ). current.form p) (sym e)
+  | inl e ↦ ap (λ (c : Card). c.form) (sym (some_is (sym (get_or-set_same cards place (Some card) None within) ∙ ap (λ (p : ℕ). get_or (set cards place (Some card)) p None) (sym e) ∙ there))) ∙ one ∙ ap (λ (p : ℕ). (current no_seats).form p) (sym e)
   | inr off ↦ forms other it (sym (get_or-set_other cards place other (Some card) None off) ∙ there)
 ]
   where

@@ -11,7 +11,7 @@ use Rattle.edits.specs.declared.edit.Edit.TheVariants as declared
 use Rattle.edits.specs.Edits.{edits_of}
 use Rattle.edits.specs.Outlines.{blanked, outline_of}
 use Rattle.layout.specs.Cards.{Card}
-use Rattle.layout.specs.Stands.{current, HaveForms}
+use Rattle.layout.specs.Stands.{HaveCurrentForms}
 use Rattle.model.specs.Charge.{charge}
 use Rattle.model.specs.Edit.{edited}
 use Rattle.model.specs.Keyed.{total}
@@ -55,7 +55,7 @@ pub record Does (word : Type 0) (base : Image) (size : ℕ) (old new : Draft) (e
   pub known : StaysKnown old new
   pub outline : outline_of (cards_of new)
       ≡ blanked (edited (edits_of edits) (outline_of (cards_of old)))
-  pub forms : HaveForms current (cards_of old) → HaveForms current (cards_of new)
+  pub forms : HaveCurrentForms (cards_of old) → HaveCurrentForms (cards_of new)
   pub made : AreMade (cards_of old) (cards_of new) (made_by edits)
   pub tree : word → IsDraft base size old → IsDraft base size new
       × (tree_of base new ≡ edited (edits_of edits) (tree_of base old))

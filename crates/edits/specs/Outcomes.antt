@@ -12,14 +12,15 @@ use Rattle.edits.specs.Parts.{PartsAreBytes}
 use Rattle.layout.specs.Cards.{Card, tree_of}
 use Rattle.layout.specs.Known.{AreCards}
 use Rattle.layout.specs.Marks.{mark_by}
-use Rattle.layout.specs.Stands.{current, HaveForms, IsLaid}
+use Rattle.layout.specs.Stands.{current, HaveCurrentForms, IsLaid}
 use Rattle.model.specs.Edit.{edited}
+use Rattle.model.specs.Seats.{Seats}
 use Rattle.model.specs.Tree.{Tree}
 
 -- the cards of a whole volume, and the places of its data region, used as the cards name them
 pub record IsWholeVolume (size : ℕ) (table : List (Option Card)) (places : List Bool) : Type 0 where
   pub cards : AreCards (length table) (mark_by (148 + length table) places) table
-  pub forms : HaveForms current table
+  pub forms : HaveCurrentForms table
   pub size_is : size ≡ 148 + length table + length places
   pub few : size ≤ 65536
 
@@ -32,10 +33,10 @@ FrontsHaveRoom sectors places tree edits = (count : ℕ) → count ≤ length ed
 abbrev pub cards_after : List (Option Card) → Outcome → List (Option Card)
 cards_after table outcome = changed table outcome.changes
 
--- the sectors hold the outcome's cards and marks, and show the tree with the edits
-pub record LaysEdited (base : Image) (size : ℕ) (table : List (Option Card)) (edits : List Edit)
-    (outcome : Outcome) : Type 0 where
-  pub laid : IsLaid current size (length table) (applied outcome.updates.items base)
+-- the sectors hold the outcome's cards and marks, and show the tree with the edits; the seats stay
+pub record LaysEdited (seats : Seats) (base : Image) (size : ℕ) (table : List (Option Card))
+    (edits : List Edit) (outcome : Outcome) : Type 0 where
+  pub laid : IsLaid (current seats) size (length table) (applied outcome.updates.items base)
       (cards_after table outcome)
   pub tree_is : tree_of (applied outcome.updates.items base) (cards_after table outcome)
       ≡ edited (edits_of edits) (tree_of base table)
@@ -51,7 +52,7 @@ pub record ComesTo (word : Type 0) (base : Image) (size : ℕ) (table : List (Op
   pub outline : outline_of (cards_after table outcome)
       ≡ blanked (edited (edits_of edits) (outline_of table))
   -- each card keeps its form, and the edits' numbers alone are new
-  pub forms : HaveForms current (cards_after table outcome)
+  pub forms : HaveCurrentForms (cards_after table outcome)
   pub made : AreMade table (cards_after table outcome) (made_by edits)
   -- the updates are those of a transaction, and few
   pub targets : AreTargets size outcome.updates.items
@@ -59,5 +60,5 @@ pub record ComesTo (word : Type 0) (base : Image) (size : ℕ) (table : List (Op
   -- what the edits put are bytes
   pub bytes : PartsAreBytes edits
   -- where the sectors keep their word and held the volume, the updates leave one
-  pub lays : word → IsLaid current size (length table) base table
-      → LaysEdited base size table edits outcome
+  pub lays : word → (seats : Seats) → IsLaid (current seats) size (length table) base table
+      → LaysEdited seats base size table edits outcome

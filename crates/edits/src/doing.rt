@@ -12,7 +12,7 @@ ghost use Rattle.edits.specs.Edits.{CanDo, AreDoable, StayFew, edit_of, fresh_no
 ghost use Rattle.edits.specs.Outlines.{outline_of};
 ghost use Rattle.edits.specs.Parts.{PutsBytes, PartsAreBytes};
 ghost use Rattle.inode.specs.declared.node.Form.TheVariants.{Two};
-ghost use Rattle.layout.specs.Stands.{current, HaveForms};
+ghost use Rattle.layout.specs.Stands.{HaveCurrentForms};
 ghost use Rattle.layout.specs.Cards.{Card as LaidCard};
 ghost use Rattle.layout.specs.Health.{Reads};
 ghost use Rattle.model.specs.Charge.{few_names};
@@ -49,7 +49,7 @@ fn drop_node(draft: &mut Draft<'_>, number: u64) -> Result<(), AllocError>
 
 fn show(draft: &mut Draft<'_>, number: u64, shown: Shown) -> Result<(), AllocError>
     requires known { IsKnown draft.old }
-    requires forms { HaveForms current (cards_of draft.old) }
+    requires forms { HaveCurrentForms (cards_of draft.old) }
     requires can { IsShown (outline_of (cards_of draft.old)) number (shown_of shown) }
     ensures done { OnOk result (DoesAnywhere draft.old draft.new (edit.Show number shown)) }
     ensures table { draft.new.cards.table ≡ draft.old.cards.table }
@@ -217,7 +217,7 @@ fn edit_one<S: Sectors>(
 ) -> Result<(), DraftFault>
     // An edit that can be done
     requires known { IsKnown draft.old × (end_of draft.old ≤ S.size (S.kept base.old)) }
-    requires forms { HaveForms current (cards_of draft.old) }
+    requires forms { HaveCurrentForms (cards_of draft.old) }
     requires can { CanDo (outline_of (cards_of draft.old)) edit }
     requires few { IsTrue (few_names Names.MAX_NAMES
         (done (edit_of edit) (outline_of (cards_of draft.old)))) }
@@ -276,7 +276,7 @@ pub(crate) fn edit_all<S: Sectors>(
 ) -> Result<(), DraftFault>
     // An edit that can be done
     requires known { IsKnown draft.old × (end_of draft.old ≤ S.size (S.kept base.old)) }
-    requires forms { HaveForms current (cards_of draft.old) }
+    requires forms { HaveCurrentForms (cards_of draft.old) }
     requires can { AreDoable (outline_of (cards_of draft.old)) edits.items }
     requires few { StayFew (outline_of (cards_of draft.old)) edits.items }
     // Done, or full

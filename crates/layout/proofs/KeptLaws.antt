@@ -1,39 +1,60 @@
--- What a volume keeps: its tree, and the seats that its version says.
-use Rattle.std.proofs.Common.{ℕ, ◌≡◌, Option, None, refl, sym, ap, ◌∙◌}
+-- What a volume keeps: its tree, and the seats that its sectors tell.
+use Rattle.std.proofs.Common.{ℕ, ◌≡◌, ◌<◌, ◌+◌, Option, None, refl, sym, ap, ap₂, ◌∙◌, arith}
 use Rattle.disk.specs.Moments.{Image}
 use Rattle.model.specs.Seats.{Seats, no_seats}
 use Rattle.model.specs.Tree.{Tree}
 use Rattle.layout.specs.CardLaws.{OneKept}
-use Rattle.layout.specs.Stands.{Version, Kept, IsMark, IsVersion, By, Stands, StandsAs, bare, current, version_by}
+use Rattle.layout.specs.Stands.{Version, AreKept, Kept, IsMark, IsVersion, MayKeep, By, Stands, StandsAs, StandsNow, current, seats_at, version_by}
 use Rattle.layout.specs.declared.versions.VersionNumber.{VersionNumber}
 use Rattle.layout.specs.declared.versions.VersionNumber.TheVariants as numbers
+use Rattle.seats.specs.Spelling.{seats_sector}
+use Rattle.seats.proofs.ReadBack.{seats-back}
 use Rattle.layout.proofs.FirstLaws.{one_tree}
+use Rattle.layout.proofs.SeatLaws.{spare_seats, version_spare}
 
 pub version_parts : (nodes : ℕ) (version : Version) (seats : Seats) → IsVersion nodes version seats
-    → (number : VersionNumber) × (mark : Option ℕ) × IsMark number nodes mark × (version ≡ version_by number mark)
-version_parts nodes version seats (By number mark is) = (number, mark, is, refl)
+    → (number : VersionNumber) × (mark : Option ℕ) × IsMark number nodes mark × MayKeep number mark seats × (version ≡ version_by number mark seats)
+version_parts nodes version seats (By number mark of is may) = (number, mark, is, may, refl)
 
-pub seats_are : (nodes : ℕ) (version : Version) (seats : Seats) → IsVersion nodes version seats → seats ≡ no_seats
-seats_are nodes version seats (By number mark is) = refl
+-- a tree that stands in a version that a volume may have stands with its seats
+pub stands_by : (number : VersionNumber) (mark : Option ℕ) (size nodes : ℕ) (image : Image) (run : ℕ) (kept : Kept) → IsMark number nodes mark → MayKeep number mark kept.seats → AreKept run kept.seats
+    → Stands (version_by number mark kept.seats) size nodes image run kept.tree → StandsAs size nodes image run kept
+stands_by number mark size nodes image run kept is may keeps stands = record {
+  version = version_by number mark kept.seats;
+  is_version = By number mark kept.seats is may;
+  keeps = keeps;
+  stands = stands;
+}
 
-pub with_seats : (kept : Kept) (seats : Seats) → kept.seats ≡ seats → kept ≡ record { tree = kept.tree; seats = seats }
-with_seats kept seats same = ap (λ (s : Seats). let of : Kept = record { tree = kept.tree; seats = s } in of) same
+pub current_stands : (size nodes : ℕ) (image : Image) (run : ℕ) (kept : Kept) → AreKept run kept.seats → Stands (current kept.seats) size nodes image run kept.tree → StandsAs size nodes image run kept
+current_stands size nodes image run kept keeps stands = stands_by numbers.Two None size nodes image run kept tt tt keeps stands
 
-pub kept_bare : (size nodes : ℕ) (image : Image) (run : ℕ) (kept : Kept) → StandsAs size nodes image run kept → kept ≡ bare kept.tree
-kept_bare size nodes image run kept stands = with_seats kept no_seats (seats_are nodes stands.version kept.seats stands.is_version)
+pub stands_now : (size nodes : ℕ) (image : Image) (run : ℕ) (kept : Kept) → StandsNow size nodes image run kept → StandsAs size nodes image run kept
+stands_now size nodes image run kept now = current_stands size nodes image run kept now.keeps now.stands
 
--- a tree that stands in a version that a volume may have stands with no seats
-pub stands_by : (number : VersionNumber) (mark : Option ℕ) (size nodes : ℕ) (image : Image) (run : ℕ) (tree : Tree) → IsMark number nodes mark
-    → Stands (version_by number mark) size nodes image run tree → StandsAs size nodes image run (bare tree)
-stands_by number mark size nodes image run tree is stands = record { version = version_by number mark; is_version = By number mark is; stands = stands }
+pub same_kept : (a b : Kept) → a.tree ≡ b.tree → a.seats ≡ b.seats → a ≡ b
+same_kept a b trees seats = ap₂ (λ (t : Tree) (s : Seats). let of : Kept = record { tree = t; seats = s } in of) trees seats
 
-pub bare_stands : (size nodes : ℕ) (image : Image) (run : ℕ) (tree : Tree) → Stands current size nodes image run tree → StandsAs size nodes image run (bare tree)
-bare_stands size nodes image run tree stands = stands_by numbers.Two None size nodes image run tree tt stands
+-- The sectors tell the seats
+
+pub seats_told : (size nodes : ℕ) (image : Image) (run : ℕ) (kept : Kept) → StandsAs size nodes image run kept → seats_at image ≡ kept.seats
+seats_told size nodes image run kept stands = seats-back kept.seats (λ n. image (100 + n)) stands.keeps.places
+    (λ n within. stands.stands.laid.spare (100 + n) (omega arith) (omega (arith, within))
+    ∙ (by_version stands.version stands.is_version n (omega (arith, within))))
+  where
+    by_version : (version : _) → IsVersion nodes version kept.seats → (n : ℕ) → n < 45 → version.spare (100 + n) ≡ seats_sector n kept.seats
+    by_version _ (By number mark seats is may) n within =
+        version_spare number mark seats (100 + n) may
+        ∙ (spare_seats seats mark (100 + n) (λ e. omega (arith, e, within))
+        ∙ ap (λ (k : ℕ). seats_sector k seats) (omega arith))
+
+pub now_told : (size nodes : ℕ) (image : Image) (run : ℕ) (kept : Kept) → StandsNow size nodes image run kept → seats_at image ≡ kept.seats
+now_told size nodes image run kept now = seats_told size nodes image run kept (stands_now size nodes image run kept now)
 
 pub one_kept : OneKept
 one_kept size other_size nodes other_nodes run other_run image kept other one two =
     let same = one_tree one.version two.version size other_size nodes other_nodes run other_run image kept.tree other.tree one.stands two.stands in
     record {
-      kept_is = kept_bare size nodes image run kept one ∙ (ap bare same.tree_is ∙ sym (kept_bare other_size other_nodes image other_run other two));
+      kept_is = same_kept kept other same.tree_is (sym (seats_told size nodes image run kept one) ∙ seats_told other_size other_nodes image other_run other two);
       same = same;
     }

@@ -16,6 +16,7 @@ pub mod MarkProofs
 pub mod NodeEditLaws
 pub mod NumberLaws
 pub mod Rewriting
+pub mod SeatLaws
 pub mod FrontBytes
 pub mod StepLaws
 pub mod Summing

@@ -6,12 +6,14 @@ use Rattle.disk.specs.Moments.{Image}
 use Rattle.disk.specs.Calls as calls
 use Rattle.disk.specs.Calls.{zero_sector}
 use Rattle.layout.specs.Stands as marks
-use Rattle.layout.specs.Stands.{IsMark, Kept, Stands, StandsAs, mark_sector, number_of, spare_by, version_by}
+use Rattle.model.specs.Seats.{Seats}
+use Rattle.layout.specs.Stands.{IsMark, Kept, MayKeep, Stands, StandsAs, mark_held, mark_sector, number_of, spare_by, version_by}
 use Rattle.layout.specs.Superblock as first
 use Rattle.layout.specs.Superblock.{superblock}
 use Rattle.layout.specs.declared.versions.VersionNumber.{VersionNumber}
 use Rattle.layout.specs.declared.versions.VersionNumber.TheVariants.{One, Two}
 use Rattle.layout.proofs.KeptLaws.{version_parts}
+use Rattle.layout.proofs.SeatLaws.{version_spare}
 
 -- the four bytes from place 4 of a mark, and from place 8 of a first sector
 
@@ -46,7 +48,7 @@ mark_fits Two nodes moved fits is = omega (arith, fits, is)
 
 -- the sector of the mark tells it
 pub one_mark : (number : VersionNumber) (nodes : ℕ) (a b : Option ℕ) → nodes < 2 ^ 32 → IsMark number nodes a → IsMark number nodes b
-    → spare_by a 147 ≡ spare_by b 147 → a ≡ b
+    → mark_held a ≡ mark_held b → a ≡ b
 one_mark number nodes None None fits one other same = refl
 one_mark number nodes None (Some b) fits one other same = absurd (not_mark b same)
 one_mark number nodes (Some a) None fits one other same = absurd (not_mark a (sym same))
@@ -70,29 +72,34 @@ one_number a b sectors nodes run other_sectors other_nodes other_run same = numb
     (sym (number_back (number_of a) sectors nodes run (numbers_fit a))
     ∙ (ap (λ (s : List ℕ). from_be_bytes w32 (drop 8 s)) same ∙ number_back (number_of b) other_sectors other_nodes other_run (numbers_fit b)))
 
-pub version_number : (number : VersionNumber) (mark : Option ℕ) → (version_by number mark).number ≡ number_of number
-version_number One mark = refl
-version_number Two mark = refl
+pub version_number : (number : VersionNumber) (mark : Option ℕ) (seats : Seats) → (version_by number mark seats).number ≡ number_of number
+version_number One mark seats = refl
+version_number Two mark seats = refl
 
-pub version_spare : (number : VersionNumber) (mark : Option ℕ) (n : ℕ) → (version_by number mark).spare n ≡ spare_by mark n
-version_spare One mark n = refl
-version_spare Two mark n = refl
-
-pub first_number : (number : VersionNumber) (mark : Option ℕ) (size nodes run : ℕ) → superblock (version_by number mark).number size nodes run ≡ superblock (number_of number) size nodes run
-first_number number mark size nodes run = ap (λ (n : ℕ). superblock n size nodes run) (version_number number mark)
+pub first_number : (number : VersionNumber) (mark : Option ℕ) (seats : Seats) (size nodes run : ℕ)
+    → superblock (version_by number mark seats).number size nodes run ≡ superblock (number_of number) size nodes run
+first_number number mark seats size nodes run = ap (λ (n : ℕ). superblock n size nodes run) (version_number number mark seats)
 
 -- so what stands on sectors stands in the version that both tell
+pub record StandsTold (number : VersionNumber) (mark : Option ℕ) (size nodes : ℕ) (image : Image) (run : ℕ) (kept : Kept) : Type 0 where
+  pub may : MayKeep number mark kept.seats
+  pub stands : Stands (version_by number mark kept.seats) size nodes image run kept.tree
+
 pub stands_told : (number : VersionNumber) (mark : Option ℕ) (size nodes : ℕ) (image : Image) (run : ℕ) (kept : Kept) (sectors other_nodes other_run : ℕ) → nodes < 2 ^ 32
-    → IsMark number nodes mark → image 0 ≡ superblock (number_of number) sectors other_nodes other_run → image 147 ≡ spare_by mark 147
-    → StandsAs size nodes image run kept → Stands (version_by number mark) size nodes image run kept.tree
+    → IsMark number nodes mark → image 0 ≡ superblock (number_of number) sectors other_nodes other_run → image 147 ≡ mark_held mark
+    → StandsAs size nodes image run kept → StandsTold number mark size nodes image run kept
 stands_told number mark size nodes image run kept sectors other_nodes other_run fits is first marked stands =
-    let parts = version_parts nodes stands.version kept.seats stands.is_version in
-    let there : Stands (version_by parts.0 parts.1) size nodes image run kept.tree =
-    subst (λ version. Stands version size nodes image run kept.tree) parts.3 stands.stands in
+    let seats = kept.seats in
+    let parts = version_parts nodes stands.version seats stands.is_version in
+    let there : Stands (version_by parts.0 parts.1 seats) size nodes image run kept.tree =
+    subst (λ version. Stands version size nodes image run kept.tree) parts.4 stands.stands in
     let same : parts.0 ≡ number = one_number parts.0 number size nodes run sectors other_nodes other_run
-    (sym (first_number parts.0 parts.1 size nodes run) ∙ (sym there.first ∙ first)) in
+    (sym (first_number parts.0 parts.1 seats size nodes run) ∙ (sym there.first ∙ first)) in
     let mark_is : IsMark number nodes parts.1 = subst (λ (n : VersionNumber). IsMark n nodes parts.1) same parts.2 in
     let same_mark : parts.1 ≡ mark = one_mark number nodes parts.1 mark fits mark_is is
-    (sym (version_spare parts.0 parts.1 147) ∙ (sym (there.laid.spare 147 (omega arith) (omega arith)) ∙ marked)) in
-    subst (λ (m : Option ℕ). Stands (version_by number m) size nodes image run kept.tree) same_mark
-    (subst (λ (n : VersionNumber). Stands (version_by n parts.1) size nodes image run kept.tree) same there)
+    (sym (version_spare parts.0 parts.1 seats 147 parts.3) ∙ (sym (there.laid.spare 147 (omega arith) (omega arith)) ∙ marked)) in
+    record {
+      may = subst (λ (m : Option ℕ). MayKeep number m seats) same_mark (subst (λ (n : VersionNumber). MayKeep n parts.1 seats) same parts.3);
+      stands = subst (λ (m : Option ℕ). Stands (version_by number m seats) size nodes image run kept.tree) same_mark
+          (subst (λ (n : VersionNumber). Stands (version_by n parts.1 seats) size nodes image run kept.tree) same there);
+    }

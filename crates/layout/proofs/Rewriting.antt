@@ -6,6 +6,7 @@ use Rattle.disk.specs.Calls.{zero_sector}
 use Rattle.model.specs.declared.node.NodeKind.{NodeKind}
 use Rattle.model.specs.declared.node.NodeKind.TheVariants as kind
 use Rattle.model.specs.Keyed.{with}
+use Rattle.model.specs.Seats.{no_seats}
 use Rattle.model.specs.Stamp.{stamp}
 use Rattle.model.specs.Tree.{Tree, Node}
 use Rattle.model.specs.WellFormed.{IsBefore}
@@ -24,6 +25,7 @@ use Rattle.layout.proofs.CardLaws.{cards-back, zero_first, starts}
 use Rattle.layout.proofs.Changing.{named-at, tree-kept}
 use Rattle.layout.proofs.Frame.{content-held, of_runs, run_sectors-kept, node-kept}
 use Rattle.layout.proofs.MarkProofs.{mark_in-same, below_size, room}
+use Rattle.layout.proofs.SeatLaws.{spare_none}
 
 -- Sectors of nodes
 
@@ -235,21 +237,21 @@ second_at (card ∷ cards) (suc i) = second_at cards i
 
 module _ (version : Version) (size nodes : ℕ) (image : Image) (cards : List (Option Card)) (laid : IsLaid version size nodes image cards)
     (below : 148 + nodes ≤ size) where
-  pub then_second : AreRewritten version current size nodes image (second_image nodes image)
+  pub then_second : AreRewritten version (current no_seats) size nodes image (second_image nodes image)
   then_second = record {
     roomy = λ place within. inr refl;
     bitmap = λ n low high. rw (lt-leb 148 n (omega (arith, high)), lt-leb 100 n high) refl;
-    spare = λ n low high. rw (lt-leb 148 n high, le-leb 100 n low) refl;
+    spare = λ n low high. rw (lt-leb 148 n high, le-leb 100 n low) (sym (spare_none n));
     nodes_are = λ place within. rw (le-leb 148 (node_sector place) (omega arith), lt-leb (148 + nodes) (node_sector place) (omega (arith, within))) refl;
     region = λ n low high. rw (le-leb 148 n (omega (arith, low)), le-leb (148 + nodes) n low) refl;
   }
 
   laid_second : IsLaidSecond size nodes image cards
   laid_second = record {
-    laid = subst (IsLaid current size nodes (second_image nodes image)) (second_from 0 cards)
-        (laid_now version current size nodes image (second_image nodes image) cards laid below then_second);
+    laid = subst (IsLaid (current no_seats) size nodes (second_image nodes image)) (second_from 0 cards)
+        (laid_now version (current no_seats) size nodes image (second_image nodes image) cards laid below then_second);
     tree = ap (tree_of (second_image nodes image)) (sym (second_from 0 cards))
-        ∙ tree_now version current size nodes image (second_image nodes image) cards laid below then_second;
+        ∙ tree_now version (current no_seats) size nodes image (second_image nodes image) cards laid below then_second;
     shown = ap (tree_of image) (sym (second_from 0 cards)) ∙ tree_from image (λ i. Two) 0 cards;
   }
 

@@ -6,11 +6,12 @@ use Rattle.inode.specs.declared.node.Form.{Form}
 use Rattle.inode.specs.declared.node.Form.TheVariants.{One, Two}
 use Rattle.inode.specs.Reading.{fields_in}
 use Rattle.inode.specs.Spelling.{inode_sector}
+use Rattle.model.specs.Seats.{no_seats}
 use Rattle.model.specs.Tree.{Tree}
 use Rattle.disk.specs.Calls.{zero_sector}
 use Rattle.layout.specs.Cards.{Card, node_sector, cards_in, tree_of}
 use Rattle.layout.specs.Known.{AreCards}
-use Rattle.layout.specs.Stands.{Version, HaveForms, IsLaid, Stands, current}
+use Rattle.layout.specs.Stands.{Version, HaveCurrentForms, IsLaid, Stands, current}
 use Rattle.layout.specs.Superblock.{superblock}
 
 -- what the sector of a place becomes: the node that is there, in this form; a free place stays
@@ -18,8 +19,8 @@ unfoldable pub in_form : Form → (sector : List ℕ) → List ℕ
 in_form form sector =
     if slice_index sector 0 == 0 then sector else inode_sector form (fields_in sector)
 
--- No form becomes one with less room. The bitmap and the data region are kept. Sectors 1 to 97 are
--- left open.
+-- No form becomes one with less room. The bitmap and the data region are kept. Sectors 1 to 97, the
+-- journal's, are left open.
 pub record AreRewritten (was is : Version) (size nodes : ℕ) (old new : Image) : Type 0 where
   pub roomy : (place : ℕ) → place < nodes → (was.form place ≡ One) ⊎ (is.form place ≡ Two)
   pub bitmap : (n : ℕ) → 98 ≤ n → n < 100 → new n ≡ old n
@@ -65,7 +66,7 @@ second_image nodes image n =
 -- A volume that is laid is so in form two as well, with the same tree
 pub record IsLaidSecond (size nodes : ℕ) (image : Image) (cards : List (Option Card))
     : Type 0 where
-  pub laid : IsLaid current size nodes (second_image nodes image) (all_second cards)
+  pub laid : IsLaid (current no_seats) size nodes (second_image nodes image) (all_second cards)
   pub tree : tree_of (second_image nodes image) (all_second cards) ≡ tree_of image cards
   pub shown : tree_of image (all_second cards) ≡ tree_of image cards
 
@@ -90,4 +91,4 @@ RewrittenCards =
 
 -- which are those of a volume in the current version
 abbrev pub CurrentSecond : Type 0
-CurrentSecond = (cards : List (Option Card)) → HaveForms current cards → all_second cards ≡ cards
+CurrentSecond = (cards : List (Option Card)) → HaveCurrentForms cards → all_second cards ≡ cards

@@ -1,6 +1,6 @@
 -- What a volume stands for. Sectors 1 to 97 are the journal's; what it makes of them is settled
 -- before.
-use Rattle.std.specs.Prelude.{◌≡◌, ◌≤◌, ◌<◌, ◌+◌, ◌++◌, ◌^◌, ◌==◌, ℕ, ⊤, List, Option, Some, None, IsTrue, codes, nat_le, replicate, slice_index_or, if◌then◌else◌}
+use Rattle.std.specs.Prelude.{◌≡◌, ◌≤◌, ◌<◌, ◌+◌, ◌-◌, ◌++◌, ◌^◌, ◌==◌, ℕ, ⊤, List, Option, Some, None, IsTrue, codes, nat_le, replicate, slice_index_or, if◌then◌else◌}
 use Rattle.std.specs.Int.{w32, to_be_bytes}
 use Rattle.disk.specs.Moments.{Image}
 use Rattle.disk.specs.Calls.{zero_sector}
@@ -9,10 +9,12 @@ use Rattle.inode.specs.declared.node.Form.TheVariants.{One, Two}
 use Rattle.layout.specs.declared.versions.VersionNumber.{VersionNumber}
 use Rattle.layout.specs.declared.versions.VersionNumber.TheVariants as numbers
 use Rattle.model.specs.Limits.{limits_of}
-use Rattle.model.specs.Seats.{Seats, no_seats}
+use Rattle.model.specs.Seats.{Seats, AreOfRuns, no_seats}
 use Rattle.model.specs.Stamp.{stamp}
 use Rattle.model.specs.Tree.{Tree}
 use Rattle.model.specs.WellFormed.{IsWellFormed, IsBefore}
+use Rattle.seats.specs.Reading.{seats_in}
+use Rattle.seats.specs.Spelling.{ArePlaces, seats_sector}
 use Rattle.layout.specs.Cards.{Card, cards_in, tree_in}
 use Rattle.layout.specs.Laid.{AreLaid}
 use Rattle.layout.specs.Marks.{mark_in}
@@ -32,39 +34,52 @@ mark_fields moved = codes "MIGR" ++ to_be_bytes w32 moved
 unfoldable pub mark_sector : (moved : ℕ) → List ℕ
 mark_sector moved = mark_fields moved ++ replicate 4088 0
 
--- the mark stands in sector 147, and the others hold nothing
-abbrev pub spare_by : (mark : Option ℕ) → (sector : ℕ) → List ℕ
-spare_by None sector = zero_sector
-spare_by (Some moved) sector = if sector == 147 then mark_sector moved else zero_sector
+-- what sector 147 holds
+abbrev pub mark_held : (mark : Option ℕ) → List ℕ
+mark_held None = zero_sector
+mark_held (Some moved) = mark_sector moved
+
+-- the seats stand from sector 100 on, and the mark behind them
+abbrev pub spare_by : Seats → (mark : Option ℕ) → (sector : ℕ) → List ℕ
+spare_by seats mark sector =
+    if sector == 147 then mark_held mark else seats_sector (sector - 100) seats
 
 -- how many places a mark tells
 abbrev pub moved_by : (mark : Option ℕ) → ℕ
 moved_by None = 0
 moved_by (Some moved) = moved
 
--- Version 1: the places that the mark tells have form two, and the others form one
+-- Version 1: the places that the mark tells have form two, and the others form one. It keeps no seat.
 abbrev pub version_1 : (mark : Option ℕ) → Version
 version_1 mark = record {
   number = 1;
   form = λ place. if nat_le (moved_by mark) place then One else Two;
-  spare = spare_by mark;
+  spare = spare_by no_seats mark;
 }
 
 -- Version 2: all places have form two
-abbrev pub version_2 : (mark : Option ℕ) → Version
-version_2 mark = record { number = 2; form = λ place. Two; spare = spare_by mark }
+abbrev pub version_2 : (mark : Option ℕ) → Seats → Version
+version_2 mark seats = record {
+  number = 2;
+  form = λ place. Two;
+  spare = spare_by seats mark;
+}
 
 -- the version that volumes are made in and served in
-abbrev pub current : Version
-current = version_2 None
+abbrev pub current : Seats → Version
+current seats = version_2 None seats
+
+-- its number
+abbrev pub current_number : ℕ
+current_number = 2
 
 abbrev pub number_of : VersionNumber → ℕ
 number_of numbers.One = 1
 number_of numbers.Two = 2
 
-abbrev pub version_by : VersionNumber → (mark : Option ℕ) → Version
-version_by numbers.One mark = version_1 mark
-version_by numbers.Two mark = version_2 mark
+abbrev pub version_by : VersionNumber → (mark : Option ℕ) → Seats → Version
+version_by numbers.One mark seats = version_1 mark
+version_by numbers.Two mark seats = version_2 mark seats
 
 -- the marks of a volume of so many nodes: one that migrates tells some of its places, and one that
 -- has migrated all of them
@@ -73,16 +88,32 @@ IsMark number nodes None = ⊤
 IsMark numbers.One nodes (Some moved) = (0 < moved) × (moved ≤ nodes)
 IsMark numbers.Two nodes (Some moved) = moved ≡ nodes
 
+-- seats stand in version 2 alone, once its mark is gone
+abbrev pub MayKeep : VersionNumber → (mark : Option ℕ) → Seats → Type 0
+MayKeep numbers.One mark seats = seats ≡ no_seats
+MayKeep numbers.Two None seats = ⊤
+MayKeep numbers.Two (Some moved) seats = seats ≡ no_seats
+
 -- the versions that a volume of so many nodes may have, each with the seats that it keeps
 pub data IsVersion (nodes : ℕ) : Version → Seats → Type 0 where
-  By : (number : VersionNumber) (mark : Option ℕ) → IsMark number nodes mark
-      → IsVersion nodes (version_by number mark) no_seats
+  By : (number : VersionNumber) (mark : Option ℕ) (seats : Seats) → IsMark number nodes mark
+      → MayKeep number mark seats → IsVersion nodes (version_by number mark seats) seats
+
+-- the seats of a volume that was mounted so often: they can be spelled, and each is of a session of
+-- its own, which was made in one of these runs
+pub record AreKept (run : ℕ) (seats : Seats) : Type 0 where
+  pub places : ArePlaces seats
+  pub of_runs : AreOfRuns run seats
 
 -- each node has its place's form
 abbrev pub HaveForms : Version → List (Option Card) → Type 0
 HaveForms version cards =
     (place : ℕ) (card : Card) → slice_index_or cards place None ≡ Some card
     → card.form ≡ version.form place
+
+-- in the current version, whatever seats it keeps
+abbrev pub HaveCurrentForms : List (Option Card) → Type 0
+HaveCurrentForms cards = HaveForms (current no_seats) cards
 
 -- The sectors from 98 on hold these cards: the bitmap marks what they name, and nothing past the
 -- last sector
@@ -111,6 +142,14 @@ pub record Kept : Type 0 where
   pub tree : Tree
   pub seats : Seats
 
+-- the sectors from 100 on hold these seats
+abbrev pub HoldSeats : Image → Seats → Type 0
+HoldSeats image seats = (n : ℕ) → n < 45 → image (100 + n) ≡ seats_sector n seats
+
+-- the seats that the sectors tell, whatever they hold
+abbrev pub seats_at : Image → Seats
+seats_at image = seats_in (λ n. image (100 + n))
+
 -- a tree with no seats beside it
 abbrev pub bare : Tree → Kept
 bare tree = record { tree = tree; seats = no_seats }
@@ -119,4 +158,10 @@ bare tree = record { tree = tree; seats = no_seats }
 pub record StandsAs (size nodes : ℕ) (image : Image) (run : ℕ) (kept : Kept) : Type 0 where
   pub version : Version
   pub is_version : IsVersion nodes version kept.seats
+  pub keeps : AreKept run kept.seats
   pub stands : Stands version size nodes image run kept.tree
+
+-- They stand for both in the current one
+pub record StandsNow (size nodes : ℕ) (image : Image) (run : ℕ) (kept : Kept) : Type 0 where
+  pub keeps : AreKept run kept.seats
+  pub stands : Stands (current kept.seats) size nodes image run kept.tree

@@ -2,7 +2,8 @@
 
 ghost use Rattle.std.specs.Prelude.{◌≡◌, ◌↔◌, IsTrue, length, take};
 ghost use Rattle.layout.specs.Stands as marks;
-ghost use Rattle.layout.specs.Stands.{IsMark, mark_fields, spare_by, version_by};
+ghost use Rattle.layout.specs.Stands.{IsMark, mark_fields, mark_held, version_by};
+ghost use Rattle.model.specs.Seats.{no_seats};
 
 use disk::SECTOR;
 use inode::Form;
@@ -39,7 +40,7 @@ impl VersionNumber {
 
 /// The form of the node at a place of a volume with this mark.
 pub fn form_at(number: VersionNumber, mark: Option<u32>, place: u32) -> Form
-    ensures { result ≡ (version_by number mark).form place }
+    ensures { result ≡ (version_by number mark no_seats).form place }
 {
     match number {
         VersionNumber::One if mark.unwrap_or(0) <= place => Form::One,
@@ -60,7 +61,7 @@ pub fn is_mark(number: VersionNumber, nodes: u32, mark: Option<u32>) -> bool
 
 /// What [`crate::places::MARK`] holds where this mark stands, or none does.
 pub fn mark_sector(mark: Option<u32>) -> [u8; SECTOR]
-    ensures { result ≡ spare_by mark 147 }
+    ensures { result ≡ mark_held mark }
 {
     match mark {
         None => [0; SECTOR],

@@ -1,5 +1,5 @@
 -- A migration and the end of it, by the transactions that the journal takes.
-use Rattle.std.proofs.Common.{◌≡◌, ◌≤◌, ◌<◌, ◌+◌, ℕ, zero, suc, List, [], ◌∷◌, Option, None, length, take, inl, inr, refl, sym, ap, ◌∙◌, arith, ⊎_elim}
+use Rattle.std.proofs.Common.{◌≡◌, ◌≤◌, ◌<◌, ◌+◌, ℕ, zero, suc, List, [], ◌∷◌, Option, None, Some, length, take, inl, inr, refl, sym, ap, ◌∙◌, arith, ⊎_elim}
 use Rattle.std.proofs.lemmas.Bool.{cases_eq}
 use Rattle.disk.specs.declared.update.Update.{Update}
 use Rattle.disk.specs.Calls.{zero_sector}
@@ -10,17 +10,19 @@ use Rattle.journal.specs.Settled.{AreSame}
 use Rattle.journal.proofs.Images.{put_same, put_other}
 use Rattle.layout.specs.Cards.{Card, node_sector, cards_in}
 use Rattle.layout.specs.Rewriting.{all_second, IsRewritten}
-use Rattle.layout.specs.Stands.{Version, IsMark, Stands, StandsAs, By, bare, current, version_1, version_2}
+use Rattle.layout.specs.Stands.{By, Version, IsMark, MayKeep, Stands, StandsAs, bare, current, version_1, version_2}
 use Rattle.layout.specs.declared.versions.VersionNumber.TheVariants as numbers
 use Rattle.layout.proofs.FirstLaws.{sized_parts}
+use Rattle.layout.proofs.SeatLaws.{no_seats_kept, spare_none, spare_other}
 use Rattle.layout.proofs.MarkProofs.{kept_alone, stands_alone, room}
 use Rattle.layout.proofs.Rewriting.{form_stays, rewritten_stands, rewritten_cards}
+use Rattle.model.specs.Seats.{no_seats}
 use Rattle.model.specs.Tree.{Tree}
 use Rattle.migration.specs.Commits.{AreTransactions, Commits, HasCommitted}
 use Rattle.migration.specs.Migrations.{StandsStill, MovesSafely, HasMovedAll, ClearsSafely, HasCleared}
 use Rattle.migration.specs.Plans.{plan, clearing_updates}
 use Rattle.migration.proofs.Transactions.{steps_take}
-use Rattle.migration.proofs.Reaching.{Reached, in_all, begins_reached, plan_front, plan_reaches, reached_all, spare_other}
+use Rattle.migration.proofs.Reaching.{Reached, in_all, begins_reached, plan_front, plan_reaches, reached_all}
 
 -- Where the kept sectors are the same
 
@@ -76,7 +78,11 @@ module _ (keeps_word : Type 0) (moved : ℕ) (cards : List (Option Card)) (old n
 
 -- The mark
 
-module _ (mark : Option ℕ) (size nodes run : ℕ) (image : Image) (tree : Tree) (stands : Stands (version_2 mark) size nodes image run tree) where
+none_kept : (mark : Option ℕ) → MayKeep numbers.Two mark no_seats
+none_kept None = tt
+none_kept (Some moved) = refl
+
+module _ (mark : Option ℕ) (size nodes run : ℕ) (image : Image) (tree : Tree) (stands : Stands (version_2 mark no_seats) size nodes image run tree) where
   abbrev none : Update
   none = record { target = 147; content = zero_sector }
 
@@ -86,31 +92,47 @@ module _ (mark : Option ℕ) (size nodes run : ℕ) (image : Image) (tree : Tree
   others : (n : ℕ) → (147 ≡ n → ⊥) → without n ≡ image n
   others n other = put_other image none n other
 
-  clears : IsRewritten (version_2 mark) current size nodes run image without
+  clears : IsRewritten (version_2 mark no_seats) (current no_seats) size nodes run image without
   clears = record {
     first = others 0 (λ e. omega arith) ∙ stands.first;
     others = record {
       roomy = λ place within. inr refl;
       bitmap = λ n low high. others n (λ e. omega arith);
       spare = λ n low high. ⊎_elim
-          (λ (same : n ≡ 147). put_same image none n (sym same))
-          (λ (other : n ≡ 147 → ⊥). others n (λ e. other (sym e)) ∙ stands.laid.spare n low high ∙ spare_other mark n other)
+          (λ (same : n ≡ 147). put_same image none n (sym same) ∙ sym (spare_none n))
+          (λ (other : n ≡ 147 → ⊥). others n (λ e. other (sym e)) ∙ stands.laid.spare n low high ∙ (spare_other mark n other ∙ sym (spare_none n)))
           (cases_eq n 147);
-      nodes_are = λ place within. others (node_sector place) (λ e. omega arith) ∙ sym (form_stays (version_2 mark) size nodes run image tree place stands within);
+      nodes_are = λ place within. others (node_sector place) (λ e. omega arith) ∙ sym (form_stays (version_2 mark no_seats) size nodes run image tree place stands within);
       region = λ n low high. others n (λ e. omega arith);
     };
   }
 
-  cleared_stands : Stands current size nodes without run tree
-  cleared_stands = rewritten_stands (version_2 mark) current size nodes run run image without tree stands (omega arith) stands.counted clears
+  cleared_stands : Stands (current no_seats) size nodes without run tree
+  cleared_stands = rewritten_stands (version_2 mark no_seats) (current no_seats) size nodes run run image without tree stands (omega arith) stands.counted clears
 
   cleared_cards : all_second (cards_in nodes without) ≡ all_second (cards_in nodes image)
-  cleared_cards = rewritten_cards (version_2 mark) current size nodes run run image without tree stands clears
+  cleared_cards = rewritten_cards (version_2 mark no_seats) (current no_seats) size nodes run run image without tree stands clears
 
   either_stands : IsMark numbers.Two nodes mark → (c : ℕ) → c ≤ 1
       → (is : StandsAs size nodes (applied_all (take c (clearing_updates ∷ [])) image) run (bare tree)) × (is.version.number ≡ 2)
-  either_stands marked zero few = (record { version = version_2 mark; is_version = By numbers.Two mark marked; stands = stands }, refl)
-  either_stands marked (suc zero) few = (record { version = current; is_version = By numbers.Two None tt; stands = cleared_stands }, refl)
+  either_stands marked zero few = (
+    record {
+      version = version_2 mark no_seats;
+      is_version = By numbers.Two mark no_seats marked (none_kept mark);
+      keeps = no_seats_kept run;
+      stands = stands;
+    },
+    refl,
+  )
+  either_stands marked (suc zero) few = (
+    record {
+      version = current no_seats;
+      is_version = By numbers.Two None no_seats tt tt;
+      keeps = no_seats_kept run;
+      stands = cleared_stands;
+    },
+    refl,
+  )
   either_stands marked (suc (suc c)) few = absurd (omega arith)
 
 module _ (keeps_word : Type 0) (old new : Log) where
@@ -130,7 +152,7 @@ module _ (keeps_word : Type 0) (old new : Log) where
       let there = cleared_stands mark old.size nodes run old.base tree stands in
       let without = applied clearing_updates old.base in
       record {
-        stands = stands_same current old.size nodes run without new.base tree (has.base word) there;
-        cards = ap all_second (cards_same current old.size nodes run without new.base tree (has.base word) there)
+        stands = stands_same (current no_seats) old.size nodes run without new.base tree (has.base word) there;
+        cards = ap all_second (cards_same (current no_seats) old.size nodes run without new.base tree (has.base word) there)
             ∙ cleared_cards mark old.size nodes run old.base tree stands;
       }

@@ -1,10 +1,9 @@
 -- Each transaction of a migration leaves a volume of version 1 that stands for the same tree.
-use Rattle.std.proofs.Common.{◌≡◌, ◌≤◌, ◌<◌, ◌+◌, ◌-◌, ◌*◌, ◌/◌, ◌⊎◌, ℕ, zero, suc, List, Option, Some, None, length, map, min, take, get_or, eq-eqb, ne_eqb, inl, inr, refl, sym, ap, ◌∙◌, subst, arith, ⊎_elim}
+use Rattle.std.proofs.Common.{◌≡◌, ◌≤◌, ◌<◌, ◌+◌, ◌-◌, ◌*◌, ◌/◌, ◌⊎◌, ℕ, zero, suc, List, Option, Some, None, length, map, min, take, get_or, eq-eqb, inl, inr, refl, sym, ap, ◌∙◌, subst, arith, ⊎_elim}
 use Rattle.std.specs.List.{range_with_len}
 use Rattle.std.proofs.lemmas.Bool.{cases_eq, cases_lt, le-leb, lt-leb}
 use Rattle.std.proofs.lemmas.List.FromFn.{length-map-range_with_len, take-map-range_with_len}
 use Rattle.disk.specs.declared.update.Update.{Update}
-use Rattle.disk.specs.Calls.{zero_sector}
 use Rattle.disk.specs.Moments.{Image, applied}
 use Rattle.journal.specs.Log.{applied_all}
 use Rattle.journal.proofs.Images.{put_same}
@@ -14,10 +13,12 @@ use Rattle.inode.specs.Spelling.{inode_sector}
 use Rattle.layout.specs.Cards.{Card, node_sector, cards_in}
 use Rattle.layout.specs.Laid.{HoldsPlace}
 use Rattle.layout.specs.Rewriting.{in_form, in_second, all_second, IsRewritten}
-use Rattle.layout.specs.Stands.{IsMark, Stands, StandsAs, By, bare, mark_sector, moved_by, spare_by, Version, version_1}
+use Rattle.layout.specs.Stands.{By, IsMark, Stands, StandsAs, bare, mark_sector, moved_by, spare_by, Version, version_1}
 use Rattle.layout.specs.declared.versions.VersionNumber.TheVariants as numbers
 use Rattle.layout.proofs.FirstLaws.{sized_parts}
+use Rattle.layout.proofs.SeatLaws.{no_seats_kept, spare_other}
 use Rattle.layout.proofs.Rewriting.{node_in_form, free_in_form, second_at, form_stays, rewritten_stands, rewritten_cards}
+use Rattle.model.specs.Seats.{no_seats}
 use Rattle.model.specs.Tree.{Tree}
 use Rattle.migration.specs.Plans.{moved_node, step, step_at, plan}
 use Rattle.migration.proofs.Transactions.{mark_written, far_stays, node_written}
@@ -38,11 +39,7 @@ form_moved mark place low = rw (lt-leb (moved_by mark) place low) refl
 form_left : (mark : Option ℕ) (place : ℕ) → moved_by mark ≤ place → (version_1 mark).form place ≡ One
 form_left mark place high = rw (le-leb (moved_by mark) place high) refl
 
-pub spare_other : (mark : Option ℕ) (n : ℕ) → (n ≡ 147 → ⊥) → spare_by mark n ≡ zero_sector
-spare_other None n other = refl
-spare_other (Some moved) n other = rw (ne_eqb n 147 other) refl
-
-spare_at : (moved n : ℕ) → n ≡ 147 → spare_by (Some moved) n ≡ mark_sector moved
+spare_at : (moved n : ℕ) → n ≡ 147 → spare_by no_seats (Some moved) n ≡ mark_sector moved
 spare_at moved n same = rw (eq-eqb n 147 same) refl
 
 -- the node of a place that holds this, in form two
@@ -103,7 +100,7 @@ module _ (size run : ℕ) (tree : Tree) (cards : List (Option Card)) (moved coun
       (cases_lt place (moved + count)))
       (cases_lt place moved)
 
-  spare_is : (n : ℕ) → 100 ≤ n → n < 148 → new n ≡ spare_by (Some (moved + count)) n
+  spare_is : (n : ℕ) → 100 ≤ n → n < 148 → new n ≡ spare_by no_seats (Some (moved + count)) n
   spare_is n low high = ⊎_elim
       (λ (same : n ≡ 147). ap new same ∙ mark_written cards moved count image ∙ sym (spare_at (moved + count) n same))
       (λ (other : n ≡ 147 → ⊥).
@@ -166,8 +163,15 @@ begins_reached mark moved run size tree cards image marked told stands read with
 
 pub reached_stands : (size run : ℕ) (tree : Tree) (cards : List (Option Card)) (moved : ℕ) (image : Image) → Reached size run tree cards moved image
     → (is : StandsAs size (length cards) image run (bare tree)) × (is.version.number ≡ 1)
-reached_stands size run tree cards moved image reached =
-    (record { version = version_1 reached.mark; is_version = By numbers.One reached.mark reached.marked; stands = reached.stands }, refl)
+reached_stands size run tree cards moved image reached = (
+  record {
+    version = version_1 reached.mark;
+    is_version = By numbers.One reached.mark no_seats reached.marked refl;
+    keeps = no_seats_kept run;
+    stands = reached.stands;
+  },
+  refl,
+)
 
 module _ (size run : ℕ) (tree : Tree) (cards : List (Option Card)) (moved : ℕ) (image : Image) (within : moved ≤ length cards)
     (first : Reached size run tree cards (min (length cards) (moved + 47 * 0)) image) where

@@ -7,6 +7,7 @@ use Rattle.layout.specs.Cards.{Card, cards_in}
 use Rattle.layout.specs.Rewriting.{all_second}
 use Rattle.layout.specs.Stands.{Version, IsMark, Stands, StandsAs, bare, current, moved_by, version_1, version_2}
 use Rattle.layout.specs.declared.versions.VersionNumber.TheVariants as numbers
+use Rattle.model.specs.Seats.{no_seats}
 use Rattle.model.specs.Tree.{Tree}
 
 -- a map that a crash leaves stands for the tree, under this restart count, in the version of this
@@ -61,10 +62,11 @@ HasMovedAll moved cards old new =
 abbrev pub ClearsSafely : (old new : Log) → Type 0
 ClearsSafely old new =
     (mark : Option ℕ) (nodes run : ℕ) (tree : Tree) → IsMark numbers.Two nodes mark
-    → Stands (version_2 mark) old.size nodes old.base run tree → AddsStill 2 nodes run tree old new
+    → Stands (version_2 mark no_seats) old.size nodes old.base run tree
+    → AddsStill 2 nodes run tree old new
 
 abbrev pub HasCleared : (old new : Log) → Type 0
 HasCleared old new =
     (mark : Option ℕ) (nodes run : ℕ) (tree : Tree) → IsMark numbers.Two nodes mark
-    → Stands (version_2 mark) old.size nodes old.base run tree
-    → IsMoved current nodes run tree old new
+    → Stands (version_2 mark no_seats) old.size nodes old.base run tree
+    → IsMoved (current no_seats) nodes run tree old new

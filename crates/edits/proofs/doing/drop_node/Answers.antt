@@ -2,7 +2,7 @@ use Rattle.std.proofs.Common.{List, [], Option, sym, subst, arith}
 use Rattle.draft.specs.Drafts.{cards_of}
 use Rattle.edits.specs.Doing.{AreMade}
 use Rattle.layout.specs.Cards.{Card}
-use Rattle.layout.specs.Stands.{current, HaveForms}
+use Rattle.layout.specs.Stands.{HaveCurrentForms}
 use Rattle.model.specs.Edit.{DropNode}
 use Rattle.edits.proofs.DoingLaws.{over_number, dropped, all_ok}
 use Rattle.edits.proofs.PlaceLaws.{IsThere, there_at, made_none, none_forms}
@@ -23,7 +23,7 @@ returns-clause-done c =
     (λ known cards freed base size. record {
       known = known;
       outline = dropped old new c.requires.known place c.args.number it cards;
-      forms = λ forms. subst (HaveForms current) (sym cards) (none_forms (cards_of old) place forms);
+      forms = λ forms. subst HaveCurrentForms (sym cards) (none_forms (cards_of old) place forms);
       made = subst (λ (now : List (Option Card)). AreMade (cards_of old) now []) (sym cards) (made_none (cards_of old) place []);
       tree = λ word is. over_number old new c.requires.known place c.args.number it base size DropNode (λ card there. freed card there base size) is;
       count = omega (arith, c.free.ensures.count);

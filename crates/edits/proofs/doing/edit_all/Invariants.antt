@@ -1,7 +1,7 @@
 use Rattle.std.proofs.Common.{◌≡◌, ◌≤◌}
 use Rattle.draft.specs.declared.draft.Draft.{Draft}
 use Rattle.draft.specs.Drafts.{cards_of, end_of, IsKnown}
-use Rattle.layout.specs.Stands.{current, HaveForms}
+use Rattle.layout.specs.Stands.{HaveCurrentForms}
 use Rattle.edits.specs.Doing.{Does, Overfills}
 use Rattle.edits.specs.Edits.{AreDoable, StayFew}
 use Rattle.edits.specs.Outlines.{outline_of}
@@ -12,7 +12,7 @@ abbrev pub invariant-loop-edit : goal.invariant-loop-edit
 invariant-loop-edit g l = record {
   known : IsKnown l.draft;
   within : end_of l.draft ≤ g.S.Sectors.size (g.S.Sectors.kept l.fn.base);
-  forms : HaveForms current (cards_of l.draft);
+  forms : HaveCurrentForms (cards_of l.draft);
   can : AreDoable (outline_of (cards_of l.draft)) l.edit-iterator.rest.items;
   few : StayFew (outline_of (cards_of l.draft)) l.edit-iterator.rest.items;
   does : (new : Draft) → Does g.S.Sectors.keeps_word (g.S.Sectors.image (g.S.Sectors.kept l.fn.base)) (g.S.Sectors.size (g.S.Sectors.kept l.fn.base)) l.draft new l.edit-iterator.rest.items

@@ -4,7 +4,7 @@ use Rattle.draft.specs.Drafts.{cards_of, MakesOver}
 use Rattle.draft.specs.Nodes.{shown_of}
 use Rattle.inode.specs.Fields.{Fields, IsInode}
 use Rattle.layout.specs.Cards.{Card}
-use Rattle.layout.specs.Stands.{current, HaveForms}
+use Rattle.layout.specs.Stands.{HaveCurrentForms}
 use Rattle.model.specs.Edit.{PutNode}
 use Rattle.model.specs.Tree.{Node}
 use Rattle.edits.specs.Doing.{AreMade}
@@ -40,7 +40,7 @@ returns-clause-done c = λ base size.
     record {
       known = c.in_ok-make.ensures.known;
       outline = made_outline old new c.requires.known place c.args.kind c.args.number (shown_of c.args.shown) card free.within free.free fresh c.fresh_card.ensures.card fields c.in_ok-make.ensures.cards;
-      forms = λ forms. subst (HaveForms current) (sym c.in_ok-make.ensures.cards) (put_forms (cards_of old) place card free.within (ap (λ (one : Card). one.form) c.fresh_card.ensures.card) forms);
+      forms = λ forms. subst HaveCurrentForms (sym c.in_ok-make.ensures.cards) (put_forms (cards_of old) place card free.within (ap (λ (one : Card). one.form) c.fresh_card.ensures.card) forms);
       made = subst (λ (now : List (Option Card)). AreMade (cards_of old) now (c.args.number ∷ [])) (sym c.in_ok-make.ensures.cards)
           (made_put (cards_of old) place card (c.args.number ∷ []) free.within (inr (0, (omega arith, number))));
       tree = λ word laid. subst (λ (edit : ℕ × Node). MakesOver base size old new (PutNode edit.0 edit.1)) (ap₂ (λ (n : ℕ) (node : Node). (n, node)) number (node_is c.args.kind c.args.number (shown_of c.args.shown) card fields)) (c.in_ok-make.ensures.made base size) laid;
