@@ -5,6 +5,7 @@ pub mod MigrationLaws
 pub mod NameLaws
 pub mod NumberLaws
 pub mod RunLaws
+pub mod SeatingLaws
 pub mod SectorLaws
 pub mod StampLaws
 pub mod TableLaws

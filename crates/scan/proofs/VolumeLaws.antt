@@ -9,23 +9,26 @@ use Rattle.layout.specs.Cards.{Card}
 use Rattle.layout.specs.Known.{AreCards}
 use Rattle.layout.specs.Laid.{AreLaid, AreNumbered}
 use Rattle.layout.specs.Marks.{named, mark_in, mark_by}
-use Rattle.layout.specs.Stands.{Version, HaveForms, IsLaid, IsMark, spare_by, version_by}
+use Rattle.layout.specs.Stands.{HoldSeats, Version, AreKept, HaveForms, IsLaid, IsMark, MayKeep, mark_held, version_by}
 use Rattle.layout.specs.declared.versions.VersionNumber.{VersionNumber}
+use Rattle.model.specs.Seats.{Seats, no_seats}
 use Rattle.layout.proofs.CardLaws.{cards-back}
 use Rattle.layout.proofs.MarkProofs.{mark-back, each_mark, marks_laid}
 use Rattle.scan.specs.Cards.{FindsPlace, IsFound, CanHold}
 use Rattle.scan.specs.Sectors.{AreBits, AreSpare}
 use Rattle.scan.specs.Volumes.{AreFew, IsRead}
 use Rattle.scan.proofs.MarkingLaws.{most-in}
-use Rattle.scan.proofs.MigrationLaws.{mark_fits, one_mark, mark_there, spare_there}
+use Rattle.scan.proofs.MigrationLaws.{mark_fits, one_mark, mark_there, same-form, spare_there}
 use Rattle.scan.proofs.TableLaws.{place_held, place_known, place_found, one_place}
 
 -- Cards that are laid can be held
 
-pub laid_can : (word : Type 0) (version : Version) (image : Image) (size nodes count : ℕ) (cards : List (Option Card)) → size ≡ 148 + nodes + count → IsLaid version size nodes image cards → AreFew cards → CanHold word version.form image nodes count cards
-laid_can word version image size nodes count cards sized laid few = record {
+pub laid_can : (word : Type 0) (number : VersionNumber) (mark : Option ℕ) (seats : Seats) (image : Image) (size nodes count : ℕ) (cards : List (Option Card)) → size ≡ 148 + nodes + count → IsLaid (version_by number mark seats) size nodes image cards → AreFew cards
+    → CanHold word (version_by number mark no_seats).form image nodes count cards
+laid_can word number mark seats image size nodes count cards sized laid few = record {
   many = laid.laid.count;
-  each = λ place h. place_found word (version.form place) image place (get_or cards place None) (λ card is. laid.forms place card is) (λ card is. few place card is) (laid.laid.held place h);
+  each = λ place h. place_found word ((version_by number mark no_seats).form place) image place (get_or cards place None) (λ card is. laid.forms place card is ∙ ap (λ (f : ℕ → Form). f place) (same-form number mark seats no_seats)) (λ card is. few place card is)
+      (laid.laid.held place h);
   once = λ n. elim (cases_lt 0 (mark_in nodes image n)) [
     | inl some ↦
         let low = laid.laid.behind n some in
@@ -38,11 +41,18 @@ laid_can word version image size nodes count cards sized laid few = record {
 }
 
 -- by the one mark that stands there
-pub laid_here : (number : VersionNumber) (a b : Option ℕ) (image : Image) (size nodes : ℕ) (cards : List (Option Card)) → nodes < 2 ^ 32 → IsMark number nodes a → image 147 ≡ spare_by a 147 → IsMark number nodes b → IsLaid (version_by number b) size nodes image cards
-    → IsLaid (version_by number a) size nodes image cards
-laid_here number a b image size nodes cards small is there other laid =
-    let same : b ≡ a = one_mark b a (mark_fits number nodes b small other) (mark_fits number nodes a small is) (sym (mark_there number b image laid.spare) ∙ there) in
-    subst (λ (mark : Option ℕ). IsLaid (version_by number mark) size nodes image cards) same laid
+pub record LaidHere (number : VersionNumber) (mark : Option ℕ) (seats : Seats) (image : Image) (size nodes : ℕ) (cards : List (Option Card)) : Type 0 where
+  pub may : MayKeep number mark seats
+  pub laid : IsLaid (version_by number mark seats) size nodes image cards
+
+pub laid_here : (number : VersionNumber) (mark other : Option ℕ) (seats : Seats) (image : Image) (size nodes : ℕ) (cards : List (Option Card)) → nodes < 2 ^ 32 → IsMark number nodes mark → image 147 ≡ mark_held mark → IsMark number nodes other → MayKeep number other seats
+    → IsLaid (version_by number other seats) size nodes image cards → LaidHere number mark seats image size nodes cards
+laid_here number mark other seats image size nodes cards small is there one may laid =
+    let same : other ≡ mark = one_mark other mark (mark_fits number nodes other small one) (mark_fits number nodes mark small is) (sym (mark_there number other seats image may laid.spare) ∙ there) in
+    record {
+      may = subst (λ (m : Option ℕ). MayKeep number m seats) same may;
+      laid = subst (λ (m : Option ℕ). IsLaid (version_by number m seats) size nodes image cards) same laid;
+    }
 
 -- and are those that were found
 pub one_table : (word : Type 0) (form : ℕ → Form) (image : Image) (nodes count : ℕ) (cards others : List (Option Card)) (places : List Bool) → word → IsFound word form image nodes count cards places → CanHold word form image nodes count others → cards ≡ others
@@ -76,21 +86,21 @@ module _ (nodes : ℕ) (image : Image) (places : List Bool) (marks : (n : ℕ) �
   part_bits (suc (suc part)) h = absurd (omega arith)
 
 -- of cards that are laid the marks that were made are those of the bitmap
-pub same_marks : (word : Type 0) (version : Version) (image : Image) (size nodes count : ℕ) (cards others : List (Option Card)) (places : List Bool) → word → IsFound word version.form image nodes count cards places → CanHold word version.form image nodes count others → IsLaid version size nodes image others
+pub same_marks : (word : Type 0) (version : Version) (form : ℕ → Form) (image : Image) (size nodes count : ℕ) (cards others : List (Option Card)) (places : List Bool) → word → IsFound word form image nodes count cards places → CanHold word form image nodes count others → IsLaid version size nodes image others
     → (n : ℕ) → mark_in nodes image n ≡ mark_by (148 + nodes) places n
-same_marks word version image size nodes count cards others places w found can laid n =
-    sym (laid.laid.marks n) ∙ ap (named n) (sym (one_table word version.form image nodes count cards others places w found can)) ∙ sym (found.marks n)
+same_marks word version form image size nodes count cards others places w found can laid n =
+    sym (laid.laid.marks n) ∙ ap (named n) (sym (one_table word form image nodes count cards others places w found can)) ∙ sym (found.marks n)
 
 -- What is found of all is read
 
-module _ (word : Type 0) (number : VersionNumber) (mark : Option ℕ) (image : Image) (size nodes count : ℕ) (cards : List (Option Card)) (places : List Bool) (sized : size ≡ 148 + nodes + count) (small : count ≤ 65536) (marked : IsMark number nodes mark)
-    (found : IsFound word (version_by number mark).form image nodes count cards places) (apart : AreNumbered cards) (low : word → Shows (image 98) places 0) (high : word → Shows (image 99) places 32768) (there : word → image 147 ≡ spare_by mark 147) (spare : word → AreSpare image) where
+module _ (word : Type 0) (number : VersionNumber) (run : ℕ) (mark : Option ℕ) (seats : Seats) (image : Image) (size nodes count : ℕ) (cards : List (Option Card)) (places : List Bool) (sized : size ≡ 148 + nodes + count) (small : count ≤ 65536) (marked : IsMark number nodes mark) (may : MayKeep number mark seats) (keeps : AreKept run seats)
+    (found : IsFound word (version_by number mark no_seats).form image nodes count cards places) (apart : AreNumbered cards) (low : word → Shows (image 98) places 0) (high : word → Shows (image 99) places 32768) (there : word → image 147 ≡ mark_held mark) (holds : word → HoldSeats image seats) (spare : word → AreSpare image) where
   known : AreCards nodes (mark_by (148 + nodes) places) cards
   known =
       let each = each_mark (148 + nodes) places 0 in
       record {
         count = found.many;
-        each = λ place h. place_known word ((version_by number mark).form place) image place (get_or cards place None) (found.each place h);
+        each = λ place h. place_known word ((version_by number mark no_seats).form place) image place (get_or cards place None) (found.each place h);
         apart = apart;
         marks = λ n. sym (found.marks n);
         behind = each.behind;
@@ -105,16 +115,16 @@ module _ (word : Type 0) (number : VersionNumber) (mark : Option ℕ) (image : I
       let each = each_mark (148 + nodes) places 0 in
       record {
         count = found.many;
-        held = λ place h. place_held word ((version_by number mark).form place) image place (get_or cards place None) w (found.each place h);
+        held = λ place h. place_held word ((version_by number mark no_seats).form place) image place (get_or cards place None) w (found.each place h);
         apart = apart;
         marks = λ n. sym (found.marks n) ∙ sym (same w n);
         behind = λ n some. each.behind n (omega (arith, same w n));
         once = λ n. omega (arith, same w n, each.once n);
       }
 
-  found_at : (place : ℕ) (card : Card) → get_or cards place None ≡ Some card → FindsPlace word ((version_by number mark).form place) image place (Some card)
+  found_at : (place : ℕ) (card : Card) → get_or cards place None ≡ Some card → FindsPlace word ((version_by number mark no_seats).form place) image place (Some card)
   found_at place card is = elim (cases_lt place nodes) [
-    | inl h ↦ subst (FindsPlace word ((version_by number mark).form place) image place) is (found.each place h)
+    | inl h ↦ subst (FindsPlace word ((version_by number mark no_seats).form place) image place) is (found.each place h)
     | inr past ↦ absurd (none_some card (sym (get_or_past cards place None (omega (arith, found.many))) ∙ is))
   ]
     where
@@ -124,12 +134,14 @@ module _ (word : Type 0) (number : VersionNumber) (mark : Option ℕ) (image : I
   few : AreFew cards
   few place card is = let at = found_at place card is in let rest = at.rest in let blocks = rest.in_blocks in blocks.few
 
-  forms : HaveForms (version_by number mark) cards
-  forms place card is = let at = found_at place card is in at.form
+  forms : HaveForms (version_by number mark seats) cards
+  forms place card is = let at = found_at place card is in at.form ∙ ap (λ (f : ℕ → Form). f place) (same-form number mark no_seats seats)
 
-  pub is_read : IsRead word size nodes number mark image cards places
+  pub is_read : IsRead word size nodes number run mark seats image cards places
   is_read = record {
     marked = marked;
+    may = may;
+    keeps = keeps;
     known = known;
     forms = forms;
     few = few;
@@ -138,7 +150,7 @@ module _ (word : Type 0) (number : VersionNumber) (mark : Option ℕ) (image : I
       laid = laid w;
       forms = forms;
       within = λ n h. same w n ∙ (let each = each_mark (148 + nodes) places 0 in each.within n (omega (arith, found.len)));
-      spare = spare_there number mark image (there w) (spare w);
+      spare = spare_there number mark seats image may keeps.places.five (there w) (holds w) (spare w);
     };
     read = λ w. let all = laid w in sym (cards-back image nodes cards found.many all.held);
   }

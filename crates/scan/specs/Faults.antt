@@ -5,6 +5,8 @@ use Rattle.extents.specs.declared.fault.ExtentsFault.{ExtentsFault}
 use Rattle.extents.specs.declared.fault.ExtentsFault.TheVariants as extents
 use Rattle.directory.specs.declared.fault.RecordsFault.{RecordsFault}
 use Rattle.directory.specs.declared.fault.RecordsFault.TheVariants as records
+use Rattle.seats.specs.declared.fault.SeatFault.{SeatFault}
+use Rattle.seats.specs.declared.fault.SeatFault.TheVariants as seats
 use Rattle.scan.specs.declared.fault.ScanFault.{ScanFault}
 use Rattle.scan.specs.declared.fault.ScanFault.TheVariants.{Damaged, Memory}
 
@@ -19,3 +21,7 @@ of_extents extents.Memory = Memory
 abbrev pub of_records : RecordsFault → ScanFault
 of_records records.NotRecords = Damaged
 of_records records.Memory = Memory
+
+abbrev pub of_seat : SeatFault → ScanFault
+of_seat seats.NotSeat = Damaged
+of_seat seats.Memory = Memory

@@ -5,5 +5,6 @@ pub mod Names
 pub mod Numbers
 pub mod Places
 pub mod Runs
+pub mod Seating
 pub mod Sectors
 pub mod Volumes

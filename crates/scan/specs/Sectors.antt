@@ -7,9 +7,9 @@ use Rattle.disk.specs.Calls.{zero_sector}
 abbrev pub AreZeroFrom : List ℕ → (from : ℕ) → Type 0
 AreZeroFrom content from = (at : ℕ) → from ≤ at → slice_index content at ≡ 0
 
--- the sectors between the bitmap and the mark of a migration are zero
+-- the sectors between the seats and the mark of a migration are zero
 abbrev pub AreSpare : Image → Type 0
-AreSpare image = (n : ℕ) → 100 ≤ n → n < 147 → image n ≡ zero_sector
+AreSpare image = (n : ℕ) → 145 ≤ n → n < 147 → image n ≡ zero_sector
 
 -- the bits of a sector are the places from `first` on
 abbrev pub AreBits : List ℕ → List Bool → (first : ℕ) → Type 0

@@ -4,27 +4,33 @@ use Rattle.std.specs.Prelude.{slice_index_or}
 use Rattle.disk.specs.Moments.{Image}
 use Rattle.layout.specs.declared.versions.VersionNumber.{VersionNumber}
 use Rattle.layout.specs.Cards.{Card, cards_in}
+use Rattle.model.specs.Seats.{Seats}
 use Rattle.model.specs.Tree.{Tree}
 use Rattle.layout.specs.Known.{AreCards}
 use Rattle.layout.specs.Marks.{mark_by}
-use Rattle.layout.specs.Stands.{Version, HaveForms, IsLaid, IsMark, Stands, version_by}
+use Rattle.layout.specs.Stands.{Version, AreKept, HaveForms, IsLaid, IsMark, MayKeep, Stands}
+use Rattle.layout.specs.Stands.{version_by}
 
 -- no node has more blocks than a file may have
 abbrev pub AreFew : List (Option Card) → Type 0
 AreFew cards = (place : ℕ) (card : Card) → slice_index_or cards place None ≡ Some card
     → length card.blocks ≤ 4096
 
--- A mark of a migration, cards in the forms that it tells, and marks of the whole data region that
--- are what they name, whatever the sectors hold; and where the device keeps its word the sectors
--- hold this mark and these cards, and they are those that are read of the image
-pub record IsRead (word : Type 0) (size nodes : ℕ) (number : VersionNumber) (mark : Option ℕ)
-    (image : Image) (cards : List (Option Card)) (places : List Bool) : Type 0 where
+-- A mark of a migration, seats that a volume with it may keep after so many mounts, cards in the
+-- forms that it tells, and marks of the whole data region that are what they name, whatever the
+-- sectors hold; and where the device keeps its word the sectors hold this mark, these seats and
+-- these cards, which are those that are read of the image
+pub record IsRead (word : Type 0) (size nodes : ℕ) (number : VersionNumber) (run : ℕ)
+    (mark : Option ℕ) (seats : Seats) (image : Image) (cards : List (Option Card))
+    (places : List Bool) : Type 0 where
   pub marked : IsMark number nodes mark
+  pub may : MayKeep number mark seats
+  pub keeps : AreKept run seats
   pub known : AreCards nodes (mark_by (148 + nodes) places) cards
-  pub forms : HaveForms (version_by number mark) cards
+  pub forms : HaveForms (version_by number mark seats) cards
   pub few : AreFew cards
   pub size_is : size ≡ 148 + nodes + length places
-  pub laid : word → IsLaid (version_by number mark) size nodes image cards
+  pub laid : word → IsLaid (version_by number mark seats) size nodes image cards
   pub read : word → cards ≡ cards_in nodes image
 
 -- where a volume stands for a tree, the cards that are read of it are so few

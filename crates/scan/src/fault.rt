@@ -7,6 +7,7 @@ use directory::RecordsFault;
 use extents::ExtentsFault;
 use inode::InodeFault;
 use layout::sectors::ReadFault;
+use seats::SeatFault;
 use std::alloc::{AllocError, AllocFailed};
 use thiserror::Error;
 
@@ -67,6 +68,19 @@ impl From<RecordsFault> for ScanFault {
         match e {
             RecordsFault::NotRecords => ScanFault::Damaged,
             RecordsFault::Memory => ScanFault::Memory,
+        }
+    }
+}
+
+impl From<SeatFault> for ScanFault {
+    ghost use Rattle.scan.specs.Faults.{of_seat};
+
+    ghost from_gives = { λ fault e. e ≡ of_seat fault };
+
+    fn from(e: SeatFault) -> ScanFault {
+        match e {
+            SeatFault::NotSeat => ScanFault::Damaged,
+            SeatFault::Memory => ScanFault::Memory,
         }
     }
 }

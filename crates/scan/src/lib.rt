@@ -9,6 +9,7 @@ mod names;
 mod nodes;
 mod numbers;
 mod runs;
+mod seating;
 mod sectors;
 mod table;
 mod volume;

@@ -2,7 +2,7 @@
 
 ghost use Rattle.std.specs.Prelude.{◌≡◌, ◌<◌, ◌^◌, ℕ, Option, IfOk, IsErrOf};
 ghost use Rattle.layout.specs.Health.{Reads};
-ghost use Rattle.layout.specs.Stands.{IsMark, moved_by, spare_by};
+ghost use Rattle.layout.specs.Stands.{IsMark, mark_held, moved_by};
 
 use crate::fault::ScanFault;
 use crate::sectors::{are_same, fetch, is_zero_from};
@@ -14,7 +14,7 @@ use sector::u32_at;
 
 /// The one mark whose sector this may be; none where it is zero.
 fn told_mark(content: &[u8; SECTOR]) -> Option<u32>
-    ensures { (mark : Option ℕ) → moved_by mark < 2 ^ 32 → content.now ≡ spare_by mark MARK
+    ensures { (mark : Option ℕ) → moved_by mark < 2 ^ 32 → content.now ≡ mark_held mark
         → result ≡ mark }
 {
     if is_zero_from(content, 0) {
@@ -30,10 +30,10 @@ fn checked_mark(
     nodes: u32,
 ) -> Result<Option<u32>, ScanFault>
     ensures marked { IfOk result (IsMark number nodes) }
-    ensures found { IfOk result (λ mark. content.now ≡ spare_by mark MARK) }
+    ensures found { IfOk result (λ mark. content.now ≡ mark_held mark) }
     // Refused
     ensures damaged { IsErrOf result ScanFault.Damaged → (mark : Option ℕ)
-        → IsMark number nodes mark → ¬ (content.now ≡ spare_by mark MARK) }
+        → IsMark number nodes mark → ¬ (content.now ≡ mark_held mark) }
     ensures device { ¬ IsErrOf result ScanFault.Device }
 {
     let mark = told_mark(content);
@@ -52,10 +52,10 @@ pub(crate) fn read_mark<S: Sectors>(
     requires within { MARK < S.size (S.kept sectors.old) }
     ensures marked { IfOk result (IsMark number nodes) }
     ensures found { IfOk result (λ mark. S.keeps_word
-        → S.image (S.kept sectors.old) MARK ≡ spare_by mark MARK) }
+        → S.image (S.kept sectors.old) MARK ≡ mark_held mark) }
     // Refused
     ensures damaged { S.keeps_word → IsErrOf result ScanFault.Damaged → (mark : Option ℕ)
-        → IsMark number nodes mark → ¬ (S.image (S.kept sectors.old) MARK ≡ spare_by mark MARK) }
+        → IsMark number nodes mark → ¬ (S.image (S.kept sectors.old) MARK ≡ mark_held mark) }
     // It only reads
     ensures kept { S.kept sectors.new ≡ S.kept sectors.old }
     ensures health { Reads (S.health sectors.old) (S.health sectors.new)

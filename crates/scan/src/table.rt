@@ -9,6 +9,7 @@ ghost use Rattle.layout.specs.Health.{Reads};
 ghost use Rattle.layout.specs.Laid.{AreNumbered};
 ghost use Rattle.layout.specs.Marks.{named_by};
 ghost use Rattle.layout.specs.Stands.{version_by};
+ghost use Rattle.model.specs.Seats.{no_seats};
 ghost use Rattle.scan.specs.Names.{AreSetWithin};
 ghost use Rattle.scan.specs.Marking.{CanMark, AreMarked};
 ghost use Rattle.scan.specs.Cards.{uses, FindsBlocks, FindsRest, FindsPlace, IsFound, CanHold};
@@ -155,13 +156,14 @@ pub(crate) fn read_table<S: Sectors>(
     requires few { NODES + nodes < 2 ^ 32 }
     requires size { NODES + nodes + length places.old ≡ S.size (S.kept sectors.old) }
     requires free { places.old ≡ replicate (length places.old) false }
-    ensures found { IfOk result (λ cards. IsFound S.keeps_word (version_by number mark).form
-        (S.image (S.kept sectors.old)) nodes (length places.old) cards.items places.new) }
+    ensures found { IfOk result (λ cards. IsFound S.keeps_word
+        (version_by number mark no_seats).form (S.image (S.kept sectors.old)) nodes
+        (length places.old) cards.items places.new) }
     // Refused
     ensures damaged { S.keeps_word → IsErrOf result ScanFault.Damaged
         → (cards : List (Option layout.Card))
-        → ¬ CanHold S.keeps_word (version_by number mark).form (S.image (S.kept sectors.old)) nodes
-        (length places.old) cards }
+        → ¬ CanHold S.keeps_word (version_by number mark no_seats).form
+        (S.image (S.kept sectors.old)) nodes (length places.old) cards }
     // It only reads
     ensures kept { S.kept sectors.new ≡ S.kept sectors.old }
     ensures health { Reads (S.health sectors.old) (S.health sectors.new)

@@ -5,6 +5,7 @@ use Rattle.inode.specs.declared.node.Form.{Form}
 use Rattle.layout.specs.Cards.{Card}
 use Rattle.layout.specs.Marks.{named, named_by, mark_by}
 use Rattle.layout.specs.Stands.{version_by}
+use Rattle.model.specs.Seats.{no_seats}
 use Rattle.scan.specs.Cards.{FindsPlace}
 use Rattle.scan.specs.Marking.{AreMarked, max_marks}
 use Rattle.scan.specs.declared.fault.ScanFault.{ScanFault}
@@ -16,7 +17,7 @@ use Rattle.scan.proofs.table.read_table.Goals as goal
 pub returns-in_err-card-clause-damaged : goal.returns-in_err-card-clause-damaged
 returns-in_err-card-clause-damaged g c = λ word is cards can.
     let inv = c.loop-place.invariant in
-    let form : ℕ → Form = (version_by c.args.number c.args.mark).form in
+    let form : ℕ → Form = (version_by c.args.number c.args.mark no_seats).form in
     let image = g.S.Sectors.image (g.S.Sectors.kept c.args.sectors.now) in
     let place = c.loop-place.place in
     let first = 148 + c.args.nodes in
@@ -36,7 +37,7 @@ returns-in_err-card-clause-damaged g c = λ word is cards can.
 pub loop-place-preserved : goal.loop-place-preserved
 loop-place-preserved g c =
     let inv = c.loop-place.invariant in
-    let form : ℕ → Form = (version_by c.args.number c.args.mark).form in
+    let form : ℕ → Form = (version_by c.args.number c.args.mark no_seats).form in
     let image = g.S.Sectors.image (g.S.Sectors.kept c.args.sectors.now) in
     let place = c.loop-place.place in
     let first = 148 + c.args.nodes in
@@ -57,7 +58,7 @@ loop-place-preserved g c =
 pub returns-clause-found : goal.returns-clause-found
 returns-clause-found g c =
     let inv = c.loop-place.invariant in
-    let form : ℕ → Form = (version_by c.args.number c.args.mark).form in
+    let form : ℕ → Form = (version_by c.args.number c.args.mark no_seats).form in
     let first = 148 + c.args.nodes in
     let end : c.loop-place.place ≡ c.args.nodes = omega arith in
     record {
