@@ -1,0 +1,23 @@
+-- What edits of seats write: one transaction.
+use Rattle.std.specs.Prelude.{◌≡◌, ◌≤◌, ◌<◌, ◌⊎◌, ℕ, List, length}
+use Rattle.disk.specs.Moments.{Image, applied}
+use Rattle.disk.specs.declared.update.Update.{Update}
+use Rattle.journal.specs.Layout.{AreTargets, targets}
+use Rattle.layout.specs.Stands.{HoldSeats}
+use Rattle.model.specs.SeatEdits.{SeatEdit, CanEditAll, edited_all}
+use Rattle.model.specs.Seats.{Seats}
+use Rattle.seats.specs.Spelling.{ArePlaces}
+
+-- where seats stood that can be edited so, the edited ones stand, and they can be spelled
+pub record LaysEdited (edits : List SeatEdit) (updates : List Update) (seats : Seats)
+    (image : Image) : Type 0 where
+  pub places : ArePlaces (edited_all edits seats)
+  pub lays : HoldSeats image seats → HoldSeats (applied updates image) (edited_all edits seats)
+
+-- A transaction of the seats' sectors alone
+pub record AreUpdates (edits : List SeatEdit) (updates : List Update) : Type 0 where
+  pub few : length updates ≤ 45
+  pub targets_are : (size : ℕ) → 148 ≤ size → AreTargets size (targets updates)
+  pub others : (image : Image) (n : ℕ) → (n < 100) ⊎ (145 ≤ n) → applied updates image n ≡ image n
+  pub edited : (image : Image) (seats : Seats) → ArePlaces seats → CanEditAll edits seats
+      → LaysEdited edits updates seats image
