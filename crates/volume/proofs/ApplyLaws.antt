@@ -15,20 +15,20 @@ use Rattle.journal.specs.declared.fault.JournalFault.TheVariants as faults
 use Rattle.journal.proofs.Fronts.{applied_all-push}
 use Rattle.journal.proofs.Joins.{front_moved, moved_contents}
 use Rattle.layout.specs.Cards.{Card, tree_of, cards_in}
-use Rattle.layout.specs.Stands as layout
-use Rattle.layout.specs.Stands.{Kept, bare, current}
-use Rattle.layout.proofs.KeptLaws.{bare_stands}
+use Rattle.layout.specs.Stands.{Kept, StandsNow, seats_at}
+use Rattle.layout.proofs.KeptLaws.{now_told, same_kept, stands_now}
 use Rattle.model.specs.declared.limits.Limits.{Limits}
+use Rattle.model.specs.Seats.{Seats}
 use Rattle.model.specs.Tree.{Tree}
 use Rattle.volume.specs.Changes.{Given, Done, Broken, Changes, ending_of}
-use Rattle.volume.specs.Held.{Held, IsRecent, AddsTrees, fronts_from}
-use Rattle.volume.specs.Known.{IsServing}
+use Rattle.volume.specs.Held.{Held, IsRecent, AddsTrees, fronts_from, with_tree}
+use Rattle.volume.specs.Known.{IsServing, kept_in}
 use Rattle.volume.specs.Refusals.{fault_of}
 use Rattle.volume.specs.Stands.{Stands}
 use Rattle.volume.specs.Views.{held_by}
 use Rattle.volume.proofs.FrontLaws.{among_more, applied_recent, front_among}
-use Rattle.volume.proofs.ServeLaws.{flush_adds, still_serving, tree_stays}
-use Rattle.volume.proofs.OneTree.{Tree-set}
+use Rattle.volume.proofs.ServeLaws.{flush_adds, seats_stay, still_serving, tree_stays}
+use Rattle.volume.proofs.OneTree.{Seats-set, Tree-set}
 use Rattle.volume.proofs.StandLaws.{stands_same}
 
 -- each of the fronts is one of the list's
@@ -56,22 +56,33 @@ module _ (limits : Limits) (run : ℕ) (cards : List (Option Card)) (old new : L
   pub moved_tree : tree_of (contents new) cards ≡ tree_of (contents old) cards
   moved_tree = ∥∥₁_elim serving (Tree-set (tree_of (contents new) cards) (tree_of (contents old) cards)) (tree_stays limits.nodes run cards old new same)
 
+  pub moved_seats : seats_at (contents new) ≡ seats_at (contents old)
+  moved_seats = ∥∥₁_elim serving (Seats-set (seats_at (contents new)) (seats_at (contents old))) (seats_stay limits.nodes run cards old new same)
+
+  -- these seats beside a tree
+  abbrev beside : Tree → Kept
+  beside tree = record { tree = tree; seats = seats_at (contents new) }
+
+  was_beside : (tree : Tree) → with_tree (held_by limits run cards old) tree ≡ beside tree
+  was_beside tree = ap (λ (seats : Seats). let of : Kept = record { tree = tree; seats = seats } in of) (sym moved_seats)
+
   covered : (recent : List Tree) → IsRecent (held_by limits run cards old) recent → (count : ℕ) → count ≤ length new.list
-      → (tree : Tree) × IsAmong recent tree × ∥ Stands new.size limits.nodes (applied_all (take count new.list) new.base) run (bare tree) ∥₁
+      → (tree : Tree) × IsAmong recent tree × ∥ Stands new.size limits.nodes (applied_all (take count new.list) new.base) run (beside tree) ∥₁
   covered recent is count few =
       let before = front_moved old.list old new moved count few in
       let one = is.covers (applied_all (take before.0 old.list) old.base) (front_among old.base old.list before.0 before.1) in (
         one.0,
         one.1,
-        ∥∥₁_map one.2 (λ stands. subst (λ (s : ℕ). Stands s limits.nodes (applied_all (take count new.list) new.base) run (bare one.0)) (sym size)
-            (stands_same old.size limits.nodes (applied_all (take before.0 old.list) old.base) (applied_all (take count new.list) new.base) run (bare one.0) before.2 stands)),
+        ∥∥₁_map one.2 (λ stands. subst (λ (s : ℕ). Stands s limits.nodes (applied_all (take count new.list) new.base) run (beside one.0)) (sym size)
+            (stands_same old.size limits.nodes (applied_all (take before.0 old.list) old.base) (applied_all (take count new.list) new.base) run (beside one.0) before.2
+            (subst (Stands old.size limits.nodes (applied_all (take before.0 old.list) old.base) run) (was_beside one.0) stands))),
       )
 
   pub moved_recent : (recent : List Tree) → IsRecent (held_by limits run cards old) recent → IsRecent (held_by limits run cards new) recent
   moved_recent recent is = record {
     leaves = λ image left.
         let one = covered recent is 0 (omega arith) in (
-          bare one.0,
+          beside one.0,
           (one.1, refl),
           ∥∥₁_map one.2 (λ stands. record { base = new.base; settles = settled image left; stands = stands }),
         );
@@ -80,7 +91,7 @@ module _ (limits : Limits) (run : ℕ) (cards : List (Option Card)) (old new : L
         let one = covered recent is there.0 there.1 in (
           one.0,
           one.1,
-          subst (λ (i : Image). ∥ Stands new.size limits.nodes i run (bare one.0) ∥₁) (sym there.2) one.2,
+          subst (λ (i : Image). ∥ Stands new.size limits.nodes i run (beside one.0) ∥₁) (sym there.2) one.2,
         );
     newest = subst (IsAmong recent) (sym moved_tree) is.newest;
   }
@@ -89,41 +100,67 @@ module _ (limits : Limits) (run : ℕ) (cards : List (Option Card)) (old new : L
 abbrev pub listed_with : Log → List Update → Log
 listed_with log updates = record log { list = list_with log updates }
 
--- what stands after a transaction in the journal: these cards, and a tree
-pub record StandsWith (nodes run : ℕ) (old : Log) (updates : List Update) (is : List (Option Card)) (after : Tree) : Type 0 where
+-- what stands after a transaction in the journal: these cards, a tree and seats
+pub record StandsWith (nodes run : ℕ) (old : Log) (updates : List Update) (is : List (Option Card)) (after : Kept) : Type 0 where
   pub read : is ≡ cards_in nodes (applied updates (contents old))
-  pub tree : tree_of (applied updates (contents old)) is ≡ after
-  pub stands : ∥ layout.Stands current old.size nodes (applied updates (contents old)) run after ∥₁
+  pub tree : tree_of (applied updates (contents old)) is ≡ after.tree
+  pub stands : ∥ StandsNow old.size nodes (applied updates (contents old)) run after ∥₁
 
 -- so a volume stands after it
-pub stands_after : (nodes run : ℕ) (old : Log) (updates : List Update) (is : List (Option Card)) (after : Tree) → StandsWith nodes run old updates is after
-    → ∥ Stands old.size nodes (applied updates (contents old)) run (bare after) ∥₁
-stands_after nodes run old updates is after behind = ∥∥₁_map behind.stands (bare_stands old.size nodes (applied updates (contents old)) run after)
+pub stands_after : (nodes run : ℕ) (old : Log) (updates : List Update) (is : List (Option Card)) (after : Kept) → StandsWith nodes run old updates is after
+    → ∥ Stands old.size nodes (applied updates (contents old)) run after ∥₁
+stands_after nodes run old updates is after behind = ∥∥₁_map behind.stands (stands_now old.size nodes (applied updates (contents old)) run after)
 
--- A transaction makes other cards of those that stand, and the tree is another one.
-module _ (limits : Limits) (run : ℕ) (cards is : List (Option Card)) (old : Log) (updates : List Update) (after : Tree)
-    (behind : StandsWith limits.nodes run old updates is after) (serving : ∥ IsServing old limits.nodes run cards ∥₁) where
-  abbrev mid : Log
-  mid = listed_with old updates
+-- the same seats beside another tree
+abbrev pub seated : Log → Tree → Kept
+seated log tree = record { tree = tree; seats = seats_at (contents log) }
 
-  pushed : contents mid ≡ applied updates (contents old)
-  pushed = applied_all-push old.list updates old.base
+-- what serves after a transaction
+module _ (nodes run : ℕ) (cards is : List (Option Card)) (old : Log) (updates : List Update) (after : Kept)
+    (behind : StandsWith nodes run old updates is after) (serving : ∥ IsServing old nodes run cards ∥₁) where
+  abbrev then_log : Log
+  then_log = listed_with old updates
 
-  pub pushed_tree : tree_of (contents mid) is ≡ after
-  pushed_tree = ap (λ (image : Image). tree_of image is) pushed ∙ behind.tree
+  then_contents : contents then_log ≡ applied updates (contents old)
+  then_contents = applied_all-push old.list updates old.base
 
-  pub pushed_serves : ∥ IsServing mid limits.nodes run is ∥₁
-  pushed_serves = ∥∥₁_map serving (λ served. record {
-    read = behind.read ∙ ap (cards_in limits.nodes) (sym pushed);
-    stands = subst (λ (t : Tree). ∥ layout.Stands current old.size limits.nodes (contents mid) run t ∥₁) (sym pushed_tree)
-        (subst (λ (image : Image). ∥ layout.Stands current old.size limits.nodes image run after ∥₁) (sym pushed) behind.stands);
+  pub then_tree : tree_of (contents then_log) is ≡ after.tree
+  then_tree = ap (λ (image : Image). tree_of image is) then_contents ∙ behind.tree
+
+  pub then_seats : seats_at (contents then_log) ≡ after.seats
+  then_seats = ∥∥₁_elim behind.stands (Seats-set (seats_at (contents then_log)) after.seats) (λ stands.
+      ap seats_at then_contents ∙ now_told old.size nodes (applied updates (contents old)) run after stands)
+
+  pub then_serves : ∥ IsServing then_log nodes run is ∥₁
+  then_serves = ∥∥₁_map serving (λ served. record {
+    read = behind.read ∙ ap (cards_in nodes) (sym then_contents);
+    stands = subst (λ (kept : Kept). ∥ StandsNow old.size nodes (contents then_log) run kept ∥₁) (sym (same_kept (kept_in (contents then_log) is) after then_tree then_seats))
+        (subst (λ (image : Image). ∥ StandsNow old.size nodes image run after ∥₁) (sym then_contents) behind.stands);
     settled = served.settled;
   })
 
+-- A transaction makes other cards of those that stand, and the tree is another one.
+module _ (limits : Limits) (run : ℕ) (cards is : List (Option Card)) (old : Log) (updates : List Update) (after : Tree)
+    (behind : StandsWith limits.nodes run old updates is (seated old after)) (serving : ∥ IsServing old limits.nodes run cards ∥₁) where
+  abbrev mid : Log
+  mid = listed_with old updates
+
+  pub pushed_tree : tree_of (contents mid) is ≡ after
+  pushed_tree = then_tree limits.nodes run cards is old updates (seated old after) behind serving
+
+  pub pushed_seats : seats_at (contents mid) ≡ seats_at (contents old)
+  pushed_seats = then_seats limits.nodes run cards is old updates (seated old after) behind serving
+
+  pub pushed_serves : ∥ IsServing mid limits.nodes run is ∥₁
+  pushed_serves = then_serves limits.nodes run cards is old updates (seated old after) behind serving
+
   pub pushed_recent : (recent : List Tree) → IsRecent (held_by limits run cards old) recent → IsRecent (held_by limits run is mid) (after ∷ recent)
-  pushed_recent recent ready = subst (λ (t : Tree). IsRecent (record (held_by limits run cards old) { tree = t; fronts = fronts_from old.base (list_with old updates) }) (after ∷ recent))
+  pushed_recent recent ready =
+      subst (λ (t : Tree). IsRecent (record (held_by limits run cards old) { tree = t; seats = seats_at (contents mid); fronts = fronts_from old.base (list_with old updates) }) (after ∷ recent))
       (sym pushed_tree)
-      (applied_recent (held_by limits run cards old) old refl refl refl updates after (stands_after limits.nodes run old updates is after behind) recent ready)
+      (subst (λ (s : Seats). IsRecent (record (held_by limits run cards old) { tree = after; seats = s; fronts = fronts_from old.base (list_with old updates) }) (after ∷ recent))
+      (sym pushed_seats)
+      (applied_recent (held_by limits run cards old) old refl refl refl updates after (stands_after limits.nodes run old updates is (seated old after) behind) recent ready))
 
 -- The journal takes a transaction
 module _ (keeps_word : Type 0) (limits : Limits) (run : ℕ) (cards is : List (Option Card)) (old new : Log) (updates : List Update) (after : Tree) (failed_before failed_after : ℕ)
@@ -136,13 +173,13 @@ module _ (keeps_word : Type 0) (limits : Limits) (run : ℕ) (cards is : List (O
 
   -- the tree after it, which may be lost
   abbrev given : Given
-  given kept lasts = (kept ≡ bare after) × (lasts ≡ false)
+  given kept lasts = (kept ≡ seated old after) × (lasts ≡ false)
 
   moments : keeps_word → (kept : Kept) (lasts : Bool) → given kept lasts → AddsTrees was kept new.history
   moments k kept lasts is_given = flush_adds limits run cards old new kept (safe.moments k)
 
   module _ (up : new.is_down ≡ false) (has : HasApplied keeps_word updates old new) (serves : keeps_word → ∥ IsServing old limits.nodes run cards ∥₁)
-      (behind : keeps_word → StandsWith limits.nodes run old updates is after) where
+      (behind : keeps_word → StandsWith limits.nodes run old updates is (seated old after)) where
     abbrev between : Log
     between = listed_with old updates
 
@@ -160,6 +197,10 @@ module _ (keeps_word : Type 0) (limits : Limits) (run : ℕ) (cards is : List (O
     applied_tree k = moved_tree limits run is between new safe.size (goes k) (safe.settled k up) (middle k)
         ∙ pushed_tree limits run cards is old updates after (behind k) (serves k)
 
+    applied_seats : keeps_word → now.seats ≡ was.seats
+    applied_seats k = moved_seats limits run is between new safe.size (goes k) (safe.settled k up) (middle k)
+        ∙ pushed_seats limits run cards is old updates after (behind k) (serves k)
+
     pub apply_done : failed_after ≡ failed_before → Changes keeps_word given was now failed_before failed_after Done
     apply_done told = record {
       same = record { sectors = safe.size; limits = refl; run = refl };
@@ -168,10 +209,11 @@ module _ (keeps_word : Type 0) (limits : Limits) (run : ℕ) (cards is : List (O
       moments = moments;
       ends = record {
         still_up = up;
+        seats = λ k kept lasts is_given. applied_seats k ∙ sym (ap (λ (of : Kept). of.seats) is_given.0);
         leaves = λ k kept lasts is_given recent ready. (
           after ∷ recent,
           record {
-            seats = sym (ap (λ (of : Kept). of.seats) is_given.0);
+            seats = applied_seats k ∙ sym (ap (λ (of : Kept). of.seats) is_given.0);
             ready = moved_recent limits run is between new safe.size (goes k) (safe.settled k up) (middle k) (after ∷ recent)
                 (pushed_recent limits run cards is old updates after (behind k) (serves k) recent ready);
             no_others = λ one among. ⊎_elim
@@ -201,7 +243,7 @@ module _ (keeps_word : Type 0) (limits : Limits) (run : ℕ) (cards is : List (O
 pub apply_refused : (keeps_word : Type 0) (limits : Limits) (run : ℕ) (cards : List (Option Card)) (old new : Log) (after : Tree) (failed_before failed_after : ℕ) (fault : JournalFault)
     → IsSafe keeps_word old new → old.is_down ≡ false → (fault ≡ faults.TooMany → ⊥) → Answers {T = Unit {0}} old new failed_before failed_after (Err fault)
     → (fault ≡ faults.TooMany) ⊎ ((fault ≡ faults.Fault) ⊎ (fault ≡ faults.Down))
-    → Changes keeps_word (λ kept lasts. (kept ≡ bare after) × (lasts ≡ false)) (held_by limits run cards old) (held_by limits run cards new) failed_before failed_after
+    → Changes keeps_word (λ kept lasts. (kept ≡ seated old after) × (lasts ≡ false)) (held_by limits run cards old) (held_by limits run cards new) failed_before failed_after
     (ending_of {T = Unit {0}} (Err (fault_of fault)))
 apply_refused keeps_word limits run cards old new after failed_before failed_after faults.Fault safe up few answers refuses =
     apply_broken keeps_word limits run cards cards old new [] after failed_before failed_after safe answers.later (answers.goes_down refl) (answers.counted refl)

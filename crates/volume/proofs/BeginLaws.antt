@@ -6,24 +6,24 @@ use Rattle.disk.specs.Moments.{Image, History, AddsOnly}
 use Rattle.disk.proofs.MomentLemmas.{AddsOnly-same}
 use Rattle.journal.specs.Log.{Log, applied_all, contents}
 use Rattle.layout.specs.Cards.{Card, tree_of, cards_in}
-use Rattle.layout.specs.Stands as layout
-use Rattle.layout.specs.Stands.{Kept, bare, current}
-use Rattle.layout.proofs.KeptLaws.{bare_stands, stands_by}
+use Rattle.layout.specs.Stands.{Kept, StandsAs, StandsNow, seats_at}
+use Rattle.layout.proofs.KeptLaws.{now_told, same_kept, stands_by, stands_now}
+use Rattle.model.specs.Seats.{Seats}
 use Rattle.model.specs.declared.limits.Limits.{Limits}
 use Rattle.volume.specs.Held.{Holds, LeavesCurrent}
-use Rattle.volume.specs.Known.{IsServing}
-use Rattle.volume.specs.Loads.{IsLoaded}
+use Rattle.volume.specs.Known.{IsServing, kept_in}
+use Rattle.volume.specs.Loads.{IsLoaded, read_as}
 use Rattle.volume.specs.Mounts.{StandsOn, StandsForEither, AddsRaised, IsNotBegun}
 use Rattle.volume.specs.Starts.{HasStarted}
 use Rattle.volume.specs.Views.{held_by}
 use Rattle.volume.specs.declared.fault.MountFault.{MountFault}
 use Rattle.volume.specs.declared.fault.MountFault.TheVariants as mounts
 use Rattle.volume.specs.declared.mount.Superblock.{Superblock}
-use Rattle.volume.proofs.OneTree.{Tree-set}
+use Rattle.volume.proofs.OneTree.{Seats-set, Tree-set}
 use Rattle.volume.proofs.ServeLaws.{holds_base}
 
-module _ (keeps_word : Type 0) (found : Superblock) (old mid new : Log) (mark : Option ℕ) (cards : List (Option Card)) (places : List Bool)
-    (loaded : IsLoaded keeps_word found old mark cards places) (started : HasStarted keeps_word found cards mid new)
+module _ (keeps_word : Type 0) (found : Superblock) (old mid new : Log) (mark : Option ℕ) (cards : List (Option Card)) (seats : Seats) (places : List Bool)
+    (loaded : IsLoaded keeps_word found old mark cards seats places) (started : HasStarted keeps_word found cards seats mid new)
     (only : mid ≡ record old { is_down = mid.is_down }) (size : old.size ≡ found.sectors) (new_size : new.size ≡ mid.size) where
   base : mid.base ≡ old.base
   base = ap (λ (log : Log). log.base) only
@@ -37,39 +37,48 @@ module _ (keeps_word : Type 0) (found : Superblock) (old mid new : Log) (mark : 
   pub same_tree : keeps_word → tree_of (contents new) cards ≡ tree_of old.base cards
   same_tree k = ∥∥₁_elim (started.serves k) (Tree-set (tree_of (contents new) cards) (tree_of old.base cards)) (λ serves.
       ap (λ (image : Image). tree_of image cards) emptied
-      ∙ (ap (tree_of new.base) serves.read ∙ (sym serves.stands.tree_is ∙ ap (λ (image : Image). tree_of image cards) base)))
+      ∙ (ap (tree_of new.base) serves.read ∙ (sym serves.stands.stands.tree_is ∙ ap (λ (image : Image). tree_of image cards) base)))
 
-  stands_base : keeps_word → ∥ layout.Stands current new.size found.nodes new.base (found.run + 1) (tree_of (contents new) cards) ∥₁
+  -- the seats that were read are those of the sectors
+  pub same_seats : keeps_word → seats_at (contents new) ≡ seats
+  same_seats k = ∥∥₁_elim (started.serves k) (Seats-set (seats_at (contents new)) seats) (λ serves.
+      ap seats_at emptied ∙ now_told found.sectors found.nodes new.base (found.run + 1) (read_as mid.base cards seats) serves.stands)
+
+  pub kept_read : keeps_word → kept_in (contents new) cards ≡ read_as old.base cards seats
+  kept_read k = same_kept (kept_in (contents new) cards) (read_as old.base cards seats) (same_tree k) (same_seats k)
+
+  stands_base : keeps_word → ∥ StandsNow new.size found.nodes new.base (found.run + 1) (kept_in (contents new) cards) ∥₁
   stands_base k = ∥∥₁_map (started.serves k) (λ serves.
-      subst (λ (s : ℕ). layout.Stands current s found.nodes new.base (found.run + 1) (tree_of (contents new) cards)) now_size
-      (subst (layout.Stands current found.sectors found.nodes new.base (found.run + 1))
-      (ap (λ (image : Image). tree_of image cards) base ∙ sym (same_tree k)) serves.stands))
+      subst (λ (s : ℕ). StandsNow s found.nodes new.base (found.run + 1) (kept_in (contents new) cards)) now_size
+      (subst (StandsNow found.sectors found.nodes new.base (found.run + 1))
+      (ap (λ (image : Image). read_as image cards seats) base ∙ sym (kept_read k)) serves.stands))
 
-  stands_now : keeps_word → ∥ layout.Stands current new.size found.nodes (contents new) (found.run + 1) (tree_of (contents new) cards) ∥₁
-  stands_now k = subst (λ (image : Image). ∥ layout.Stands current new.size found.nodes image (found.run + 1) (tree_of (contents new) cards) ∥₁) (sym emptied) (stands_base k)
+  stands_there : keeps_word → ∥ StandsNow new.size found.nodes (contents new) (found.run + 1) (kept_in (contents new) cards) ∥₁
+  stands_there k = subst (λ (image : Image). ∥ StandsNow new.size found.nodes image (found.run + 1) (kept_in (contents new) cards) ∥₁) (sym emptied) (stands_base k)
 
   pub begun_serving : keeps_word → ∥ IsServing new found.nodes (found.run + 1) cards ∥₁
   begun_serving k = ∥∥₁_map (started.serves k) (λ serves. record {
     read = serves.read ∙ ap (cards_in found.nodes) (sym emptied);
-    stands = stands_now k;
+    stands = stands_there k;
     settled = started.settled k;
   })
 
-  pub begun_stood : keeps_word → ∥ StandsOn found old.base (bare (tree_of old.base cards)) ∥₁
-  begun_stood k = ∥∥₁_map (loaded.stood k) (λ stands. stands_by found.version mark found.sectors found.nodes old.base found.run (tree_of old.base cards) loaded.marked stands)
+  pub begun_stood : keeps_word → ∥ StandsOn found old.base (read_as old.base cards seats) ∥₁
+  begun_stood k = ∥∥₁_map (loaded.stood k) (λ stands.
+      stands_by found.version mark found.sectors found.nodes old.base found.run (read_as old.base cards seats) loaded.marked stands.may stands.keeps stands.stands)
 
   module _ (limits : Limits) (nodes : limits.nodes ≡ found.nodes) where
     pub begun_holds : keeps_word → Holds (held_by limits (found.run + 1) cards new)
     begun_holds k = holds_base limits (found.run + 1) cards new started.rests.listed
-        (subst (λ (n : ℕ). ∥ layout.StandsAs new.size n (contents new) (found.run + 1) (bare (tree_of (contents new) cards)) ∥₁) (sym nodes)
-        (∥∥₁_map (stands_now k) (λ stands. bare_stands new.size found.nodes (contents new) (found.run + 1) (tree_of (contents new) cards) stands)))
+        (subst (λ (n : ℕ). ∥ StandsAs new.size n (contents new) (found.run + 1) (kept_in (contents new) cards) ∥₁) (sym nodes)
+        (∥∥₁_map (stands_there k) (stands_now new.size found.nodes (contents new) (found.run + 1) (kept_in (contents new) cards))))
         (started.settled k)
 
     pub begun_current : keeps_word → LeavesCurrent (held_by limits (found.run + 1) cards new)
     begun_current k image left = ∥∥₁_map (stands_base k) (λ stands. (
       new.base,
       started.settled k image left,
-      subst (λ (n : ℕ). layout.Stands current new.size n new.base (found.run + 1) (tree_of (contents new) cards)) (sym nodes) stands,
+      subst (λ (n : ℕ). StandsNow new.size n new.base (found.run + 1) (kept_in (contents new) cards)) (sym nodes) stands,
     ))
 
 pub raised_from : (found : Superblock) (old mid : Log) (new : History) → mid ≡ record old { is_down = mid.is_down }

@@ -25,13 +25,13 @@ use Rattle.layout.specs.Cards.{Card, tree_of, cards_in}
 use Rattle.layout.specs.Known.{AreCards}
 use Rattle.layout.specs.Laid.{AreNumbered}
 use Rattle.layout.specs.Marks.{mark_by}
-use Rattle.layout.specs.Stands as layout
-use Rattle.layout.specs.Stands.{IsLaid, current}
+use Rattle.layout.specs.Stands.{IsLaid, Kept, StandsNow, current, seats_at}
 use Rattle.layout.proofs.CardLaws.{cards-back, only_cards}
 use Rattle.model.specs.declared.limits.Limits.{Limits}
 use Rattle.model.specs.Charge.{fits}
 use Rattle.model.specs.Edit.{edited}
 use Rattle.model.specs.Limits.{limits_of}
+use Rattle.model.specs.Seats.{Seats}
 use Rattle.model.specs.Stamp.{stamp}
 use Rattle.model.specs.Tree.{Tree}
 use Rattle.model.specs.WellFormed.{IsWellFormed, IsBefore}
@@ -42,9 +42,9 @@ use Rattle.volume.proofs.FormedLaws.{names_most}
 use Rattle.volume.proofs.ParentLaws.{parents_after}
 use Rattle.volume.specs.Formed.{IsFormed}
 use Rattle.volume.specs.Held.{Held}
-use Rattle.volume.specs.Known.{IsKnown, IsServing}
+use Rattle.volume.specs.Known.{IsKnown, IsServing, kept_in}
 use Rattle.volume.specs.Views.{held_by}
-use Rattle.volume.proofs.ApplyLaws.{StandsWith}
+use Rattle.volume.proofs.ApplyLaws.{StandsWith, seated}
 use Rattle.volume.proofs.EditLaws.{can_settle, edited_alike, outline_alike}
 use Rattle.volume.proofs.SoundLaws.{edited_bytes, formed_sound, well_formed_bytes}
 
@@ -81,7 +81,7 @@ not_first size updates are = λ i within same. (let above = (are.between i withi
 
 -- The tree after the edits stands
 
-StandsWith-prop : (nodes run : ℕ) (old : Log) (updates : List Update) (is : List (Option Card)) (after : Tree) → IsProp (StandsWith nodes run old updates is after)
+pub StandsWith-prop : (nodes run : ℕ) (old : Log) (updates : List Update) (is : List (Option Card)) (after : Kept) → IsProp (StandsWith nodes run old updates is after)
 StandsWith-prop nodes run old updates is after = Prim.hlevel (props, ∥∥₁_prop)
 
 module _ (word : Type 0) (k : word) (nodes run : ℕ) (log : Log) (cards : List (Option Card)) (places : List Bool) (edits : List Edit) (outcome : Outcome)
@@ -99,12 +99,16 @@ module _ (word : Type 0) (k : word) (nodes run : ℕ) (log : Log) (cards : List 
   abbrev after : Tree
   after = edited (edits_of edits) (tree_of image cards)
 
-  behind_stands : cards ≡ cards_in nodes image → layout.Stands current log.size nodes image run (tree_of image cards) → StandsWith nodes run log outcome.updates.items is after
-  behind_stands read stands =
-      let here : IsLaid current log.size (length cards) image cards = subst (λ (n : ℕ). IsLaid current log.size n image cards) (sym count)
-      (subst (IsLaid current log.size nodes image) (sym read) stands.laid) in
-      let lays : LaysEdited image log.size cards edits outcome = comes.lays k here in
-      let laid : IsLaid current log.size nodes now is = subst (λ (n : ℕ). IsLaid current log.size n now is) count lays.laid in
+  abbrev seats : Seats
+  seats = seats_at image
+
+  behind_stands : cards ≡ cards_in nodes image → StandsNow log.size nodes image run (kept_in image cards) → StandsWith nodes run log outcome.updates.items is (seated log after)
+  behind_stands read stood =
+      let stands = stood.stands in
+      let here : IsLaid (current seats) log.size (length cards) image cards = subst (λ (n : ℕ). IsLaid (current seats) log.size n image cards) (sym count)
+      (subst (IsLaid (current seats) log.size nodes image) (sym read) stands.laid) in
+      let lays : LaysEdited seats image log.size cards edits outcome = comes.lays k seats here in
+      let laid : IsLaid (current seats) log.size nodes now is = subst (λ (n : ℕ). IsLaid (current seats) log.size n now is) count lays.laid in
       let back : cards_in nodes now ≡ is = cards-back now nodes is laid.laid.count laid.laid.held in
       record {
         read = sym back;
@@ -113,19 +117,22 @@ module _ (word : Type 0) (k : word) (nodes run : ℕ) (log : Log) (cards : List 
             let both = formed_sound (limits_of log.size nodes) (stamp (run + 1) 0) after formed
             (edited_bytes edits comes.bytes (tree_of image cards) (well_formed_bytes (limits_of log.size nodes) (tree_of image cards) well)) in
             ∣ record {
-              sized = stands.sized;
-              counted = stands.counted;
-              first = applied-other outcome.updates.items image 0 (not_first log.size outcome.updates.items comes.targets) ∙ stands.first;
-              laid = only_cards current log.size nodes now is laid;
-              tree_is = sym lays.tree_is ∙ ap (tree_of now) (sym back);
-              well_formed = both.0;
-              before = both.1;
+              keeps = stood.keeps;
+              stands = record {
+                sized = stands.sized;
+                counted = stands.counted;
+                first = applied-other outcome.updates.items image 0 (not_first log.size outcome.updates.items comes.targets) ∙ stands.first;
+                laid = only_cards (current seats) log.size nodes now is laid;
+                tree_is = sym lays.tree_is ∙ ap (tree_of now) (sym back);
+                well_formed = both.0;
+                before = both.1;
+              };
             } ∣₁);
       }
 
-  pub behind_serving : ∥ IsServing log nodes run cards ∥₁ → StandsWith nodes run log outcome.updates.items is after
-  behind_serving serving = ∥∥₁_elim serving (StandsWith-prop nodes run log outcome.updates.items is after) (λ served.
-      ∥∥₁_elim served.stands (StandsWith-prop nodes run log outcome.updates.items is after) (λ stands. behind_stands served.read stands))
+  pub behind_serving : ∥ IsServing log nodes run cards ∥₁ → StandsWith nodes run log outcome.updates.items is (seated log after)
+  behind_serving serving = ∥∥₁_elim serving (StandsWith-prop nodes run log outcome.updates.items is (seated log after)) (λ served.
+      ∥∥₁_elim served.stands (StandsWith-prop nodes run log outcome.updates.items is (seated log after)) (λ stands. behind_stands served.read stands))
 
 -- What memory keeps after it
 

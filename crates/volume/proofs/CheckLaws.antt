@@ -9,11 +9,12 @@ use Rattle.journal.specs.Viewed.{HasNoForm, HasViewed}
 use Rattle.journal.specs.declared.fault.JournalFault.{JournalFault}
 use Rattle.journal.specs.declared.fault.JournalFault.TheVariants as journals
 use Rattle.journal.proofs.First.{first_kept}
-use Rattle.layout.specs.Cards.{Card, tree_of}
-use Rattle.layout.specs.Stands.{Kept, bare}
+use Rattle.layout.specs.Cards.{Card}
+use Rattle.layout.specs.Stands.{Kept}
+use Rattle.model.specs.Seats.{Seats}
 use Rattle.layout.proofs.KeptLaws.{stands_by}
 use Rattle.volume.specs.Checks.{IsSeen, HasChecked, FailsCheck, Checks}
-use Rattle.volume.specs.Loads.{AreLoaded, HoldsVolume}
+use Rattle.volume.specs.Loads.{AreLoaded, HoldsVolume, read_as}
 use Rattle.volume.specs.MountAnswers.{first_verdict}
 use Rattle.volume.specs.Mounts.{StandsOn}
 use Rattle.volume.specs.Refusals.{gate_fault}
@@ -94,18 +95,18 @@ module _ (sectors : ℕ) (old : History) (found : Superblock) (base : Image) (se
       only
 
   -- the tree of its nodes stands
-  pub has_checked : (keeps_word : Type 0) → keeps_word → (mark : Option ℕ) (cards : List (Option Card)) (places : List Bool) → AreLoaded keeps_word found base mark cards places
+  pub has_checked : (keeps_word : Type 0) → keeps_word → (mark : Option ℕ) (cards : List (Option Card)) (seats : Seats) (places : List Bool) → AreLoaded keeps_word found base mark cards seats places
       → (checked : Checked) → checked.sectors ≡ found.sectors → checked.nodes ≡ found.nodes → checked.count ≡ found.run → HasChecked sectors old checked
-  has_checked keeps_word k mark cards places loaded checked same_sectors same_nodes same_run = record {
+  has_checked keeps_word k mark cards seats places loaded checked same_sectors same_nodes same_run = record {
     first = volume;
     sectors_are = same_sectors ∙ sectors_is;
-    kept = bare (tree_of base cards);
-    stands = subst (λ (n : ℕ). StandsFor sectors n checked.count (bare (tree_of base cards)) (seen old.now)) (sym same_nodes)
-        (subst (λ (r : ℕ). StandsFor sectors found.nodes r (bare (tree_of base cards)) (seen old.now)) (sym same_run)
+    kept = read_as base cards seats;
+    stands = subst (λ (n : ℕ). StandsFor sectors n checked.count (read_as base cards seats) (seen old.now)) (sym same_nodes)
+        (subst (λ (r : ℕ). StandsFor sectors found.nodes r (read_as base cards seats) (seen old.now)) (sym same_run)
         (∥∥₁_map (loaded.stood k) (λ stands. record {
           base = base;
           settles = settles;
-          stands = subst (λ (s : ℕ). Stands s found.nodes base found.run (bare (tree_of base cards))) sectors_is
-              (stands_by found.version mark found.sectors found.nodes base found.run (tree_of base cards) loaded.marked stands);
+          stands = subst (λ (s : ℕ). Stands s found.nodes base found.run (read_as base cards seats)) sectors_is
+              (stands_by found.version mark found.sectors found.nodes base found.run (read_as base cards seats) loaded.marked stands.may stands.keeps stands.stands);
         })));
   }

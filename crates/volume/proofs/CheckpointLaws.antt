@@ -9,17 +9,18 @@ use Rattle.journal.specs.Log.{Log}
 use Rattle.journal.specs.Settled.{AreSame}
 use Rattle.journal.proofs.Fronts.{applied_keeps}
 use Rattle.layout.specs.Cards.{Card}
-use Rattle.layout.specs.Stands.{Kept, bare}
+use Rattle.layout.specs.Stands.{Kept}
 use Rattle.model.specs.declared.limits.Limits.{Limits}
+use Rattle.model.specs.Seats.{Seats}
 use Rattle.model.specs.Tree.{Tree}
 use Rattle.volume.specs.Changes.{Done, Stays, Changes}
-use Rattle.volume.specs.Held.{Held, KeepsRecent, fronts_from}
+use Rattle.volume.specs.Held.{Held, KeepsRecent, fronts_from, with_tree}
 use Rattle.volume.specs.Known.{IsServing}
 use Rattle.volume.specs.Stands.{Stands}
 use Rattle.volume.specs.Views.{held_by}
 use Rattle.volume.proofs.FrontLaws.{among_more, among_rest, front_among}
-use Rattle.volume.proofs.OneTree.{Tree-set}
-use Rattle.volume.proofs.ServeLaws.{among_one, flush_adds, tree_stays}
+use Rattle.volume.proofs.OneTree.{Seats-set, Tree-set}
+use Rattle.volume.proofs.ServeLaws.{among_one, flush_adds, seats_stay, tree_stays}
 use Rattle.volume.proofs.StandLaws.{stands_same}
 
 -- each front of the one has the sectors of a front of the other
@@ -46,29 +47,39 @@ module _ (keeps_word : Type 0) (limits : Limits) (run : ℕ) (cards : List (Opti
   pub checkpoint_keeps : keeps_word → is.tree ≡ was.tree
   checkpoint_keeps k = ∥∥₁_elim (serves k) (Tree-set is.tree was.tree) (tree_stays limits.nodes run cards old new (done.contents k))
 
+  pub checkpoint_seats : keeps_word → is.seats ≡ was.seats
+  checkpoint_seats k = ∥∥₁_elim (serves k) (Seats-set is.seats was.seats) (seats_stay limits.nodes run cards old new (done.contents k))
+
   -- where the old base stands for a tree, so does the new one
-  stands_on : (a b : Image) (tree : Tree) → AreSame old.size a b → Stands old.size limits.nodes a run (bare tree) → Stands new.size limits.nodes b run (bare tree)
-  stands_on a b tree same stands =
-      subst (λ (size : ℕ). Stands size limits.nodes b run (bare tree)) (sym safe.size) (stands_same old.size limits.nodes a b run (bare tree) same stands)
+  stands_on : (a b : Image) (kept : Kept) → AreSame old.size a b → Stands old.size limits.nodes a run kept → Stands new.size limits.nodes b run kept
+  stands_on a b kept same stands =
+      subst (λ (size : ℕ). Stands size limits.nodes b run kept) (sym safe.size) (stands_same old.size limits.nodes a b run kept same stands)
+
+  beside : keeps_word → (tree : Tree) → with_tree was tree ≡ with_tree is tree
+  beside k tree = ap (λ (seats : Seats). let of : Kept = record { tree = tree; seats = seats } in of) (sym (checkpoint_seats k))
 
   pub checkpoint_recent : keeps_word → KeepsRecent was is
   checkpoint_recent k recent ready =
       let first = ready.covers old.base (front_among old.base old.list 0 (omega arith)) in
       record {
         leaves = λ image left. (
-          bare first.0,
-          (first.1, refl),
+          with_tree was first.0,
+          (first.1, sym (checkpoint_seats k)),
           ∥∥₁_map first.2 (λ stands. record {
             base = new.base;
             settles = safe.settled k up image left;
-            stands = stands_on old.base new.base first.0 (done.base k) stands;
+            stands = stands_on old.base new.base (with_tree was first.0) (done.base k) stands;
           }),
         );
         covers = λ front among.
             let there = front_same old.size old.base new.base old.list front (done.base k)
             (subst (λ (list : List (List Update)). IsAmong (fronts_from new.base list) front) listed among) in
-            let covered = ready.covers there.0 there.1 in
-            (covered.0, covered.1, ∥∥₁_map covered.2 (stands_on there.0 front covered.0 there.2));
+            let covered = ready.covers there.0 there.1 in (
+              covered.0,
+              covered.1,
+              ∥∥₁_map covered.2 (λ stands. subst (Stands new.size limits.nodes front run) (beside k covered.0)
+                  (stands_on there.0 front (with_tree was covered.0) there.2 stands)),
+            );
         newest = subst (λ (tree : Tree). IsAmong recent tree) (sym (checkpoint_keeps k)) ready.newest;
       }
 
@@ -80,10 +91,11 @@ module _ (keeps_word : Type 0) (limits : Limits) (run : ℕ) (cards : List (Opti
     moments = λ k kept lasts given. flush_adds limits run cards old new kept (safe.moments k);
     ends = record {
       still_up = up;
+      seats = λ k kept lasts given. checkpoint_seats k ∙ sym (ap (λ (of : Kept). of.seats) given.0);
       leaves = λ k kept lasts given recent ready. (
         recent,
         record {
-          seats = sym (ap (λ (of : Kept). of.seats) given.0);
+          seats = checkpoint_seats k ∙ sym (ap (λ (of : Kept). of.seats) given.0);
           ready = checkpoint_recent k recent ready;
           no_others = λ one among. inl among;
           durable = λ durable. absurd (true≢false (sym durable ∙ given.1));

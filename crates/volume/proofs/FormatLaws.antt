@@ -15,10 +15,12 @@ use Rattle.layout.specs.FreshLaws.{IsFresh}
 use Rattle.layout.specs.Stands as layout
 use Rattle.layout.specs.Stands.{bare, current}
 use Rattle.layout.specs.declared.versions.VersionNumber.TheVariants.{Two}
-use Rattle.layout.proofs.KeptLaws.{bare_stands}
+use Rattle.layout.proofs.KeptLaws.{current_stands}
+use Rattle.layout.proofs.SeatLaws.{no_seats_kept, spare_none}
 use Rattle.layout.specs.Superblock.{is_size}
 use Rattle.layout.proofs.Formatted.{fresh_stands}
 use Rattle.model.specs.Fresh.{fresh_tree}
+use Rattle.model.specs.Seats.{no_seats}
 use Rattle.volume.specs.Formats as formats
 use Rattle.volume.specs.Formats.{root_update}
 use Rattle.volume.specs.Stands.{StandsFor}
@@ -35,18 +37,18 @@ zeros_at sectors nodes n some other =
     ∙ ap (λ (b : Bool). let content : List ℕ = if b then superblock Two sectors nodes 0 else zero_sector in content) (ne_eqb n 0 (λ e. omega (arith, e, some)))
 
 module _ (sectors nodes : ℕ) (size : IsTrue (is_size sectors nodes)) where
-  is_fresh : IsFresh current sectors nodes (new_volume sectors nodes)
+  is_fresh : IsFresh (current no_seats) sectors nodes (new_volume sectors nodes)
   is_fresh = record {
     sized = size;
     first = refl;
-    spare = λ n above below. zeros_at sectors nodes n (omega arith) (λ e. omega (arith, e));
+    spare = λ n above below. zeros_at sectors nodes n (omega arith) (λ e. omega (arith, e)) ∙ sym (spare_none n);
     node = refl;
     bitmap = λ n above below. zeros_at sectors nodes n (omega arith) (λ e. omega (arith, e));
     others = λ place some within. zeros_at sectors nodes (148 + place) (omega arith) (λ e. omega (arith, e, some));
   }
 
-  stands : layout.Stands current sectors nodes (new_volume sectors nodes) 0 fresh_tree
-  stands = fresh_stands current sectors nodes (new_volume sectors nodes) is_fresh
+  stands : layout.Stands (current no_seats) sectors nodes (new_volume sectors nodes) 0 fresh_tree
+  stands = fresh_stands (current no_seats) sectors nodes (new_volume sectors nodes) is_fresh
 
   pub root_fits : AreTargets sectors (targets (root_update ∷ []))
   root_fits = let parts = sized sectors nodes size in targets_of-Fit sectors (148 ∷ []) (omega arith, omega (arith, parts.some, parts.room), tt, tt)
@@ -74,5 +76,5 @@ pub fresh_stands_for : (sectors nodes : ℕ) (image : Image) → formats.IsFresh
 fresh_stands_for sectors nodes image fresh = ∥∥₁_map fresh (λ is. record {
   base = is.0;
   settles = is.1;
-  stands = bare_stands sectors nodes is.0 0 fresh_tree is.2;
+  stands = current_stands sectors nodes is.0 0 (bare fresh_tree) (no_seats_kept 0) is.2;
 })

@@ -18,13 +18,14 @@ use Rattle.model.proofs.ChangeLaws.{was_before}
 use Rattle.shape.specs.Trees.{IsOneTree}
 use Rattle.shape.proofs.WholeLaws.{each_known_tree}
 use Rattle.volume.specs.Formed.{IsFormed, Shows}
+use Rattle.model.specs.Seats.{Seats}
 use Rattle.volume.specs.Loads.{IsLoaded}
 use Rattle.volume.specs.declared.mount.Superblock.{Superblock}
 
 -- what was loaded is so, under the limits of the volume
-pub loaded_formed : (keeps_word : Type 0) (found : Superblock) (log : Log) (mark : Option ℕ) (cards : List (Option Card)) (places : List Bool) → IsLoaded keeps_word found log mark cards places
+pub loaded_formed : (keeps_word : Type 0) (found : Superblock) (log : Log) (mark : Option ℕ) (cards : List (Option Card)) (seats : Seats) (places : List Bool) → IsLoaded keeps_word found log mark cards seats places
     → (limits : Limits) → limits ≡ limits_of found.sectors found.nodes → IsFormed limits (stamp (found.run + 1) 0) (outline_of cards)
-loaded_formed keeps_word found log mark cards places loaded limits is =
+loaded_formed keeps_word found log mark cards seats places loaded limits is =
     let each = each_known_tree found.nodes _ cards loaded.known.are_cards (limits_of found.sectors found.nodes) (omega arith) (stamp (found.run + 1) 0) in
     let same = sym (outline_fixed cards) in
     subst (λ (l : Limits). IsFormed l (stamp (found.run + 1) 0) (outline_of cards)) (sym is) (record {

@@ -10,7 +10,7 @@ use Rattle.journal.specs.Settled.{Settles, SettlesAs}
 use Rattle.journal.specs.declared.fault.JournalFault.{JournalFault}
 use Rattle.journal.specs.declared.fault.JournalFault.TheVariants as journals
 use Rattle.journal.proofs.Recovers.{settles_once}
-use Rattle.layout.specs.Stands.{Kept, current, Version, number_of}
+use Rattle.layout.specs.Stands.{Kept, Version, current_number, number_of}
 use Rattle.layout.specs.Superblock as layout
 use Rattle.layout.specs.declared.versions.VersionNumber.{VersionNumber}
 use Rattle.layout.proofs.KeptLaws.{version_parts}
@@ -55,7 +55,7 @@ module _ (size nodes run : ℕ) (kept : Kept) (seen : Image) (base : IsBase size
   number_is : base.stands.version.number ≡ number_of version
   number_is =
       let parts = version_parts nodes base.stands.version kept.seats base.stands.is_version in
-      ap (λ (of : Version). of.number) parts.3 ∙ version_number parts.0 parts.1
+      ap (λ (of : Version). of.number) parts.4 ∙ version_number parts.0 parts.1 kept.seats
 
   first_is : seen 0 ≡ superblock version size nodes run
   first_is = sym (first_kept size seen base.base (omega (arith, enough)) base.settles)
@@ -115,7 +115,7 @@ module _ (size nodes run : ℕ) (kept : Kept) (seen : Image) (base : IsBase size
 
   -- what may be left of it: in its version and under its count, or in the current one and under the next
   abbrev Leaves : Image → Type 0
-  Leaves image = StandsForIn base.stands.version.number size nodes run kept image ⊎ StandsForIn current.number size nodes (run + 1) kept image
+  Leaves image = StandsForIn base.stands.version.number size nodes run kept image ⊎ StandsForIn current_number size nodes (run + 1) kept image
 
   -- a stop within the journal's mount leaves it
   pub settled_moments : (old new : History) → AddsOnly (SettlesAs size seen) old new → AddsOnly Leaves old new
@@ -145,14 +145,14 @@ module _ (size nodes run : ℕ) (kept : Kept) (seen : Image) (base : IsBase size
 
     pub found_moments : (old mid new : History) → AddsOnly (SettlesAs size seen) old mid
         → (Stands sectors found_nodes at found_run kept
-        → AddsOnly (λ image. StandsForIn (number_of told) sectors found_nodes found_run kept image ⊎ StandsForIn current.number sectors found_nodes (found_run + 1) kept image) mid new)
+        → AddsOnly (λ image. StandsForIn (number_of told) sectors found_nodes found_run kept image ⊎ StandsForIn current_number sectors found_nodes (found_run + 1) kept image) mid new)
         → AddsOnly Leaves old new
     found_moments old mid new before after = AddsOnly-join Leaves old mid new
         (settled_moments old mid before)
-        (subst (λ (v : ℕ). AddsOnly (λ image. StandsForIn v size nodes run kept image ⊎ StandsForIn current.number size nodes (run + 1) kept image) mid new) told_number
-        (subst (λ (s : ℕ). AddsOnly (λ image. StandsForIn (number_of told) s nodes run kept image ⊎ StandsForIn current.number s nodes (run + 1) kept image) mid new) sectors_is
-        (subst (λ (n : ℕ). AddsOnly (λ image. StandsForIn (number_of told) sectors n run kept image ⊎ StandsForIn current.number sectors n (run + 1) kept image) mid new) same_nodes
-        (subst (λ (r : ℕ). AddsOnly (λ image. StandsForIn (number_of told) sectors found_nodes r kept image ⊎ StandsForIn current.number sectors found_nodes (r + 1) kept image) mid new) same_run
+        (subst (λ (v : ℕ). AddsOnly (λ image. StandsForIn v size nodes run kept image ⊎ StandsForIn current_number size nodes (run + 1) kept image) mid new) told_number
+        (subst (λ (s : ℕ). AddsOnly (λ image. StandsForIn (number_of told) s nodes run kept image ⊎ StandsForIn current_number s nodes (run + 1) kept image) mid new) sectors_is
+        (subst (λ (n : ℕ). AddsOnly (λ image. StandsForIn (number_of told) sectors n run kept image ⊎ StandsForIn current_number sectors n (run + 1) kept image) mid new) same_nodes
+        (subst (λ (r : ℕ). AddsOnly (λ image. StandsForIn (number_of told) sectors found_nodes r kept image ⊎ StandsForIn current_number sectors found_nodes (r + 1) kept image) mid new) same_run
         (after found_stands)))))
 
 -- what stands on the base that was found stood in what was seen

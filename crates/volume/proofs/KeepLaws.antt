@@ -1,5 +1,5 @@
 -- A change, and a flush after it.
-use Rattle.std.proofs.Common.{◌≡◌, ◌≤◌, ◌⊎◌, ◌↔◌, ℕ, Bool, true, false, List, inl, inr, ⊎_elim, refl, sym, ap, ap₂, ◌∙◌, subst, arith, true≢false}
+use Rattle.std.proofs.Common.{◌≡◌, ◌≤◌, ◌⊎◌, ◌↔◌, ℕ, Bool, true, false, List, inl, inr, ⊎_elim, refl, sym, ap, ◌∙◌, subst, arith, true≢false}
 use Rattle.std.proofs.lemmas.Bool.{cases_lt}
 use Rattle.std.specs.List.{IsAmong}
 use Rattle.std.specs.Prelude.{Result, Ok, Err, IfErr, IsErrOf}
@@ -8,7 +8,7 @@ use Rattle.disk.specs.Moments.{Image}
 use Rattle.edits.specs.Outlines.{blanked}
 use Rattle.disk.proofs.MomentLemmas.{AddsOnly-join, AddsOnly-weaken}
 use Rattle.layout.specs.Stands.{Kept}
-use Rattle.model.specs.Seats.{Seats}
+use Rattle.layout.proofs.KeptLaws.{same_kept}
 use Rattle.model.specs.Tree.{Tree}
 use Rattle.volume.specs.Changes.{Ending, Done, Nothing, Broken, IsTree, Changes, ending_of}
 use Rattle.volume.specs.Formed.{Shows}
@@ -27,9 +27,6 @@ counted_later before between after later counted = elim counted [
     | inr same ↦ inr (omega (arith, later, same, full.0), omega (arith, later, same, full.1))
   ]
 ]
-
-pub same_kept : (a b : Kept) → a.tree ≡ b.tree → a.seats ≡ b.seats → a ≡ b
-same_kept a b tree seats = ap₂ (λ (t : Tree) (s : Seats). let of : Kept = record { tree = t; seats = s } in of) tree seats
 
 module _ (keeps_word : Type 0) (was between now : Held) (after : Tree) (first middle last : ℕ)
     (change : Changes keeps_word (λ kept lasts. (kept ≡ with_tree was after) × (lasts ≡ false)) was between first middle Done)
@@ -83,6 +80,7 @@ module _ (keeps_word : Type 0) (was between now : Held) (after : Tree) (first mi
     moments = moments Done flush;
     ends = record {
       still_up = flush.ends.still_up;
+      seats = λ k after_it lasts is. flush.ends.seats k (kept_of between) lasts refl ∙ change.ends.seats k after_it false (is, refl);
       leaves = λ k after_it lasts is recent ready.
           let there = change.ends.leaves k after_it false (is, refl) recent ready in
           let kept = flush.ends.leaves k (kept_of between) lasts refl there.0 there.1.ready in

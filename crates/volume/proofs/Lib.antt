@@ -18,6 +18,7 @@ pub mod OneTree
 pub mod ParentLaws
 pub mod ReadLaws
 pub mod RemountLaws
+pub mod SeatingLaws
 pub mod ServeLaws
 pub mod ShownLaws
 pub mod SoundLaws

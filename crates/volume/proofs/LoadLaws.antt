@@ -18,7 +18,7 @@ use Rattle.layout.specs.Stands as layout
 use Rattle.inode.specs.declared.node.Form.TheVariants.{Two}
 use Rattle.layout.specs.Known.{AreCards}
 use Rattle.layout.specs.Rewriting.{all_second, in_second, second_image, IsLaidSecond}
-use Rattle.layout.specs.Stands.{Kept, Version, IsLaid, IsMark, current, version_by}
+use Rattle.layout.specs.Stands.{Kept, MayKeep, Version, IsLaid, IsMark, current, version_by}
 use Rattle.layout.specs.Superblock.{is_size}
 use Rattle.layout.specs.declared.versions.VersionNumber.{VersionNumber}
 use Rattle.layout.proofs.FirstLaws.{sized_parts}
@@ -30,6 +30,7 @@ use Rattle.model.specs.declared.node.NodeKind.{NodeKind}
 use Rattle.model.specs.declared.node.NodeKind.TheVariants as kind
 use Rattle.model.specs.Charge.{blocks_of}
 use Rattle.model.specs.Limits.{limits_of}
+use Rattle.model.specs.Seats.{Seats, no_seats}
 use Rattle.model.specs.Stamp.{stamp}
 use Rattle.model.specs.WellFormed.{IsWellFormed, IsBefore}
 use Rattle.scan.specs.Volumes.{AreFew}
@@ -57,8 +58,8 @@ marked_bytes version size nodes image cards laid bytes n marked = elim (cases_lt
 ]
 
 -- The cards on the sectors, and as they are once each node has form two
-module _ (number : VersionNumber) (mark : Option ℕ) (size nodes run : ℕ) (image : Image) (cards : List (Option Card))
-    (laid : IsLaid (version_by number mark) size nodes image cards) (read : cards ≡ cards_in nodes image) (sectors : HoldsSectors size image)
+module _ (number : VersionNumber) (mark : Option ℕ) (seats : Seats) (size nodes run : ℕ) (image : Image) (cards : List (Option Card))
+    (laid : IsLaid (version_by number mark seats) size nodes image cards) (read : cards ≡ cards_in nodes image) (sectors : HoldsSectors size image)
     (sized : IsTrue (is_size size nodes)) where
   below : 148 + nodes ≤ size
   below = let parts = sized_parts size nodes sized in omega (arith, parts.room)
@@ -67,11 +68,11 @@ module _ (number : VersionNumber) (mark : Option ℕ) (size nodes run : ℕ) (im
   second = all_second cards
 
   as_second : IsLaidSecond size nodes image cards
-  as_second = laid_as_second (version_by number mark) size nodes image cards laid below
+  as_second = laid_as_second (version_by number mark seats) size nodes image cards laid below
 
   second_bytes : HoldBytes (second_image nodes image) (mark_in nodes (second_image nodes image))
-  second_bytes = marked_bytes current size nodes (second_image nodes image) second as_second.laid
-      (λ n behind within. subst IsSector (sym ((then_second (version_by number mark) size nodes image cards laid below).region n behind within)) (sectors n within))
+  second_bytes = marked_bytes (current no_seats) size nodes (second_image nodes image) second as_second.laid
+      (λ n behind within. subst IsSector (sym ((then_second (version_by number mark seats) size nodes image cards laid below).region n behind within)) (sectors n within))
 
   same_tree : tree_of (second_image nodes image) second ≡ tree_of image second
   same_tree = as_second.tree ∙ sym as_second.shown
@@ -82,14 +83,14 @@ module _ (number : VersionNumber) (mark : Option ℕ) (size nodes run : ℕ) (im
 
   -- where they are well formed, their tree stands
   pub found_stands : run < 2 ^ 32 → image 0 ≡ superblock number size nodes run → AreWellFormed (limits_of size nodes) (stamp (run + 1) 0) second
-      → layout.Stands (version_by number mark) size nodes image run (tree_of image second)
+      → layout.Stands (version_by number mark seats) size nodes image run (tree_of image second)
   found_stands counted first well_formed =
       let both = each.0 well_formed in
       record {
         sized = sized;
         counted = counted;
-        first = first ∙ sym (first_number number mark size nodes run);
-        laid = subst (IsLaid (version_by number mark) size nodes image) read laid;
+        first = first ∙ sym (first_number number mark seats size nodes run);
+        laid = subst (IsLaid (version_by number mark seats) size nodes image) read laid;
         tree_is = as_second.shown ∙ ap (tree_of image) read;
         well_formed = ∣ subst (IsWellFormed (limits_of size nodes)) same_tree both.0 ∣₁;
         before = subst (IsBefore (stamp (run + 1) 0)) same_tree both.1;
@@ -103,15 +104,17 @@ module _ (number : VersionNumber) (mark : Option ℕ) (size nodes run : ℕ) (im
 
 -- what stands is laid in the version that the first sector tells
 pub laid_told : (number : VersionNumber) (size nodes run : ℕ) (image : Image) (kept : Kept) → image 0 ≡ superblock number size nodes run → Stands size nodes image run kept
-    → (mark : Option ℕ) × IsMark number nodes mark × IsLaid (version_by number mark) size nodes image (cards_in nodes image)
+    → (mark : Option ℕ) × IsMark number nodes mark × MayKeep number mark kept.seats × IsLaid (version_by number mark kept.seats) size nodes image (cards_in nodes image)
 laid_told number size nodes run image kept first stands =
     let parts = version_parts nodes stands.version kept.seats stands.is_version in
-    let there : layout.Stands (version_by parts.0 parts.1) size nodes image run kept.tree =
-    subst (λ (version : Version). layout.Stands version size nodes image run kept.tree) parts.3 stands.stands in
-    let same : parts.0 ≡ number = one_number parts.0 number size nodes run size nodes run (sym (first_number parts.0 parts.1 size nodes run) ∙ (sym there.first ∙ first)) in (
+    let seats = kept.seats in
+    let there : layout.Stands (version_by parts.0 parts.1 seats) size nodes image run kept.tree =
+    subst (λ (version : Version). layout.Stands version size nodes image run kept.tree) parts.4 stands.stands in
+    let same : parts.0 ≡ number = one_number parts.0 number size nodes run size nodes run (sym (first_number parts.0 parts.1 seats size nodes run) ∙ (sym there.first ∙ first)) in (
       parts.1,
       subst (λ (n : VersionNumber). IsMark n nodes parts.1) same parts.2,
-      subst (λ (n : VersionNumber). IsLaid (version_by n parts.1) size nodes image (cards_in nodes image)) same there.laid,
+      subst (λ (n : VersionNumber). MayKeep n parts.1 seats) same parts.3,
+      subst (λ (n : VersionNumber). IsLaid (version_by n parts.1 seats) size nodes image (cards_in nodes image)) same there.laid,
     )
 
 some_form : (cards : List (Option Card)) (place : ℕ) (card : Card) → get_or (all_second cards) place None ≡ Some card → card.form ≡ Two

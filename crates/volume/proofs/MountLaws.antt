@@ -11,11 +11,14 @@ use Rattle.journal.specs.Settled.{Settles, AreSame}
 use Rattle.journal.proofs.Images.{put_same, put_other}
 use Rattle.layout.specs.Cards.{node_sector}
 use Rattle.layout.specs.Rewriting.{all_second, in_form, IsRewritten}
-use Rattle.layout.specs.Stands.{By, IsMark, bare, version_1, version_2, version_by}
+use Rattle.layout.specs.Stands as layout
+use Rattle.layout.specs.Stands.{By, IsMark, Kept, MayKeep, Version, version_1, version_2, version_by}
 use Rattle.layout.specs.declared.versions.VersionNumber.{VersionNumber}
 use Rattle.layout.specs.declared.versions.VersionNumber.TheVariants.{One, Two}
-use Rattle.layout.proofs.MarkOnce.{version_number, version_spare}
+use Rattle.layout.proofs.MarkOnce.{version_number}
+use Rattle.layout.proofs.SeatLaws.{kept_later, version_spare}
 use Rattle.layout.proofs.Rewriting.{form_stays, rewritten_cards, rewritten_stands}
+use Rattle.model.specs.Seats.{Seats}
 use Rattle.model.specs.Tree.{Tree}
 use Rattle.volume.specs.Mounts.{HasMoved, IsRaisedTo, StandsForEither, StandsIn}
 use Rattle.volume.specs.Superblock.{superblock}
@@ -25,12 +28,16 @@ use Rattle.volume.proofs.StandLaws.{cards_same, sized, tree_same}
 abbrev pub first_update : (sectors nodes run : ℕ) → Update
 first_update sectors nodes run = record { target = 0; content = superblock Two sectors nodes run }
 
-all_two : (version : VersionNumber) (nodes : ℕ) (mark : Option ℕ) → HasMoved version nodes mark → (place : ℕ) → place < nodes
-    → (version_by version mark).form place ≡ forms.Two
-all_two One nodes mark moved place within =
+all_two : (version : VersionNumber) (nodes : ℕ) (mark : Option ℕ) (seats : Seats) → HasMoved version nodes mark → (place : ℕ) → place < nodes
+    → (version_by version mark seats).form place ≡ forms.Two
+all_two One nodes mark seats moved place within =
     ap (λ (m : Option ℕ). (version_1 m).form place) moved
     ∙ ap (λ (past : Bool). let form : Form = if past then forms.One else forms.Two in form) (lt-leb nodes place within)
-all_two Two nodes mark moved place within = refl
+all_two Two nodes mark seats moved place within = refl
+
+may_after : (version : VersionNumber) (nodes : ℕ) (mark : Option ℕ) (seats : Seats) → HasMoved version nodes mark → MayKeep version mark seats → MayKeep Two mark seats
+may_after One nodes mark seats moved none = subst (λ (m : Option ℕ). MayKeep Two m seats) (sym moved) none
+may_after Two nodes mark seats moved may = may
 
 mark_moved : (version : VersionNumber) (nodes : ℕ) (mark : Option ℕ) → HasMoved version nodes mark → IsMark Two nodes mark
 mark_moved One nodes mark moved = subst (IsMark Two nodes) (sym moved) refl
@@ -42,8 +49,8 @@ mark_before One sectors nodes mark some moved = subst (IsMark One nodes) (sym mo
 mark_before Two sectors nodes mark some moved = moved
 
 -- a volume has nodes
-some_nodes : (found : Superblock) (base : Image) (mark : Option ℕ) (tree : Tree) → StandsIn found mark base tree → 0 < found.nodes
-some_nodes found base mark tree stands = let parts = sized found.sectors found.nodes stands.sized in omega (arith, parts.some)
+some_nodes : (found : Superblock) (base : Image) (mark : Option ℕ) (kept : Kept) → StandsIn found mark base kept → 0 < found.nodes
+some_nodes found base mark kept stands = let parts = sized found.sectors found.nodes stands.stands.sized in omega (arith, parts.some)
 
 module _ (found : Superblock) (base : Image) (counted : found.run + 1 < 2 ^ 32) where
   abbrev raised : Image
@@ -52,59 +59,78 @@ module _ (found : Superblock) (base : Image) (counted : found.run + 1 < 2 ^ 32) 
   others : (n : ℕ) → 98 ≤ n → raised n ≡ base n
   others n above = put_other base (first_update found.sectors found.nodes (found.run + 1)) n (λ same. omega (arith, same, above))
 
-  module _ (mark : Option ℕ) (tree : Tree) (moved : HasMoved found.version found.nodes mark) (stands : StandsIn found mark base tree) where
+  module _ (mark : Option ℕ) (kept : Kept) (moved : HasMoved found.version found.nodes mark) (stood : StandsIn found mark base kept) where
+    abbrev tree : Tree
+    tree = kept.tree
+
+    abbrev was : Version
+    was = version_by found.version mark kept.seats
+
+    abbrev is : Version
+    is = version_2 mark kept.seats
+
+    stands : layout.Stands was found.sectors found.nodes base found.run tree
+    stands = stood.stands
+
     -- the count is raised, the version is 2, and nothing else changes
-    is_rewritten : IsRewritten (version_by found.version mark) (version_2 mark) found.sectors found.nodes (found.run + 1) base raised
+    is_rewritten : IsRewritten was is found.sectors found.nodes (found.run + 1) base raised
     is_rewritten = record {
       first = put_same base (first_update found.sectors found.nodes (found.run + 1)) 0 refl;
       others = record {
         roomy = λ place within. inr refl;
         bitmap = λ n low high. others n low;
-        spare = λ n low high. others n (omega (arith, low)) ∙ (stands.laid.spare n low high ∙ version_spare found.version mark n);
+        spare = λ n low high. others n (omega (arith, low)) ∙ (stands.laid.spare n low high ∙ version_spare found.version mark kept.seats n stood.may);
         nodes_are = λ place within. others (node_sector place) (omega arith)
-            ∙ (sym (form_stays (version_by found.version mark) found.sectors found.nodes found.run base tree place stands within)
-            ∙ ap (λ (form : Form). in_form form (base (node_sector place))) (all_two found.version found.nodes mark moved place within));
+            ∙ (sym (form_stays was found.sectors found.nodes found.run base tree place stands within)
+            ∙ ap (λ (form : Form). in_form form (base (node_sector place))) (all_two found.version found.nodes mark kept.seats moved place within));
         region = λ n low high. others n (omega (arith, low));
       };
     }
 
-    raised_to : IsRaisedTo mark found tree base raised
+    raised_to : IsRaisedTo mark found kept base raised
     raised_to = record {
-      stands = rewritten_stands (version_by found.version mark) (version_2 mark) found.sectors found.nodes found.run (found.run + 1) base raised tree stands (omega arith) counted is_rewritten;
-      cards = rewritten_cards (version_by found.version mark) (version_2 mark) found.sectors found.nodes found.run (found.run + 1) base raised tree stands is_rewritten;
+      may = may_after found.version found.nodes mark kept.seats moved stood.may;
+      keeps = kept_later found.run (found.run + 1) kept.seats (omega arith) stood.keeps;
+      stands = rewritten_stands was is found.sectors found.nodes found.run (found.run + 1) base raised tree stands (omega arith) counted is_rewritten;
+      cards = rewritten_cards was is found.sectors found.nodes found.run (found.run + 1) base raised tree stands is_rewritten;
     }
 
-    pub raised_base : (after : Image) → AreSame found.sectors raised after → IsRaisedTo mark found tree base after
+    pub raised_base : (after : Image) → AreSame found.sectors raised after → IsRaisedTo mark found kept base after
     raised_base after same = record {
-      stands = tree_same (version_2 mark) found.sectors found.nodes raised after (found.run + 1) tree same raised_to.stands;
-      cards = ap all_second (cards_same (version_2 mark) found.sectors found.nodes raised after (found.run + 1) tree same raised_to.stands) ∙ raised_to.cards;
+      may = raised_to.may;
+      keeps = raised_to.keeps;
+      stands = tree_same is found.sectors found.nodes raised after (found.run + 1) tree same raised_to.stands;
+      cards = ap all_second (cards_same is found.sectors found.nodes raised after (found.run + 1) tree same raised_to.stands) ∙ raised_to.cards;
     }
 
     pub raise_moments : (old new : History) → AddsEither found.sectors (first_update found.sectors found.nodes (found.run + 1) ∷ []) base old new
-        → AddsOnly (StandsForEither found (bare tree)) old new
+        → AddsOnly (StandsForEither found kept) old new
     raise_moments old new moments = AddsOnly-weaken
         (λ image. Settles found.sectors image base ⊎ Settles found.sectors image (applied (first_update found.sectors found.nodes (found.run + 1) ∷ []) base))
-        (StandsForEither found (bare tree)) old new
+        (StandsForEither found kept) old new
         (λ image either. elim either [
           | inl settles ↦ inl ∣ (
             record {
               base = base;
               settles = settles;
               stands = record {
-                version = version_by found.version mark;
-                is_version = By found.version mark (mark_before found.version found.sectors found.nodes mark (some_nodes found base mark tree stands) moved);
+                version = was;
+                is_version = By found.version mark kept.seats
+                    (mark_before found.version found.sectors found.nodes mark (some_nodes found base mark kept stood) moved) stood.may;
+                keeps = stood.keeps;
                 stands = stands;
               };
             },
-            version_number found.version mark,
+            version_number found.version mark kept.seats,
           ) ∣₁
           | inr settles ↦ inr ∣ (
             record {
               base = raised;
               settles = settles;
               stands = record {
-                version = version_2 mark;
-                is_version = By Two mark (mark_moved found.version found.nodes mark moved);
+                version = is;
+                is_version = By Two mark kept.seats (mark_moved found.version found.nodes mark moved) raised_to.may;
+                keeps = raised_to.keeps;
                 stands = raised_to.stands;
               };
             },

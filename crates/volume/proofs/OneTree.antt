@@ -6,12 +6,16 @@ use Rattle.disk.specs.Moments.{Image}
 use Rattle.journal.proofs.Recovers.{settles_once}
 use Rattle.layout.specs.Stands.{Kept}
 use Rattle.layout.proofs.KeptLaws.{one_kept}
+use Rattle.model.specs.Seats.{Seats}
 use Rattle.model.specs.Tree.{Tree}
 use Rattle.volume.specs.Stands.{Stands, IsBase, IsOne, OneStands}
 use Rattle.volume.proofs.StandLaws.{sized, stands_same}
 
 pub Tree-set : IsSet Tree
 Tree-set = Prim.hlevel props
+
+pub Seats-set : IsSet Seats
+Seats-set = Prim.hlevel props
 
 pub Kept-set : IsSet Kept
 Kept-set = Prim.hlevel props

@@ -14,34 +14,36 @@ use Rattle.journal.specs.Log.{Log, IsSettled, StandsForFront, contents, applied_
 use Rattle.journal.specs.Settled.{AreSame}
 use Rattle.layout.specs.Cards.{Card, tree_of, cards_in}
 use Rattle.layout.specs.MarkLaws.{SeesSame}
-use Rattle.layout.specs.Stands as layout
-use Rattle.layout.specs.Stands.{Kept, bare, current}
-use Rattle.layout.proofs.KeptLaws.{bare_stands}
+use Rattle.layout.specs.Stands.{Kept, StandsNow, Version, current, seats_at}
+use Rattle.layout.proofs.KeptLaws.{same_kept, stands_now}
 use Rattle.layout.proofs.MarkProofs.{kept_alone}
 use Rattle.model.specs.declared.limits.Limits.{Limits}
 use Rattle.journal.specs.declared.fault.JournalFault.{JournalFault}
 use Rattle.journal.specs.declared.fault.JournalFault.TheVariants as faults
 use Rattle.volume.specs.Changes.{Given, Done, Nothing, Broken, IsTree, Changes, ending_of}
 use Rattle.volume.specs.Refusals.{fault_of}
-use Rattle.volume.specs.Held.{Held, IsSameVolume, Holds, MayAdd, StandsForOne, AddsTrees, fronts_from}
-use Rattle.volume.specs.Known.{IsServing}
+use Rattle.volume.specs.Held.{Held, IsSameVolume, Holds, MayAdd, StandsForOne, AddsTrees, fronts_from, with_tree}
+use Rattle.volume.specs.Known.{IsServing, kept_in}
 use Rattle.volume.specs.Stands.{Stands}
 use Rattle.volume.specs.Views.{held_by}
 use Rattle.volume.proofs.FrontLaws.{front_among}
-use Rattle.volume.proofs.OneTree.{Tree-set}
-use Rattle.volume.proofs.StandLaws.{sized, tree_same}
+use Rattle.volume.proofs.OneTree.{Seats-set, Tree-set}
+use Rattle.volume.proofs.StandLaws.{now_same, seats_same, sized}
 
--- what serves stands with no seats
+-- what serves stands with its seats
 pub served_stands : (nodes run : ℕ) (cards : List (Option Card)) (log : Log) → IsServing log nodes run cards
-    → ∥ Stands log.size nodes (contents log) run (bare (tree_of (contents log) cards)) ∥₁
-served_stands nodes run cards log serving = ∥∥₁_map serving.stands (bare_stands log.size nodes (contents log) run (tree_of (contents log) cards))
+    → ∥ Stands log.size nodes (contents log) run (kept_in (contents log) cards) ∥₁
+served_stands nodes run cards log serving = ∥∥₁_map serving.stands (stands_now log.size nodes (contents log) run (kept_in (contents log) cards))
 
 module _ (nodes run : ℕ) (cards : List (Option Card)) (old new : Log) (same : AreSame old.size (contents old) (contents new)) where
-  sees : layout.Stands current old.size nodes (contents old) run (tree_of (contents old) cards)
-      → SeesSame current old.size nodes (contents old) (contents new) (cards_in nodes (contents old))
+  abbrev now : Version
+  now = current (seats_at (contents old))
+
+  sees : StandsNow old.size nodes (contents old) run (kept_in (contents old) cards)
+      → SeesSame now old.size nodes (contents old) (contents new) (cards_in nodes (contents old))
   sees stands =
-      let parts = sized old.size nodes stands.sized in
-      kept_alone current old.size nodes (contents old) (contents new) (cards_in nodes (contents old)) (omega (arith, parts.room)) stands.laid
+      let parts = sized old.size nodes stands.stands.sized in
+      kept_alone now old.size nodes (contents old) (contents new) (cards_in nodes (contents old)) (omega (arith, parts.room)) stands.stands.laid
       (λ n above below. sym (same n (inr above, below)))
 
   -- the same tree is seen
@@ -49,12 +51,20 @@ module _ (nodes run : ℕ) (cards : List (Option Card)) (old new : Log) (same : 
   tree_stays serving = ∥∥₁_elim serving.stands (Tree-set (tree_of (contents new) cards) (tree_of (contents old) cards)) (λ stands.
       ap (tree_of (contents new)) serving.read ∙ ((sees stands).same_tree ∙ ap (tree_of (contents old)) (sym serving.read)))
 
+  -- and the same seats
+  pub seats_stay : IsServing old nodes run cards → seats_at (contents new) ≡ seats_at (contents old)
+  seats_stay serving = ∥∥₁_elim serving.stands (Seats-set (seats_at (contents new)) (seats_at (contents old)))
+      (seats_same old.size nodes (contents old) (contents new) run (kept_in (contents old) cards) same)
+
+  pub kept_stays : IsServing old nodes run cards → kept_in (contents new) cards ≡ kept_in (contents old) cards
+  kept_stays serving = same_kept (kept_in (contents new) cards) (kept_in (contents old) cards) (tree_stays serving) (seats_stay serving)
+
   pub still_serving : new.size ≡ old.size → IsSettled new → IsServing old nodes run cards → ∥ IsServing new nodes run cards ∥₁
   still_serving size settled serving = ∥∥₁_map serving.stands (λ stands. record {
     read = serving.read ∙ sym (sees stands).same_cards;
-    stands = ∣ subst (λ (s : ℕ). layout.Stands current s nodes (contents new) run (tree_of (contents new) cards)) (sym size)
-        (subst (layout.Stands current old.size nodes (contents new) run) (sym (tree_stays serving))
-        (tree_same current old.size nodes (contents old) (contents new) run (tree_of (contents old) cards) same stands)) ∣₁;
+    stands = ∣ subst (λ (s : ℕ). StandsNow s nodes (contents new) run (kept_in (contents new) cards)) (sym size)
+        (subst (StandsNow old.size nodes (contents new) run) (sym (kept_stays serving))
+        (now_same old.size nodes (contents old) (contents new) run (kept_in (contents old) cards) same stands)) ∣₁;
     settled = settled;
   })
 
@@ -64,6 +74,11 @@ pub flush_keeps : (keeps_word : Type 0) (nodes run : ℕ) (cards : List (Option 
 flush_keeps keeps_word nodes run cards old new flushed serves k =
     ∥∥₁_elim (serves k) (Tree-set (tree_of (contents new) cards) (tree_of (contents old) cards)) (tree_stays nodes run cards old new (flushed.contents k))
 
+pub flush_seats : (keeps_word : Type 0) (nodes run : ℕ) (cards : List (Option Card)) (old new : Log) → HasFlushed keeps_word old new → (keeps_word → ∥ IsServing old nodes run cards ∥₁)
+    → keeps_word → seats_at (contents new) ≡ seats_at (contents old)
+flush_seats keeps_word nodes run cards old new flushed serves k =
+    ∥∥₁_elim (serves k) (Seats-set (seats_at (contents new)) (seats_at (contents old))) (seats_stay nodes run cards old new (flushed.contents k))
+
 -- what a flush adds to what a stop may leave are trees that it may leave already
 pub flush_adds : (limits : Limits) (run : ℕ) (cards : List (Option Card)) (old new : Log) (after : Kept) → AddsFronts old new
     → AddsTrees (held_by limits run cards old) after new.history
@@ -71,7 +86,7 @@ flush_adds limits run cards old new after adds recent is = AddsOnly-weaken
     (StandsForFront old.size old.base old.list) (StandsForOne (held_by limits run cards old) (MayAdd (held_by limits run cards old) recent after)) old.history new.history
     (λ image front.
     let covered = is.covers (applied_all (take front.count old.list) old.base) (front_among old.base old.list front.count front.within) in (
-      bare covered.0,
+      with_tree (held_by limits run cards old) covered.0,
       inl (covered.1, refl),
       ∥∥₁_map covered.2 (λ stands. record { base = applied_all (take front.count old.list) old.base; settles = front.settles; stands = stands }),
     ))
@@ -86,22 +101,22 @@ among_one only other among = by_place among.0 among.1.0 among.1.1
 
 -- where nothing is left to flush, each map left stands for what the base does, and so does its only front
 pub holds_base : (limits : Limits) (run : ℕ) (cards : List (Option Card)) (log : Log) → log.list ≡ []
-    → ∥ Stands log.size limits.nodes (contents log) run (bare (tree_of (contents log) cards)) ∥₁ → IsSettled log → Holds (held_by limits run cards log)
+    → ∥ Stands log.size limits.nodes (contents log) run (kept_in (contents log) cards) ∥₁ → IsSettled log → Holds (held_by limits run cards log)
 holds_base limits run cards log listed stands settled =
     let base : contents log ≡ log.base = ap (λ l. applied_all l log.base) listed in
-    let tree = tree_of (contents log) cards in
-    let here : ∥ Stands log.size limits.nodes log.base run (bare tree) ∥₁ = subst (λ (image : Image). ∥ Stands log.size limits.nodes image run (bare tree) ∥₁) base stands in
+    let kept = kept_in (contents log) cards in
+    let here : ∥ Stands log.size limits.nodes log.base run kept ∥₁ = subst (λ (image : Image). ∥ Stands log.size limits.nodes image run kept ∥₁) base stands in
     let only : fronts_from log.base log.list ≡ log.base ∷ [] = ap (fronts_from log.base) listed in
     record {
       leaves = λ image left. (
-        bare tree,
+        kept,
         ((0, (omega arith, refl)), refl),
         ∥∥₁_map here (λ is. record { base = log.base; settles = settled image left; stands = is }),
       );
       covers = λ front among. (
-        tree,
+        kept.tree,
         (0, (omega arith, refl)),
-        subst (λ (i : Image). ∥ Stands log.size limits.nodes i run (bare tree) ∥₁) (sym (among_one log.base front (subst (λ (l : List Image). IsAmong l front) only among))) here,
+        subst (λ (i : Image). ∥ Stands log.size limits.nodes i run kept ∥₁) (sym (among_one log.base front (subst (λ (l : List Image). IsAmong l front) only among))) here,
       );
       newest = (0, (omega arith, refl));
     }
@@ -133,11 +148,12 @@ module _ (keeps_word : Type 0) (limits : Limits) (run : ℕ) (cards : List (Opti
       moments = λ k kept lasts given. flush_adds limits run cards old new kept (safe.moments k);
       ends = record {
         still_up = false_from_ne_true;
+        seats = λ k after lasts given. flush_seats keeps_word limits.nodes run cards old new flushed serves k ∙ sym (ap (λ (kept : Kept). kept.seats) given);
         leaves = λ k after lasts given recent ready. (
           is.tree ∷ [],
           record {
             ready = holds k;
-            seats = sym (ap (λ (kept : Kept). kept.seats) given);
+            seats = flush_seats keeps_word limits.nodes run cards old new flushed serves k ∙ sym (ap (λ (kept : Kept). kept.seats) given);
             no_others = λ one among. inr (among_one is.tree one among ∙ kept k ∙ sym (ap (λ (kept : Kept). kept.tree) given));
             durable = λ durable one among. among_one is.tree one among ∙ kept k ∙ sym (ap (λ (kept : Kept). kept.tree) given);
           },

@@ -1,13 +1,14 @@
 -- What a stop leaves of a volume, by its base alone: no sector of the journal's own is looked at.
-use Rattle.std.proofs.Common.{ℕ, ◌≡◌, ◌≤◌, inl, inr, refl, rules, arith, sym}
+use Rattle.std.proofs.Common.{ℕ, ◌≡◌, ◌≤◌, inl, inr, refl, rules, arith, sym, ◌∙◌}
 use Rattle.std.specs.Prelude.{IsTrue}
 use Rattle.disk.specs.Moments.{Image}
 use Rattle.journal.specs.Settled.{AreSame}
 use Rattle.layout.specs.Cards.{cards_in}
 use Rattle.layout.specs.Stands as layout
-use Rattle.layout.specs.Stands.{Kept}
+use Rattle.layout.specs.Stands.{Kept, StandsNow, current, seats_at}
 use Rattle.layout.specs.Superblock.{is_size}
 use Rattle.layout.proofs.FirstLaws.{Sized, sized_parts}
+use Rattle.layout.proofs.KeptLaws.{now_told}
 use Rattle.layout.proofs.MarkProofs.{kept_alone, stands_alone}
 use Rattle.model.specs.Tree.{Tree}
 use Rattle.volume.specs.Stands.{Stands}
@@ -26,6 +27,7 @@ stands_same sectors nodes a b run kept same stands =
     record {
       version = stands.version;
       is_version = stands.is_version;
+      keeps = stands.keeps;
       stands = stands_alone stands.version sectors nodes a b run kept.tree stands.stands (sym (same 0 (inl refl, omega (arith, enough))))
           (λ n above below. sym (same n (inr above, below)));
     }
@@ -37,6 +39,17 @@ tree_same version sectors nodes a b run tree same stands =
     let enough : 256 ≤ sectors = large sectors nodes stands.sized in
     stands_alone version sectors nodes a b run tree stands (sym (same 0 (inl refl, omega (arith, enough))))
     (λ n above below. sym (same n (inr above, below)))
+
+-- in the current one too, with the seats that its sectors tell
+pub now_same : (sectors nodes : ℕ) (a b : Image) (run : ℕ) (kept : Kept) → AreSame sectors a b → StandsNow sectors nodes a run kept → StandsNow sectors nodes b run kept
+now_same sectors nodes a b run kept same now = record {
+  keeps = now.keeps;
+  stands = tree_same (current kept.seats) sectors nodes a b run kept.tree same now.stands;
+}
+
+pub seats_same : (sectors nodes : ℕ) (a b : Image) (run : ℕ) (kept : Kept) → AreSame sectors a b → StandsNow sectors nodes a run kept → seats_at b ≡ seats_at a
+seats_same sectors nodes a b run kept same now =
+    now_told sectors nodes b run kept (now_same sectors nodes a b run kept same now) ∙ sym (now_told sectors nodes a run kept now)
 
 -- and so are the cards
 pub cards_same : (version : layout.Version) (sectors nodes : ℕ) (a b : Image) (run : ℕ) (tree : Tree) → AreSame sectors a b

@@ -1,5 +1,5 @@
 -- A run that begins on the nodes that were read.
-use Rattle.std.proofs.Common.{◌≡◌, ◌<◌, ◌+◌, ◌^◌, ◌∙◌, ℕ, Bool, false, List, Option, Some, None, length, inl, inr, refl, sym, ap, subst, arith}
+use Rattle.std.proofs.Common.{◌≡◌, ◌<◌, ◌+◌, ◌^◌, ◌∙◌, ℕ, Bool, true, false, List, Option, Some, None, is_some, length, inl, inr, refl, sym, ap, subst, arith}
 use Rattle.std.proofs.Math.Logic.{∥∥₁_map}
 use Rattle.std.specs.Prelude.{IsTrue, OnOk, Result, Ok, Err}
 use Rattle.std.specs.Option.{unwrap_or}
@@ -9,19 +9,20 @@ use Rattle.journal.specs.Log.{Log}
 use Rattle.layout.specs.Cards.{Card, cards_in, tree_of}
 use Rattle.layout.specs.Rewriting.{all_second}
 use Rattle.layout.specs.Stands as layout
-use Rattle.layout.specs.Stands.{IsMark, Kept, bare, current, moved_by, number_of, spare_by, version_1, version_2, version_by}
+use Rattle.layout.specs.Stands.{IsMark, Kept, MayKeep, StandsNow, bare, current, current_number, mark_held, moved_by, number_of, version_1, version_2, version_by}
 use Rattle.layout.specs.Superblock.{is_size}
 use Rattle.layout.specs.declared.versions.VersionNumber.{VersionNumber}
 use Rattle.layout.specs.declared.versions.VersionNumber.TheVariants.{One, Two}
-use Rattle.layout.proofs.KeptLaws.{kept_bare}
+use Rattle.layout.proofs.KeptLaws.{same_kept}
 use Rattle.layout.proofs.MarkOnce.{stands_told}
 use Rattle.layout.proofs.Rewriting.{current_second}
 use Rattle.migration.specs.Migrations.{Begins, StandsStill, AddsStill, HasMovedAll, Rests}
+use Rattle.model.specs.Seats.{Seats, no_seats}
 use Rattle.model.specs.Tree.{Tree}
-use Rattle.volume.specs.Loads.{AreLoaded, HoldsVolume}
+use Rattle.volume.specs.Loads.{AreLoaded, HoldsVolume, read_as}
 use Rattle.volume.specs.Mounts.{AddsRaised, IsAtRest, HasMoved, IsRaisedTo, RaisesSafely, StandsForEither, StandsIn, StandsOn}
 use Rattle.volume.specs.Stands.{StandsForIn}
-use Rattle.volume.specs.Starts.{HasMovedTo, IsCleared, ServesFrom, is_marked, moved_mark}
+use Rattle.volume.specs.Starts.{HasMovedTo, IsCleared, ServesFrom, StandsInSecond, is_marked, moved_mark}
 use Rattle.volume.specs.declared.mount.Superblock.{Superblock}
 use Rattle.volume.proofs.StandLaws.{sized}
 
@@ -46,46 +47,64 @@ pub ends_at_rest : {T E : Type 0} (log : Log) (result : Result T E) → OnOk res
 ends_at_rest log result is = so_moves result (Rests log) (IsAtRest log) (λ rests. record { up = rests.up; listed = rests.listed }) is
 
 -- Nodes of version 1 move
-module _ (keeps_word : Type 0) (found : Superblock) (mark : Option ℕ) (cards : List (Option Card)) (places : List Bool) (old new : Log)
-    (size : found.sectors ≡ old.size) (one : found.version ≡ One) (loaded : AreLoaded keeps_word found old.base mark cards places) where
+module _ (keeps_word : Type 0) (found : Superblock) (mark : Option ℕ) (cards : List (Option Card)) (seats : Seats) (places : List Bool) (old new : Log)
+    (size : found.sectors ≡ old.size) (one : found.version ≡ One) (loaded : AreLoaded keeps_word found old.base mark cards seats places) where
   count : length cards ≡ found.nodes
   count = loaded.known.are_cards.count
 
-  as_one : (tree : Tree) → StandsIn found mark old.base tree → layout.Stands (version_1 mark) old.size (length cards) old.base found.run tree
-  as_one tree stands =
-      subst (λ (s : ℕ). layout.Stands (version_1 mark) s (length cards) old.base found.run tree) size
-      (subst (λ (n : ℕ). layout.Stands (version_1 mark) found.sectors n old.base found.run tree) (sym count)
-      (subst (λ (v : VersionNumber). layout.Stands (version_by v mark) found.sectors found.nodes old.base found.run tree) one stands))
+  as_one : (kept : Kept) → StandsIn found mark old.base kept → layout.Stands (version_1 mark) old.size (length cards) old.base found.run kept.tree
+  as_one kept stands =
+      subst (λ (s : ℕ). layout.Stands (version_1 mark) s (length cards) old.base found.run kept.tree) size
+      (subst (λ (n : ℕ). layout.Stands (version_1 mark) found.sectors n old.base found.run kept.tree) (sym count)
+      (subst (λ (v : VersionNumber). layout.Stands (version_by v mark kept.seats) found.sectors found.nodes old.base found.run kept.tree) one stands.stands))
 
-  pub begins : keeps_word → (tree : Tree) → StandsIn found mark old.base tree → Begins mark (moved_by mark) found.run tree cards old
-  begins k tree stands = record {
+  -- what stands in version 1 keeps no seat
+  is_bare : (kept : Kept) → StandsIn found mark old.base kept → kept.seats ≡ no_seats
+  is_bare kept stands = subst (λ (v : VersionNumber). MayKeep v mark kept.seats) one stands.may
+
+  as_bare : (kept : Kept) → StandsIn found mark old.base kept → bare kept.tree ≡ kept
+  as_bare kept stands = same_kept (bare kept.tree) kept refl (sym (is_bare kept stands))
+
+  pub begins : keeps_word → (kept : Kept) → StandsIn found mark old.base kept → Begins mark (moved_by mark) found.run kept.tree cards old
+  begins k kept stands = record {
     marked = subst (λ (n : ℕ). IsMark One n mark) (sym count) (subst (λ (v : VersionNumber). IsMark v found.nodes mark) one loaded.marked);
     told = refl;
-    stands = as_one tree stands;
+    stands = as_one kept stands;
     read = loaded.read k ∙ ap (λ (n : ℕ). all_second (cards_in n old.base)) (sym count);
   }
 
-  pub moves_safely : (tree : Tree) → AddsStill 1 (length cards) found.run tree old new
-      → AddsOnly (StandsForIn (number_of found.version) found.sectors found.nodes found.run (bare tree)) old.history new.history
-  moves_safely tree adds = subst (λ (v : VersionNumber). AddsOnly (StandsForIn (number_of v) found.sectors found.nodes found.run (bare tree)) old.history new.history) (sym one)
-      (subst (λ (n : ℕ). AddsOnly (StandsForIn 1 found.sectors n found.run (bare tree)) old.history new.history) count
-      (still_for 1 found.sectors (length cards) found.run tree old new size adds))
+  pub moves_safely : (kept : Kept) → StandsIn found mark old.base kept → AddsStill 1 (length cards) found.run kept.tree old new
+      → AddsOnly (StandsForIn (number_of found.version) found.sectors found.nodes found.run kept) old.history new.history
+  moves_safely kept stands adds = subst (λ (v : VersionNumber). AddsOnly (StandsForIn (number_of v) found.sectors found.nodes found.run kept) old.history new.history) (sym one)
+      (subst (λ (n : ℕ). AddsOnly (StandsForIn 1 found.sectors n found.run kept) old.history new.history) count
+      (subst (λ (of : Kept). AddsOnly (StandsForIn 1 found.sectors (length cards) found.run of) old.history new.history) (as_bare kept stands)
+      (still_for 1 found.sectors (length cards) found.run kept.tree old new size adds)))
 
-  pub moved_to : HasMovedAll (moved_by mark) cards old new → keeps_word → (tree : Tree) → StandsIn found mark old.base tree → HasMovedTo found mark tree old.base new.base
-  moved_to has k tree stands =
-      let is = has mark found.run tree (begins k tree stands) in
+  pub moved_to : HasMovedAll (moved_by mark) cards old new → keeps_word → (kept : Kept) → StandsIn found mark old.base kept → HasMovedTo found mark kept old.base new.base
+  moved_to has k kept stands =
+      let tree = kept.tree in
+      let is = has mark found.run tree (begins k kept stands) in
       record {
-        stands = subst (λ (v : VersionNumber). layout.Stands (version_by v (moved_mark v found.nodes mark)) found.sectors found.nodes new.base found.run tree) (sym one)
-            (subst (λ (n : ℕ). layout.Stands (version_1 (Some n)) found.sectors n new.base found.run tree) count
-            (subst (λ (s : ℕ). layout.Stands (version_1 (Some (length cards))) s (length cards) new.base found.run tree) (sym size) is.stands));
+        stands = record {
+          may = subst (λ (v : VersionNumber). MayKeep v (moved_mark v found.nodes mark) kept.seats) (sym one) (is_bare kept stands);
+          keeps = stands.keeps;
+          stands = subst (λ (v : VersionNumber). layout.Stands (version_by v (moved_mark v found.nodes mark) kept.seats) found.sectors found.nodes new.base found.run tree) (sym one)
+              (subst (λ (n : ℕ). layout.Stands (version_1 (Some n)) found.sectors n new.base found.run tree) count
+              (subst (λ (s : ℕ). layout.Stands (version_1 (Some (length cards))) s (length cards) new.base found.run tree) (sym size) is.stands));
+        };
         cards = subst (λ (n : ℕ). all_second (cards_in n new.base) ≡ all_second (cards_in n old.base)) count is.cards;
       }
 
 -- those of version 2 stay
-pub stay_moved : (found : Superblock) (mark : Option ℕ) (tree : Tree) (base : Image) → found.version ≡ Two → StandsIn found mark base tree → HasMovedTo found mark tree base base
-stay_moved found mark tree base two stands = record {
-  stands = subst (λ (v : VersionNumber). layout.Stands (version_by v (moved_mark v found.nodes mark)) found.sectors found.nodes base found.run tree) (sym two)
-      (subst (λ (v : VersionNumber). layout.Stands (version_by v mark) found.sectors found.nodes base found.run tree) two stands);
+pub stay_moved : (found : Superblock) (mark : Option ℕ) (kept : Kept) (base : Image) → found.version ≡ Two → StandsIn found mark base kept → HasMovedTo found mark kept base base
+stay_moved found mark kept base two stands = record {
+  stands = record {
+    may = subst (λ (v : VersionNumber). MayKeep v (moved_mark v found.nodes mark) kept.seats) (sym two)
+        (subst (λ (v : VersionNumber). MayKeep v mark kept.seats) two stands.may);
+    keeps = stands.keeps;
+    stands = subst (λ (v : VersionNumber). layout.Stands (version_by v (moved_mark v found.nodes mark) kept.seats) found.sectors found.nodes base found.run kept.tree) (sym two)
+        (subst (λ (v : VersionNumber). layout.Stands (version_by v mark kept.seats) found.sectors found.nodes base found.run kept.tree) two stands.stands);
+  };
   cards = refl;
 }
 
@@ -99,13 +118,13 @@ moved_is : (version : VersionNumber) (nodes : ℕ) (mark : Option ℕ) → IsMar
 moved_is One nodes mark is = refl
 moved_is Two nodes mark is = is
 
-unmarked : (version : VersionNumber) (nodes : ℕ) (mark : Option ℕ) → is_marked version mark ≡ false → moved_mark version nodes mark ≡ None
-unmarked One nodes mark is = absurd (cc)
-unmarked Two nodes None is = refl
-unmarked Two nodes (Some moved) is = absurd (cc)
+still_marked : (version : VersionNumber) (nodes : ℕ) (mark : Option ℕ) → is_some (moved_mark version nodes mark) ≡ is_marked version mark
+still_marked One nodes mark = refl
+still_marked Two nodes None = refl
+still_marked Two nodes (Some moved) = refl
 
 -- The run begins: the nodes are moved, the count is raised, the mark is taken away
-module _ (found : Superblock) (mark : Option ℕ) (old : Log) (marked : IsMark found.version found.nodes mark) (marks : old.base 147 ≡ spare_by mark 147)
+module _ (found : Superblock) (mark : Option ℕ) (old : Log) (marked : IsMark found.version found.nodes mark) (marks : old.base 147 ≡ mark_held mark)
     (holds : HoldsVolume found old.size old.base) where
   abbrev then_mark : Option ℕ
   then_mark = moved_mark found.version found.nodes mark
@@ -114,13 +133,11 @@ module _ (found : Superblock) (mark : Option ℕ) (old : Log) (marked : IsMark f
   few size = let parts = sized found.sectors found.nodes size in omega (arith, parts.few)
 
   -- what stands does so in the version and with the mark that were found
-  told : (kept : Kept) → StandsOn found old.base kept → StandsIn found mark old.base kept.tree
-  told kept stands = stands_told found.version mark found.sectors found.nodes old.base found.run kept found.sectors found.nodes found.run
-      (few stands.stands.sized) marked holds.first marks stands
-
-  told_bare : (kept : Kept) (new : History) → StandsOn found old.base kept → AddsOnly (StandsForEither found (bare kept.tree)) old.history new
-      → AddsOnly (StandsForEither found kept) old.history new
-  told_bare kept new stands = subst (λ (is : Kept). AddsOnly (StandsForEither found is) old.history new) (sym (kept_bare found.sectors found.nodes old.base found.run kept stands))
+  told : (kept : Kept) → StandsOn found old.base kept → StandsIn found mark old.base kept
+  told kept stands =
+      let is = stands_told found.version mark found.sectors found.nodes old.base found.run kept found.sectors found.nodes found.run
+      (few stands.stands.sized) marked holds.first marks stands in
+      record { may = is.may; keeps = stands.keeps; stands = is.stands }
 
   pub has_moved : HasMoved found.version found.nodes then_mark
   has_moved = moved_all found.version found.nodes mark marked
@@ -129,59 +146,97 @@ module _ (found : Superblock) (mark : Option ℕ) (old : Log) (marked : IsMark f
   mark_is = moved_is found.version found.nodes mark marked
 
   module _ (moved : Log)
-      (moments : (tree : Tree) → StandsIn found mark old.base tree
-      → AddsOnly (StandsForIn (number_of found.version) found.sectors found.nodes found.run (bare tree)) old.history moved.history) where
-    first_part : (tree : Tree) → StandsIn found mark old.base tree → AddsOnly (StandsForEither found (bare tree)) old.history moved.history
-    first_part tree stands = AddsOnly-weaken (StandsForIn (number_of found.version) found.sectors found.nodes found.run (bare tree)) (StandsForEither found (bare tree)) old.history moved.history
-        (λ image is. inl is) (moments tree stands)
+      (moments : (kept : Kept) → StandsIn found mark old.base kept
+      → AddsOnly (StandsForIn (number_of found.version) found.sectors found.nodes found.run kept) old.history moved.history) where
+    first_part : (kept : Kept) → StandsIn found mark old.base kept → AddsOnly (StandsForEither found kept) old.history moved.history
+    first_part kept stands = AddsOnly-weaken (StandsForIn (number_of found.version) found.sectors found.nodes found.run kept) (StandsForEither found kept) old.history moved.history
+        (λ image is. inl is) (moments kept stands)
 
     pub after_moves : AddsRaised found old.base old.history moved.history
-    after_moves kept stands = told_bare kept moved.history stands (first_part kept.tree (told kept stands))
+    after_moves kept stands = first_part kept (told kept stands)
 
-    module _ (moves : (tree : Tree) → StandsIn found mark old.base tree → HasMovedTo found mark tree old.base moved.base)
+    module _ (moves : (kept : Kept) → StandsIn found mark old.base kept → HasMovedTo found mark kept old.base moved.base)
         (raised : Log) (raises : RaisesSafely found moved raised.history) where
-      both_parts : (tree : Tree) → StandsIn found mark old.base tree → AddsOnly (StandsForEither found (bare tree)) old.history raised.history
-      both_parts tree stands = AddsOnly-join (StandsForEither found (bare tree)) old.history moved.history raised.history
-          (first_part tree stands) (raises then_mark tree has_moved (moves tree stands).stands)
+      both_parts : (kept : Kept) → StandsIn found mark old.base kept → AddsOnly (StandsForEither found kept) old.history raised.history
+      both_parts kept stands = AddsOnly-join (StandsForEither found kept) old.history moved.history raised.history
+          (first_part kept stands) (raises then_mark kept has_moved (moves kept stands).stands)
 
       pub after_raise : AddsRaised found old.base old.history raised.history
-      after_raise kept stands = told_bare kept raised.history stands (both_parts kept.tree (told kept stands))
+      after_raise kept stands = both_parts kept (told kept stands)
 
       module _ (size : found.sectors ≡ raised.size)
-          (rises : (tree : Tree) → StandsIn found then_mark moved.base tree → IsRaisedTo then_mark found tree moved.base raised.base) where
-        raised_to : (tree : Tree) → StandsIn found mark old.base tree → IsRaisedTo then_mark found tree moved.base raised.base
-        raised_to tree stands = rises tree (moves tree stands).stands
+          (rises : (kept : Kept) → StandsIn found then_mark moved.base kept → IsRaisedTo then_mark found kept moved.base raised.base) where
+        raised_to : (kept : Kept) → StandsIn found mark old.base kept → IsRaisedTo then_mark found kept moved.base raised.base
+        raised_to kept stands = rises kept (moves kept stands).stands
 
-        second_stands : (tree : Tree) → StandsIn found mark old.base tree → layout.Stands (version_2 then_mark) raised.size found.nodes raised.base (found.run + 1) tree
-        second_stands tree stands = subst (λ (s : ℕ). layout.Stands (version_2 then_mark) s found.nodes raised.base (found.run + 1) tree) size (raised_to tree stands).stands
+        second_stands : (kept : Kept) → StandsIn found mark old.base kept → StandsInSecond then_mark raised.size found.nodes (found.run + 1) raised.base kept
+        second_stands kept stands =
+            let is = raised_to kept stands in
+            record {
+              marked = mark_is;
+              may = is.may;
+              keeps = is.keeps;
+              stands = subst (λ (s : ℕ). layout.Stands (version_2 then_mark kept.seats) s found.nodes raised.base (found.run + 1) kept.tree) size is.stands;
+            }
 
         pub after_unmark : (new : History)
-            → ((tree : Tree) → layout.Stands (version_2 then_mark) raised.size found.nodes raised.base (found.run + 1) tree
-            → AddsOnly (StandsForIn current.number raised.size found.nodes (found.run + 1) (bare tree)) raised.history new)
+            → ((kept : Kept) → StandsInSecond then_mark raised.size found.nodes (found.run + 1) raised.base kept
+            → AddsOnly (StandsForIn current_number raised.size found.nodes (found.run + 1) kept) raised.history new)
             → AddsRaised found old.base old.history new
         after_unmark new clears kept stands =
             let at = told kept stands in
-            told_bare kept new stands (AddsOnly-join (StandsForEither found (bare kept.tree)) old.history raised.history new
-            (both_parts kept.tree at)
-            (AddsOnly-weaken (StandsForIn current.number found.sectors found.nodes (found.run + 1) (bare kept.tree)) (StandsForEither found (bare kept.tree)) raised.history new
+            AddsOnly-join (StandsForEither found kept) old.history raised.history new
+            (both_parts kept at)
+            (AddsOnly-weaken (StandsForIn current_number found.sectors found.nodes (found.run + 1) kept) (StandsForEither found kept) raised.history new
             (λ image is. inr is)
-            (subst (λ (s : ℕ). AddsOnly (StandsForIn current.number s found.nodes (found.run + 1) (bare kept.tree)) raised.history new) (sym size)
-            (clears kept.tree (second_stands kept.tree at)))))
+            (subst (λ (s : ℕ). AddsOnly (StandsForIn current_number s found.nodes (found.run + 1) kept) raised.history new) (sym size)
+            (clears kept (second_stands kept at))))
 
         -- and the nodes that were read are served
-        pub serves_from : (cards : List (Option Card)) (new : Log) → cards ≡ all_second (cards_in found.nodes old.base) → StandsIn found mark old.base (tree_of old.base cards)
-            → ((tree : Tree) → layout.Stands (version_2 then_mark) raised.size found.nodes raised.base (found.run + 1) tree → IsCleared found.nodes (found.run + 1) tree raised new)
-            → ServesFrom found cards old.base new.base
-        serves_from cards new read stood clears =
-            let tree = tree_of old.base cards in
-            let cleared = clears tree (second_stands tree stood) in
-            let stands : layout.Stands current found.sectors found.nodes new.base (found.run + 1) tree =
-            subst (λ (s : ℕ). layout.Stands current s found.nodes new.base (found.run + 1) tree) (sym size) cleared.stands in
+        pub serves_from : (cards : List (Option Card)) (seats : Seats) (new : Log) → cards ≡ all_second (cards_in found.nodes old.base) → StandsIn found mark old.base (read_as old.base cards seats)
+            → ((kept : Kept) → StandsInSecond then_mark raised.size found.nodes (found.run + 1) raised.base kept → IsCleared found.nodes (found.run + 1) kept raised new)
+            → ServesFrom found cards seats old.base new.base
+        serves_from cards seats new read stood clears =
+            let kept = read_as old.base cards seats in
+            let cleared = clears kept (second_stands kept stood) in
+            let stands : StandsNow found.sectors found.nodes new.base (found.run + 1) kept =
+            subst (λ (s : ℕ). StandsNow s found.nodes new.base (found.run + 1) kept) (sym size) cleared.stands in
             record {
-              read = read ∙ (sym (cleared.cards ∙ ((raised_to tree stood).cards ∙ (moves tree stood).cards))
-                  ∙ current_second (cards_in found.nodes new.base) stands.laid.forms);
+              read = read ∙ (sym (cleared.cards ∙ ((raised_to kept stood).cards ∙ (moves kept stood).cards))
+                  ∙ current_second (cards_in found.nodes new.base) stands.stands.laid.forms);
               stands = stands;
             }
 
-pub gone : (version : VersionNumber) (nodes : ℕ) (mark : Option ℕ) (told : Bool) → told ≡ is_marked version mark → told ≡ false → moved_mark version nodes mark ≡ None
-gone version nodes mark told is none = unmarked version nodes mark (sym is ∙ none)
+pub then_marked : (version : VersionNumber) (nodes : ℕ) (mark : Option ℕ) (told : Bool) → told ≡ is_marked version mark → is_some (moved_mark version nodes mark) ≡ told
+then_marked version nodes mark told is = still_marked version nodes mark ∙ sym is
+
+-- Taking the mark away
+
+-- where there is one no seat is kept
+marked_bare : (mark : Option ℕ) (seats : Seats) → is_some mark ≡ true → MayKeep Two mark seats → seats ≡ no_seats
+marked_bare None seats some may = absurd (cc)
+marked_bare (Some moved) seats some may = may
+
+module _ (mark : Option ℕ) (size nodes run : ℕ) (base : Image) (kept : Kept) (some : is_some mark ≡ true) (stands : StandsInSecond mark size nodes run base kept) where
+  none_kept : kept.seats ≡ no_seats
+  none_kept = marked_bare mark kept.seats some stands.may
+
+  pub is_bare_kept : bare kept.tree ≡ kept
+  is_bare_kept = same_kept (bare kept.tree) kept refl (sym none_kept)
+
+  pub bare_second : layout.Stands (version_2 mark no_seats) size nodes base run kept.tree
+  bare_second = subst (λ (seats : Seats). layout.Stands (version_2 mark seats) size nodes base run kept.tree) none_kept stands.stands
+
+  pub bare_now : (image : Image) → layout.Stands (current no_seats) size nodes image run kept.tree → StandsNow size nodes image run kept
+  bare_now image is = record {
+    keeps = stands.keeps;
+    stands = subst (λ (seats : Seats). layout.Stands (current seats) size nodes image run kept.tree) (sym none_kept) is;
+  }
+
+-- and where there is none it stands in the current version
+none_now : (mark : Option ℕ) (size nodes run : ℕ) (base : Image) (kept : Kept) → is_some mark ≡ false → StandsInSecond mark size nodes run base kept → StandsNow size nodes base run kept
+none_now None size nodes run base kept none stands = record { keeps = stands.keeps; stands = stands.stands }
+none_now (Some moved) size nodes run base kept none stands = absurd (cc)
+
+pub stays_cleared : (mark : Option ℕ) (nodes run : ℕ) (kept : Kept) (log : Log) → is_some mark ≡ false → StandsInSecond mark log.size nodes run log.base kept → IsCleared nodes run kept log log
+stays_cleared mark nodes run kept log none stands = record { stands = none_now mark log.size nodes run log.base kept none stands; cards = refl }

@@ -4,6 +4,7 @@ use Rattle.std.specs.Prelude.{ℕ, Bool, true, false, List, Result, Ok, Err, ◌
 use Rattle.std.specs.List.{IsAmong}
 use Rattle.disk.specs.Cause.{IsCounted}
 use Rattle.layout.specs.Stands.{Kept}
+use Rattle.model.specs.Seats.{Seats}
 use Rattle.model.specs.Tree.{Tree}
 use Rattle.volume.specs.declared.fault.VolumeFault.{VolumeFault}
 use Rattle.volume.specs.declared.fault.VolumeFault.TheVariants as fault
@@ -33,6 +34,10 @@ Given = (after : Kept) → (lasts : Bool) → Type 0
 abbrev pub IsTree : Held → Tree → Given
 IsTree held tree after lasts = after ≡ with_tree held tree
 
+-- that it is the tree as it was, with these seats
+abbrev pub IsSeats : Held → Seats → Given
+IsSeats held seats after lasts = after ≡ record { tree = held.tree; seats = seats }
+
 -- that it is as it was, and that nothing has to last that did not before
 abbrev pub Stays : Held → Given
 Stays held after lasts = (after ≡ kept_of held) × (lasts ≡ false)
@@ -53,6 +58,8 @@ LeavesTrees old new after lasts = (recent : List Tree) → IsRecent old recent
 
 pub record HasAnswered (keeps_word : Type 0) (given : Given) (old new : Held) : Type 0 where
   pub still_up : new.is_down ≡ false
+  pub seats : keeps_word → (after : Kept) (lasts : Bool) → given after lasts
+      → new.seats ≡ after.seats
   pub leaves : keeps_word → (after : Kept) (lasts : Bool) → given after lasts
       → LeavesTrees old new after lasts
 

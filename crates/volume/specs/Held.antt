@@ -4,8 +4,7 @@ use Rattle.std.specs.List.{IsAmong}
 use Rattle.disk.specs.declared.update.Update.{Update}
 use Rattle.disk.specs.Moments.{History, Image, Left, AddsOnly, applied}
 use Rattle.journal.specs.Settled.{Settles}
-use Rattle.layout.specs.Stands as layout
-use Rattle.layout.specs.Stands.{Kept, current}
+use Rattle.layout.specs.Stands.{Kept, StandsNow}
 use Rattle.model.specs.declared.limits.Limits.{Limits}
 use Rattle.model.specs.Limits.{limits_of}
 use Rattle.model.specs.Seats.{Seats}
@@ -78,11 +77,11 @@ pub record IsRecent (held : Held) (recent : List Tree) : Type 0 where
 abbrev pub KeepsRecent : (old new : Held) → Type 0
 KeepsRecent old new = (recent : List Tree) → IsRecent old recent → IsRecent new recent
 
--- each map that a crash leaves is a volume of the current version, with the tree in memory
+-- each map that a crash leaves is a volume of the current version, with what is kept
 abbrev pub LeavesCurrent : Held → Type 0
 LeavesCurrent held = (image : Image) → Left held.history.now image
     → ∥ ((base : Image) × Settles held.sectors image base
-    × layout.Stands current held.sectors held.limits.nodes base held.run held.tree) ∥₁
+    × StandsNow held.sectors held.limits.nodes base held.run (kept_of held)) ∥₁
 
 -- a stop leaves the tree in memory
 abbrev pub Holds : Held → Type 0

@@ -5,7 +5,8 @@ use Rattle.journal.specs.Log.{Log}
 use Rattle.layout.specs.Cards.{Card, tree_of, cards_in}
 use Rattle.layout.specs.Health.{Health, Reads}
 use Rattle.layout.specs.Rewriting.{all_second}
-use Rattle.layout.specs.Stands.{IsMark, spare_by}
+use Rattle.layout.specs.Stands.{AreKept, IsMark, Kept, MayKeep, mark_held}
+use Rattle.model.specs.Seats.{Seats}
 use Rattle.model.specs.Limits.{limits_of}
 use Rattle.model.specs.Stamp.{stamp}
 use Rattle.shape.specs.WellFormed.{AreWellFormed}
@@ -22,22 +23,29 @@ pub record HoldsVolume (found : Superblock) (size : ℕ) (image : Image) : Type 
 abbrev pub HoldsBase : Superblock → Log → Type 0
 HoldsBase found log = HoldsVolume found log.size log.base
 
--- The cards are those of the sectors, as they are once each has form two, and a tree stands there,
--- in the version that was found and with this mark
+-- what was read of an image
+abbrev pub read_as : Image → List (Option Card) → Seats → Kept
+read_as image cards seats = record { tree = tree_of image cards; seats = seats }
+
+-- The cards are those of the sectors, as they are once each has form two, and their tree stands
+-- there with the seats, in the version that was found and with this mark
 pub record AreLoaded (keeps_word : Type 0) (found : Superblock) (image : Image)
-    (mark : Option ℕ) (cards : List (Option Card)) (places : List Bool) : Type 0 where
+    (mark : Option ℕ) (cards : List (Option Card)) (seats : Seats) (places : List Bool)
+    : Type 0 where
   pub known : IsKnown found.sectors found.nodes cards places
   pub well_formed : ∥ AreWellFormed (limits_of found.sectors found.nodes)
       (stamp (found.run + 1) 0) cards ∥₁
   pub marked : IsMark found.version found.nodes mark
-  pub marks : keeps_word → image 147 ≡ spare_by mark 147
+  pub may : MayKeep found.version mark seats
+  pub keeps : AreKept found.run seats
+  pub marks : keeps_word → image 147 ≡ mark_held mark
   pub read : keeps_word → cards ≡ all_second (cards_in found.nodes image)
-  pub stood : keeps_word → ∥ StandsIn found mark image (tree_of image cards) ∥₁
+  pub stood : keeps_word → ∥ StandsIn found mark image (read_as image cards seats) ∥₁
 
 abbrev pub IsLoaded : (keeps_word : Type 0) → Superblock → Log → (mark : Option ℕ)
-    → List (Option Card) → List Bool → Type 0
-IsLoaded keeps_word found log mark cards places =
-    AreLoaded keeps_word found log.base mark cards places
+    → List (Option Card) → Seats → List Bool → Type 0
+IsLoaded keeps_word found log mark cards seats places =
+    AreLoaded keeps_word found log.base mark cards seats places
 
 -- the journal is as it was, but where the device failed it is down and counted that
 abbrev health : Log → (failures : ℕ) → Health

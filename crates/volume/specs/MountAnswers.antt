@@ -4,6 +4,7 @@ use Rattle.disk.specs.Cause.{IsCounted}
 use Rattle.disk.specs.Moments.{Image, History, AddsOnly, seen, synced}
 use Rattle.journal.specs.Settled.{Settles, SettlesAs}
 use Rattle.layout.specs.Stands.{Kept}
+use Rattle.model.specs.Seats.{Seats, AreOfRuns}
 use Rattle.volume.specs.Held.{Held, Holds, IsNew, LeavesCurrent}
 use Rattle.volume.specs.Remounts.{AddsMount, IsFound}
 use Rattle.volume.specs.Stands.{IsBase}
@@ -32,6 +33,14 @@ pub record HasMounted (sectors : ℕ) (old : History) (held : Held) : Type 0 whe
   pub since_sync : AddsMount sectors (synced old) held.history
   pub current : LeavesCurrent held
   pub holds : Holds held
+
+-- The seats that a mount hands over: of sessions of the runs before this one, on any device; and
+-- those of the volume where the device keeps its word
+pub record FindsSeats (keeps_word : Type 0) (held : Held) (seats : Seats) : Type 0 where
+  pub count : ℕ
+  pub counted : held.run ≡ count + 1
+  pub of_runs : AreOfRuns count seats
+  pub are : keeps_word → seats ≡ held.seats
 
 -- Nothing but what an open gate asks for: what it shows is copied home, so that each map left
 -- settles as the device did. Where the gate has no form nothing is written.

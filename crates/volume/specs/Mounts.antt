@@ -5,11 +5,10 @@ use Rattle.journal.specs.Log.{Log, IsSettled}
 use Rattle.layout.specs.Cards.{cards_in}
 use Rattle.layout.specs.Rewriting.{all_second}
 use Rattle.layout.specs.Stands as layout
-use Rattle.layout.specs.Stands.{IsMark, Kept, bare, current, number_of, version_2, version_by}
+use Rattle.layout.specs.Stands.{AreKept, IsMark, Kept, MayKeep, current_number, number_of, version_2, version_by}
 use Rattle.layout.specs.Superblock.{is_size}
 use Rattle.layout.specs.declared.versions.VersionNumber.{VersionNumber}
 use Rattle.layout.specs.declared.versions.VersionNumber.TheVariants as numbers
-use Rattle.model.specs.Tree.{Tree}
 use Rattle.volume.specs.Held.{Held, Holds, LeavesCurrent, kept_of}
 use Rattle.volume.specs.Stands.{Stands, StandsForIn}
 use Rattle.volume.specs.Superblock.{superblock, verdict}
@@ -55,7 +54,7 @@ StandsOn found base kept = Stands found.sectors found.nodes base found.run kept
 abbrev pub StandsForEither : Superblock → Kept → Image → Type 0
 StandsForEither found kept image =
     StandsForIn (number_of found.version) found.sectors found.nodes found.run kept image
-    ⊎ StandsForIn current.number found.sectors found.nodes (found.run + 1) kept image
+    ⊎ StandsForIn current_number found.sectors found.nodes (found.run + 1) kept image
 
 -- what a run that begins adds to what a stop may leave: what stands, under either count
 abbrev pub AddsRaised : Superblock → (base : Image) → (old new : History) → Type 0
@@ -67,28 +66,34 @@ abbrev pub HasMoved : VersionNumber → (nodes : ℕ) → (mark : Option ℕ) �
 HasMoved numbers.One nodes mark = mark ≡ Some nodes
 HasMoved numbers.Two nodes mark = IsMark numbers.Two nodes mark
 
--- a tree stands on this base, in the version that was found, with this mark
-abbrev pub StandsIn : Superblock → (mark : Option ℕ) → (base : Image) → Tree → Type 0
-StandsIn found mark base tree = layout.Stands (version_by found.version mark)
-    found.sectors found.nodes base found.run tree
-
--- A tree stands in version 2, under the next count, with the cards that it had but for their forms
-pub record IsRaisedTo (mark : Option ℕ) (found : Superblock) (tree : Tree) (old new : Image)
+-- a tree and seats stand on this base, in the version that was found, with this mark
+pub record StandsIn (found : Superblock) (mark : Option ℕ) (base : Image) (kept : Kept)
     : Type 0 where
-  pub stands : layout.Stands (version_2 mark) found.sectors found.nodes new (found.run + 1) tree
+  pub may : MayKeep found.version mark kept.seats
+  pub keeps : AreKept found.run kept.seats
+  pub stands : layout.Stands (version_by found.version mark kept.seats)
+      found.sectors found.nodes base found.run kept.tree
+
+-- They stand in version 2, under the next count, with the cards that there were but for their forms
+pub record IsRaisedTo (mark : Option ℕ) (found : Superblock) (kept : Kept) (old new : Image)
+    : Type 0 where
+  pub may : MayKeep numbers.Two mark kept.seats
+  pub keeps : AreKept (found.run + 1) kept.seats
+  pub stands : layout.Stands (version_2 mark kept.seats)
+      found.sectors found.nodes new (found.run + 1) kept.tree
   pub cards : all_second (cards_in found.nodes new) ≡ all_second (cards_in found.nodes old)
 
 -- The count is raised with the version, once the nodes have moved
 abbrev pub RaisesSafely : Superblock → (old : Log) → (new : History) → Type 0
-RaisesSafely found old new = (mark : Option ℕ) (tree : Tree)
-    → HasMoved found.version found.nodes mark → StandsIn found mark old.base tree
-    → AddsOnly (StandsForEither found (bare tree)) old.history new
+RaisesSafely found old new = (mark : Option ℕ) (kept : Kept)
+    → HasMoved found.version found.nodes mark → StandsIn found mark old.base kept
+    → AddsOnly (StandsForEither found kept) old.history new
 
 pub record IsRaised (keeps_word : Type 0) (found : Superblock) (old new : Log) : Type 0 where
   pub still_up : new.is_down ≡ false
-  pub stands : keeps_word → (mark : Option ℕ) (tree : Tree)
-      → HasMoved found.version found.nodes mark → StandsIn found mark old.base tree
-      → IsRaisedTo mark found tree old.base new.base
+  pub stands : keeps_word → (mark : Option ℕ) (kept : Kept)
+      → HasMoved found.version found.nodes mark → StandsIn found mark old.base kept
+      → IsRaisedTo mark found kept old.base new.base
   pub settled : keeps_word → IsSettled new
 
 -- a run that begins on a base

@@ -2,7 +2,7 @@
 use Rattle.std.specs.Prelude.{ℕ, ◌∷◌, List, ◌≡◌, ◌<◌, ◌≤◌, ◌+◌, ◌⊎◌}
 use Rattle.std.specs.List.{IsAmong}
 use Rattle.disk.specs.Moments.{Image, Moment, History, LeftSince, AddsOnly, at_rest, moment, seen}
-use Rattle.layout.specs.Stands.{Kept, current}
+use Rattle.layout.specs.Stands.{Kept, current_number}
 use Rattle.volume.specs.Held.{Held, kept_of}
 use Rattle.volume.specs.Stands.{IsBase, StandsFor, StandsForIn}
 
@@ -14,7 +14,7 @@ AddsMount sectors old new =
     (nodes run : ℕ) (kept : Kept) (stood : IsBase sectors nodes run kept (seen old.now))
     → AddsOnly (λ image.
     StandsForIn stood.stands.version.number sectors nodes run kept image
-    ⊎ StandsForIn current.number sectors nodes (run + 1) kept image) old new
+    ⊎ StandsForIn current_number sectors nodes (run + 1) kept image) old new
 
 -- A mount serves the tree and the seats that stood, and raised their restart count.
 pub record IsFound (sectors : ℕ) (old : History) (held : Held) : Type 0 where

@@ -3,19 +3,19 @@ use Rattle.std.specs.Prelude.{ℕ, List, Option}
 use Rattle.journal.specs.Journal.{log_of, failures_of}
 use Rattle.journal.specs.Log.{Log, contents}
 use Rattle.layout.specs.Cards.{Card, tree_of}
+use Rattle.layout.specs.Stands.{seats_at}
 use Rattle.model.specs.declared.limits.Limits.{Limits}
-use Rattle.model.specs.Seats.{no_seats}
 use Rattle.volume.specs.Changes.{Given, Ending, Changes}
 use Rattle.volume.specs.Held.{Held, fronts_from}
 use Rattle.volume.specs.declared.volume.Volume.{Volume}
 
--- what is seen of these nodes over a journal: no version that is served has seats
+-- what is seen of these nodes over a journal
 abbrev pub held_by : Limits → (run : ℕ) → List (Option Card) → Log → Held
 held_by limits run cards log = record {
   limits = limits;
   run = run;
   tree = tree_of (contents log) cards;
-  seats = no_seats;
+  seats = seats_at (contents log);
   is_down = log.is_down;
   sectors = log.size;
   history = log.history;

@@ -78,6 +78,16 @@ impl From<JournalFault> for VolumeFault {
     }
 }
 
+impl From<AllocError> for VolumeFault {
+    ghost use Rattle.volume.specs.declared.fault.VolumeFault.TheVariants.{Memory};
+
+    ghost from_gives = { λ _ fault. fault ≡ Memory };
+
+    fn from(_: AllocError) -> Self {
+        VolumeFault::Memory
+    }
+}
+
 impl From<AllocError> for FormatFault {
     ghost use Rattle.volume.specs.declared.fault.FormatFault.TheVariants.{Memory};
 

@@ -4,6 +4,7 @@ ghost use Rattle.std.specs.Prelude.{◌≡◌, ◌⊎◌, IfOk, IfErr, IsErrOf};
 ghost use Rattle.journal.specs.Journal.{log_of, failures_of};
 ghost use Rattle.layout.specs.Rewriting.{all_second, in_second};
 ghost use Rattle.layout.specs.Stands.{Kept};
+ghost use Rattle.model.specs.SeatViews.{seats_view};
 ghost use Rattle.parents.specs.Parents.{AreParents};
 ghost use Rattle.layout.specs.Health.{Reads};
 ghost use Rattle.volume.specs.Loads.{AreLoaded, HoldsBase, HoldsVolume, IsLoaded, Loads};
@@ -18,6 +19,7 @@ use freemap::Bitmap;
 use inode::Form;
 use layout::sectors::Sectors;
 use model::limits::Limits;
+use model::seats::Seats;
 use parents::Parents;
 use scan::read_volume;
 use shape::are_well_formed;
@@ -29,6 +31,8 @@ use std::alloc::{AllocError, Global};
 pub(crate) struct Loaded {
     /// How far a migration came, as its mark tells.
     pub(crate) mark: Option<u32>,
+    /// The seats of persistent sessions.
+    pub(crate) seats: Seats,
     pub(crate) table: Table,
     pub(crate) places: Bitmap,
     pub(crate) parents: Parents,
@@ -65,7 +69,8 @@ pub(crate) fn read_nodes<S: Sectors>(
     requires base { S.keeps_word → HoldsVolume found
         (S.size (S.kept sectors.old)) (S.image (S.kept sectors.old)) }
     ensures loaded { IfOk result (λ loaded. AreLoaded S.keeps_word found
-        (S.image (S.kept sectors.old)) loaded.mark loaded.table loaded.places) }
+        (S.image (S.kept sectors.old)) loaded.mark loaded.table (seats_view loaded.seats)
+        loaded.places) }
     ensures parents { IfOk result (λ loaded. AreParents loaded.table loaded.parents) }
     // It only reads
     ensures kept { S.kept sectors.new ≡ S.kept sectors.old }
@@ -78,7 +83,14 @@ pub(crate) fn read_nodes<S: Sectors>(
         ⊎ ((fault ≡ MountFault.Damaged) ⊎ (fault ≡ MountFault.Memory))) }
 {
     let limits = Limits::of_volume(found.sectors as usize, found.nodes as usize);
-    let contents = read_volume(alloc, sectors, found.sectors, found.nodes, found.version)?;
+    let contents = read_volume(
+        alloc,
+        sectors,
+        found.sectors,
+        found.nodes,
+        found.version,
+        found.run,
+    )?;
     let table = Table::from_cards(alloc, all_second(alloc, contents.cards)?)?;
     let last_stamp = u64::from(found.run) * 0x1_0000_0000 + 0xFFFF_FFFF;
     if !are_well_formed(alloc, &table, &limits, last_stamp)? {
@@ -87,6 +99,7 @@ pub(crate) fn read_nodes<S: Sectors>(
     let parents = Parents::from_table(alloc, &table)?;
     Ok(Loaded {
         mark: contents.mark,
+        seats: contents.seats,
         table,
         places: contents.places,
         parents,
@@ -103,7 +116,8 @@ pub(crate) fn load<D: Device>(
     requires rests { IsAtRest (log_of store.old.journal) }
     requires base { D.keeps_word → HoldsBase found (log_of store.old.journal) }
     ensures loaded { IfOk result (λ loaded. IsLoaded D.keeps_word found
-        (log_of store.old.journal) loaded.mark loaded.table loaded.places) }
+        (log_of store.old.journal) loaded.mark loaded.table (seats_view loaded.seats)
+        loaded.places) }
     ensures parents { IfOk result (λ loaded. AreParents loaded.table loaded.parents) }
     // It only reads
     ensures loads { Loads (log_of store.old.journal) (log_of store.new.journal)

@@ -4,6 +4,7 @@ ghost use Rattle.std.specs.Prelude.{◌≡◌, ◌≤◌, ◌<◌, ◌⊎◌, If
 ghost use Rattle.disk.specs.Cause.{IsCounted};
 ghost use Rattle.journal.specs.Journal.{log_of, failures_of};
 ghost use Rattle.migration.specs.Plans.{clearing_updates};
+ghost use Rattle.model.specs.SeatViews.{seats_view};
 ghost use Rattle.volume.specs.Loads.{HoldsBase, IsLoaded};
 ghost use Rattle.volume.specs.Mounts.{AddsRaised, IsAtRest, IsVolumeOf};
 ghost use Rattle.volume.specs.Starts.{Clears, Counts, HasStarted, Moves, is_marked};
@@ -27,7 +28,7 @@ fn move_nodes<D: Device>(
     requires volume { IsVolumeOf (log_of journal.old).size found }
     requires rests { IsAtRest (log_of journal.old) }
     requires loaded { IsLoaded D.keeps_word found (log_of journal.old)
-        loaded.now.mark loaded.now.table loaded.now.places }
+        loaded.now.mark loaded.now.table (seats_view loaded.now.seats) loaded.now.places }
     ensures moves { Moves D.keeps_word found loaded.now.mark
         (log_of journal.old) (log_of journal.new) result }
     // Refused
@@ -93,11 +94,11 @@ pub(crate) fn start<D: Device>(
     requires rests { IsAtRest (log_of journal.old) }
     requires base { D.keeps_word → HoldsBase found (log_of journal.old) }
     requires loaded { IsLoaded D.keeps_word found (log_of journal.old)
-        loaded.now.mark loaded.now.table loaded.now.places }
+        loaded.now.mark loaded.now.table (seats_view loaded.now.seats) loaded.now.places }
     ensures moments { D.keeps_word → AddsRaised found (log_of journal.old).base
         (log_of journal.old).history (log_of journal.new).history }
     ensures started { OnOk result (HasStarted D.keeps_word found loaded.now.table
-        (log_of journal.old) (log_of journal.new)) }
+        (seats_view loaded.now.seats) (log_of journal.old) (log_of journal.new)) }
     ensures size { (log_of journal.new).size ≡ (log_of journal.old).size }
     // Refused
     ensures only { IfErr result (λ fault.

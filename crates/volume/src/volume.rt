@@ -22,6 +22,7 @@ use disk::Device;
 use freemap::Bitmap;
 use journal::{CACHED_SECTORS, Journal};
 use model::limits::Limits;
+use model::seats::Seats;
 use parents::Parents;
 use std::alloc::Global;
 use std::num::NonZeroUsize;
@@ -50,6 +51,13 @@ pub struct Volume<D: Device> {
         → ∥ IsServing (log_of store.journal) limits.nodes run table ∥₁ },
 }
 
+/// A volume that was mounted, and the seats that it keeps.
+#[derive(Drop)]
+pub struct Mounted<D: Device> {
+    pub volume: Volume<D>,
+    pub seats: Seats,
+}
+
 /// A device that was not mounted, and why.
 #[derive(Drop)]
 pub struct Unmounted<D: Device> {
@@ -66,40 +74,39 @@ impl<D: Device> Volume<D> {
     ghost use Rattle.layout.specs.Known.{IsCard};
     ghost use Rattle.model.specs.declared.acl.TheConstants.Acl.{MAX_STORED};
     ghost use Rattle.model.specs.Keyed.{at};
+    ghost use Rattle.model.specs.SeatViews.{seats_view};
     ghost use Rattle.volume.specs.Changes.{IsTree, Stays, ending_of};
     ghost use Rattle.volume.specs.Formed.{Shows};
     ghost use Rattle.volume.specs.Held.{IsNew, KeepsRecent};
     ghost use Rattle.volume.specs.Loads.{HoldsBase};
-    ghost use Rattle.volume.specs.MountAnswers.{MountServes, MountGivesBack, ComesBack};
+    ghost use Rattle.volume.specs.MountAnswers.{FindsSeats, MountServes, MountGivesBack, ComesBack};
     ghost use Rattle.volume.specs.Mounts.{IsVolumeOf, IsAtRest, HasBegun, IsNotBegun};
     ghost use Rattle.volume.specs.Nodes.{IsNodeOf};
     ghost use Rattle.volume.specs.Views.{held_of, volume_failures, Alters};
 
     /// Mounts the volume: finds it by its first sector, copies home what an open gate shows, reads
-    /// its nodes, migrates one of version 1, and raises the restart count. Every map that a crash
-    /// leaves from then on has the new count, which is this mount's run. Its journal keeps 64
-    /// sectors in memory.
+    /// its nodes and seats, migrates one of version 1, and raises the restart count. Every map that
+    /// a crash leaves from then on has the new count, which is this mount's run. Its journal keeps
+    /// 64 sectors in memory.
     ///
     /// # Errors
     ///
-    /// As [`Volume::mount_cached`].
+    /// As [`Volume::mount_seated`].
     pub fn mount(alloc: Global, device: D) -> Result<Volume<D>, Unmounted<D>>
         ensures serves { IfOk result (λ volume. MountServes D.keeps_word D.size D.failed D.history
             device (held_of volume) (volume_failures volume)) }
         ensures gives_back { IfErr result (MountGivesBack D.keeps_word D.size D.failed D.history
             device) }
     {
-        let cached = NonZeroUsize::new(CACHED_SECTORS).unwrap_or(NonZeroUsize::MIN);
-        Volume::mount_cached(alloc, device, cached)
+        let Mounted { volume, seats: _ } = Volume::mount_seated(alloc, device, None)?;
+        Ok(volume)
     }
 
     /// The same, with a journal that keeps so many sectors in memory.
     ///
     /// # Errors
     ///
-    /// The device comes back with the reason. NotVolume, then Worn, by the first sector, and then
-    /// nothing was written; then Damaged exactly where no tree stands; Device where the device
-    /// failed, and Memory.
+    /// As [`Volume::mount_seated`].
     pub fn mount_cached(
         alloc: Global,
         device: D,
@@ -110,12 +117,36 @@ impl<D: Device> Volume<D> {
         ensures gives_back { IfErr result (MountGivesBack D.keeps_word D.size D.failed D.history
             device) }
     {
+        let Mounted { volume, seats: _ } = Volume::mount_seated(alloc, device, Some(cached))?;
+        Ok(volume)
+    }
+
+    /// The same, and the seats that the volume keeps, which were read before its count was raised.
+    ///
+    /// # Errors
+    ///
+    /// The device comes back with the reason. NotVolume, then Worn, by the first sector, and then
+    /// nothing was written; then Damaged exactly where no tree stands; Device where the device
+    /// failed, and Memory.
+    pub fn mount_seated(
+        alloc: Global,
+        device: D,
+        cached: Option<NonZeroUsize>,
+    ) -> Result<Mounted<D>, Unmounted<D>>
+        ensures serves { IfOk result (λ mounted. MountServes D.keeps_word D.size D.failed D.history
+            device (held_of mounted.volume) (volume_failures mounted.volume)) }
+        ensures seats { IfOk result (λ mounted. FindsSeats D.keeps_word (held_of mounted.volume)
+            (seats_view mounted.seats)) }
+        ensures gives_back { IfErr result (MountGivesBack D.keeps_word D.size D.failed D.history
+            device) }
+    {
+        let own = NonZeroUsize::new(CACHED_SECTORS).unwrap_or(NonZeroUsize::MIN);
         let mut device = device;
         let found = match find(&mut device) {
             Ok(found) => found,
             Err(fault) => return Err(Unmounted { fault, device }),
         };
-        match Journal::mount_cached(alloc, device, cached) {
+        match Journal::mount_cached(alloc, device, cached.unwrap_or(own)) {
             Ok(journal) => Volume::begin(alloc, journal, found),
             Err(refused) => Err(Unmounted {
                 fault: refused.fault.into(),
@@ -129,14 +160,18 @@ impl<D: Device> Volume<D> {
         alloc: Global,
         journal: Journal<D>,
         found: Superblock,
-    ) -> Result<Volume<D>, Unmounted<D>>
+    ) -> Result<Mounted<D>, Unmounted<D>>
         requires volume { IsVolumeOf (log_of journal).size found }
         requires rests { IsAtRest (log_of journal) }
         requires base { D.keeps_word → HoldsBase found (log_of journal) }
-        ensures new { IfOk result (λ volume. IsNew (log_of journal).size (held_of volume)) }
-        ensures counted { IfOk result (λ volume. volume_failures volume ≡ failures_of journal) }
-        ensures begun { D.keeps_word → IfOk result (λ volume.
-            HasBegun found (log_of journal).base (log_of journal).history (held_of volume)) }
+        ensures new { IfOk result (λ mounted.
+            IsNew (log_of journal).size (held_of mounted.volume)) }
+        ensures counted { IfOk result (λ mounted.
+            volume_failures mounted.volume ≡ failures_of journal) }
+        ensures begun { D.keeps_word → IfOk result (λ mounted. HasBegun found
+            (log_of journal).base (log_of journal).history (held_of mounted.volume)) }
+        ensures seats { IfOk result (λ mounted. FindsSeats D.keeps_word (held_of mounted.volume)
+            (seats_view mounted.seats)) }
         // Refused
         ensures back { IfErr result (ComesBack D.size D.failed (log_of journal).size
             (failures_of journal)) }
@@ -155,14 +190,17 @@ impl<D: Device> Volume<D> {
             }
         };
         match start(alloc, &mut store.journal, found, &loaded) {
-            Ok(()) => Ok(Volume {
-                alloc,
-                store,
-                limits: Limits::of_volume(found.sectors as usize, found.nodes as usize),
-                run: found.run + 1,
-                table: loaded.table,
-                places: loaded.places,
-                parents: loaded.parents,
+            Ok(()) => Ok(Mounted {
+                volume: Volume {
+                    alloc,
+                    store,
+                    limits: Limits::of_volume(found.sectors as usize, found.nodes as usize),
+                    run: found.run + 1,
+                    table: loaded.table,
+                    places: loaded.places,
+                    parents: loaded.parents,
+                },
+                seats: loaded.seats,
             }),
             Err(fault) => Err(Unmounted {
                 fault,

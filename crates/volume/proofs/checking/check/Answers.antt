@@ -3,6 +3,7 @@ use Rattle.disk.specs.Moments.{History}
 use Rattle.journal.specs.Log.{Log}
 use Rattle.journal.specs.Viewed.{HasNoForm, HasViewed}
 use Rattle.journal.specs.Views.{view_of, view_failures, name_of}
+use Rattle.model.specs.SeatViews.{seats_view}
 use Rattle.volume.specs.Checks.{FailsCheck}
 use Rattle.volume.proofs.CheckLaws.{check_refused, look_fails, gate_fails, view_holds, nodes_fail, has_checked}
 use Rattle.volume.proofs.StandLaws.{sized, large}
@@ -80,7 +81,7 @@ returns g c =
       ok = λ k.
           has_checked size old found log.base c.in-Ok.ensures.volume.size (omega (arith, parts.few)) c.in-Ok.ensures.volume.counted
           (c.in-Ok.ensures.seen k).0 (c.in-Ok.ensures.seen k).1 (viewed k).base D.keeps_word k
-          c.in-Ok-read_nodes.loaded.mark c.in-Ok-read_nodes.loaded.table c.in-Ok-read_nodes.loaded.places c.in-Ok-read_nodes.ensures.loaded _ refl refl refl;
+          c.in-Ok-read_nodes.loaded.mark c.in-Ok-read_nodes.loaded.table (seats_view c.in-Ok-read_nodes.loaded.seats) c.in-Ok-read_nodes.loaded.places c.in-Ok-read_nodes.ensures.loaded _ refl refl refl;
       err = λ k. tt;
       never_worn = λ is. let never : ⊥ = cc in never;
       cause = λ is. let never : ⊥ = cc in absurd never;

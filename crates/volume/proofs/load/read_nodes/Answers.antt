@@ -5,7 +5,8 @@ use Rattle.disk.specs.Moments.{Image}
 use Rattle.layout.specs.Cards.{Card, cards_in}
 use Rattle.layout.specs.Marks.{mark_by}
 use Rattle.layout.specs.Rewriting.{all_second}
-use Rattle.layout.proofs.MarkOnce.{version_spare}
+use Rattle.layout.proofs.SeatLaws.{version_spare}
+use Rattle.model.specs.SeatViews.{seats_view}
 use Rattle.model.specs.Limits.{limits_of}
 use Rattle.model.specs.Stamp.{stamp}
 use Rattle.shape.specs.WellFormed.{AreWellFormed}
@@ -26,7 +27,7 @@ returns-in_err-contents-clause-damaged g c = λ k is kept stands.
     let laid = laid_told found.version found.sectors found.nodes found.run image kept (c.requires.base k).first stands in
     stands_few found.sectors found.nodes found.run image kept
     (λ n within. (c.requires.base k).sectors n (subst (λ (s : ℕ). n < s) c.requires.volume.size within)) stands
-    (c.in_err-contents.ensures.damaged k (ap (λ x. Err x) damaged) laid.0 (cards_in found.nodes image) laid.1 laid.2)
+    (c.in_err-contents.ensures.damaged k (ap (λ x. Err x) damaged) laid.0 kept.seats (cards_in found.nodes image) laid.1 laid.2 stands.keeps laid.3)
 
 pub from_cards-requires-clause-numbered : goal.from_cards-requires-clause-numbered
 from_cards-requires-clause-numbered g c =
@@ -53,7 +54,7 @@ returns-then-not-branch-clause-damaged g c = λ k is kept stands.
     let contents = c.in_ok-contents.contents in
     let cards : List (Option Card) = contents.cards.items in
     let table : c.in_ok-table.table ≡ all_second cards = c.in_ok-table.ensures.table ∙ c.in_ok-all_second.ensures in
-    none_stands found.version contents.mark found.sectors found.nodes found.run image cards
+    none_stands found.version contents.mark (seats_view contents.seats) found.sectors found.nodes found.run image cards
     (c.in_ok-contents.ensures.found.laid k)
     (c.in_ok-contents.ensures.found.read k)
     (λ n within. (c.requires.base k).sectors n (subst (λ (s : ℕ). n < s) c.requires.volume.size within))
@@ -78,11 +79,18 @@ returns-clause-loaded g c =
       known = known_second found.sectors found.nodes cards contents.places c.in_ok-contents.ensures.found.known c.in_ok-contents.ensures.found.size_is;
       well_formed = ∣ well_formed ∣₁;
       marked = c.in_ok-contents.ensures.found.marked;
-      marks = λ k. (c.in_ok-contents.ensures.found.laid k).spare 147 (omega arith) (omega arith) ∙ version_spare found.version contents.mark 147;
+      may = c.in_ok-contents.ensures.found.may;
+      keeps = c.in_ok-contents.ensures.found.keeps;
+      marks = λ k. (c.in_ok-contents.ensures.found.laid k).spare 147 (omega arith) (omega arith)
+          ∙ version_spare found.version contents.mark (seats_view contents.seats) 147 c.in_ok-contents.ensures.found.may;
       read = λ k. ap all_second (c.in_ok-contents.ensures.found.read k);
-      stood = λ k. ∣ found_stands found.version contents.mark found.sectors found.nodes found.run image cards
-          (c.in_ok-contents.ensures.found.laid k)
-          (c.in_ok-contents.ensures.found.read k)
-          (λ n within. (c.requires.base k).sectors n (subst (λ (s : ℕ). n < s) c.requires.volume.size within))
-          c.requires.volume.sized (omega arith) (c.requires.base k).first well_formed ∣₁;
+      stood = λ k. ∣ record {
+        may = c.in_ok-contents.ensures.found.may;
+        keeps = c.in_ok-contents.ensures.found.keeps;
+        stands = found_stands found.version contents.mark (seats_view contents.seats) found.sectors found.nodes found.run image cards
+            (c.in_ok-contents.ensures.found.laid k)
+            (c.in_ok-contents.ensures.found.read k)
+            (λ n within. (c.requires.base k).sectors n (subst (λ (s : ℕ). n < s) c.requires.volume.size within))
+            c.requires.volume.sized (omega arith) (c.requires.base k).first well_formed;
+      } ∣₁;
     })

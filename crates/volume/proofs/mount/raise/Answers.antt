@@ -9,21 +9,21 @@ use Rattle.volume.proofs.MountLaws.{first_update, raise_moments, raised_base}
 use Rattle.volume.proofs.mount.raise.Goals as goal
 
 pub returns-in_err-superblock-clause-moments : goal.returns-in_err-superblock-clause-moments
-returns-in_err-superblock-clause-moments g c = λ k mark tree moved stands.
+returns-in_err-superblock-clause-moments g c = λ k mark kept moved stands.
     let found = c.args.found in
     let old : Log = log_of c.args.journal.now in
     let history = (log_of c.superblock.new.self).history in
-    raise_moments found old.base c.requires.volume.counted mark tree moved stands old.history history
+    raise_moments found old.base c.requires.volume.counted mark kept moved stands old.history history
     (subst (λ (n : ℕ). AddsEither n (first_update found.sectors found.nodes (found.run + 1) ∷ []) old.base old.history history) (sym c.requires.volume.size)
     (subst (λ (content : List ℕ). AddsEither old.size ((let u : Update = record { target = 0; content = content } in u) ∷ []) old.base old.history history) c.superblock_of-sector.ensures
     (c.in_err-superblock.ensures.moments k)))
 
 pub returns-clause-moments : goal.returns-clause-moments
-returns-clause-moments g c = λ k mark tree moved stands.
+returns-clause-moments g c = λ k mark kept moved stands.
     let found = c.args.found in
     let old : Log = log_of c.args.journal.now in
     let history = (log_of c.superblock.new.self).history in
-    raise_moments found old.base c.requires.volume.counted mark tree moved stands old.history history
+    raise_moments found old.base c.requires.volume.counted mark kept moved stands old.history history
     (subst (λ (n : ℕ). AddsEither n (first_update found.sectors found.nodes (found.run + 1) ∷ []) old.base old.history history) (sym c.requires.volume.size)
     (subst (λ (content : List ℕ). AddsEither old.size ((let u : Update = record { target = 0; content = content } in u) ∷ []) old.base old.history history) c.superblock_of-sector.ensures
     (c.in_ok-superblock.ensures.moments k)))
@@ -39,6 +39,6 @@ returns-clause-raised g c =
     (c.in_ok-superblock.ensures.ok.ok k)) in
     record {
       still_up = c.in_ok-superblock.ensures.answers.stays_up c.requires.rests.up (λ e. absurd (cc));
-      stands = λ k mark tree moved stands. raised_base found old.base c.requires.volume.counted mark tree moved stands after (same k);
+      stands = λ k mark kept moved stands. raised_base found old.base c.requires.volume.counted mark kept moved stands after (same k);
       settled = c.in_ok-superblock.ensures.ok.settled;
     }

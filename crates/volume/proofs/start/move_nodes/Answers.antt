@@ -2,6 +2,7 @@ use Rattle.std.proofs.Common.{◌≡◌, ◌∙◌, ℕ, subst}
 use Rattle.journal.specs.Journal.{log_of}
 use Rattle.journal.specs.Log.{Log}
 use Rattle.layout.specs.Stands.{moved_by}
+use Rattle.model.specs.SeatViews.{seats_view}
 use Rattle.migration.specs.Migrations.{HasMovedAll, MovesSafely}
 use Rattle.volume.proofs.StartLaws.{begins, ends_at_rest, moved_to, moves_safely, or_else_zero, so_moves}
 use Rattle.volume.proofs.start.move_nodes.Goals as goal
@@ -17,12 +18,12 @@ returns-in-One-clause-moves g c =
     record {
       size = c.migrate.ensures.size;
       rests = ends_at_rest new c.migrate.result c.migrate.ensures.rests;
-      moments = λ k tree stands.
-          moves_safely word found loaded.mark loaded.table loaded.places old new c.requires.volume.size c.in-One.is c.requires.loaded tree
-          (subst (λ (n : ℕ). MovesSafely n loaded.table old new) told (c.migrate.ensures.moments k) loaded.mark found.run tree
-          (begins word found loaded.mark loaded.table loaded.places old new c.requires.volume.size c.in-One.is c.requires.loaded k tree stands));
+      moments = λ k kept stands.
+          moves_safely word found loaded.mark loaded.table (seats_view loaded.seats) loaded.places old new c.requires.volume.size c.in-One.is c.requires.loaded kept stands
+          (subst (λ (n : ℕ). MovesSafely n loaded.table old new) told (c.migrate.ensures.moments k) loaded.mark found.run kept.tree
+          (begins word found loaded.mark loaded.table (seats_view loaded.seats) loaded.places old new c.requires.volume.size c.in-One.is c.requires.loaded k kept stands));
       stands = λ k. so_moves c.migrate.result _ _
-          (λ moved. moved_to word found loaded.mark loaded.table loaded.places old new c.requires.volume.size c.in-One.is c.requires.loaded
+          (λ moved. moved_to word found loaded.mark loaded.table (seats_view loaded.seats) loaded.places old new c.requires.volume.size c.in-One.is c.requires.loaded
           (subst (λ (n : ℕ). HasMovedAll n loaded.table old new) told moved) k)
           (c.migrate.ensures.ok k);
     }

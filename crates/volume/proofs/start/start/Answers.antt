@@ -2,9 +2,10 @@ use Rattle.std.proofs.Common.{◌∙◌, ◌+◌, sym}
 use Rattle.std.proofs.Math.Logic.{∥∥₁_map}
 use Rattle.journal.specs.Journal.{log_of}
 use Rattle.journal.specs.Log.{Log}
+use Rattle.model.specs.SeatViews.{seats_view}
 use Rattle.volume.specs.Mounts.{IsRaised}
 use Rattle.volume.proofs.FormatLaws.{on_ok}
-use Rattle.volume.proofs.StartLaws.{after_moves, after_raise, after_unmark, gone, has_moved, mark_is, serves_from}
+use Rattle.volume.proofs.StartLaws.{after_moves, after_raise, after_unmark, has_moved, serves_from, then_marked}
 use Rattle.volume.proofs.start.start.Goals as goal
 
 pub returns-in_err-move_nodes-clause-moments : goal.returns-in_err-move_nodes-clause-moments
@@ -32,9 +33,9 @@ returns-then-is_err-2-clause-moments g c = λ k.
     let is : IsRaised g.D.Device.keeps_word found moved raised = on_ok c.raise.result _ (sym c.is_err.ensures.value ∙ c.if-is_err.false) c.raise.ensures.raised in
     after_unmark found mark old loaded.marked (loaded.marks k) (c.requires.base k) moved (moves.moments k) (moves.stands k) raised (c.raise.ensures.moments k)
     (c.requires.volume.size ∙ (sym moves.size ∙ sym c.raise.ensures.size))
-    (λ tree stands. is.stands k _ tree (has_moved found mark old loaded.marked (loaded.marks k) (c.requires.base k)) stands)
+    (λ kept stands. is.stands k _ kept (has_moved found mark old loaded.marked (loaded.marks k) (c.requires.base k)) stands)
     (log_of c.unmark.new.journal).history
-    (λ tree stands. c.unmark.ensures.clears.moments k _ found.nodes (found.run + 1) tree (mark_is found mark old loaded.marked (loaded.marks k) (c.requires.base k)) stands)
+    (λ kept stands. c.unmark.ensures.clears.moments k _ found.nodes (found.run + 1) kept (then_marked found.version found.nodes mark c.is_marked.result c.is_marked.ensures) stands)
 
 pub returns-clause-moments : goal.returns-clause-moments
 returns-clause-moments g c = λ k.
@@ -48,9 +49,9 @@ returns-clause-moments g c = λ k.
     let is : IsRaised g.D.Device.keeps_word found moved raised = on_ok c.raise.result _ (sym c.is_err.ensures.value ∙ c.if-is_err.false) c.raise.ensures.raised in
     after_unmark found mark old loaded.marked (loaded.marks k) (c.requires.base k) moved (moves.moments k) (moves.stands k) raised (c.raise.ensures.moments k)
     (c.requires.volume.size ∙ (sym moves.size ∙ sym c.raise.ensures.size))
-    (λ tree stands. is.stands k _ tree (has_moved found mark old loaded.marked (loaded.marks k) (c.requires.base k)) stands)
+    (λ kept stands. is.stands k _ kept (has_moved found mark old loaded.marked (loaded.marks k) (c.requires.base k)) stands)
     (log_of c.unmark.new.journal).history
-    (λ tree stands. c.unmark.ensures.clears.moments k _ found.nodes (found.run + 1) tree (mark_is found mark old loaded.marked (loaded.marks k) (c.requires.base k)) stands)
+    (λ kept stands. c.unmark.ensures.clears.moments k _ found.nodes (found.run + 1) kept (then_marked found.version found.nodes mark c.is_marked.result c.is_marked.ensures) stands)
 
 pub returns-clause-started : goal.returns-clause-started
 returns-clause-started g c =
@@ -69,10 +70,9 @@ returns-clause-started g c =
       serves = λ k. ∥∥₁_map (loaded.stood k) (λ stood.
           serves_from found mark old loaded.marked (loaded.marks k) (c.requires.base k) moved (moves.moments k) (moves.stands k) raised (c.raise.ensures.moments k)
           (c.requires.volume.size ∙ (sym moves.size ∙ sym c.raise.ensures.size))
-          (λ tree stands. is.stands k _ tree (has_moved found mark old loaded.marked (loaded.marks k) (c.requires.base k)) stands)
-          c.args.loaded.now.table new (loaded.read k) stood
-          (λ tree stands. on_ok c.unmark.result _ fine (c.unmark.ensures.clears.stands k) _ found.nodes (found.run + 1) tree
-          (mark_is found mark old loaded.marked (loaded.marks k) (c.requires.base k))
-          (gone found.version found.nodes mark c.is_marked.result c.is_marked.ensures) stands));
+          (λ kept stands. is.stands k _ kept (has_moved found mark old loaded.marked (loaded.marks k) (c.requires.base k)) stands)
+          c.args.loaded.now.table (seats_view c.args.loaded.now.seats) new (loaded.read k) stood
+          (λ kept stands. on_ok c.unmark.result _ fine (c.unmark.ensures.clears.stands k) _ found.nodes (found.run + 1) kept
+          (then_marked found.version found.nodes mark c.is_marked.result c.is_marked.ensures) stands));
       settled = λ k. on_ok c.unmark.result _ fine (c.unmark.ensures.clears.settled k (is.settled k));
     }

@@ -1,19 +1,28 @@
-use Rattle.std.proofs.Common.{refl}
+use Rattle.std.proofs.Common.{◌≡◌, ◌∙◌, true, refl, subst}
+use Rattle.disk.specs.Moments.{AddsOnly}
+use Rattle.layout.specs.Stands.{Kept}
+use Rattle.volume.specs.Stands.{StandsForIn}
 use Rattle.journal.specs.Journal.{log_of}
 use Rattle.journal.specs.Log.{Log}
-use Rattle.volume.proofs.StartLaws.{ends_at_rest, so_moves, still_for}
+use Rattle.volume.proofs.StartLaws.{bare_now, bare_second, ends_at_rest, is_bare_kept, so_moves, still_for}
 use Rattle.volume.proofs.start.unmark.Goals as goal
 
 pub returns-clause-clears : goal.returns-clause-clears
 returns-clause-clears g c =
     let old : Log = log_of c.args.journal.now in
     let new : Log = log_of c.clear.new.journal in
+    let marked : c.args.is_marked ≡ true = c.if-not-is_marked.false in
     record {
       size = c.clear.ensures.size;
       rests = ends_at_rest new c.clear.result c.clear.ensures.rests;
       settled = λ k settled. c.clear.ensures.settled k;
-      moments = λ k mark nodes run tree is stands. still_for 2 old.size nodes run tree old new refl (c.clear.ensures.moments k mark nodes run tree is stands);
+      moments = λ k mark nodes run kept some stands.
+          subst (λ (of : Kept). AddsOnly (StandsForIn 2 old.size nodes run of) old.history new.history) (is_bare_kept mark old.size nodes run old.base kept (some ∙ marked) stands)
+          (still_for 2 old.size nodes run kept.tree old new refl
+          (c.clear.ensures.moments k mark nodes run kept.tree stands.marked (bare_second mark old.size nodes run old.base kept (some ∙ marked) stands)));
       stands = λ k. so_moves c.clear.result _ _
-          (λ cleared mark nodes run tree is unmarked stands. let it = cleared mark nodes run tree is stands in record { stands = it.stands; cards = it.cards })
+          (λ cleared mark nodes run kept some stands.
+          let it = cleared mark nodes run kept.tree stands.marked (bare_second mark old.size nodes run old.base kept (some ∙ marked) stands) in
+          record { stands = bare_now mark old.size nodes run old.base kept (some ∙ marked) stands new.base it.stands; cards = it.cards })
           (c.clear.ensures.ok k);
     }

@@ -3,18 +3,18 @@ use Rattle.std.specs.Prelude.{IsTrue, Err}
 use Rattle.edits.specs.Outlines.{outline_of}
 use Rattle.journal.specs.Journal.{log_of}
 use Rattle.journal.specs.Log.{Log, contents}
-use Rattle.layout.specs.Stands.{bare}
+use Rattle.layout.specs.Stands.{Kept}
+use Rattle.model.specs.SeatViews.{seats_view}
 use Rattle.layout.specs.Superblock.{is_size}
 use Rattle.model.specs.declared.limits.Limits.{Limits}
 use Rattle.model.specs.Limits.{limits_of}
 use Rattle.model.specs.Stamp.{stamp}
-use Rattle.model.specs.Tree.{Tree}
 use Rattle.disk.specs.Moments.{Image}
 use Rattle.volume.specs.Known.{IsKnown, IsServing}
 use Rattle.volume.specs.Loads.{AreLoaded, HoldsVolume}
 use Rattle.volume.specs.Mounts.{StandsOn}
 use Rattle.volume.specs.Views.{held_of}
-use Rattle.volume.proofs.BeginLaws.{begun_current, begun_holds, begun_serving, begun_stood, not_loaded, not_started, raised_from, same_tree}
+use Rattle.volume.proofs.BeginLaws.{begun_current, begun_holds, begun_serving, begun_stood, not_loaded, not_started, kept_read, raised_from, same_seats}
 use Rattle.volume.proofs.FormedLaws.{formed_later, loaded_formed, tree_formed}
 use Rattle.volume.proofs.volume.Volume.begin.Goals as goal
 
@@ -28,7 +28,7 @@ start-requires-clause-base g c = λ k.
 pub start-requires-clause-loaded : goal.start-requires-clause-loaded
 start-requires-clause-loaded g c =
     let loaded = c.in-Ok.loaded in
-    subst (λ (image : Image). AreLoaded g.D.Device.keeps_word c.args.found image loaded.mark loaded.table loaded.places)
+    subst (λ (image : Image). AreLoaded g.D.Device.keeps_word c.args.found image loaded.mark loaded.table (seats_view loaded.seats) loaded.places)
     (sym (ap (λ (log : Log). log.base) c.in-Ok.ensures.loads.only)) c.in-Ok.ensures.loaded
 
 pub invariant_of-result : goal.invariant_of-result
@@ -47,12 +47,12 @@ invariant_of-result g c =
       sized = subst (λ (n : ℕ). IsTrue (is_size n c.of_volume.result.nodes)) size (subst (λ (n : ℕ). IsTrue (is_size found.sectors n)) (sym nodes) c.requires.volume.sized);
       limited = c.of_volume.ensures ∙ (ap (λ (n : ℕ). limits_of n found.nodes) size ∙ ap (limits_of new.size) (sym nodes));
       formed = formed_later c.of_volume.result (stamp (found.run + 1) 0) (stamp (found.run + 1 + 1) 0) (outline_of cards) (omega arith)
-          (loaded_formed word found old loaded.mark cards loaded.places c.in-Ok.ensures.loaded c.of_volume.result c.of_volume.ensures);
+          (loaded_formed word found old loaded.mark cards (seats_view loaded.seats) loaded.places c.in-Ok.ensures.loaded c.of_volume.result c.of_volume.ensures);
       known = subst (λ (n : ℕ). IsKnown n c.of_volume.result.nodes cards loaded.places) size
           (subst (λ (n : ℕ). IsKnown found.sectors n cards loaded.places) (sym nodes) c.in-Ok.ensures.loaded.known);
       named = c.in-Ok.ensures.parents;
       serves = λ k up. subst (λ (n : ℕ). ∥ IsServing new n (found.run + 1) cards ∥₁) (sym nodes)
-          (begun_serving word found old mid new loaded.mark cards loaded.places c.in-Ok.ensures.loaded c.in-Ok-start.ensures.started c.in-Ok.ensures.loads.only (sym c.requires.volume.size) c.start.ensures.size k);
+          (begun_serving word found old mid new loaded.mark cards (seats_view loaded.seats) loaded.places c.in-Ok.ensures.loaded c.in-Ok-start.ensures.started c.in-Ok.ensures.loads.only (sym c.requires.volume.size) c.start.ensures.size k);
     }
 
 pub returns-in-Ok-start-clause-begun : goal.returns-in-Ok-start-clause-begun
@@ -74,12 +74,12 @@ returns-in-Ok-start-clause-begun g c = λ k.
     record {
       run = refl;
       nodes = nodes;
-      stood = subst (λ (t : Tree). ∥ StandsOn found old.base (bare t) ∥₁)
-          (sym (same_tree word found old mid new loaded.mark cards loaded.places are started only size c.start.ensures.size k))
-          (begun_stood word found old mid new loaded.mark cards loaded.places are started only size c.start.ensures.size k);
+      stood = subst (λ (kept : Kept). ∥ StandsOn found old.base kept ∥₁)
+          (sym (kept_read word found old mid new loaded.mark cards (seats_view loaded.seats) loaded.places are started only size c.start.ensures.size k))
+          (begun_stood word found old mid new loaded.mark cards (seats_view loaded.seats) loaded.places are started only size c.start.ensures.size k);
       moments = raised_from found old mid new.history only (c.start.ensures.moments k);
-      current = begun_current word found old mid new loaded.mark cards loaded.places are started only size c.start.ensures.size limits nodes k;
-      holds = begun_holds word found old mid new loaded.mark cards loaded.places are started only size c.start.ensures.size limits nodes k;
+      current = begun_current word found old mid new loaded.mark cards (seats_view loaded.seats) loaded.places are started only size c.start.ensures.size limits nodes k;
+      holds = begun_holds word found old mid new loaded.mark cards (seats_view loaded.seats) loaded.places are started only size c.start.ensures.size limits nodes k;
     }
 
 pub returns-in-Ok-start-clause-new : goal.returns-in-Ok-start-clause-new
@@ -96,7 +96,25 @@ returns-in-Ok-start-clause-new g c =
       on_device = c.start.ensures.size ∙ ap (λ (log : Log). log.size) c.in-Ok.ensures.loads.only;
       limits = c.of_volume.ensures ∙ (ap (λ (n : ℕ). limits_of n found.nodes) c.requires.volume.size ∙ ap (limits_of old.size) (sym nodes));
       formed = tree_formed c.of_volume.result (stamp (found.run + 1) 0) (contents new) loaded.table
-          (loaded_formed word found old loaded.mark loaded.table loaded.places c.in-Ok.ensures.loaded c.of_volume.result c.of_volume.ensures);
+          (loaded_formed word found old loaded.mark loaded.table (seats_view loaded.seats) loaded.places c.in-Ok.ensures.loaded c.of_volume.result c.of_volume.ensures);
+    }
+
+pub returns-in-Ok-start-clause-seats : goal.returns-in-Ok-start-clause-seats
+unfolding held_of
+returns-in-Ok-start-clause-seats g c =
+    let word = g.D.Device.keeps_word in
+    let found = c.args.found in
+    let old : Log = log_of c.args.journal in
+    let mid : Log = log_of c.load.new.store.journal in
+    let new : Log = log_of c.start.new.journal in
+    let loaded = c.in-Ok.loaded in
+    let are = c.in-Ok.ensures.loaded in
+    record {
+      count = found.run;
+      counted = refl;
+      of_runs = are.keeps.of_runs;
+      are = λ k. sym (same_seats word found old mid new loaded.mark loaded.table (seats_view loaded.seats) loaded.places are c.in-Ok-start.ensures.started c.in-Ok.ensures.loads.only
+          (sym c.requires.volume.size) c.start.ensures.size k);
     }
 
 pub returns-in-Err-clause-refused : goal.returns-in-Err-clause-refused

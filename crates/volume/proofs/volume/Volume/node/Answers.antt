@@ -7,6 +7,7 @@ use Rattle.layout.specs.Cards.{Card}
 use Rattle.layout.specs.Known.{IsCard}
 use Rattle.layout.specs.Marks.{mark_by}
 use Rattle.layout.specs.Stands.{current}
+use Rattle.model.specs.Seats.{no_seats}
 use Rattle.volume.specs.Views.{held_of}
 use Rattle.volume.proofs.NodeLaws.{node_there, none_there}
 use Rattle.volume.proofs.ServeLaws.{if_some_so}
@@ -35,7 +36,7 @@ returns-clause-fit g c =
     c.card.ensures.some
 
 -- a node has no more entries than its form has room for
-few_of : (place : ℕ) (card : Card) → IsCard card → card.form ≡ current.form place → length card.fields.acl ≤ 72
+few_of : (place : ℕ) (card : Card) → IsCard card → card.form ≡ (current no_seats).form place → length card.fields.acl ≤ 72
 few_of place card fit form = (let most : most_entries card.form ≡ 72 = ap most_entries form in omega (arith, fit.fits.acl, most))
 
 pub returns-clause-few : goal.returns-clause-few

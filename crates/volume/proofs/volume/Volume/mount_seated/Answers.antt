@@ -10,7 +10,7 @@ use Rattle.journal.proofs.First.{first_kept}
 use Rattle.volume.proofs.FoundLaws.{if_ok_all, if_err_all}
 use Rattle.volume.proofs.MountedLaws.{refused_untouched, first_reason, back_since, gate_counted, gate_refused, begun_found, begin_refused}
 use Rattle.volume.proofs.StandLaws.{sized, large}
-use Rattle.volume.proofs.volume.Volume.mount_cached.Goals as goal
+use Rattle.volume.proofs.volume.Volume.mount_seated.Goals as goal
 
 pub returns-in-Err-clause-gives_back : goal.returns-in-Err-clause-gives_back
 returns-in-Err-clause-gives_back g c = record {
@@ -74,11 +74,11 @@ returns-in-Ok-mount_cached-clause-serves g c =
     let mounted : word → journal.HasMounted sectors old log = λ k. subst (λ (n : ℕ). journal.HasMounted n old log) c.find.ensures.same_size
     (subst (λ (h : History). journal.HasMounted (D.size c.find.new.device) h log) c.find.ensures.history (c.in-Ok-mount_cached.ensures.mounted k)) in
     if_ok_all c.begin.result word _ _ _ _
-    (λ volume new counted begun. record {
-      new = subst (λ (n : ℕ). IsNew n (held_of volume)) (c.in-Ok-mount_cached.ensures.new.size ∙ c.find.ensures.same_size) new;
+    (λ mounted_it new counted begun. record {
+      new = subst (λ (n : ℕ). IsNew n (held_of mounted_it.volume)) (c.in-Ok-mount_cached.ensures.new.size ∙ c.find.ensures.same_size) new;
       counted = counted ∙ (c.in-Ok-mount_cached.ensures.new.failures ∙ c.in-Ok.ensures.none (λ is. absurd (cc)));
       mounted = λ k. begun_found sectors old log.history found log.base c.in-Ok.ensures.volume.size (omega (arith, parts.few)) (omega (arith, c.in-Ok.ensures.volume.counted))
-          (c.in-Ok.ensures.told k).0 (c.in-Ok.ensures.told k).1 (mounted k).base (mounted k).moments (held_of volume) (mounted k).since_sync (begun k);
+          (c.in-Ok.ensures.told k).0 (c.in-Ok.ensures.told k).1 (mounted k).base (mounted k).moments (held_of mounted_it.volume) (mounted k).since_sync (begun k);
     })
     c.begin.ensures.new c.begin.ensures.counted c.begin.ensures.begun
 
