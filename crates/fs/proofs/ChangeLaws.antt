@@ -10,7 +10,7 @@ use Rattle.volume.specs.Shown.{ShowsAs}
 module _ (keeps_word : Type 0) (given other : Given) (weaker : (after : Kept) (lasts : Bool) → other after lasts → given after lasts)
     (old new : FileSystem) (before after : ℕ) where
   ends_by : (ending : Ending) → EndsAs keeps_word given old.volume new.volume before after ending → EndsAs keeps_word other old.volume new.volume before after ending
-  ends_by Done ends = record { still_up = ends.still_up; leaves = λ keeps kept lasts is. ends.leaves keeps kept lasts (weaker kept lasts is) }
+  ends_by Done ends = record { still_up = ends.still_up; seats = λ keeps kept lasts is. ends.seats keeps kept lasts (weaker kept lasts is); leaves = λ keeps kept lasts is. ends.leaves keeps kept lasts (weaker kept lasts is) }
   ends_by Nothing ends = ends
   ends_by Broken ends = record {
     down = ends.down;

@@ -7,6 +7,7 @@ ghost use Rattle.volume.specs.Views.{held_of};
 use crate::fault::FsFault;
 use disk::Device;
 use model::limits::Limits;
+use model::seats::{SeatEdits, Seats};
 use std::alloc::Global;
 use std::num::NonZeroUsize;
 use volume::{Checked, FormatFault, MountFault, Unmounted, Volume};
@@ -21,6 +22,13 @@ pub struct Fs<D: Device> {
     ghost ready: { IsReady (held_of volume) changes } by { IsReady-prop (held_of volume) changes },
 }
 
+/// A file system that was mounted, and the seats that its volume keeps.
+#[derive(Drop)]
+pub struct Mounted<D: Device> {
+    pub fs: Fs<D>,
+    pub seats: Seats,
+}
+
 #[tactic(auto, unfolding(crate::specs::Views::fs_of, crate::specs::Views::fs_failures))]
 impl<D: Device> Fs<D> {
     ghost use Rattle.std.specs.Prelude.{◌≡◌, ◌⊎◌, ◌↔◌, true, IfOk, IfErr, OnOk, IsErrOf};
@@ -28,10 +36,12 @@ impl<D: Device> Fs<D> {
     ghost use Rattle.fs.specs.Views.{fs_of, fs_failures, Alters};
     ghost use Rattle.fs.specs.Formatting.{Formats};
     ghost use Rattle.volume.specs.Checks.{Checks};
-    ghost use Rattle.volume.specs.Changes.{Stays};
+    ghost use Rattle.model.specs.SeatEdits.{AreEdits, edited_all, edits_view};
+    ghost use Rattle.model.specs.SeatViews.{seats_view};
+    ghost use Rattle.volume.specs.Changes.{IsSeats, Stays};
     ghost use Rattle.volume.specs.Formed.{Shows};
     ghost use Rattle.volume.specs.Held.{KeepsRecent};
-    ghost use Rattle.volume.specs.MountAnswers.{MountServes, MountGivesBack};
+    ghost use Rattle.volume.specs.MountAnswers.{FindsSeats, MountServes, MountGivesBack};
 
     /// Makes the device a new volume of this many nodes, with an empty root: `volume::format`.
     ///
@@ -46,12 +56,12 @@ impl<D: Device> Fs<D> {
         volume::format(alloc, device, nodes)
     }
 
-    /// Mounts the volume: `Volume::mount`. Every map that a stop leaves from then on has the new
+    /// Mounts the volume: `Volume::mount`. Every map that a crash leaves from then on has the new
     /// restart count, which is this file system's run. Its journal keeps 64 sectors in memory.
     ///
     /// # Errors
     ///
-    /// As [`Fs::mount_cached`].
+    /// As [`Fs::mount_seated`].
     pub fn mount(alloc: Global, device: D) -> Result<Fs<D>, Unmounted<D>>
         ensures serves { IfOk result (λ fs. MountServes D.keeps_word D.size D.failed D.history
             device (fs_of fs).volume (fs_failures fs)) }
@@ -59,21 +69,15 @@ impl<D: Device> Fs<D> {
         ensures gives_back { IfErr result (MountGivesBack D.keeps_word D.size D.failed D.history
             device) }
     {
-        let volume = Volume::mount(alloc, device)?;
-        Ok(Fs {
-            alloc,
-            volume,
-            changes: 0,
-        })
+        let Mounted { fs, seats: _ } = Fs::mount_seated(alloc, device, None)?;
+        Ok(fs)
     }
 
     /// The same, with a journal that keeps so many sectors in memory: `Volume::mount_cached`.
     ///
     /// # Errors
     ///
-    /// The device comes back with the reason. NotVolume, then Worn, by the first sector, and then
-    /// nothing was written; then Damaged exactly where no tree stands; Device where the device
-    /// failed, and Memory.
+    /// As [`Fs::mount_seated`].
     pub fn mount_cached(
         alloc: Global,
         device: D,
@@ -85,11 +89,39 @@ impl<D: Device> Fs<D> {
         ensures gives_back { IfErr result (MountGivesBack D.keeps_word D.size D.failed D.history
             device) }
     {
-        let volume = Volume::mount_cached(alloc, device, cached)?;
-        Ok(Fs {
-            alloc,
-            volume,
-            changes: 0,
+        let Mounted { fs, seats: _ } = Fs::mount_seated(alloc, device, Some(cached))?;
+        Ok(fs)
+    }
+
+    /// The same, and the seats that the volume keeps: `Volume::mount_seated`. They were read before
+    /// its count was raised.
+    ///
+    /// # Errors
+    ///
+    /// The device comes back with the reason. NotVolume, then Worn, by the first sector, and then
+    /// nothing was written; then Damaged exactly where no tree stands; Device where the device
+    /// failed, and Memory.
+    pub fn mount_seated(
+        alloc: Global,
+        device: D,
+        cached: Option<NonZeroUsize>,
+    ) -> Result<Mounted<D>, Unmounted<D>>
+        ensures serves { IfOk result (λ mounted. MountServes D.keeps_word D.size D.failed D.history
+            device (fs_of mounted.fs).volume (fs_failures mounted.fs)) }
+        ensures seats { IfOk result (λ mounted. FindsSeats D.keeps_word (fs_of mounted.fs).volume
+            (seats_view mounted.seats)) }
+        ensures no_change { IfOk result (λ mounted. (fs_of mounted.fs).changes ≡ 0) }
+        ensures gives_back { IfErr result (MountGivesBack D.keeps_word D.size D.failed D.history
+            device) }
+    {
+        let mounted = Volume::mount_seated(alloc, device, cached)?;
+        Ok(Mounted {
+            fs: Fs {
+                alloc,
+                volume: mounted.volume,
+                changes: 0,
+            },
+            seats: mounted.seats,
         })
     }
 
@@ -157,6 +189,31 @@ impl<D: Device> Fs<D> {
             (fault ≡ FsFault.Device) ⊎ (fault ≡ FsFault.Down)) }
     {
         self.volume.checkpoint()?;
+        Ok(())
+    }
+
+    /// Edits the seats of persistent sessions: `Volume::put_seats`. It is no change of the tree,
+    /// and keeps each one so far.
+    ///
+    /// # Errors
+    ///
+    /// Memory, and nothing changed; Device where the device failed, and Down from then on.
+    pub fn put_seats(&mut self, edits: &SeatEdits) -> Result<(), FsFault>
+        requires { D.keeps_word → AreEdits (fs_of self.old).volume.run (edits_view edits.now)
+            (fs_of self.old).volume.seats }
+        ensures volume { Alters self.old self.new
+            (IsSeats (fs_of self.old).volume
+            (edited_all (edits_view edits.now) (fs_of self.old).volume.seats))
+            (fs_ending result) }
+        ensures shows { OnOk result (Shows D.keeps_word (fs_of self.old).volume.tree
+            (fs_of self.new).volume.tree) }
+        ensures changes { (fs_of self.new).changes ≡ (fs_of self.old).changes }
+        // Refused
+        ensures down { IsErrOf result FsFault.Down ↔ ((fs_of self.old).volume.is_down ≡ true) }
+        ensures refuses { IfErr result (λ fault. (fault ≡ FsFault.Memory)
+            ⊎ ((fault ≡ FsFault.Device) ⊎ (fault ≡ FsFault.Down))) }
+    {
+        self.volume.put_seats(edits)?;
         Ok(())
     }
 }

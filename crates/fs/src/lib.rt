@@ -29,7 +29,7 @@ mod writing;
 pub use access::Access;
 pub use created::Created;
 pub use fault::FsFault;
-pub use fs::Fs;
+pub use fs::{Fs, Mounted};
 pub use laws::verdicts;
 pub use listing::{Listing, Page};
 pub use making::NewDirectory;

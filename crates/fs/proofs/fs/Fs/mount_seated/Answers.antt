@@ -2,12 +2,12 @@ use Rattle.std.proofs.Common.{arith}
 use Rattle.model.specs.Stamp.{stamp, next_stamp}
 use Rattle.volume.specs.Views.{held_of}
 use Rattle.volume.proofs.FormedLaws.{formed_later}
-use Rattle.fs.proofs.fs.Fs.mount.Goals as goal
+use Rattle.fs.proofs.fs.Fs.mount_seated.Goals as goal
 
 pub invariant_of-result : goal.invariant_of-result
 invariant_of-result g c =
-    let held = held_of c.in_ok-volume.volume in
+    let held = held_of c.in_ok-mounted.mounted.volume in
     record {
       counted = omega arith;
-      ready = λ up. formed_later held.limits (stamp held.run 0) (next_stamp held.run 0) held.tree (omega arith) c.in_ok-volume.ensures.serves.new.formed;
+      ready = λ up. formed_later held.limits (stamp held.run 0) (next_stamp held.run 0) held.tree (omega arith) c.in_ok-mounted.ensures.serves.new.formed;
     }
