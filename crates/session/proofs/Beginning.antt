@@ -1,12 +1,14 @@
 -- What SEQUENCE does, by what its slot does.
-use Rattle.std.proofs.Common.{◌≡◌, ℕ, Bool, true, false, cond, ◌==◌, nat_lt, List, length, Some, Ok, Err, refl, ap}
+use Rattle.std.proofs.Common.{◌≡◌, ℕ, Bool, true, false, cond, ◌&&◌, ◌==◌, nat_lt, List, length, Option, None, Some, Ok, Err, refl, ap}
+use Rattle.std.specs.Option.{option_map}
 use Rattle.model.specs.declared.status.Status.{Status}
 use Rattle.model.specs.declared.status.Status.TheVariants as status
 use Rattle.model.specs.Operation.{SequenceArguments}
-use Rattle.model.specs.Seats.{no_seats}
-use Rattle.model.specs.Session.{Begun, Refuses, Replays, Runs, SlotState, Free, Running, Kept, Slot, Session, begin_by, begin_slot, begin_new, slot_at, next_number}
+use Rattle.model.specs.Seats.{HeldReply, Seat, Seats, held_in}
+use Rattle.model.specs.Session.{Begun, Refuses, Replays, Runs, SlotState, Free, Running, Kept, Slot, Session, begin_by, begin_slot, begin_new, begin_held, begin_dead, slot_at, next_number}
 use Rattle.session.specs.declared.slot.Next.TheVariants as next
-use Rattle.session.specs.Slots.{next_of, kept_reply}
+use Rattle.session.specs.Slots.{next_of, refusal_of, kept_reply}
+use Rattle.session.specs.Seating.{reply_held}
 use Rattle.session.specs.Views.{reply_at}
 
 pub refuses : (b : Begun) (reason : Status) → next_of b ≡ Err reason → b ≡ Refuses reason
@@ -52,8 +54,39 @@ inside_replays true b reply e = e
 inside_replays false b reply e = cc
 
 -- a retry is answered by the kept reply
-pub replays_kept : (uid count : ℕ) (arguments : SequenceArguments) (session : Session) (reply : List ℕ) → begin_by uid count arguments no_seats (Some session) ≡ Replays reply → reply_at arguments.slot session ≡ Some reply
-replays_kept uid count arguments session reply e =
+pub replays_kept : (uid count : ℕ) (arguments : SequenceArguments) (seats : Seats) (session : Session) (reply : List ℕ) → begin_by uid count arguments seats (Some session) ≡ Replays reply → reply_at arguments.slot session ≡ Some reply
+replays_kept uid count arguments seats session reply e =
     let slot : Slot = slot_at session arguments.slot in
     slot_replays uid count arguments session slot slot.state reply
     (inside_replays (nat_lt arguments.slot (length session.slots)) (begin_slot uid count arguments session slot slot.state) reply e)
+
+-- Of a session that is none of this run's
+
+dead_held : (uid : ℕ) (arguments : SequenceArguments) (held : HeldReply) (b : Bool)
+    → refusal_of (cond b (Replays held.result) (Refuses status.DeadSession)) ≡ None → cond b (Replays held.result) (Refuses status.DeadSession) ≡ Replays held.result
+dead_held uid arguments held true e = refl
+dead_held uid arguments held false e = cc
+
+by_held : (uid : ℕ) (arguments : SequenceArguments) (held : Option HeldReply) → refusal_of (begin_held uid arguments held) ≡ None
+    → (reply : List ℕ) × (begin_held uid arguments held ≡ Replays reply) × (option_map (λ (h : HeldReply). h.result) held ≡ Some reply)
+by_held uid arguments None e = absurd (cc)
+by_held uid arguments (Some held) e = (held.result, dead_held uid arguments held (arguments.sequence == held.number && uid == held.uid) e, refl)
+
+-- what is not refused is answered by the reply that is held
+pub dead_replays : (uid : ℕ) (arguments : SequenceArguments) (seat : Option Seat) → refusal_of (begin_dead uid arguments seat) ≡ None
+    → (reply : List ℕ) × (begin_dead uid arguments seat ≡ Replays reply) × (reply_held arguments.slot seat ≡ Some reply)
+dead_replays uid arguments None e = absurd (cc)
+dead_replays uid arguments (Some seat) e = by_held uid arguments (held_in arguments.slot (Some seat)) e
+
+held_refuses : (uid : ℕ) (arguments : SequenceArguments) (reason : Status) (held : HeldReply) (b : Bool)
+    → refusal_of (cond b (Replays held.result) (Refuses status.DeadSession)) ≡ Some reason → cond b (Replays held.result) (Refuses status.DeadSession) ≡ Refuses reason
+held_refuses uid arguments reason held true e = absurd (cc)
+held_refuses uid arguments reason held false e = cc
+
+by_refusal : (uid : ℕ) (arguments : SequenceArguments) (reason : Status) (held : Option HeldReply) → refusal_of (begin_held uid arguments held) ≡ Some reason → begin_held uid arguments held ≡ Refuses reason
+by_refusal uid arguments reason None e = cc
+by_refusal uid arguments reason (Some held) e = held_refuses uid arguments reason held (arguments.sequence == held.number && uid == held.uid) e
+
+pub dead_refuses : (uid : ℕ) (arguments : SequenceArguments) (reason : Status) (seat : Option Seat) → refusal_of (begin_dead uid arguments seat) ≡ Some reason → begin_dead uid arguments seat ≡ Refuses reason
+dead_refuses uid arguments reason None e = cc
+dead_refuses uid arguments reason (Some seat) e = by_refusal uid arguments reason (held_in arguments.slot (Some seat)) e

@@ -6,6 +6,12 @@ use Rattle.std.proofs.lemmas.List.Kept.{AllPairs-filter}
 use Rattle.std.proofs.lemmas.List.Quantifiers.{all_pairs_push}
 use Rattle.session.proofs.Lists.{Rises}
 
+pub all_filtered : {A : Type 0} (P : A → Type 0) (p : A → Bool) (xs ys : List A) → ys ≡ filter p xs → All P xs → All P ys
+all_filtered P p xs ys e all = subst (All P) (sym e) (All-filter p P xs all)
+
+pub all_pushed : {A : Type 0} (P : A → Type 0) (xs ys : List A) (y : A) → ys ≡ xs ++ y ∷ [] → All P xs → P y → All P ys
+all_pushed P xs ys y e all here = subst (All P) (sym e) (All-push P xs y all here)
+
 abbrev pub UpTo : {A : Type 0} → (A → ℕ) → ℕ → List A → Type 0
 UpTo key last xs = All (λ x. key x ≤ last) xs
 

@@ -2,9 +2,14 @@ pub mod Adding
 pub mod Allowed
 pub mod Beginning
 pub mod Creating
+pub mod EditLaws
+pub mod Editing
 pub mod Ending
 pub mod Exchanging
+pub mod Giving
+pub mod Holding
 pub mod Kept
 pub mod Lists
 pub mod Opening
 pub mod Serials
+pub mod Taking

@@ -1,8 +1,8 @@
 -- Tests, filters and changes of a list that is seen through a view.
-use Rattle.std.proofs.Common.{◌≡◌, ℕ, ◌<◌, ◌≤◌, inl, inr, zero, suc, Bool, true, false, cond, ◌&&◌, ◌||◌, List, [], ◌∷◌, ◌++◌, map, filter, length, get_or, set, None, Some, refl, sym, ap, ◌∙◌, arith, nat_lt, Result, Ok, Err}
+use Rattle.std.proofs.Common.{◌≡◌, ℕ, ◌+◌, ◌<◌, ◌≤◌, inl, inr, zero, suc, Bool, true, false, cond, not, ◌&&◌, ◌||◌, List, [], ◌∷◌, ◌++◌, map, filter, length, get_or, set, None, Some, refl, sym, ap, ◌∙◌, subst, arith, nat_lt, find, Result, Ok, Err}
 use Rattle.std.specs.Result.{is_ok, is_err}
-use Rattle.std.specs.List.{list_any, position, position_or_len, AllPairs}
-use Rattle.std.proofs.lemmas.List.{length-map, length-set, map-set, get_or-map, get_or-set_same, get_or-set_other, ext_get_or}
+use Rattle.std.specs.List.{list_any, prefix_len, position, position_or_len, All, AllPairs}
+use Rattle.std.proofs.lemmas.List.{length-map, length-set, map_push, map-set, get_or-map, get_or-set_same, get_or-set_other, ext_get_or}
 use Rattle.std.proofs.lemmas.List.Quantifiers.{position-Some}
 use Rattle.std.proofs.lemmas.List.Sums.{fails_before_first}
 use Rattle.std.proofs.lemmas.Bool.{cases_eq, cases_lt, ltb-false, false_from_ne_true}
@@ -34,6 +34,25 @@ any_filtered_cons g f false x xs rest e = e
 pub any_filtered : {A B : Type 0} (g : B → Bool) (f : A → B) (p : A → Bool) (xs : List A) → list_any g (map f (filter p xs)) ≡ list_any (λ x. p x && g (f x)) xs
 any_filtered g f p [] = refl
 any_filtered g f p (x ∷ xs) = any_filtered_cons g f (p x) x (filter p xs) (list_any (λ y. p y && g (f y)) xs) (any_filtered g f p xs)
+
+any_left_cons : {A : Type 0} (g : A → Bool) (b : Bool) (x : A) (xs : List A) (rest : Bool) → list_any g xs ≡ rest → list_any g (cond b (x ∷ xs) xs) ≡ (b && g x || rest)
+any_left_cons g true x xs rest e = ap (λ r. g x || r) e
+any_left_cons g false x xs rest e = e
+
+pub any_left : {A : Type 0} (g p : A → Bool) (xs : List A) → list_any g (filter p xs) ≡ list_any (λ x. p x && g x) xs
+any_left g p [] = refl
+any_left g p (x ∷ xs) = any_left_cons g (p x) x (filter p xs) (list_any (λ y. p y && g y) xs) (any_left g p xs)
+
+-- Positions
+
+prefix_len-map : {A B : Type 0} (p : B → Bool) (f : A → B) (xs : List A) → prefix_len p (map f xs) ≡ prefix_len (λ x. p (f x)) xs
+prefix_len-map p f [] = refl
+prefix_len-map p f (x ∷ xs) = ap (λ n. cond (p (f x)) (1 + n) 0) (prefix_len-map p f xs)
+
+pub position-map : {A B : Type 0} (p : B → Bool) (f : A → B) (xs : List A) → position p (map f xs) ≡ position (λ x. p (f x)) xs
+position-map p f xs =
+    ap (λ n. cond (nat_lt n (length (map f xs))) (Some n) None) (prefix_len-map (λ y. not (p y)) f xs)
+    ∙ ap (λ n. cond (nat_lt (position_or_len (λ x. p (f x)) xs) n) (Some (position_or_len (λ x. p (f x)) xs)) None) (length-map xs f)
 
 -- Where no position is found
 
@@ -152,3 +171,15 @@ any_one q (x ∷ xs) (suc i) d within others =
 pub pushed : {A R E : Type 0} (r : Result R E) (xs ys : List A) (y : A) → ys ≡ cond (is_ok r) (xs ++ y ∷ []) xs → is_err r ≡ false → ys ≡ xs ++ y ∷ []
 pushed (Ok x) xs ys y e ok = e
 pushed (Err x) xs ys y e ok = cc
+
+pub pushed_view : {A B : Type 0} (f : A → B) (xs ys : List A) (y : A) → ys ≡ xs ++ y ∷ [] → map f ys ≡ map f xs ++ f y ∷ []
+pushed_view f xs ys y e = ap (map f) e ∙ map_push f xs y
+
+-- what all have, the one that is found has
+pub find_all : {A B : Type 0} (f : A → B) (test : B → Bool) (P : B → Type 0) (xs : List A) → All (λ x. P (f x)) xs → (y : B) → find test (map f xs) ≡ Some y → P y
+find_all f test P [] all y e = absurd (cc)
+find_all {A} {B} f test P (x ∷ xs) all y e = by_test (test (f x)) e (find_all f test P xs (λ k d h. all (suc k) d (omega arith)) y)
+  where
+    by_test : (b : Bool) → cond b (Some (f x)) (find test (map f xs)) ≡ Some y → (find test (map f xs) ≡ Some y → P y) → P y
+    by_test true here later = let same : f x ≡ y = cc in subst P same (all 0 x (omega arith))
+    by_test false here later = later here

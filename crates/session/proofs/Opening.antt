@@ -1,22 +1,20 @@
--- What a new session makes of a table.
-use Rattle.std.proofs.Common.{◌≡◌, ℕ, ◌+◌, List, [], ◌∷◌, ◌++◌, replicate, None, sym, ap, ◌∙◌}
+-- What a planned session makes of a table.
+use Rattle.std.proofs.Common.{◌≡◌, ℕ, ◌+◌, Bool, true, false, if◌then◌else◌, List, [], ◌∷◌, ◌++◌, replicate, Option, None, is_some, refl, sym, ap, ◌∙◌}
 use Rattle.model.specs.Operation.{Channel, CreateSessionArguments}
 use Rattle.model.specs.Answer.{CreateSessionAnswer}
-use Rattle.model.specs.Seats.{no_seats}
-use Rattle.model.specs.Session.{Client, Session, Table, session_id, fore_channel, create_session_answer, new_session, with_new_session, replaced_by, is_client, is_replaced_by, is_of_clients, confirmed_with, changed_where, without_where, no_slot}
+use Rattle.model.specs.Seats.{Seat, Seats, seated}
+use Rattle.model.specs.SeatEdits.{edited_all}
+use Rattle.model.specs.Session.{Client, Session, Table, session_id, limits_for, fore_channel, create_session_answer, new_session, with_new_session, gives_way, seats_after, seats_staying, persists, replaced_by, is_client, is_replaced_by, is_of_clients, confirmed_with, changed_where, without_where, no_slot}
 use Rattle.session.specs.Limits.{served}
-use Rattle.session.specs.Views.{table_by}
+use Rattle.session.specs.Seating.{place_for, seat_with, edits_with}
+use Rattle.session.proofs.Taking.{persists_is, seats_are}
 
--- a table beside which there are no seats
-abbrev pub unseated : Table → Table
-unseated table = record table { seats = no_seats }
-
--- what is answered, and the session, by the client's number and the fore channel
-abbrev pub answer_at : CreateSessionArguments → ℕ → ℕ → Channel → CreateSessionAnswer
-answer_at arguments serial number fore = record {
+-- what is answered, and the session, by the fore channel and whether there is a seat
+abbrev pub answer_at : CreateSessionArguments → ℕ → ℕ → Bool → Channel → CreateSessionAnswer
+answer_at arguments serial number seated fore = record {
   session = session_id number (serial + 1);
   sequence = arguments.sequence;
-  flags = 0;
+  flags = if seated then 1 else 0;
   fore = fore;
   back = record arguments.back { rdma_ird = None };
 }
@@ -24,31 +22,61 @@ answer_at arguments serial number fore = record {
 abbrev pub session_at : ℕ → ℕ → Channel → Session
 session_at serial number fore = record { client = number; serial = serial + 1; max_operations = fore.max_operations; slots = replicate fore.max_requests no_slot }
 
-pub created_is : (arguments : CreateSessionArguments) (client : Client) (table : Table) (number : ℕ) (fore : Channel) → client.number ≡ number → fore ≡ fore_channel served arguments.fore
-    → create_session_answer served arguments client (unseated table) ≡ answer_at arguments table.session_serial number fore
-created_is arguments client table number fore named channel =
-    ap (λ (n : ℕ). answer_at arguments table.session_serial n (fore_channel served arguments.fore)) named
-    ∙ ap (answer_at arguments table.session_serial number) (sym channel)
+module _ (arguments : CreateSessionArguments) (client : Client) (table : Table) (place : Option ℕ) (placed : place ≡ place_for arguments client table)
+    (fore : Channel) (channel : fore ≡ fore_channel (limits_for served (is_some place)) arguments.fore) where
+  abbrev wanted_fore : Bool → Channel
+  wanted_fore seated = fore_channel (limits_for served seated) arguments.fore
 
-session_is : (arguments : CreateSessionArguments) (client : Client) (table : Table) (number : ℕ) (fore : Channel) → client.number ≡ number → fore ≡ fore_channel served arguments.fore
-    → new_session served arguments client (unseated table) ≡ session_at table.session_serial number fore
-session_is arguments client table number fore named channel =
-    ap (λ (n : ℕ). session_at table.session_serial n (fore_channel served arguments.fore)) named
-    ∙ ap (session_at table.session_serial number) (sym channel)
+  pub created_is : create_session_answer served arguments client table ≡ answer_at arguments table.session_serial client.number (is_some place) fore
+  created_is =
+      ap (λ (b : Bool). answer_at arguments table.session_serial client.number b (wanted_fore b)) (persists_is arguments client table place placed)
+      ∙ ap (answer_at arguments table.session_serial client.number (is_some place)) (sym channel)
 
-abbrev table_at : Client → Table → ℕ → CreateSessionAnswer → List ℕ → Session → Table
-table_at client table number answer ended session =
-    table_by (table.run, table.client_serial, changed_where (is_client number) (confirmed_with answer) (without_where (is_replaced_by client) table.clients))
-    (table.session_serial + 1, without_where (is_of_clients ended) table.sessions ++ session ∷ [])
+  same_operations : (b : Bool) → (fore_channel served arguments.fore).max_operations ≡ (wanted_fore b).max_operations
+  same_operations true = refl
+  same_operations false = refl
 
-pub table_is : (arguments : CreateSessionArguments) (client : Client) (table : Table) (number : ℕ) (fore : Channel) (ended : List ℕ) (answer : CreateSessionAnswer) (session : Session)
-    → client.number ≡ number → fore ≡ fore_channel served arguments.fore → ended ≡ replaced_by client (unseated table)
-    → answer ≡ answer_at arguments table.session_serial number fore → session ≡ session_at table.session_serial number fore
-    → with_new_session served arguments client (unseated table)
-    ≡ table_by (table.run, table.client_serial, changed_where (is_client number) (confirmed_with answer) (without_where (is_replaced_by client) table.clients))
-    (table.session_serial + 1, without_where (is_of_clients ended) table.sessions ++ session ∷ [])
-table_is arguments client table number fore ended answer session named channel ends answered made =
-    ap (λ (n : ℕ). table_at client table n (create_session_answer served arguments client (unseated table)) (replaced_by client (unseated table)) (new_session served arguments client (unseated table))) named
-    ∙ ap (λ (a : CreateSessionAnswer). table_at client table number a (replaced_by client (unseated table)) (new_session served arguments client (unseated table))) (created_is arguments client table number fore named channel ∙ sym answered)
-    ∙ ap (λ (e : List ℕ). table_at client table number answer e (new_session served arguments client (unseated table))) (sym ends)
-    ∙ ap (λ (s : Session). table_at client table number answer ended s) (session_is arguments client table number fore named channel ∙ sym made)
+  pub session_is : new_session served arguments client table ≡ session_at table.session_serial client.number fore
+  session_is =
+      ap (λ (operations : ℕ). record (new_session served arguments client table) { max_operations = operations }) (same_operations (persists arguments client table))
+      ∙ ap (λ (b : Bool). session_at table.session_serial client.number (wanted_fore b)) (persists_is arguments client table place placed)
+      ∙ ap (session_at table.session_serial client.number) (sym channel)
+
+  -- its seat
+  abbrev pub seat_at : Seat
+  seat_at = seat_with client (session_id client.number (table.session_serial + 1)) fore.max_requests
+
+  pub seats_is : seats_after served arguments client table ≡ edited_all (edits_with (gives_way client table) place seat_at table.seats) table.seats
+  seats_is =
+      ap (λ (b : Bool). if b then seated (seat_with client (session_id client.number (table.session_serial + 1)) (wanted_fore b).max_requests) (seats_staying client table) else seats_staying client table)
+      (persists_is arguments client table place placed)
+      ∙ ap (λ (c : Channel). if is_some place then seated (seat_with client (session_id client.number (table.session_serial + 1)) c.max_requests) (seats_staying client table) else seats_staying client table)
+      (sym channel)
+      ∙ sym (seats_are arguments client table seat_at place placed)
+
+  abbrev table_at : ℕ → ℕ → CreateSessionAnswer → List ℕ → Session → Seats → Table
+  table_at number serial answer ended session seats = record table {
+    session_serial = serial;
+    clients = changed_where (is_client number) (confirmed_with answer) (without_where (is_replaced_by client) table.clients);
+    sessions = without_where (is_of_clients ended) table.sessions ++ session ∷ [];
+    seats = seats;
+  }
+
+  pub table_is : (number serial : ℕ) (answer : CreateSessionAnswer) (ended : List ℕ) (session : Session) (seats : Seats)
+      → client.number ≡ number → serial ≡ table.session_serial + 1 → answer ≡ answer_at arguments table.session_serial client.number (is_some place) fore
+      → ended ≡ replaced_by client table → session ≡ session_at table.session_serial client.number fore → seats ≡ seats_after served arguments client table
+      → with_new_session served arguments client table ≡ record table {
+        session_serial = serial;
+        clients = changed_where (is_client number) (confirmed_with answer) (without_where (is_replaced_by client) table.clients);
+        sessions = without_where (is_of_clients ended) table.sessions ++ session ∷ [];
+        seats = seats;
+      }
+  table_is number serial answer ended session seats named next answered ends made seat =
+      let asked = create_session_answer served arguments client table in
+      let new = new_session served arguments client table in
+      ap (λ (n : ℕ). table_at n (table.session_serial + 1) asked (replaced_by client table) new (seats_after served arguments client table)) named
+      ∙ ap (λ (n : ℕ). table_at number n asked (replaced_by client table) new (seats_after served arguments client table)) (sym next)
+      ∙ ap (λ (a : CreateSessionAnswer). table_at number serial a (replaced_by client table) new (seats_after served arguments client table)) (created_is ∙ sym answered)
+      ∙ ap (λ (e : List ℕ). table_at number serial answer e new (seats_after served arguments client table)) (sym ends)
+      ∙ ap (λ (s : Session). table_at number serial answer ended s (seats_after served arguments client table)) (session_is ∙ sym made)
+      ∙ ap (λ (s : Seats). table_at number serial answer ended session s) (sym seat)

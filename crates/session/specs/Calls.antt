@@ -7,12 +7,11 @@ use Rattle.model.specs.Operation.{SequenceArguments}
 use Rattle.model.specs.Session as model
 use Rattle.model.specs.Session.{is_session, begin, started, sequence_answer}
 use Rattle.wire.specs.Short.{IsRefusal}
-use Rattle.wire.specs.AnswerViews.{exchange_id_view, create_session_view, sequence_view}
+use Rattle.wire.specs.AnswerViews.{exchange_id_view, sequence_view}
 use Rattle.wire.specs.declared.answers.ExchangeIdAnswer.{ExchangeIdAnswer}
 use Rattle.session.specs.Views.{reply_kept}
 use Rattle.model.specs.declared.not_done.NotDone.{NotDone}
 use Rattle.model.specs.declared.not_done.NotDone.TheVariants as refusal
-use Rattle.session.specs.declared.create.CreatedSession.{CreatedSession}
 use Rattle.session.specs.declared.sequence.Begun.{Begun}
 use Rattle.session.specs.declared.sequence.Begun.TheVariants as begun
 
@@ -30,24 +29,12 @@ Exchanged wanted old new (Err (refusal.Status reason)) = wanted ≡ (Err reason,
 Exchanged wanted old new (Err refusal.Memory) =
     (wanted.1.client_serial ≡ old.client_serial + 1) × (new ≡ old)
 
--- So does CREATE_SESSION, which tells whose opens end. For want of memory, which only a new session
--- has, the table stays.
-abbrev pub Created : model.CreateSessionOutcome → model.Table → model.Table
-    → Result CreatedSession NotDone → Type 0
-Created wanted old new (Ok created) =
-    (wanted.answer ≡ Ok (create_session_view created.answer))
-    × (wanted.ended_clients ≡ created.ended.items) × (wanted.table ≡ new)
-Created wanted old new (Err (refusal.Status reason)) =
-    (wanted.answer ≡ Err reason) × (wanted.table ≡ new)
-Created wanted old new (Err refusal.Memory) =
-    (wanted.table.session_serial ≡ old.session_serial + 1) × (new ≡ old)
-
 -- what a SEQUENCE that runs answers, and by which client
 abbrev pub IsBegun : SequenceArguments → model.Session → ℕ → answer.SequenceAnswer → Type 0
 IsBegun arguments session client answered =
     (client ≡ session.client) × (answered ≡ sequence_answer arguments session)
 
--- SEQUENCE runs, replays the kept reply or refuses, and only a slot that runs changes.
+-- SEQUENCE runs, replays the reply that is kept or refuses, and only a slot that runs changes.
 abbrev pub Begins : ℕ → ℕ → SequenceArguments → model.Table → model.Table → Result Begun Status
     → Type 0
 Begins uid count arguments old new (Ok begun.Replays) =

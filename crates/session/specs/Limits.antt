@@ -1,6 +1,5 @@
 -- How many clients, sessions, slots and operations are served: numbers, and not the constants of
--- the code, so that a constant that is changed is refused. No session is persistent.
-use Rattle.std.specs.Prelude.{false}
+-- the code, so that a constant that is changed is refused.
 use Rattle.model.specs.Session.{SessionLimits}
 
 abbrev pub served : SessionLimits
@@ -10,6 +9,5 @@ served = record {
   slots = 8;
   seat_slots = 2;
   operations = 16;
-  persistent = false;
   record_bytes = 16384;
 }

@@ -1,5 +1,5 @@
 -- What a new record or session finds where others give way to it.
-use Rattle.std.specs.Prelude.{◌==◌, ◌≡◌, ℕ, ◌+◌, ◌-◌, ◌^◌, Bool, true, false, not, ◌&&◌, ◌||◌, nat_le, List, [], ◌∷◌, ◌++◌, length, map, filter, Option, None, Some, Result, Ok, Err}
+use Rattle.std.specs.Prelude.{◌==◌, ◌≡◌, ◌<◌, ◌≤◌, ℕ, ◌+◌, ◌*◌, ◌-◌, ◌^◌, Bool, true, false, not, ◌&&◌, ◌||◌, nat_le, List, [], ◌∷◌, ◌++◌, length, map, filter, Option, None, Some, Result, Ok, Err}
 use Rattle.model.specs.declared.status.Status.TheVariants as status
 use Rattle.model.specs.Operation.{ExchangeIdArguments, CreateSessionArguments}
 use Rattle.model.specs.Refusal.{Refusals}
@@ -8,6 +8,7 @@ use Rattle.model.specs.Session as model
 use Rattle.model.specs.Session.{is_client, is_unconfirmed_of, is_replaced_by, is_of_clients, client_number, is_running, is_too_small, has_only, session_flags, replaced_by, is_full_of_sessions}
 use Rattle.session.specs.Limits.{served}
 use Rattle.session.specs.Views.{clients_of, roll_of}
+use Rattle.session.specs.declared.client.Client.{Client}
 use Rattle.session.specs.declared.clients.Clients.{Clients}
 use Rattle.model.specs.declared.not_done.NotDone.{NotDone}
 use Rattle.model.specs.declared.not_done.NotDone.TheVariants as refusal
@@ -56,6 +57,11 @@ Adds uid arguments dropped old new (Err (refusal.Status reason)) =
 Adds uid arguments dropped old new (Err refusal.Memory) =
     (is_full_beside (records_staying arguments.owner dropped (clients_of old)) old.serial ≡ false)
     × (roll_of new ≡ roll_of old)
+
+-- the client's number is one that this run gave
+abbrev pub IsOfRun : Clients → Client → Type 0
+IsOfRun clients client =
+    (clients.run * 2 ^ 32 < client.number) × (client.number ≤ clients.run * 2 ^ 32 + clients.serial)
 
 -- the numbers of the clients that a session of `client` ends
 abbrev pub ended_by : model.Client → List model.Client → List ℕ

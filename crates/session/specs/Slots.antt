@@ -35,3 +35,9 @@ abbrev pub next_of : model.Begun → Result Next Status
 next_of (model.Refuses status) = Err status
 next_of (model.Replays reply) = Ok next.Replays
 next_of model.Runs = Ok next.Runs
+
+-- why it is refused
+abbrev pub refusal_of : model.Begun → Option Status
+refusal_of (model.Refuses status) = Some status
+refusal_of (model.Replays reply) = None
+refusal_of model.Runs = None

@@ -1,11 +1,13 @@
 -- What the code's client records, sessions and tables stand for.
-use Rattle.std.specs.Prelude.{ℕ, Bool, List, [], map, Option, None, Some, ◌==◌}
+use Rattle.std.specs.Prelude.{ℕ, Bool, List, map, Option, None, Some, ◌==◌}
 use Rattle.std.specs.List.{find, list_any}
 use Rattle.std.specs.Option.{option_map}
-use Rattle.model.specs.Seats.{no_seats}
+use Rattle.model.specs.Seats.{Seats, seat_of}
+use Rattle.model.specs.SeatViews.{seats_view}
 use Rattle.model.specs.Session as model
 use Rattle.model.specs.Session.{is_session, slot_at}
 use Rattle.wire.specs.AnswerViews.{create_session_view}
+use Rattle.session.specs.Seating.{reply_held}
 use Rattle.session.specs.Slots.{slot_of, kept_reply}
 use Rattle.session.specs.declared.client.Client.{Client}
 use Rattle.session.specs.declared.clients.Clients.{Clients}
@@ -55,37 +57,39 @@ book_of sessions = (sessions.serial, sessions_of sessions)
 abbrev pub book_with : Sessions → List model.Session → ℕ × List model.Session
 book_with sessions list = (sessions.serial, list)
 
-abbrev pub table_by : ℕ × ℕ × List model.Client → ℕ × List model.Session → model.Table
-table_by roll book = record {
+-- whether a new session may have a seat, and the seats
+abbrev pub seating_of : Table → Bool × Seats
+seating_of table = (table.persistent, seats_view table.seats)
+
+abbrev pub table_by : ℕ × ℕ × List model.Client → ℕ × List model.Session → Bool × Seats → model.Table
+table_by roll book seating = record {
   run = roll.0;
+  persistent = seating.0;
   client_serial = roll.1;
   session_serial = book.0;
   clients = roll.2;
   sessions = book.1;
-  seats = no_seats;
+  seats = seating.1;
 }
 
 unfoldable pub table_of : Table → model.Table
-table_of table = table_by (roll_of table.clients) (book_of table.sessions)
+table_of table = table_by (roll_of table.clients) (book_of table.sessions) (seating_of table)
 
 -- the clients of a list
 abbrev pub among : List ℕ → ℕ → Bool
 among numbers number = list_any (λ known. known == number) numbers
 
--- the state of the slot; none of no session is free
-abbrev pub state_in : ℕ → Option model.Session → model.SlotState
-state_in place None = model.Free
-state_in place (Some session) = (slot_at session place).state
-
 -- the reply that the slot keeps
 abbrev pub reply_at : ℕ → model.Session → Option (List ℕ)
 reply_at place session = kept_reply (slot_at session place).state
 
-abbrev pub reply_in : ℕ → Option model.Session → Option (List ℕ)
-reply_in place found = kept_reply (state_in place found)
+-- of no session it is what a seat holds
+abbrev pub reply_in : List ℕ → ℕ → Seats → Option model.Session → Option (List ℕ)
+reply_in id place seats None = reply_held place (seat_of id seats)
+reply_in id place seats (Some session) = reply_at place session
 
 unfoldable pub reply_kept : List ℕ → ℕ → model.Table → Option (List ℕ)
-reply_kept id place table = reply_in place (find (is_session id) table.sessions)
+reply_kept id place table = reply_in id place table.seats (find (is_session id) table.sessions)
 
 -- the table that a new record is made beside, where the record `dropped` goes
 abbrev pub cleared_of : Option ℕ → model.Table → model.Table

@@ -1,10 +1,6 @@
 //! A client record (RFC 8881, section 18.35.4).
 
-ghost use Rattle.std.specs.Prelude.{◌≡◌, ◌==◌, if◌then◌else◌, None};
-ghost use Rattle.model.specs.Session.{is_confirmed_of, is_unconfirmed_of, is_replaced_by, confirmed_with, next_number};
-ghost use Rattle.wire.specs.AnswerViews.{create_session_view};
-ghost use Rattle.session.specs.Rooms.{stays};
-ghost use Rattle.session.specs.Views.{client_of};
+ghost use Rattle.std.specs.Prelude.{◌≤◌, ◌<◌, ◌^◌, length};
 
 use wire::CreateSessionAnswer;
 
@@ -20,9 +16,18 @@ pub struct Client {
     pub has_reclaimed: bool,
     pub sequence: u32,
     pub kept: Option<CreateSessionAnswer>,
+    // What a proof knows so of the number without a read.
+    ghost principal_fits: { principal < 2 ^ 32 },
+    ghost owned: { length owner.items ≤ 1024 },
 }
 
 impl Client {
+    ghost use Rattle.std.specs.Prelude.{◌≡◌, ◌==◌, if◌then◌else◌, None};
+    ghost use Rattle.model.specs.Session.{is_confirmed_of, is_unconfirmed_of, is_replaced_by, confirmed_with, next_number};
+    ghost use Rattle.wire.specs.AnswerViews.{create_session_view};
+    ghost use Rattle.session.specs.Rooms.{stays};
+    ghost use Rattle.session.specs.Views.{client_of};
+
     /// Whether it is the confirmed record of this owner id.
     pub fn is_confirmed_of(&self, owner: &[u8]) -> bool
         ensures { result ≡ is_confirmed_of owner.now (client_of self.now) }

@@ -16,7 +16,11 @@ pub struct Clients {
     pub run: u32,
     pub serial: u32,
     pub list: Vec<Client>,
+    // What a proof knows so of the numbers without a read.
+    ghost run_fits: { run < 2 ^ 32 },
+    ghost serial_fits: { serial < 2 ^ 32 },
     ghost rising: { AllPairs (λ earlier later. earlier.number < later.number) list.items },
+    ghost of_run: { All (λ client. run * 2 ^ 32 < client.number) list.items },
     ghost made: { All (λ client. client.number ≤ run * 2 ^ 32 + serial) list.items },
 }
 

@@ -1,52 +1,85 @@
 //! CREATE_SESSION (RFC 8881, section 18.36).
 
-ghost use Rattle.std.specs.Prelude.{◌≡◌, ◌+◌, ◌<◌, ◌^◌, None, IfErr};
+ghost use Rattle.std.specs.Prelude.{◌≡◌, ◌≢◌, ◌<◌, ◌+◌, ◌^◌, if◌then◌else◌, None, IfOk, IfErr};
 ghost use Rattle.std.specs.Result.{result_err};
 ghost use Rattle.model.specs.Refusal.{first_refusal};
-ghost use Rattle.model.specs.Session.{Client as Known, create_session, create_unless, is_full_of_sessions, fore_channel, is_too_small};
+ghost use Rattle.model.specs.Session.{CreateSessionOutcome, create_session, create_unless, limits_for, fore_channel, is_too_small, is_full_of_sessions};
 ghost use Rattle.wire.specs.ArgumentViews.{create_session_view};
 ghost use Rattle.wire.specs.SmallViews.{channel_view};
 ghost use Rattle.wire.specs.Short.{IsRefusal};
-ghost use Rattle.session.specs.Calls.{Created, Refuses};
+ghost use Rattle.session.specs.Calls.{Refuses};
 ghost use Rattle.session.specs.Limits.{served};
-ghost use Rattle.session.specs.Rooms.{argument_refusals, room_refusals, ends_running, ended_by};
+ghost use Rattle.session.specs.Plans.{Plans, IsPlanned, HasRoom, HasRoomFor, Created};
+ghost use Rattle.session.specs.Rooms.{IsOfRun, argument_refusals, room_refusals, ends_running};
 ghost use Rattle.session.specs.Views.{table_of, client_of};
 
 use crate::client::Client;
+use crate::edits::edit_seats;
 use crate::flags::SessionFlags;
-use crate::limits::{MAX_OPERATIONS, MAX_RECORD_BYTES, MAX_SESSIONS, MAX_SLOTS};
+use crate::limits::{MAX_OPERATIONS, MAX_RECORD_BYTES, MAX_SEAT_SLOTS, MAX_SESSIONS, MAX_SLOTS};
+use crate::plan::{CreatedSession, Creation, NewSession};
 use crate::session::{Session, session_id};
 use crate::table::Table;
 use bitflags::Flags;
 use model::not_done::NotDone;
 use model::status::Status;
+use std::alloc::AllocError;
 use wire::{Channel, CreateSessionAnswer, CreateSessionArguments};
 
-/// What CREATE_SESSION answers, and the clients that ended with it: their opens are to end.
-#[derive(Drop)]
-pub struct CreatedSession {
-    pub answer: CreateSessionAnswer,
-    pub ended: Vec<u64>,
-}
-
 impl Table {
-    /// CREATE_SESSION by this uid.
+    /// What CREATE_SESSION by this uid is to do. It takes all the memory, and changes nothing.
     ///
     /// # Errors
     /// In this order: STALE_CLIENTID for an unknown client; CLID_INUSE for another principal's;
     /// SEQ_MISORDERED for a number other than the record's next, unless it is the one before and
     /// its result is kept; INVAL for a flag that may not be set; TOOSMALL for a fore channel below
     /// the record size or without operations or requests; DELAY where a session that would end runs
-    /// a request, where the session would be the 33rd, or where no serial is left. `Memory` leaves
-    /// the table as it was.
-    pub fn create_session(
+    /// a request, where the session would be the 33rd, or where no serial is left. `Memory` comes
+    /// only where a session would be made.
+    pub fn plan_session(
         &mut self,
         uid: u32,
         arguments: &CreateSessionArguments<'_>,
-    ) -> Result<CreatedSession, NotDone>
-        ensures answered { Created
+    ) -> Result<Creation, NotDone>
+        ensures same { table_of self.new ≡ table_of self.old }
+        ensures planned { Plans
             (create_session served uid (create_session_view arguments.now) (table_of self.old))
-            (table_of self.old) (table_of self.new) result }
+            (table_of self.old) result }
+        ensures room { IfOk result (HasRoomFor self.new) }
+        ensures refused { IfErr result Refuses }
+    {
+        let creation = self.plan(uid, arguments)?;
+        if let Creation::New(_) = &creation {
+            self.sessions.reserve()?;
+        }
+        Ok(creation)
+    }
+
+    /// Makes the session that was planned. It takes no memory.
+    pub fn add_session(&mut self, plan: NewSession) -> CreatedSession
+        requires room { HasRoom self.old }
+        requires planned { (wanted : CreateSessionOutcome)
+            × IsPlanned wanted (table_of self.old) plan }
+        ensures { (wanted : CreateSessionOutcome) → IsPlanned wanted (table_of self.old) plan
+            → Created wanted (table_of self.new) result }
+    {
+        let NewSession {
+            answer,
+            ended,
+            edits,
+            session,
+        } = plan;
+        self.clients.confirm(session.client, &ended, answer);
+        edit_seats(&mut self.seats, edits);
+        self.sessions.add(&ended, session);
+        CreatedSession { answer, ended }
+    }
+
+    // The same, without the memory in the table.
+    fn plan(&self, uid: u32, arguments: &CreateSessionArguments<'_>) -> Result<Creation, NotDone>
+        ensures planned { Plans
+            (create_session served uid (create_session_view arguments.now) (table_of self.now))
+            (table_of self.now) result }
         ensures refused { IfErr result Refuses }
     {
         let Some(client) = self.clients.find(arguments.client) else {
@@ -56,13 +89,12 @@ impl Table {
             return Err(NotDone::Status(Status::ClidInUse));
         }
         if let Some(answer) = client.repeated(arguments.sequence) {
-            let ended = Vec::new(self.alloc);
-            return Ok(CreatedSession { answer, ended });
+            return Ok(Creation::Again(answer));
         }
         check_arguments(client.sequence, arguments)?;
         self.check_room(client)?;
-        let ended = self.clients.ending(self.alloc, client)?;
-        self.add_session(arguments, ended)
+        let plan = self.plan_new(client, arguments)?;
+        Ok(Creation::New(plan))
     }
 
     // DELAY where a session that would end runs a request, and where there is no place or no serial
@@ -99,37 +131,41 @@ impl Table {
         MAX_SESSIONS <= staying || self.sessions.serial == u64::MAX
     }
 
-    // The session of the client that the arguments name, where those of the ended clients give way
-    // to it.
-    fn add_session(
-        &mut self,
+    // The session of this client, where those of the ended clients give way to it.
+    fn plan_new(
+        &self,
+        client: &Client,
         arguments: &CreateSessionArguments<'_>,
-        ended: Vec<u64>,
-    ) -> Result<CreatedSession, NotDone>
-        requires { self.old.sessions.serial + 1 < 2 ^ 64 }
-        ensures answered { (client : Known) → client.number ≡ arguments.now.client
-            → ended.items ≡ ended_by client (table_of self.old).clients
-            → Created (create_unless served (create_session_view arguments.now) client
-            (table_of self.old) None) (table_of self.old) (table_of self.new) result }
-        ensures refused { IfErr result Refuses }
+    ) -> Result<NewSession, AllocError>
+        requires serial { self.now.sessions.serial + 1 < 2 ^ 64 }
+        requires known { IsOfRun self.now.clients client.now }
+        requires some { arguments.now.fore.max_requests ≢ 0 }
+        ensures { IfOk result (IsPlanned (create_unless served (create_session_view arguments.now)
+            (client_of client.now) (table_of self.now) None) (table_of self.now)) }
     {
-        let number = arguments.client;
+        let place = self.place_for(client, arguments);
         let serial = self.sessions.serial + 1;
-        let fore = fore_channel(&arguments.fore);
-        let session = Session::new(self.alloc, number, serial, &fore)?;
-        self.sessions.add(&ended, session)?;
+        let fore = fore_channel(&arguments.fore, place.is_some());
+        let session = Session::new(self.alloc, client.number, serial, &fore)?;
+        let id = session_id(client.number, serial);
+        let edits = self.plan_seats(client, id, fore.max_requests, place)?;
+        let ended = self.clients.ending(self.alloc, client)?;
         let answer = CreateSessionAnswer {
-            session: session_id(number, serial),
+            session: id,
             sequence: arguments.sequence,
-            flags: 0,
+            flags: answered_flags(place.is_some()),
             fore,
             back: Channel {
                 rdma_ird: None,
                 ..arguments.back
             },
         };
-        self.clients.confirm(number, &ended, answer);
-        Ok(CreatedSession { answer, ended })
+        Ok(NewSession {
+            answer,
+            ended,
+            edits,
+            session,
+        })
     }
 }
 
@@ -160,17 +196,29 @@ fn is_too_small(fore: &Channel) -> bool
         || fore.max_requests == 0
 }
 
-// The fore channel that is answered.
-fn fore_channel(asked: &Channel) -> Channel
-    ensures { channel_view result ≡ fore_channel served (channel_view asked.now) }
+// The fore channel that is answered, by whether the session has a seat.
+fn fore_channel(asked: &Channel, has_seat: bool) -> Channel
+    ensures { channel_view result
+        ≡ fore_channel (limits_for served has_seat) (channel_view asked.now) }
 {
+    let slots = if has_seat { MAX_SEAT_SLOTS } else { MAX_SLOTS };
     Channel {
         header_pad_size: 0,
         max_request_size: MAX_RECORD_BYTES,
         max_response_size: MAX_RECORD_BYTES,
         max_response_size_cached: asked.max_response_size_cached.min(MAX_RECORD_BYTES),
         max_operations: asked.max_operations.min(MAX_OPERATIONS),
-        max_requests: asked.max_requests.min(MAX_SLOTS),
+        max_requests: asked.max_requests.min(slots),
         rdma_ird: None,
+    }
+}
+
+fn answered_flags(has_seat: bool) -> u32
+    ensures { result ≡ (if has_seat then 1 else 0) }
+{
+    if has_seat {
+        SessionFlags::PERSIST.bits()
+    } else {
+        0
     }
 }

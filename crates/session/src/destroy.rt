@@ -1,34 +1,65 @@
 //! DESTROY_SESSION, DESTROY_CLIENTID and RECLAIM_COMPLETE (RFC 8881, sections 18.37, 18.50 and
 //! 18.51).
 
-ghost use Rattle.std.specs.Prelude.{◌≡◌, IfErr};
+ghost use Rattle.std.specs.Prelude.{◌≡◌, None, IfErr};
 ghost use Rattle.std.specs.Result.{result_err};
+ghost use Rattle.model.specs.SeatEdits.{edited_all, edits_view};
+ghost use Rattle.model.specs.Seats.{is_seat_of, freed};
 ghost use Rattle.model.specs.Session.{destroy_session, destroy_client_id, reclaim_complete};
 ghost use Rattle.wire.specs.Short.{IsRefusal};
+ghost use Rattle.session.specs.Calls.{Refuses};
+ghost use Rattle.session.specs.Plans.{PlansEnd};
 ghost use Rattle.session.specs.Views.{table_of, among};
 
+use crate::edits::edit_seats;
 use crate::table::Table;
+use model::not_done::NotDone;
+use model::seats::{SeatEdit, SeatEdits};
 use model::status::Status;
 
 #[tactic(auto, unfolding(crate::specs::Views::table_of, model::specs::Session::destroy_session, model::specs::Session::destroy_client_id, model::specs::Session::reclaim_complete))]
 impl Table {
-    /// DESTROY_SESSION.
+    /// What DESTROY_SESSION makes of the seats.
     ///
     /// # Errors
-    /// BADSESSION for an unknown session; DELAY where a slot of it runs.
-    pub fn destroy_session(&mut self, id: &[u8; 16]) -> Result<(), Status>
-        ensures answered { destroy_session id.now (table_of self.old)
-            ≡ (result_err result, table_of self.new) }
+    /// BADSESSION for a session that is unknown and has no seat; DELAY where a slot of it runs;
+    /// `Memory` only where neither is so.
+    pub fn plan_end(&self, id: &[u8; 16]) -> Result<SeatEdits, NotDone>
+        ensures planned { PlansEnd id.now (table_of self.now) result }
+        ensures refused { IfErr result Refuses }
+    {
+        self.check_end(id)?;
+        Ok(self.edit_seat(id, SeatEdit::Frees)?)
+    }
+
+    // Why DESTROY_SESSION is refused.
+    fn check_end(&self, id: &[u8; 16]) -> Result<(), Status>
+        ensures answered { result_err result ≡ (destroy_session id.now (table_of self.now)).0 }
         ensures refused { IfErr result IsRefusal }
     {
         let Some(session) = self.sessions.find(id) else {
-            return Err(Status::BadSession);
+            return if self.has_seat(id) {
+                Ok(())
+            } else {
+                Err(Status::BadSession)
+            };
         };
         if session.is_running() {
             return Err(Status::Delay);
         }
-        self.sessions.remove(id);
         Ok(())
+    }
+
+    /// DESTROY_SESSION, where it is not refused, with the edits that were planned. It takes no
+    /// memory.
+    pub fn end_session(&mut self, id: &[u8; 16], edits: SeatEdits)
+        requires { edited_all (edits_view edits) (table_of self.old).seats
+            ≡ freed (is_seat_of id.now) (table_of self.old).seats }
+        ensures { (destroy_session id.now (table_of self.old)).0 ≡ None
+            → table_of self.new ≡ (destroy_session id.now (table_of self.old)).1 }
+    {
+        self.sessions.remove(id);
+        edit_seats(&mut self.seats, edits);
     }
 
     /// DESTROY_CLIENTID, where the clients of `with_opens` have opens.

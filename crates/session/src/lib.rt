@@ -9,19 +9,26 @@ mod client;
 mod clients;
 mod create;
 mod destroy;
+mod edits;
 mod exchange;
 mod flags;
 mod held;
 mod laws;
 mod limits;
+mod plan;
+mod replies;
+mod seating;
 mod sequence;
 mod session;
 mod sessions;
 mod slot;
 mod table;
 
-pub use create::CreatedSession;
+pub use edits::{edit_seats, is_idle};
 pub use laws::every_slot;
-pub use limits::{MAX_CLIENTS, MAX_OPERATIONS, MAX_RECORD_BYTES, MAX_SESSIONS, MAX_SLOTS};
+pub use limits::{
+    MAX_CLIENTS, MAX_OPERATIONS, MAX_RECORD_BYTES, MAX_SEAT_SLOTS, MAX_SESSIONS, MAX_SLOTS,
+};
+pub use plan::{CreatedSession, Creation, NewSession};
 pub use sequence::Begun;
 pub use table::Table;

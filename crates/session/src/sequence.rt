@@ -1,14 +1,16 @@
-//! SEQUENCE (RFC 8881, sections 2.10.6 and 18.46), and the replies that slots keep.
+//! SEQUENCE (RFC 8881, sections 2.10.6 and 18.46).
 
-ghost use Rattle.std.specs.Prelude.{◌≡◌, ◌≤◌, length, IfErr, IfSome};
-ghost use Rattle.std.specs.Option.{option_map};
-ghost use Rattle.model.specs.Session.{finish};
+ghost use Rattle.std.specs.Prelude.{◌≡◌, IfErr};
+ghost use Rattle.std.specs.Result.{result_err};
+ghost use Rattle.model.specs.Seats.{seat_of};
+ghost use Rattle.model.specs.Session.{begin_dead};
 ghost use Rattle.wire.specs.ArgumentViews.{sequence_view};
 ghost use Rattle.wire.specs.Short.{IsRefusal};
 ghost use Rattle.session.specs.Calls.{Begins};
-ghost use Rattle.session.specs.Views.{table_of, reply_kept};
+ghost use Rattle.session.specs.Slots.{refusal_of};
+ghost use Rattle.session.specs.Views.{table_of};
 
-use crate::limits::MAX_RECORD_BYTES;
+use crate::seating::{find_seat, held_of};
 use crate::slot::Next;
 use crate::table::Table;
 use model::status::Status;
@@ -17,9 +19,10 @@ use wire::{SequenceAnswer, SequenceArguments};
 /// What a SEQUENCE that is not refused does.
 #[derive(Clone, Copy, PartialEq, Eq)]
 pub enum Begun {
-    /// The request is a retry: the slot's kept reply answers it, which `Table::kept` gives.
+    /// The request is a retry: the reply that is kept answers it, which `Table::kept` gives.
     Replays,
-    /// The slot runs the request, of the session of this client. `Table::finish` ends it.
+    /// The slot runs the request, of the session of this client. `Table::finish` ends it, or
+    /// `Table::finish_held` where the session has a seat.
     Runs { client: u64, answer: SequenceAnswer },
 }
 
@@ -27,9 +30,10 @@ impl Table {
     /// SEQUENCE by this uid, first in a COMPOUND of `count` operations.
     ///
     /// # Errors
-    /// In this order: BADSESSION; BADSLOT; of a slot whose request runs, DELAY for its number and
-    /// SEQ_MISORDERED for another; SEQ_FALSE_RETRY for the number of a kept reply by another uid;
-    /// SEQ_MISORDERED for a number that is not the next; TOO_MANY_OPS above the session's
+    /// In this order: BADSESSION; DEADSESSION for a session of an earlier run whose seat holds no
+    /// reply to this number by this uid; BADSLOT; of a slot whose request runs, DELAY for its number
+    /// and SEQ_MISORDERED for another; SEQ_FALSE_RETRY for the number of a kept reply by another
+    /// uid; SEQ_MISORDERED for a number that is not the next; TOO_MANY_OPS above the session's
     /// operations. Each leaves the table as it was.
     pub fn begin(
         &mut self,
@@ -42,7 +46,8 @@ impl Table {
         ensures refused { IfErr result IsRefusal }
     {
         let Some(session) = self.sessions.find(&arguments.session) else {
-            return Err(Status::BadSession);
+            self.check_dead(uid, arguments)?;
+            return Ok(Begun::Replays);
         };
         let client = session.client;
         let highest_slot = session.highest_slot();
@@ -62,23 +67,25 @@ impl Table {
         Ok(Begun::Runs { client, answer })
     }
 
-    /// The reply, a whole COMPOUND result, that the slot keeps.
-    #[tactic(auto, unfolding(crate::specs::Views::table_of, crate::specs::Views::reply_kept))]
-    pub fn kept(&self, id: &[u8; 16], slot: u32) -> Option<&[u8]>
-        ensures short { IfSome result (λ bytes. length bytes.now ≤ MAX_RECORD_BYTES) }
-        ensures kept { option_map (λ bytes. bytes.now) result
-            ≡ reply_kept id.now slot (table_of self.now) }
+    // Why SEQUENCE is refused on a session that is none of this run's. What its seat holds is given
+    // to the held number by the held uid.
+    #[tactic(auto, unfolding(crate::specs::Views::table_of))]
+    fn check_dead(&self, uid: u32, arguments: &SequenceArguments) -> Result<(), Status>
+        ensures answered { result_err result ≡ refusal_of
+            (begin_dead uid (sequence_view arguments.now)
+            (seat_of arguments.now.session (table_of self.now).seats)) }
+        ensures refused { IfErr result IsRefusal }
     {
-        self.sessions.find(id)?.kept(slot)
-    }
-
-    /// The slot keeps the reply, whatever it held. Where no session has this id, or the session no
-    /// such slot, nothing changes.
-    #[tactic(auto, unfolding(crate::specs::Views::table_of, model::specs::Session::finish))]
-    pub fn finish(&mut self, id: &[u8; 16], slot: u32, reply: Vec<u8>)
-        requires small { length reply.items ≤ MAX_RECORD_BYTES }
-        ensures { table_of self.new ≡ finish id.now slot reply.items (table_of self.old) }
-    {
-        self.sessions.keep(id, slot, reply);
+        let Some(seat) = find_seat(&self.seats, &arguments.session) else {
+            return Err(Status::BadSession);
+        };
+        let Some(held) = held_of(seat, arguments.slot) else {
+            return Err(Status::DeadSession);
+        };
+        if arguments.sequence == held.number && uid == held.uid {
+            Ok(())
+        } else {
+            Err(Status::DeadSession)
+        }
     }
 }

@@ -36,7 +36,7 @@ impl Session {
     ghost use Rattle.std.specs.Option.{option_map};
     ghost use Rattle.std.specs.Vec.{vec_len};
     ghost use Rattle.model.specs.Seats.{no_seats};
-    ghost use Rattle.model.specs.Session.{is_session, is_of_clients, is_running, no_slot, begin_by, begin_new, with_slot, finished_slot};
+    ghost use Rattle.model.specs.Session.{is_session, is_of_clients, is_running, no_slot, slot_at, begin_by, begin_new, with_slot, finished_slot};
     ghost use Rattle.wire.specs.ArgumentViews.{sequence_view};
     ghost use Rattle.wire.specs.Short.{IsRefusal};
     ghost use Rattle.session.specs.Slots.{slot_of, running_slot, next_of};
@@ -162,6 +162,19 @@ impl Session {
             ≡ reply_at slot (session_of self.now) }
     {
         self.slots.get(slot as usize)?.kept()
+    }
+
+    /// The number of the slot's last request and its uid. Where there is no such slot both are 0.
+    pub fn last(&self, slot: u32) -> (u32, u32)
+        ensures { result ≡ (
+          (slot_at (session_of self.now) slot).last,
+          (slot_at (session_of self.now) slot).uid,
+        ) }
+    {
+        match self.slots.get(slot as usize) {
+            Some(slot) => (slot.last, slot.uid),
+            None => (0, 0),
+        }
     }
 
     /// The highest slot. A session without slots has none, and this is 0.

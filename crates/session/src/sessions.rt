@@ -19,7 +19,7 @@ pub struct Sessions {
 }
 
 impl Sessions {
-    ghost use Rattle.std.specs.Prelude.{◌≡◌, ◌≤◌, ◌<◌, ◌++◌, [], ◌∷◌, length, OnOk, OnErr};
+    ghost use Rattle.std.specs.Prelude.{◌≡◌, ◌≤◌, ◌<◌, ◌++◌, [], ◌∷◌, length, vec_len, vec_capacity, OnOk};
     ghost use Rattle.std.specs.List.{list_any, find, position};
     ghost use Rattle.std.specs.Option.{option_map, option_copied};
     ghost use Rattle.model.specs.Session.{is_session, is_of_client, is_of_clients, without_where, changed_where, with_slot, finished_slot};
@@ -47,6 +47,13 @@ impl Sessions {
             }
         }
         None
+    }
+
+    /// Whether there is a session of this id.
+    pub fn has(&self, id: &[u8; 16]) -> bool
+        ensures { result ≡ list_any (is_session id.now) (sessions_of self.now) }
+    {
+        self.list.iter().any(|session| session.has_id(id))
     }
 
     fn position(&self, id: &[u8; 16]) -> Option<usize>
@@ -95,20 +102,25 @@ impl Sessions {
         self.list.retain(|session| !session.has_id(id));
     }
 
-    /// A new session, of a later serial than those before, in place of those of the ended clients.
-    /// Without memory nothing changes.
-    pub fn add(&mut self, ended: &[u64], session: Session) -> Result<(), AllocError>
-        requires { self.old.serial < session.serial }
-        ensures ok { let staying = without_where (is_of_clients ended.now) (sessions_of self.old) in
-            OnOk result (book_of self.new ≡ (session.serial, staying ++ session_of session ∷ [])) }
-        ensures err { OnErr result (book_of self.new ≡ book_of self.old) }
+    /// Takes the memory for one more session.
+    pub fn reserve(&mut self) -> Result<(), AllocError>
+        ensures same { book_of self.new ≡ book_of self.old }
+        ensures room { OnOk result (vec_len self.new.list < vec_capacity self.new.list) }
     {
-        self.list.reserve(1)?;
+        self.list.reserve(1)
+    }
+
+    /// A new session, of a later serial than those before, in place of those of the ended clients.
+    pub fn add(&mut self, ended: &[u64], session: Session)
+        requires later { self.old.serial < session.serial }
+        requires room { vec_len self.old.list < vec_capacity self.old.list }
+        ensures { let staying = without_where (is_of_clients ended.now) (sessions_of self.old) in
+            book_of self.new ≡ (session.serial, staying ++ session_of session ∷ []) }
+    {
         self.list.retain(|session| !session.is_of(ended));
         self.serial = session.serial;
         if self.list.push(session).is_err() {
             unreachable!();
         }
-        Ok(())
     }
 }

@@ -1,44 +1,47 @@
-use Rattle.std.proofs.Common.{◌≡◌, ℕ, List, [], ◌∷◌, ◌++◌, None, Ok, refl, sym, ap, ◌∙◌}
-use Rattle.std.proofs.lemmas.Result.{err_from_is_err_and}
-use Rattle.model.specs.Operation.{Channel}
-use Rattle.model.specs.Answer.{CreateSessionAnswer}
-use Rattle.model.specs.Session.{Session, is_client, is_replaced_by, is_of_clients, confirmed_with, changed_where, without_where}
-use Rattle.wire.specs.ArgumentViews.{create_session_view}
-use Rattle.wire.specs.SmallViews.{channel_view}
-use Rattle.session.specs.Views.{table_of, table_by, roll_of, book_of, sessions_of, clients_of}
-use Rattle.session.proofs.Opening.{answer_at, session_at, created_is, table_is}
+use Rattle.std.proofs.Common.{◌≡◌, ◌≤◌, ℕ, List, [], ◌∷◌, ◌++◌, sym, ap, ◌∙◌, subst, arith}
+use Rattle.model.specs.Seats.{Seats}
+use Rattle.model.specs.SeatEdits.{edited_all, edits_view}
+use Rattle.model.specs.SeatViews.{seats_view}
+use Rattle.model.specs.Session.{Client as Known, Session, is_client, is_of_clients, is_replaced_by, confirmed_with, changed_where, without_where}
+use Rattle.wire.specs.AnswerViews.{create_session_view}
+use Rattle.session.specs.Given.{AreGiven}
+use Rattle.session.specs.Views.{table_of, table_by, roll_of, book_of, clients_of, sessions_of, session_of}
+use Rattle.session.proofs.Giving.{given_moved}
 use Rattle.session.proofs.table.Table.add_session.Goals as goal
 
-pub returns-in_err-add-clause-answered : goal.returns-in_err-add-clause-answered
+pub add-requires-clause-later : goal.add-requires-clause-later
 unfolding table_of
-returns-in_err-add-clause-answered c client named ended =
-    let p = err_from_is_err_and c.from_residual-in_err-add.result c.from_residual-in_err-add.ensures.1 in
-    rw (p.1, p.2) (refl, ap (table_by (roll_of c.args.self.now.clients)) c.in_err-add.ensures.err)
+add-requires-clause-later c = let next = c.requires.planned.1.opens.serial in omega (arith, next)
 
-pub returns-clause-answered : goal.returns-clause-answered
+pub invariant_of-self : goal.invariant_of-self
 unfolding table_of
-returns-clause-answered c client named ended =
-    let arguments = create_session_view c.args.arguments.now in
+invariant_of-self c =
     let old = c.args.self.now in
-    let number = c.args.arguments.now.client in
-    let fore : Channel = channel_view c.fore_channel-fore.result in
-    let channel = c.fore_channel-fore.ensures in
-    let answer : CreateSessionAnswer = record {
-      session = c.session_id.result;
-      sequence = arguments.sequence;
-      flags = 0;
-      fore = fore;
-      back = record arguments.back { rdma_ird = None };
-    } in
-    let answered : answer ≡ answer_at arguments old.sessions.serial number fore =
-    ap (λ (id : List ℕ). record (answer_at arguments old.sessions.serial number fore) { session = id }) c.session_id.ensures in
-    let ends = c.deref.ensures.value ∙ ended in
-    let made = c.in_ok-session.ensures in
-    let book = c.in_ok-add.ensures.ok ∙ ap (λ (s : Session). (s.serial, without_where (is_of_clients c.deref.result.now) (sessions_of old.sessions) ++ s ∷ [])) made in
-    let roll = c.confirm.ensures client named (c.deref-2.ensures.value ∙ ended) in (
-      ap Ok (created_is arguments client (table_of old) number fore named channel ∙ sym answered),
-      sym ended,
-      table_is arguments client (table_of old) number fore c.deref.result.now answer (session_at old.sessions.serial number fore) named channel ends answered refl
-          ∙ ap (λ book. table_by (old.clients.run, old.clients.serial, changed_where (is_client number) (confirmed_with answer) (without_where (is_replaced_by client) (clients_of old.clients))) book) (sym book)
-          ∙ ap (λ roll. table_by roll (book_of c.add.new.self)) (sym roll),
+    let opens = c.requires.planned.1.opens in
+    let run : c.confirm.new.self.run ≡ old.clients.run =
+    ap (λ (roll : ℕ × ℕ × List Known). roll.0) (c.confirm.ensures opens.client opens.named (c.deref.ensures.value ∙ opens.ends)) in
+    record {
+      counted = subst (λ (n : ℕ). 1 ≤ n) (sym run) old.counted;
+      given = subst (λ (n : ℕ). AreGiven n c.add.new.self.serial (seats_view c.edit_seats.new.seats)) (sym run)
+          (given_moved old.clients.run c.args.plan.session.serial c.add.new.self.serial _ _ (ap (λ (book : ℕ × List Session). book.0) c.add.ensures) c.edit_seats.ensures opens.given);
+    }
+
+pub returns : goal.returns
+unfolding table_of
+returns c wanted planned =
+    let old = c.args.self.now in
+    let opens = planned.opens in
+    let session = c.args.plan.session in
+    let roll = c.confirm.ensures opens.client opens.named (c.deref.ensures.value ∙ opens.ends) in
+    let clients : List Known =
+    changed_where (is_client session.client) (confirmed_with (create_session_view c.args.plan.answer)) (without_where (is_replaced_by opens.client) (clients_of old.clients)) in
+    let seats : Seats = edited_all (edits_view c.args.plan.edits) (seats_view old.seats) in (
+      planned.answer,
+      planned.ended,
+      opens.table
+          ∙ ap (λ (ended : List ℕ). table_by (old.clients.run, old.clients.serial, clients) (session.serial, without_where (is_of_clients ended) (sessions_of old.sessions) ++ session_of session ∷ []) (old.persistent, seats))
+          (sym c.deref-2.ensures.value)
+          ∙ ap (λ (book : ℕ × List Session). table_by (old.clients.run, old.clients.serial, clients) book (old.persistent, seats)) (sym c.add.ensures)
+          ∙ ap (λ (roll : ℕ × ℕ × List Known). table_by roll (book_of c.add.new.self) (old.persistent, seats)) (sym roll)
+          ∙ ap (λ (seats : Seats). table_by (roll_of c.confirm.new.self) (book_of c.add.new.self) (old.persistent, seats)) (sym c.edit_seats.ensures),
     )

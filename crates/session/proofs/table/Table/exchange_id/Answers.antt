@@ -6,7 +6,7 @@ use Rattle.model.specs.Session.{exchange_answer, exchange_flags, has_only, is_un
 use Rattle.wire.specs.ArgumentViews.{exchange_id_view}
 use Rattle.wire.specs.AnswerViews.{exchange_id_view as answer_view}
 use Rattle.session.specs.Calls.{Exchanged}
-use Rattle.session.specs.Views.{table_of, table_by, book_of, client_of, clients_of, among}
+use Rattle.session.specs.Views.{table_of, table_by, book_of, seating_of, client_of, clients_of, among}
 use Rattle.session.proofs.Exchanging.{exchange_inval, exchange_unknown, exchange_other, exchange_same}
 use Rattle.session.proofs.table.Table.exchange_id.Goals as goal
 
@@ -64,5 +64,5 @@ returns-clause-answered c =
     let verifier : bytes_eq c.in-Some.client.now.verifier c.args.arguments.now.verifier ≡ true = search (rules, tests) in
     let told = ap (exchange_answer c.in-Some.client.now.number c.in-Some.client.now.sequence) (sym (c.union-flags.ensures tt)) in
     exchange_same (among c.args.with_opens.now) c.args.uid (exchange_id_view c.args.arguments.now) (table_of c.args.self.now) (client_of c.in-Some.client.now) true flags found same verifier
-    ∙ ap (λ (a : Answered). (Ok a, table_by (c.args.self.now.clients.run, c.args.self.now.clients.serial, without_where (is_unconfirmed_of c.args.arguments.now.owner.now) (clients_of c.args.self.now.clients)) (book_of c.args.self.now.sessions))) (told ∙ sym c.answer-answer.ensures.answered)
-    ∙ ap (λ (roll : ℕ × ℕ × List Known). (Ok (answer_view c.answer-answer.result), table_by roll (book_of c.args.self.now.sessions))) (sym c.remove_unconfirmed.ensures)
+    ∙ ap (λ (a : Answered). (Ok a, table_by (c.args.self.now.clients.run, c.args.self.now.clients.serial, without_where (is_unconfirmed_of c.args.arguments.now.owner.now) (clients_of c.args.self.now.clients)) (book_of c.args.self.now.sessions) (seating_of c.args.self.now))) (told ∙ sym c.answer-answer.ensures.answered)
+    ∙ ap (λ (roll : ℕ × ℕ × List Known). (Ok (answer_view c.answer-answer.result), table_by roll (book_of c.args.self.now.sessions) (seating_of c.args.self.now))) (sym c.remove_unconfirmed.ensures)

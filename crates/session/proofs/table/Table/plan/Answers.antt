@@ -1,47 +1,46 @@
-use Rattle.std.proofs.Common.{◌≡◌, ◌==◌, true, false, refl, sym, ap, ◌∙◌, subst, rules, tests, arith}
+use Rattle.std.proofs.Common.{◌≡◌, ◌==◌, ◌+◌, ◌*◌, ◌^◌, ◌<◌, ◌≤◌, true, false, sym, ap, ◌∙◌, subst, rules, tests, arith}
 use Rattle.std.specs.Option.{option_map, option_copied}
 use Rattle.std.specs.Result.{result_err}
 use Rattle.std.proofs.lemmas.Result.{err_from_is_err_and}
-use Rattle.std.proofs.lemmas.Bool.{eqb-true}
 use Rattle.model.specs.Session.{Client as Known, CreateSessionOutcome, create_unless, is_client}
-use Rattle.model.proofs.TableCalls.{found_passes}
 use Rattle.wire.specs.ArgumentViews.{create_session_view}
 use Rattle.wire.specs.AnswerViews.{create_session_view as answer_view}
-use Rattle.session.specs.Calls.{Created}
+use Rattle.session.specs.Plans.{IsPlanned}
 use Rattle.session.specs.Limits.{served}
-use Rattle.session.specs.Views.{table_of, client_of, clients_of}
+use Rattle.session.specs.Views.{table_of, client_of}
+use Rattle.session.proofs.Lists.{find_all}
 use Rattle.session.proofs.Creating.{create_unknown, create_other, create_same, repeats, counts, refused_by_arguments, refused_by_room, serial_left}
-use Rattle.session.proofs.table.Table.create_session.Goals as goal
+use Rattle.session.proofs.table.Table.plan.Goals as goal
 
-pub returns-in_default-clause-answered : goal.returns-in_default-clause-answered
+pub returns-in_default-clause-planned : goal.returns-in_default-clause-planned
 unfolding table_of
-returns-in_default-clause-answered c =
+returns-in_default-clause-planned c =
     let found = sym c.find.ensures ∙ ap (λ r. option_map client_of (option_copied r)) c.in_default.is in
     let e = create_unknown c.args.uid (create_session_view c.args.arguments.now) (table_of c.args.self.now) found in
-    (ap (λ (o : CreateSessionOutcome). o.answer) e, ap (λ (o : CreateSessionOutcome). o.table) e)
+    e
 
-pub returns-then-client-uid-clause-answered : goal.returns-then-client-uid-clause-answered
+pub returns-then-client-uid-clause-planned : goal.returns-then-client-uid-clause-planned
 unfolding table_of
-returns-then-client-uid-clause-answered c =
+returns-then-client-uid-clause-planned c =
     let found = sym c.find.ensures ∙ ap (λ r. option_map client_of (option_copied r)) c.in-Some.is in
     let other : (c.in-Some.client.now.principal == c.args.uid) ≡ false = search (rules, tests) in
     let e = create_other c.args.uid (create_session_view c.args.arguments.now) (table_of c.args.self.now) (client_of c.in-Some.client.now) found other in
-    (ap (λ (o : CreateSessionOutcome). o.answer) e, ap (λ (o : CreateSessionOutcome). o.table) e)
+    e
 
-pub returns-in-Some-repeated-clause-answered : goal.returns-in-Some-repeated-clause-answered
+pub returns-in-Some-repeated-clause-planned : goal.returns-in-Some-repeated-clause-planned
 unfolding table_of
-returns-in-Some-repeated-clause-answered c =
+returns-in-Some-repeated-clause-planned c =
     let arguments = create_session_view c.args.arguments.now in
     let client : Known = client_of c.in-Some.client.now in
     let found = sym c.find.ensures ∙ ap (λ r. option_map client_of (option_copied r)) c.in-Some.is in
     let same : (c.in-Some.client.now.principal == c.args.uid) ≡ true = search (rules, tests) in
     let e = create_same c.args.uid arguments (table_of c.args.self.now) client found same
     ∙ repeats answer_view arguments client (table_of c.args.self.now) c.in-Some.client.now.kept c.in-Some-repeated.answer (sym c.repeated.ensures ∙ c.in-Some-repeated.is) in
-    (ap (λ (o : CreateSessionOutcome). o.answer) e, ap (λ (o : CreateSessionOutcome). o.ended_clients) e ∙ search rules, ap (λ (o : CreateSessionOutcome). o.table) e)
+    e
 
-pub returns-in_err-check_arguments-clause-answered : goal.returns-in_err-check_arguments-clause-answered
+pub returns-in_err-check_arguments-clause-planned : goal.returns-in_err-check_arguments-clause-planned
 unfolding table_of
-returns-in_err-check_arguments-clause-answered c =
+returns-in_err-check_arguments-clause-planned c =
     let arguments = create_session_view c.args.arguments.now in
     let client : Known = client_of c.in-Some.client.now in
     let found = sym c.find.ensures ∙ ap (λ r. option_map client_of (option_copied r)) c.in-Some.is in
@@ -51,11 +50,11 @@ returns-in_err-check_arguments-clause-answered c =
     ∙ counts answer_view arguments client (table_of c.args.self.now) c.in-Some.client.now.kept (sym c.repeated.ensures ∙ c.in_default-repeated.is)
     ∙ ap (create_unless served arguments client (table_of c.args.self.now)) refused in
     let p = err_from_is_err_and c.from_residual.result c.from_residual.ensures.1 in
-    rw (p.1, p.2) (ap (λ (o : CreateSessionOutcome). o.answer) e, ap (λ (o : CreateSessionOutcome). o.table) e)
+    rw (p.1, p.2) e
 
-pub returns-in_err-check_room-clause-answered : goal.returns-in_err-check_room-clause-answered
+pub returns-in_err-check_room-clause-planned : goal.returns-in_err-check_room-clause-planned
 unfolding table_of
-returns-in_err-check_room-clause-answered c =
+returns-in_err-check_room-clause-planned c =
     let arguments = create_session_view c.args.arguments.now in
     let client : Known = client_of c.in-Some.client.now in
     let found = sym c.find.ensures ∙ ap (λ r. option_map client_of (option_copied r)) c.in-Some.is in
@@ -66,11 +65,11 @@ returns-in_err-check_room-clause-answered c =
     ∙ counts answer_view arguments client (table_of c.args.self.now) c.in-Some.client.now.kept (sym c.repeated.ensures ∙ c.in_default-repeated.is)
     ∙ ap (create_unless served arguments client (table_of c.args.self.now)) refused in
     let p = err_from_is_err_and c.from_residual-in_err-check_room.result c.from_residual-in_err-check_room.ensures.1 in
-    rw (p.1, p.2) (ap (λ (o : CreateSessionOutcome). o.answer) e, ap (λ (o : CreateSessionOutcome). o.table) e)
+    rw (p.1, p.2) e
 
-pub returns-in_err-ended-clause-answered : goal.returns-in_err-ended-clause-answered
+pub returns-in_err-plan-clause-planned : goal.returns-in_err-plan-clause-planned
 unfolding table_of
-returns-in_err-ended-clause-answered c =
+returns-in_err-plan-clause-planned c =
     let arguments = create_session_view c.args.arguments.now in
     let client : Known = client_of c.in-Some.client.now in
     let found = sym c.find.ensures ∙ ap (λ r. option_map client_of (option_copied r)) c.in-Some.is in
@@ -80,18 +79,28 @@ returns-in_err-ended-clause-answered c =
     let e = create_same c.args.uid arguments (table_of c.args.self.now) client found same
     ∙ counts answer_view arguments client (table_of c.args.self.now) c.in-Some.client.now.kept (sym c.repeated.ensures ∙ c.in_default-repeated.is)
     ∙ ap (create_unless served arguments client (table_of c.args.self.now)) room in
-    let p = err_from_is_err_and c.from_residual-in_err-ended.result c.from_residual-in_err-ended.ensures.1 in
-    rw (p.1, p.2) (ap (λ (o : CreateSessionOutcome). o.table.session_serial) e, refl)
+    let p = err_from_is_err_and c.from_residual-in_err-plan.result c.from_residual-in_err-plan.ensures.1 in
+    rw (p.1, p.2) (ap (λ (o : CreateSessionOutcome). o.table.session_serial) e)
 
-pub add_session-requires : goal.add_session-requires
+pub plan_new-requires-clause-serial : goal.plan_new-requires-clause-serial
 unfolding table_of
-add_session-requires c =
+plan_new-requires-clause-serial c =
     let left = serial_left (client_of c.in-Some.client.now) (table_of c.args.self.now) (sym c.check_room.ensures.first ∙ ap result_err c.in_ok-check_room.was) in
     omega arith
 
-pub returns-clause-answered : goal.returns-clause-answered
+pub plan_new-requires-clause-known : goal.plan_new-requires-clause-known
 unfolding table_of
-returns-clause-answered c =
+plan_new-requires-clause-known c =
+    let clients = c.args.self.now.clients in
+    let client : Known = client_of c.in-Some.client.now in
+    let found = sym c.find.ensures ∙ ap (λ r. option_map client_of (option_copied r)) c.in-Some.is in (
+      find_all client_of (is_client c.args.arguments.now.client) (λ (known : Known). clients.run * 2 ^ 32 < known.number) clients.list.items clients.of_run client found,
+      find_all client_of (is_client c.args.arguments.now.client) (λ (known : Known). known.number ≤ clients.run * 2 ^ 32 + clients.serial) clients.list.items clients.made client found,
+    )
+
+pub returns-clause-planned : goal.returns-clause-planned
+unfolding table_of
+returns-clause-planned c =
     let arguments = create_session_view c.args.arguments.now in
     let client : Known = client_of c.in-Some.client.now in
     let found = sym c.find.ensures ∙ ap (λ r. option_map client_of (option_copied r)) c.in-Some.is in
@@ -101,6 +110,4 @@ returns-clause-answered c =
     let e = create_same c.args.uid arguments (table_of c.args.self.now) client found same
     ∙ counts answer_view arguments client (table_of c.args.self.now) c.in-Some.client.now.kept (sym c.repeated.ensures ∙ c.in_default-repeated.is)
     ∙ ap (create_unless served arguments client (table_of c.args.self.now)) room in
-    let named : client.number ≡ c.args.arguments.now.client = eqb-true _ _ (found_passes (is_client c.args.arguments.now.client) (clients_of c.args.self.now.clients) client found) in
-    subst (λ (wanted : CreateSessionOutcome). Created wanted (table_of c.args.self.now) (table_of c.add_session.new.self) c.add_session.result) (sym e)
-    (c.add_session.ensures.answered client named c.in_ok-ended.ensures)
+    subst (λ (wanted : CreateSessionOutcome). IsPlanned wanted (table_of c.args.self.now) c.in_ok-plan.plan) (sym e) c.in_ok-plan.ensures

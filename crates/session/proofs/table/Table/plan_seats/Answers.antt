@@ -1,0 +1,21 @@
+use Rattle.std.proofs.Common.{List, map, set, sym, ap, ◌∙◌}
+use Rattle.std.proofs.lemmas.List.{map-set}
+use Rattle.model.specs.Seats.{Seat}
+use Rattle.model.specs.declared.seats.SeatEdit.TheVariants as edits
+use Rattle.model.specs.SeatEdits.{SeatEdit, Takes, edit_view}
+use Rattle.model.specs.SeatViews.{seat_view, seats_view}
+use Rattle.model.specs.Session.{gives_way}
+use Rattle.session.specs.Seating.{freeing, seat_with, edits_with}
+use Rattle.session.specs.Views.{table_of, client_of}
+use Rattle.session.proofs.table.Table.plan_seats.Goals as goal
+
+pub returns : goal.returns
+unfolding table_of
+returns c =
+    let gone = gives_way (client_of c.args.client.now) (table_of c.args.self.now) in
+    let seats = seats_view c.args.self.now.seats in
+    let seat = seat_with (client_of c.args.client.now) c.args.id c.args.slots in
+    map-set edit_view c.in_ok-edits.edits.list.items c.in-Some.place (edits.Takes c.in_ok-new_seat.field-0)
+    ∙ ap (λ (edits : List SeatEdit). set edits c.in-Some.place (Takes (seat_view c.in_ok-new_seat.field-0))) c.in_ok-edits.ensures
+    ∙ ap (λ (seat : Seat). set (map (freeing gone) seats) c.in-Some.place (Takes seat)) c.in_ok-new_seat.ensures
+    ∙ ap (λ place. edits_with gone place seat seats) (sym c.in-Some.is)

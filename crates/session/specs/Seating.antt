@@ -1,0 +1,61 @@
+-- Which seats change.
+use Rattle.std.specs.Prelude.{◌≡◌, ℕ, ◌%◌, Bool, true, false, ◌&&◌, ◌==◌, if◌then◌else◌, List, map, position, replicate, slice_set, length, nat_lt, Option, None, Some}
+use Rattle.std.specs.Option.{option_map}
+use Rattle.model.specs.Operation.{CreateSessionArguments}
+use Rattle.model.specs.Seats.{Seat, Seats, is_seat_of, held_in}
+use Rattle.model.specs.SeatEdits.{SeatEdit, Stays, Frees, Takes, edited, edited_all, CanEditAll}
+use Rattle.model.specs.Session.{Client, Table, gives_way}
+
+-- The seat of one session
+
+abbrev pub is_place_of : List ℕ → Option Seat → Bool
+is_place_of id None = false
+is_place_of id (Some seat) = is_seat_of id seat
+
+abbrev pub edited_if : List ℕ → SeatEdit → Option Seat → Option Seat
+edited_if id edit place = if is_place_of id place then edited edit place else place
+
+-- what it holds of a slot
+abbrev pub reply_held : ℕ → Option Seat → Option (List ℕ)
+reply_held place seat = option_map (λ held. held.result) (held_in place seat)
+
+abbrev pub has_held_slot : ℕ → Option Seat → Bool
+has_held_slot place None = false
+has_held_slot place (Some seat) = nat_lt place (length seat.slots)
+
+-- the edits change that one alone
+pub record EditsOne (id : List ℕ) (edit : SeatEdit) (seats : Seats)
+    (edits : List SeatEdit) : Type 0 where
+  pub edited : edited_all edits seats ≡ map (edited_if id edit) seats
+  pub can : CanEditAll edits seats
+
+-- Seats that give way
+
+abbrev pub freeing : (Seat → Bool) → Option Seat → SeatEdit
+freeing gone None = Stays
+freeing gone (Some seat) = if gone seat then Frees else Stays
+
+-- the place is free then
+abbrev pub is_left_free : (Seat → Bool) → Option Seat → Bool
+is_left_free gone None = true
+is_left_free gone (Some seat) = gone seat
+
+-- where the new session's seat will stand
+abbrev pub place_for : CreateSessionArguments → Client → Table → Option ℕ
+place_for arguments client table =
+    if table.persistent && arguments.flags % 2 == 1
+    then position (is_left_free (gives_way client table)) table.seats
+    else None
+
+-- a seat of the client's, which holds no reply
+abbrev pub seat_with : Client → (id : List ℕ) → (slots : ℕ) → Seat
+seat_with client id slots = record {
+  session = id;
+  owner = client.owner;
+  principal = client.principal;
+  slots = replicate slots None;
+}
+
+abbrev pub edits_with : (Seat → Bool) → Option ℕ → Seat → Seats → List SeatEdit
+edits_with gone None seat seats = map (freeing gone) seats
+edits_with gone (Some place) seat seats = slice_set (map (freeing gone) seats) place (Takes seat)

@@ -1,0 +1,217 @@
+//! Which seats change where a session is made or ends, and where a reply is held (RFC 8881, section
+//! 2.10.6.5).
+
+ghost use Rattle.std.specs.Prelude.{◌≡◌, ◌≤◌, ◌<◌, map, position, replicate, None, Some, IfSome, IfOk};
+ghost use Rattle.std.specs.List.{list_any};
+ghost use Rattle.std.specs.Option.{option_map, option_copied};
+ghost use Rattle.model.specs.SeatEdits.{edit_view, edits_view, CanEdit};
+ghost use Rattle.model.specs.Seats.{Seat as KnownSeat, seat_of, has_seat, held_in};
+ghost use Rattle.model.specs.SeatViews.{held_view, seat_view, place_view, seats_view};
+ghost use Rattle.model.specs.Session.{gives_way, is_session, staying};
+ghost use Rattle.wire.specs.ArgumentViews.{create_session_view};
+ghost use Rattle.session.specs.Seating.{EditsOne, is_place_of, freeing, is_left_free, place_for, seat_with, edits_with};
+ghost use Rattle.session.specs.Views.{table_of, client_of};
+
+use crate::client::Client;
+use crate::edits::idle_edits;
+use crate::flags::SessionFlags;
+use crate::table::Table;
+use bitflags::Flags;
+use model::seats::{HeldReply, Seat, SeatEdit, SeatEdits, Seats};
+use std::alloc::{AllocError, Global};
+use wire::CreateSessionArguments;
+
+#[tactic(auto, unfolding(crate::specs::Views::table_of))]
+impl Table {
+    /// Whether the session of this id has a seat.
+    pub fn has_seat(&self, id: &[u8; 16]) -> bool
+        ensures { result ≡ has_seat id.now (table_of self.now).seats }
+    {
+        find_seat(&self.seats, id).is_some()
+    }
+
+    // Whether the seat gives way to a session of the client.
+    fn gives_way(&self, client: &Client, seat: &Seat) -> bool
+        ensures { result
+            ≡ gives_way (client_of client.now) (table_of self.now) (seat_view seat.now) }
+    {
+        if self.sessions.has(&seat.session) {
+            !self.is_staying(client, &seat.session)
+        } else {
+            seat.owner.as_slice() == client.owner.as_slice() && seat.principal == client.principal
+        }
+    }
+
+    // Whether this is a session that stays where one of the client is made.
+    fn is_staying(&self, client: &Client, id: &[u8; 16]) -> bool
+        ensures { result ≡ list_any (is_session id.now)
+            (staying (client_of client.now) (table_of self.now)) }
+    {
+        let clients = &self.clients;
+        self.sessions.list.iter().any(|session| !clients.is_ending(client, session.client)
+            && session.has_id(id))
+    }
+
+    /// The place of the seat that a new session of the client gets, if it gets one.
+    pub(crate) fn place_for(
+        &self,
+        client: &Client,
+        arguments: &CreateSessionArguments<'_>,
+    ) -> Option<usize>
+        ensures { result ≡ place_for (create_session_view arguments.now) (client_of client.now)
+            (table_of self.now) }
+    {
+        let flags = SessionFlags::from_bits_retain(arguments.flags);
+        if !self.persistent || !flags.contains(SessionFlags::PERSIST) {
+            return None;
+        }
+        self.first_left_free(client)
+    }
+
+    fn first_left_free(&self, client: &Client) -> Option<usize>
+        ensures { result ≡ position (is_left_free (gives_way (client_of client.now)
+            (table_of self.now))) (table_of self.now).seats }
+    {
+        self.seats
+            .places
+            .iter()
+            .position(|place| self.is_left_free(client, place))
+    }
+
+    // Whether the place is free once the seats that give way are.
+    fn is_left_free(&self, client: &Client, place: &Option<Seat>) -> bool
+        ensures { result ≡ is_left_free (gives_way (client_of client.now) (table_of self.now))
+            (place_view place.now) }
+    {
+        match place {
+            Some(seat) => self.gives_way(client, seat),
+            None => true,
+        }
+    }
+
+    /// What becomes of the seats where the client gets a session of this id and of so many slots,
+    /// whose seat is to stand at `place`.
+    pub(crate) fn plan_seats(
+        &self,
+        client: &Client,
+        id: [u8; 16],
+        slots: u32,
+        place: Option<usize>,
+    ) -> Result<SeatEdits, AllocError>
+        requires place { IfSome place (λ at. at < 5) }
+        requires some { 1 ≤ slots }
+        requires few { IfSome place (λ _. slots ≤ 2) }
+        ensures { IfOk result (λ edits. edits_view edits
+            ≡ edits_with (gives_way (client_of client.now) (table_of self.now)) place
+            (seat_with (client_of client.now) id slots) (table_of self.now).seats) }
+    {
+        let mut edits = self.free_seats(client)?;
+        let Some(place) = place else {
+            return Ok(edits);
+        };
+        edits.list[place] = SeatEdit::Takes(new_seat(self.alloc, client, id, slots)?);
+        Ok(edits)
+    }
+
+    // The seats that give way to a session of the client are freed.
+    fn free_seats(&self, client: &Client) -> Result<SeatEdits, AllocError>
+        ensures { IfOk result (λ edits. edits_view edits
+            ≡ map (freeing (gives_way (client_of client.now) (table_of self.now)))
+            (table_of self.now).seats) }
+    {
+        let mut list = Vec::new(self.alloc);
+        for place in &self.seats.places {
+            list.push(self.free_place(client, place))?;
+        }
+        Ok(SeatEdits { list })
+    }
+
+    fn free_place(&self, client: &Client, place: &Option<Seat>) -> SeatEdit
+        ensures { edit_view result ≡ freeing (gives_way (client_of client.now) (table_of self.now))
+            (place_view place.now) }
+    {
+        match place {
+            Some(seat) if self.gives_way(client, seat) => SeatEdit::Frees,
+            Some(_) | None => SeatEdit::Stays,
+        }
+    }
+
+    /// This edit of the session's seat, and no other. Where it has none each place stays.
+    pub(crate) fn edit_seat(&self, id: &[u8; 16], edit: SeatEdit) -> Result<SeatEdits, AllocError>
+        requires { (seat : KnownSeat) → seat_of id.now (table_of self.now).seats ≡ Some seat
+            → CanEdit (edit_view edit) (Some seat) }
+        ensures { IfOk result (λ edits. EditsOne id.now (edit_view edit)
+            (table_of self.now).seats (edits_view edits)) }
+    {
+        let mut edits = idle_edits(self.alloc)?;
+        let Some(place) = place_of(&self.seats, id) else {
+            return Ok(edits);
+        };
+        edits.list[place] = edit;
+        Ok(edits)
+    }
+}
+
+/// The seat of the session of this id.
+pub(crate) fn find_seat<'a>(seats: &'a Seats, id: &[u8; 16]) -> Option<&'a Seat>
+    ensures { option_map seat_view (option_copied result) ≡ seat_of id.now (seats_view seats.now) }
+{
+    for place in &seats.places {
+        if let Some(seat) = place {
+            if seat.session == *id {
+                return Some(seat);
+            }
+        }
+    }
+    None
+}
+
+/// The reply that the seat holds of this slot.
+pub(crate) fn held_of(seat: &Seat, slot: u32) -> Option<&HeldReply>
+    ensures { option_map held_view (option_copied result)
+        ≡ held_in slot (Some (seat_view seat.now)) }
+{
+    seat.slots.get(slot as usize)?.as_ref()
+}
+
+// The place of the seat of the session of this id.
+fn place_of(seats: &Seats, id: &[u8; 16]) -> Option<usize>
+    ensures { result ≡ position (is_place_of id.now) (seats_view seats.now) }
+{
+    seats.places.iter().position(|place| is_place_of(place, id))
+}
+
+fn is_place_of(place: &Option<Seat>, id: &[u8; 16]) -> bool
+    ensures { result ≡ is_place_of id.now (place_view place.now) }
+{
+    match place {
+        Some(seat) => seat.session == *id,
+        None => false,
+    }
+}
+
+// The seat of a new session of the client, which holds no reply.
+fn new_seat(alloc: Global, client: &Client, id: [u8; 16], slots: u32) -> Result<Seat, AllocError>
+    requires some { 1 ≤ slots }
+    requires few { slots ≤ 2 }
+    ensures { IfOk result (λ seat. seat_view seat ≡ seat_with (client_of client.now) id slots) }
+{
+    let owner = Vec::from_slice(alloc, &client.owner)?;
+    let slots = nothing_held(alloc, slots)?;
+    Ok(Seat {
+        session: id,
+        owner,
+        principal: client.principal,
+        slots,
+    })
+}
+
+fn nothing_held(alloc: Global, slots: u32) -> Result<Vec<Option<HeldReply>>, AllocError>
+    ensures { IfOk result (λ held. map (option_map held_view) held.items ≡ replicate slots None) }
+{
+    let mut held = Vec::new(alloc);
+    for _slot in 0..slots {
+        held.push(None)?;
+    }
+    Ok(held)
+}
