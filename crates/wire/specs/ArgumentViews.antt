@@ -28,7 +28,7 @@ use Rattle.wire.specs.declared.open.ExclusiveCreate.TheVariants as exclusive
 use Rattle.wire.specs.declared.open.Opening.{Opening}
 use Rattle.wire.specs.declared.open.Opening.TheVariants as openings
 use Rattle.wire.specs.declared.open.OpenArguments.{OpenArguments}
-use Rattle.wire.specs.declared.session.ExchangeIdArguments.{ExchangeIdArguments}
+use Rattle.wire.specs.declared.exchange.ExchangeIdArguments.{ExchangeIdArguments}
 use Rattle.wire.specs.declared.session.CreateSessionArguments.{CreateSessionArguments}
 use Rattle.wire.specs.declared.session.SequenceArguments.{SequenceArguments}
 use Rattle.wire.specs.SmallViews.{state_view, attributes_view, channel_view, implementation_view, security_view}

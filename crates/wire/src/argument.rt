@@ -10,11 +10,12 @@ ghost use Rattle.wire.specs.Numbers.{number_of};
 ghost use Rattle.wire.specs.ArgumentView.{argument_view};
 
 use crate::directory::{CreateArguments, ReadDirArguments, RenameArguments};
+use crate::exchange::ExchangeIdArguments;
 use crate::file::{
     CloseArguments, CommitArguments, ReadArguments, SetAttrArguments, WriteArguments,
 };
 use crate::open::OpenArguments;
-use crate::session::{CreateSessionArguments, ExchangeIdArguments, SequenceArguments};
+use crate::session::{CreateSessionArguments, SequenceArguments};
 use crate::small::{ANY_LENGTH, Bitmap};
 use std::alloc::Global;
 use xdr::{Reader, Refusal, Words};

@@ -7,6 +7,7 @@ mod answers;
 mod argument;
 mod created;
 mod directory;
+mod exchange;
 mod file;
 mod fits;
 mod laws;
@@ -22,13 +23,14 @@ pub use answers::{
 };
 pub use argument::{Argument, MAX_HANDLE_BYTES, Operation};
 pub use directory::{CreateArguments, ReadDirArguments, RenameArguments};
+pub use exchange::ExchangeIdArguments;
 pub use file::{
     CloseArguments, CommitArguments, ReadArguments, SetAttrArguments, StableHow, WriteArguments,
 };
 pub use laws::{arguments_are_exact, outcomes_are_exact};
 pub use open::{Claim, ExclusiveCreate, OpenArguments, OpenType, Opening};
 pub use outcome::{Answer, Outcome};
-pub use session::{CreateSessionArguments, ExchangeIdArguments, SequenceArguments};
+pub use session::{CreateSessionArguments, SequenceArguments};
 pub use small::{
     ANY_LENGTH, Attributes, Bitmap, CallbackSecurity, ChangeInfo, Channel, Implementation, StateId,
     SystemCredential, read_trimmed, trimmed,

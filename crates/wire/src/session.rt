@@ -1,64 +1,19 @@
-//! Arguments of the operations on clients and sessions (RFC 8881, section 18).
+//! Arguments of the operations on sessions (RFC 8881, section 18).
 
-ghost use Rattle.std.specs.Option.{option_map};
 ghost use Rattle.std.specs.Prelude.{map};
 ghost use Rattle.xdr.specs.Clauses.{Scans, Reads};
-ghost use Rattle.xdr.specs.Forms.{optional, array};
-ghost use Rattle.model.specs.WireTypes.{implementation, callback_security};
-ghost use Rattle.model.specs.WireArguments.{exchange_id_arguments, create_session_arguments, sequence_arguments};
-ghost use Rattle.wire.specs.SmallViews.{implementation_view, security_view};
-ghost use Rattle.wire.specs.ArgumentViews.{exchange_id_view, create_session_view, sequence_view, ReadsSecurities};
+ghost use Rattle.xdr.specs.Forms.{array};
+ghost use Rattle.model.specs.WireTypes.{callback_security};
+ghost use Rattle.model.specs.WireArguments.{create_session_arguments, sequence_arguments};
+ghost use Rattle.wire.specs.SmallViews.{security_view};
+ghost use Rattle.wire.specs.ArgumentViews.{create_session_view, sequence_view, ReadsSecurities};
 
-use crate::small::{CallbackSecurity, Channel, Implementation, MAX_OWNER_BYTES};
+use crate::small::{CallbackSecurity, Channel};
 use std::alloc::Global;
 use xdr::{Reader, Refusal};
 
 /// The most security parameters for callbacks that are read.
 const MAX_SECURITIES: u32 = 4;
-
-/// `EXCHANGE_ID4args`, with the state protection SP4_NONE.
-#[derive(Drop)]
-pub struct ExchangeIdArguments<'a> {
-    pub verifier: [u8; 8],
-    pub owner: &'a [u8],
-    pub flags: u32,
-    pub implementation: Option<Implementation<'a>>,
-}
-
-impl<'a> ExchangeIdArguments<'a> {
-    /// Reads them.
-    pub fn read(r: &mut Reader<'a>) -> Result<ExchangeIdArguments<'a>, Refusal>
-        ensures { Scans exchange_id_view (exchange_id_arguments.read) r.old r.new result }
-    {
-        let mut at = r.fork();
-        let verifier = at.read_array()?;
-        let owner = at.read_opaque(MAX_OWNER_BYTES)?;
-        let flags = at.read_u32()?;
-        at.read_always(0)?;
-        let implementation = read_implementation(&mut at)?;
-        *r = at;
-        Ok(ExchangeIdArguments {
-            verifier,
-            owner,
-            flags,
-            implementation,
-        })
-    }
-}
-
-fn read_implementation<'a>(r: &mut Reader<'a>) -> Result<Option<Implementation<'a>>, Refusal>
-    ensures { Scans (λ o. option_map implementation_view o)
-        ((optional implementation).read) r.old r.new result }
-{
-    let mut at = r.fork();
-    let found = match at.read_u32()? {
-        0 => None,
-        1 => Some(Implementation::read(&mut at)?),
-        _ => return Err(Refusal::Long),
-    };
-    *r = at;
-    Ok(found)
-}
 
 /// `CREATE_SESSION4args`.
 #[derive(Drop)]

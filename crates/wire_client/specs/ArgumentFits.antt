@@ -16,7 +16,7 @@ use Rattle.wire.specs.declared.open.Claim.TheVariants as claims
 use Rattle.wire.specs.declared.open.Opening.{Opening}
 use Rattle.wire.specs.declared.open.Opening.TheVariants as openings
 use Rattle.wire.specs.declared.open.OpenArguments.{OpenArguments}
-use Rattle.wire.specs.declared.session.ExchangeIdArguments.{ExchangeIdArguments}
+use Rattle.wire.specs.declared.exchange.ExchangeIdArguments.{ExchangeIdArguments}
 use Rattle.wire.specs.declared.session.CreateSessionArguments.{CreateSessionArguments}
 use Rattle.wire.specs.declared.argument.Argument.{Argument}
 use Rattle.wire.specs.declared.argument.Argument.TheVariants as argument
