@@ -1,3 +1,4 @@
+pub mod Agreeing
 pub mod BesideLaws
 pub mod Changing
 pub mod CloseLaws
@@ -21,12 +22,13 @@ pub mod Rooms
 pub mod Sequencing
 pub mod SettingLaws
 pub mod Stepping
+pub mod Storing
 pub mod Tables
+pub mod TablesGo
 pub mod Telling
 pub mod Tellings
 pub mod Trees
 pub mod Turning
-pub mod Unseated
 pub mod VerdictLaws
 pub mod VolumeLaws
 pub mod WriteLaws

@@ -1,5 +1,5 @@
 -- What an OPEN comes to that is served.
-use Rattle.std.proofs.Common.{◌≡◌, ◌+◌, ℕ, Bool, true, false, if◌then◌else◌, cond, find, List, [], ◌∷◌, ◌++◌, length, nat_le, Option, Some, None, Result, Ok, Err, refl, sym, ap, ap₂, subst, ◌∙◌, arith, length-append}
+use Rattle.std.proofs.Common.{◌≡◌, ◌+◌, ℕ, Bool, true, false, if◌then◌else◌, List, [], ◌∷◌, ◌++◌, length, nat_le, Option, Some, None, Result, Ok, Err, refl, sym, ap, ap₂, ◌∙◌, arith, length-append}
 use Rattle.std.proofs.lemmas.Bool.{and_parts, eqb-true}
 use Rattle.std.specs.Int.{w32, w64, to_be_bytes}
 use Rattle.xdr.specs.Forms.{padded, padding, trimmed_bitmap}
@@ -173,7 +173,7 @@ pub open_still : {T : Type 0} (keeps_word : Type 0) (state : SharedState) (faile
     → Changes keeps_word (OperationGives state request now (Argument.Open arguments)) state.files state.files failed failed (ending result)
 open_still keeps_word state failed request now arguments (Ok done) up still memory =
     answers_quietly keeps_word (OperationGives state request now (Argument.Open arguments)) state.files state.files failed failed refl refl up
-    (operation_stays state request now (Argument.Open arguments))
+    (λ keeps. operation_stays state request now (Argument.Open arguments))
     (λ after lasting gives. gives.lasting_is ∙ quiet_ran gives.world (with_rest request gives.rest) arguments
     (run_in_room gives.world (with_rest request gives.rest) now (Argument.Open arguments)) (still (state_of gives.world (with_rest request gives.rest))))
 open_still keeps_word state failed request now arguments (Err faults.Memory) up still memory =

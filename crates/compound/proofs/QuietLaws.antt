@@ -1,8 +1,10 @@
 -- Calls that leave the tree as it is.
-use Rattle.std.proofs.Common.{◌≡◌, ◌≤◌, ℕ, Bool, true, false, sym, ap, ap₂, ◌∙◌, subst, inl, arith}
+use Rattle.std.proofs.Common.{◌≡◌, ℕ, Bool, true, false, sym, ap, ap₂, ◌∙◌, subst, inl, inr, ⊎_elim, arith}
 use Rattle.layout.specs.Stands.{Kept}
-use Rattle.volume.specs.Changes.{Given, Done, Nothing, Broken}
+use Rattle.volume.specs.Changes.{Given, Ending, Done, Nothing, Broken, EndsAs}
 use Rattle.volume.specs.Held.{Held, IsSameVolume, IsRecent, AddsTrees}
+use Rattle.volume.specs.Shown.{ShowsAs}
+use Rattle.model.specs.Tree.{Tree}
 use Rattle.fs.specs.Changes.{Changes}
 use Rattle.fs.specs.FileSystem.{FileSystem}
 
@@ -34,7 +36,7 @@ leaves_all keeps_word given old new before after same told =
 
 -- one that answered, and neither changed the volume nor has to last
 pub answers_quietly : (keeps_word : Type 0) (given : Given) (old new : FileSystem) (before after : ℕ) → new ≡ old → after ≡ before → old.volume.is_down ≡ false
-    → ((kept : Kept) (lasts : Bool) → given kept lasts → kept.seats ≡ old.volume.seats) → ((kept : Kept) (lasts : Bool) → given kept lasts → lasts ≡ false)
+    → (keeps_word → (kept : Kept) (lasts : Bool) → given kept lasts → kept.seats ≡ old.volume.seats) → ((kept : Kept) (lasts : Bool) → given kept lasts → lasts ≡ false)
     → Changes keeps_word given old new before after Done
 answers_quietly keeps_word given old new before after same told up stays quiet =
     let held : new.volume ≡ old.volume = ap (λ (f : FileSystem). f.volume) same in
@@ -46,11 +48,12 @@ answers_quietly keeps_word given old new before after same told up stays quiet =
         moments = λ keeps kept lasts is. adds_nothing old.volume new.volume kept held;
         ends = record {
           still_up = ap (λ (h : Held). h.is_down) held ∙ up;
+          seats = λ keeps kept lasts is. ap (λ (h : Held). h.seats) held ∙ sym (stays keeps kept lasts is);
           leaves = λ keeps kept lasts is recent ready. (
             recent,
             record {
               ready = subst (λ (h : Held). IsRecent h recent) (sym held) ready;
-              seats = ap (λ (h : Held). h.seats) held ∙ sym (stays kept lasts is);
+              seats = ap (λ (h : Held). h.seats) held ∙ sym (stays keeps kept lasts is);
               no_others = λ one among. inl among;
               durable = λ durable one among. absurd (never lasts (quiet kept lasts is) durable);
             },
@@ -73,3 +76,36 @@ broken≢done is = cc
 pub left_all : (keeps_word : Type 0) (given : Given) (old new : FileSystem) (before after : ℕ) → Changes keeps_word given old new before after Nothing → new ≡ old
 left_all keeps_word given old new before after changes =
     ap₂ (λ (held : Held) (count : ℕ). let fs : FileSystem = record { volume = held; changes = count } in fs) changes.volume_changes.ends (changes.no_count nothing_done)
+
+-- What the definition says may be said otherwise where the device keeps its word, as long as its trees are the same on any device
+module _ (keeps_word : Type 0) (given other : Given) (weaker : keeps_word → (after : Kept) (lasts : Bool) → other after lasts → given after lasts)
+    (alike : (after : Kept) (lasts : Bool) → other after lasts → (kept : Kept) × given kept lasts × (kept.tree ≡ after.tree))
+    (old new : FileSystem) (before after : ℕ) where
+  ends_when : (ending : Ending) → EndsAs keeps_word given old.volume new.volume before after ending → EndsAs keeps_word other old.volume new.volume before after ending
+  ends_when Done ends = record {
+    still_up = ends.still_up;
+    seats = λ keeps kept lasts is. ends.seats keeps kept lasts (weaker keeps kept lasts is);
+    leaves = λ keeps kept lasts is. ends.leaves keeps kept lasts (weaker keeps kept lasts is);
+  }
+  ends_when Nothing ends = ends
+  ends_when Broken ends = record {
+    down = ends.down;
+    cause = ends.cause;
+    shows = ⊎_elim
+        (λ (same : ShowsAs old.volume.tree new.volume.tree). inl same)
+        (λ (each : (kept : Kept) (lasts : Bool) → given kept lasts → ShowsAs kept.tree new.volume.tree).
+        inr (λ kept lasts is. let so = alike kept lasts is in subst (λ (tree : Tree). ShowsAs tree new.volume.tree) so.2 (each so.0 lasts so.1)))
+        ends.shows;
+  }
+
+  pub changes_when : (ending : Ending) → Changes keeps_word given old new before after ending → Changes keeps_word other old new before after ending
+  changes_when ending changes = record {
+    volume_changes = record {
+      same = changes.volume_changes.same;
+      later = changes.volume_changes.later;
+      none = changes.volume_changes.none;
+      moments = λ keeps kept lasts is. changes.volume_changes.moments keeps kept lasts (weaker keeps kept lasts is);
+      ends = ends_when ending changes.volume_changes.ends;
+    };
+    no_count = changes.no_count;
+  }

@@ -138,7 +138,7 @@ module _ (now : ℕ) (fs : FileSystem) (opens : Opens) (request : InProgress) (a
     pub read_quietly : (table : Table) → fs.volume.is_down ≡ false → Changes keeps_word (IsTree fs.volume fs.volume.tree) fs new before after Nothing
         → Changes keeps_word (OperationGives (shared fs table opens) request now (Argument.Read arguments)) fs new before after ended.Done
     read_quietly table up changes = answers_quietly keeps_word _ fs new before after (left_all keeps_word (IsTree fs.volume fs.volume.tree) fs new before after changes)
-        (changes.volume_changes.none (λ broken. cc)) up (operation_stays (shared fs table opens) request now (Argument.Read arguments)) (quiet_gives (shared fs table opens) request now (Argument.Read arguments) refl)
+        (changes.volume_changes.none (λ broken. cc)) up (λ keeps. operation_stays (shared fs table opens) request now (Argument.Read arguments)) (quiet_gives (shared fs table opens) request now (Argument.Read arguments) refl)
 
     pub read_nothing : (table : Table) → Changes keeps_word (IsTree fs.volume fs.volume.tree) fs new before after Nothing
         → Changes keeps_word (OperationGives (shared fs table opens) request now (Argument.Read arguments)) fs new before after Nothing

@@ -7,7 +7,7 @@ use Rattle.xdr.proofs.Numbers.{length-number_32}
 use Rattle.model.specs.Answer.{Outcome, Done, Refused}
 use Rattle.model.specs.Record.{framed}
 use Rattle.model.specs.Rpc.{Success, reply_text, compound_text}
-use Rattle.model.specs.World.{InProgress, outcome_text, reply_with, status_of}
+use Rattle.model.specs.World.{InProgress, outcome_text, reply_with, result_of, status_of}
 use Rattle.model.specs.declared.status.Status.{Status}
 use Rattle.model.proofs.KeptLaws.{refused_length}
 use Rattle.compound.specs.Operates.{IsSpelled}
@@ -33,9 +33,15 @@ framed_length bytes = grind (arith, common_steps)
 pub tag_brief : (tag : List ℕ) → length tag ≤ 255 → length (counted tag) ≤ 262
 tag_brief tag short = omega (arith, counted_length tag)
 
--- an OK result has room, and any other one still fits
+-- an OK result has room, and any other one passes it by a few bytes
 pub spelled_short : (request : InProgress) (outcome : Outcome) → IsSpelled request outcome
-    → 32 + length (counted request.tag) + length request.results ≤ 16368 → length (reply_with request outcome) ≤ 16384
-spelled_short request (Done answer) spelled brief = omega (arith, spelled.room)
-spelled_short request (Refused operation reason) spelled brief =
-    omega (arith, room_length request (Refused operation reason), refused_length operation reason)
+    → 32 + length (counted request.tag) + length request.results ≤ 16368
+    → 32 + length (counted request.tag) + length request.results + length (outcome_text outcome) ≤ 16380
+spelled_short request (Done answer) spelled brief = omega (arith, spelled.room, room_length request (Done answer))
+spelled_short request (Refused operation reason) spelled brief = omega (arith, brief, refused_length operation reason)
+
+-- how many bytes a whole result has
+pub result_length : (request : InProgress) (last : Status)
+    → 24 + length (result_of request last) ≡ 32 + length (counted request.tag) + length request.results
+unfolding compound_text
+result_length request last = simp (length-append, length-number_32) (omega arith)

@@ -1,5 +1,5 @@
 -- A step of a request is the turn of the definition.
-use Rattle.std.proofs.Common.{◌≡◌, ◌+◌, ℕ, List, refl, ap, subst, ◌∙◌}
+use Rattle.std.proofs.Common.{◌≡◌, ◌+◌, ℕ, List, refl, sym, ap, subst, ◌∙◌}
 use Rattle.model.specs.Answer as model
 use Rattle.model.specs.Session.{Table}
 use Rattle.model.specs.World.{InProgress, Turned}
@@ -7,7 +7,7 @@ use Rattle.compound.specs.Operates.{left_by}
 use Rattle.compound.specs.Runs.{with_rest}
 use Rattle.compound.specs.Views.{Asked}
 use Rattle.compound.specs.States.{SharedState, with_state}
-use Rattle.compound.specs.Steps.{Steps, GoesFurther}
+use Rattle.compound.specs.Steps.{Steps, StaysInRun, GoesFurther, GoesOn, still_fits}
 use Rattle.compound.specs.Turns.{TurnsTo, StandsAfter}
 use Rattle.compound.specs.declared.operated.Effect.{Effect}
 use Rattle.compound.specs.declared.operated.Effect.TheVariants as effect
@@ -34,9 +34,36 @@ left_answered (effect.Opens number state) request = refl
 left_answered effect.Closes request = refl
 left_answered (effect.Joins slot client) request = refl
 
-pub further_from : (before request : InProgress) (done : Stepped) → before.answered ≡ request.answered → GoesFurther before done → GoesFurther request done
-further_from before request (stepped.Ran progress) same further = further ∙ ap (λ (n : ℕ). n + 1) same
-further_from before request (stepped.Answered reply) same further = tt
+-- nor whether it has ended, nor its run
+pub left_ended : (left : Effect) (request : InProgress) → (left_by left request).ended ≡ request.ended
+left_ended effect.Stays request = refl
+left_ended (effect.Moves number) request = refl
+left_ended effect.Saves request = refl
+left_ended effect.Restores request = refl
+left_ended (effect.Opens number state) request = refl
+left_ended effect.Closes request = refl
+left_ended (effect.Joins slot client) request = refl
+
+pub left_run : (left : Effect) (request : InProgress) → (left_by left request).context.run ≡ request.context.run
+left_run effect.Stays request = refl
+left_run (effect.Moves number) request = refl
+left_run effect.Saves request = refl
+left_run effect.Restores request = refl
+left_run (effect.Opens number state) request = refl
+left_run effect.Closes request = refl
+left_run (effect.Joins slot client) request = refl
+
+further_from : (before request : InProgress) (done : Stepped) → before.answered ≡ request.answered → before.ended ≡ request.ended → GoesFurther before done → GoesFurther request done
+further_from before request (stepped.Ran progress) same ended further = (sym ended ∙ further.0, further.1 ∙ ap (λ (n : ℕ). n + 1) same)
+further_from before request (stepped.Answered reply) same ended further = tt
+
+pub goes_on_from : (run : ℕ) (asked other : Asked) (before request : InProgress) (done : Stepped) → other ≡ asked → before.answered ≡ request.answered → before.ended ≡ request.ended
+    → before.context.run ≡ run → GoesOn before.context.run other before done → GoesOn run asked request done
+goes_on_from run asked other before request done same answered ended run_is goes = record {
+  stays = subst (λ (n : ℕ). StaysInRun n done) run_is goes.stays;
+  further = further_from before request done answered ended goes.further;
+  fits = ap (λ (one : Asked). still_fits one done) (sym same) ∙ goes.fits;
+}
 
 pub steps_to : (now : ℕ) (old middle : SharedState) (new : Table) (asked before : Asked) (request left after : InProgress) (outcome : model.Outcome) (done : Stepped)
     → TurnsTo now old middle request left outcome → before ≡ asked → after ≡ left → StandsAfter middle.table new before after outcome done

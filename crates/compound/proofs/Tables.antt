@@ -1,5 +1,5 @@
 -- The operations on a world are those on its table.
-use Rattle.std.proofs.Common.{◌≡◌, ℕ, Bool, true, false, ◌==◌, if◌then◌else◌, ◌||◌, List, [], ◌∷◌, map, Option, Some, None, Result, Ok, Err, refl, ap, ap₂, sym, ◌∙◌}
+use Rattle.std.proofs.Common.{◌≡◌, ℕ, Bool, true, false, ◌==◌, if◌then◌else◌, ◌||◌, List, [], ◌∷◌, map, filter, Option, Some, None, Result, Ok, Err, refl, ap, ap₂, sym, ◌∙◌}
 use Rattle.model.specs.Answer.{Answer, Outcome, ExchangeIdAnswer, CreateSessionAnswer}
 use Rattle.model.specs.Operation.{Argument, ExchangeIdArguments, CreateSessionArguments}
 use Rattle.model.specs.Opens.{Open, Opens}
@@ -7,17 +7,19 @@ use Rattle.model.specs.Session as sessions
 use Rattle.std.specs.List.{find, list_any}
 use Rattle.std.proofs.Math.Path.{fun_ext}
 use Rattle.model.specs.Refusal.{first_refusal}
-use Rattle.model.specs.Session.{Table, SessionLimits, CreateSessionOutcome, Client, create_unless, create_again, create_by, create_refusals, next_number, is_client}
+use Rattle.model.specs.Session.{Table, SessionLimits, CreateSessionOutcome, Client, create_refused, create_unless, create_again, create_by, create_refusals, next_number, is_client}
 use Rattle.model.specs.StateIds.{has_opens, without_clients}
+use Rattle.model.specs.Tree.{Tree}
 use Rattle.model.specs.World.{World, InProgress, Gives, run, exchanged, session_created, created_by, tabled, gives, with_table}
 use Rattle.model.specs.declared.status.Status.{Status}
 use Rattle.session.specs.Limits.{served}
 use Rattle.session.specs.Views.{among}
 use Rattle.fs.specs.FileSystem.{FileSystem}
-use Rattle.compound.specs.Operates.{RunsTo}
+use Rattle.compound.specs.Operates.{GivesIn, RunsTo}
 use Rattle.compound.specs.Runs.{with_rest}
-use Rattle.compound.specs.States.{HasState, shared}
-use Rattle.compound.proofs.Rooms.{state_same}
+use Rattle.compound.specs.States.{HasState, shared, with_state}
+use Rattle.compound.specs.Volumes.{HasSameTree}
+use Rattle.compound.proofs.Rooms.{gives_refusal, state_same}
 
 -- the clients of opens
 
@@ -143,3 +145,61 @@ pub clients_run : (now : ℕ) (fs : FileSystem) (before after : Opens) (old new 
 clients_run now fs before after old new request left kind outcome runs = λ world rest on.
     runs world rest on
     ∙ ap (λ (known : World). Gives outcome (record known { table = new; opens = after }) (with_rest left rest)) (sym (state_same world (shared fs old before) on))
+
+-- CREATE_SESSION and DESTROY_SESSION, where the volume keeps the seats: its tree stands as it did
+
+placed : (world : World) (fs new : FileSystem) (table after : Table) (known opens : Opens) → HasState world (shared fs table known) → HasSameTree fs new
+    → (let placed : World = record world { table = after; opens = opens } in placed) ≡ with_state world (shared new after opens)
+placed world fs new table after known opens on same =
+    ap₂ (λ (tree : Tree) (changes : ℕ). let one : World = record world { tree = tree; changes = changes; table = after; opens = opens } in one)
+    (on.tree ∙ sym same.tree) (on.changes ∙ sym same.changes)
+
+pub same_tree : (fs : FileSystem) → HasSameTree fs fs
+same_tree fs = record { tree = refl; changes = refl }
+
+pub create_runs : (now : ℕ) (fs new : FileSystem) (old table : Table) (before : Opens) (request : InProgress) (arguments : CreateSessionArguments) (answer : CreateSessionAnswer) (ended : List ℕ)
+    → (sessions.create_session served request.context.cred.uid arguments old).answer ≡ Ok answer
+    → (sessions.create_session served request.context.cred.uid arguments old).ended_clients ≡ ended
+    → (sessions.create_session served request.context.cred.uid arguments old).table ≡ table → HasSameTree fs new
+    → RunsTo now (shared fs old before) (shared new table (without_clients ended before)) request request (Argument.CreateSession arguments) (Outcome.Done (Answer.CreateSession answer))
+create_runs now fs new old table before request arguments answer ended is ends table_is same = λ world rest on.
+    ran_create world (with_rest request rest) now arguments old on
+    ∙ created_ok world (with_rest request rest) (sessions.create_session served request.context.cred.uid arguments old) answer table before ended on.opens is ends table_is
+    ∙ ap (λ (after : World). Gives (Outcome.Done (Answer.CreateSession answer)) after (with_rest request rest)) (placed world fs new old table before (without_clients ended before) on same)
+
+pub create_refuses : (now : ℕ) (fs : FileSystem) (old : Table) (before : Opens) (request : InProgress) (arguments : CreateSessionArguments) (reason : Status)
+    → sessions.create_session served request.context.cred.uid arguments old ≡ create_refused reason old
+    → GivesIn now (shared fs old before) (shared fs old before) request request (Argument.CreateSession arguments) (Outcome.Refused 43 reason)
+create_refuses now fs old before request arguments reason is =
+    gives_refusal now (shared fs old before) (shared fs old before) request (Argument.CreateSession arguments) 43 reason
+    (table_runs now fs before old old request request (Argument.CreateSession arguments) (Outcome.Refused 43 reason)
+    (λ world rest on. ran_create world (with_rest request rest) now arguments old on
+    ∙ created_err world (with_rest request rest) arguments reason old old on.table_is (ap (λ (o : CreateSessionOutcome). o.table) is) (ap (λ (o : CreateSessionOutcome). o.answer) is)))
+
+pub destroy_runs : (now : ℕ) (fs new : FileSystem) (old table : Table) (opens : Opens) (request : InProgress) (id : List ℕ)
+    → sessions.destroy_session id old ≡ (None, table) → HasSameTree fs new
+    → RunsTo now (shared fs old opens) (shared new table opens) request request (Argument.DestroySession id) (Outcome.Done Answer.DestroySession)
+destroy_runs now fs new old table opens request id is same = λ world rest on.
+    ran_destroy_session world (with_rest request rest) now id old _ on is
+    ∙ ap (λ (after : World). Gives (Outcome.Done Answer.DestroySession) after (with_rest request rest))
+    (ap (λ (known : Opens). let one : World = record world { table = table; opens = known } in one) on.opens ∙ placed world fs new old table opens opens on same)
+
+pub destroy_done : (id : List ℕ) (old table : Table) → (sessions.destroy_session id old).0 ≡ None → table ≡ (sessions.destroy_session id old).1
+    → sessions.destroy_session id old ≡ (None, table)
+destroy_done id old table none is = ap₂ (λ (reason : Option Status) (t : Table). (reason, t)) none (sym is)
+
+pub destroy_refuses : (now : ℕ) (fs : FileSystem) (old : Table) (opens : Opens) (request : InProgress) (id : List ℕ) (reason : Status)
+    → sessions.destroy_session id old ≡ (Some reason, old)
+    → GivesIn now (shared fs old opens) (shared fs old opens) request request (Argument.DestroySession id) (Outcome.Refused 44 reason)
+destroy_refuses now fs old opens request id reason is =
+    gives_refusal now (shared fs old opens) (shared fs old opens) request (Argument.DestroySession id) 44 reason
+    (table_runs now fs opens old old request request (Argument.DestroySession id) (Outcome.Refused 44 reason)
+    (λ world rest on. ran_destroy_session world (with_rest request rest) now id old _ on is))
+
+-- no opens end where no client does
+pub none_ended : (opens : Opens) → without_clients [] opens ≡ opens
+none_ended opens = ap (λ (known : List (ℕ × Open)). let of : Opens = record opens { known = known } in of) (all_stay opens.known)
+  where
+    all_stay : (known : List (ℕ × Open)) → filter (λ (entry : ℕ × Open). true) known ≡ known
+    all_stay [] = refl
+    all_stay (entry ∷ known) = ap (λ (rest : List (ℕ × Open)). entry ∷ rest) (all_stay known)

@@ -1,5 +1,5 @@
 -- What a result leaves, whole or spelled.
-use Rattle.std.proofs.Common.{◌≡◌, ℕ, ◌+◌, ◌≤◌, Bool, true, false, not, ◌&&◌, List, ◌++◌, length, Option, refl, sym, ap, ap₂, subst, ◌∙◌, arith, length-append, nat_le, leb-true}
+use Rattle.std.proofs.Common.{◌≡◌, ℕ, ◌+◌, ◌≤◌, Bool, true, false, not, ◌&&◌, if◌then◌else◌, List, ◌++◌, length, Option, Some, refl, sym, ap, ap₂, subst, ◌∙◌, arith, length-append, nat_le, leb-true}
 use Rattle.std.specs.Global.{Vec}
 use Rattle.std.specs.Int.{w32}
 use Rattle.xdr.specs.Forms.{counted}
@@ -10,24 +10,22 @@ use Rattle.model.specs.Answer.{Answer, Outcome, Done, Refused}
 use Rattle.model.specs.Record.{framed}
 use Rattle.model.specs.Rpc.{Success, reply_text}
 use Rattle.model.specs.Runs.{is_done}
-use Rattle.model.specs.Seats.{no_seats}
 use Rattle.model.specs.Session.{Table}
 use Rattle.model.specs.WireAnswers as answers
-use Rattle.model.specs.World.{World, InProgress, Entry, Turned, Answered, Replied, closes, is_last, kept_by, outcome_text, reply_with, result_of, status_of, with_connection, with_result, with_table}
+use Rattle.model.specs.World.{World, InProgress, Entry, Turned, Busy, Replied, behind, closes, ends, goes_on, is_to_hold, is_last, kept_by, outcome_text, reply_with, result_of, status_of, with_connection, with_result, with_table}
 use Rattle.model.specs.declared.status.Status.{Status}
 use Rattle.model.specs.declared.status.Status.TheVariants as status
 use Rattle.wire.specs.OutcomeView.{outcome_view}
 use Rattle.compound.specs.Operates.{HasRoom, HasRoomFor, Spells, spelled_text}
-use Rattle.compound.specs.Told.{CanBeTold, Tells, is_ok, last_told, reply_told, told_status, told_text, with_told}
+use Rattle.compound.specs.Told.{CanBeTold, Tells, is_ok, told_status, told_text, with_last, with_told}
 use Rattle.compound.specs.Turns.{StandsAfter}
 use Rattle.compound.specs.Views.{Asked, resumed}
 use Rattle.compound.specs.declared.progress.Progress.{Progress}
 use Rattle.compound.specs.declared.step.Stepped.TheVariants as stepped
 use Rattle.compound.specs.declared.told.Told.{Told}
 use Rattle.compound.specs.declared.told.Told.TheVariants as told
-use Rattle.compound.proofs.Replies.{reply_length, room_length, spelled_short}
-use Rattle.compound.proofs.Resuming.{goes_on}
-use Rattle.compound.proofs.Unseated.{closes_unseated}
+use Rattle.compound.proofs.Replies.{room_length, spelled_short}
+use Rattle.compound.proofs.Resuming.{more_follow}
 
 -- its spelling is the definition's
 
@@ -82,19 +80,18 @@ pub request_is : (request : InProgress) (result : Told) (outcome : Outcome) → 
 request_is request result outcome is =
     ap (λ (text : List ℕ). record request { answered = request.answered + 1; results = request.results ++ text }) (text_is result outcome is)
 
-pub last_is : (request : InProgress) (result : Told) (outcome : Outcome) → Tells result outcome → last_told request result ≡ result_of (with_result request outcome) (status_of outcome)
-last_is request result outcome is = ap₂ result_of (request_is request result outcome is) (status_is result outcome is)
+pub last_is : (request : InProgress) (result : Told) (outcome : Outcome) → Tells result outcome
+    → with_last request result ≡ record (with_result request outcome) { ended = Some (status_of outcome) }
+last_is request result outcome is =
+    ap₂ (λ (r : InProgress) (status : Status). let after : InProgress = record r { ended = Some status } in after) (request_is request result outcome is) (status_is result outcome is)
 
 -- How long the reply is
 
-pub told_length : (request : InProgress) (result : Told)
-    → length (reply_told request result) ≡ 32 + length (counted request.tag) + length request.results + length (told_text result)
-told_length request result = reply_length request.xid (told_status result) request.tag (request.answered + 1) request.results (told_text result)
-
 pub told_short : (request : InProgress) (result : Told) → CanBeTold request result
-    → 32 + length (counted request.tag) + length request.results ≤ 16368 → length (reply_told request result) ≤ 16384
+    → 32 + length (counted request.tag) + length request.results ≤ 16368
+    → 32 + length (counted request.tag) + length request.results + length (told_text result) ≤ 16380
 told_short request (told.Whole outcome) can brief = spelled_short request (outcome_view outcome.now) can brief
-told_short request (told.Spelled operation values) can brief = omega (arith, told_length request (told.Spelled operation values), can)
+told_short request (told.Spelled operation values) can brief = omega (arith, can)
 
 pub ok_room : (request : InProgress) (result : Told) → CanBeTold request result → is_ok result ≡ true
     → 32 + length (counted request.tag) + length request.results + length (told_text result) ≤ 16368
@@ -112,7 +109,7 @@ ok_room request (told.Spelled operation values) can ok = can
 
 goes_on_by : (table : Table) (asked : Asked) (request : InProgress) (outcome : Outcome) (progress : Progress) → is_done outcome ≡ true → is_last request ≡ false
     → resumed asked progress ≡ with_result request outcome → StandsAfter table table asked request outcome (stepped.Ran progress)
-goes_on_by table asked request (Done answer) progress done more pushed = goes_on table asked request answer progress more pushed
+goes_on_by table asked request (Done answer) progress done more pushed = more_follow table asked request answer progress more pushed
 goes_on_by table asked request (Refused n reason) progress done more pushed = let never : ⊥ = cc in absurd never
 
 pub goes_on_told : (table : Table) (asked : Asked) (request : InProgress) (result : Told) (outcome : Outcome) (progress : Progress) → is_ok result ≡ true → is_last request ≡ false
@@ -120,37 +117,57 @@ pub goes_on_told : (table : Table) (asked : Asked) (request : InProgress) (resul
 goes_on_told table asked request result outcome progress ok more pushed is =
     goes_on_by table asked request outcome progress (sym (ok_is result outcome is) ∙ ok) more (pushed ∙ request_is request result outcome is)
 
--- else the reply is there
+-- The last one
 
--- a turn that ends the request, where there are no seats
-closes_by : (old new : Table) (request : InProgress) (last : Status) (reply : Vec ℕ) → old.seats ≡ no_seats
-    → reply.items ≡ framed (reply_text request.xid (Success (result_of request last))) → new ≡ kept_by request.slot (result_of request last) old
-    → (world : World) (number : ℕ) (executed : Option Entry) → world.table ≡ old
-    → ((closes world number request last executed).turn ≡ Answered)
-    × ((closes world number request last executed).world ≡ with_connection (with_table world new) number (Replied reply.items))
-closes_by old new request last reply none reply_is kept world number executed here =
-    let closed = closes_unseated world number request last executed (ap (λ (table : Table). table.seats) here ∙ none) in (
-      ap (λ (one : Turned). one.turn) closed,
-      ap (λ (one : Turned). one.world) closed ∙ rw (reply_is, kept, ← here) refl,
-    )
+closes_holding : (world : World) (number : ℕ) (request : InProgress) (last : Status) (executed : Option Entry) → is_to_hold request.slot world.table.seats ≡ true
+    → closes world number request last executed ≡ goes_on world number (record request { ended = Some last }) executed
+closes_holding world number request last executed holds =
+    ap (λ (b : Bool). if b then goes_on world number (record request { ended = Some last }) executed else ends world number request last executed) holds
 
-ends_by : (old new : Table) (asked : Asked) (request : InProgress) (outcome : Outcome) (reply : Vec ℕ) → old.seats ≡ no_seats → (is_done outcome && not (is_last request)) ≡ false
-    → reply.items ≡ framed (reply_text request.xid (Success (result_of (with_result request outcome) (status_of outcome))))
-    → new ≡ kept_by request.slot (result_of (with_result request outcome) (status_of outcome)) old
-    → StandsAfter old new asked request outcome (stepped.Answered reply)
-ends_by old new asked request (Refused n reason) reply none ends reply_is kept = closes_by old new (with_result request (Refused n reason)) reason reply none reply_is kept
-ends_by old new asked request (Done answer) reply none ends reply_is kept = λ world number executed here.
-    rw (is_end (is_last request) ends) (closes_by old new (with_result request (Done answer)) status.Ok reply none reply_is kept world number executed here)
+closes_unseated : (world : World) (number : ℕ) (request : InProgress) (last : Status) (executed : Option Entry) → is_to_hold request.slot world.table.seats ≡ false
+    → closes world number request last executed ≡ ends world number request last executed
+closes_unseated world number request last executed none =
+    ap (λ (b : Bool). if b then goes_on world number (record request { ended = Some last }) executed else ends world number request last executed) none
+
+behind_last : (world : World) (number : ℕ) (request : InProgress) (outcome : Outcome) (executed : Option Entry) → (is_done outcome && not (is_last request)) ≡ false
+    → behind world number request outcome executed ≡ closes world number (with_result request outcome) (status_of outcome) executed
+behind_last world number request (Refused n reason) executed last = refl
+behind_last world number request (Done answer) executed last =
+    ap (λ (b : Bool). if b then closes world number (with_result request (Done answer)) status.Ok executed else goes_on world number (with_result request (Done answer)) executed)
+    (is_end (is_last request) last)
   where
     is_end : (last : Bool) → (true && not last) ≡ false → last ≡ true
     is_end true is = refl
     is_end false is = absurd cc
 
-pub ends_told : (old new : Table) (asked : Asked) (request : InProgress) (result : Told) (outcome : Outcome) (reply : Vec ℕ) → old.seats ≡ no_seats → (is_ok result && not (is_last request)) ≡ false
-    → reply.items ≡ framed (reply_told request result) → new ≡ kept_by request.slot (last_told request result) old → Tells result outcome
+-- a seat is to hold the reply
+pub holds_told : (table : Table) (asked : Asked) (request : InProgress) (result : Told) (outcome : Outcome) (progress : Progress) → (is_ok result && not (is_last request)) ≡ false
+    → is_to_hold request.slot table.seats ≡ true → resumed asked progress ≡ with_last request result → Tells result outcome
+    → StandsAfter table table asked request outcome (stepped.Ran progress)
+holds_told table asked request result outcome progress last holds pushed is = λ world number executed here.
+    let ended = behind_last world number request outcome executed (ap (λ (b : Bool). b && not (is_last request)) (sym (ok_is result outcome is)) ∙ last) in
+    let held = closes_holding world number (with_result request outcome) (status_of outcome) executed (ap (λ (t : Table). is_to_hold request.slot t.seats) here ∙ holds) in
+    let turn = ended ∙ held in (
+      ap (λ (t : Turned). t.turn) turn,
+      ap (λ (t : Turned). t.world) turn
+          ∙ ap₂ (λ (t : Table) (r : InProgress). with_connection (with_table world t) number (Busy r)) here (sym (pushed ∙ last_is request result outcome is)),
+    )
+
+-- or the reply is there
+pub ends_told : (old new : Table) (asked : Asked) (request : InProgress) (result : Told) (outcome : Outcome) (reply : Vec ℕ) → (is_ok result && not (is_last request)) ≡ false
+    → is_to_hold request.slot old.seats ≡ false
+    → reply.items ≡ framed (reply_text request.xid (Success (result_of (with_last request result) (told_status result))))
+    → new ≡ kept_by request.slot (result_of (with_last request result) (told_status result)) old → Tells result outcome
     → StandsAfter old new asked request outcome (stepped.Answered reply)
-ends_told old new asked request result outcome reply none ends reply_is kept is =
-    let last = last_is request result outcome is in
-    ends_by old new asked request outcome reply none (ap (λ (b : Bool). b && not (is_last request)) (sym (ok_is result outcome is)) ∙ ends)
-    (reply_is ∙ ap (λ (bytes : List ℕ). framed (reply_text request.xid (Success bytes))) last)
-    (kept ∙ ap (λ (bytes : List ℕ). kept_by request.slot bytes old) last)
+ends_told old new asked request result outcome reply last none reply_is kept is = λ world number executed here.
+    let ended = behind_last world number request outcome executed (ap (λ (b : Bool). b && not (is_last request)) (sym (ok_is result outcome is)) ∙ last) in
+    let made = closes_unseated world number (with_result request outcome) (status_of outcome) executed (ap (λ (t : Table). is_to_hold request.slot t.seats) here ∙ none) in
+    let text : result_of (with_last request result) (told_status result) ≡ result_of (with_result request outcome) (status_of outcome) =
+    ap₂ result_of (last_is request result outcome is) (status_is result outcome is) in
+    let turn = ended ∙ made in (
+      ap (λ (t : Turned). t.turn) turn,
+      ap (λ (t : Turned). t.world) turn
+          ∙ ap₂ (λ (t : Table) (bytes : List ℕ). with_connection (with_table world t) number (Replied bytes))
+          (sym (kept ∙ ap₂ (λ (bytes : List ℕ) (t : Table). kept_by request.slot bytes t) text (sym here)))
+          (sym (reply_is ∙ ap (λ (bytes : List ℕ). framed (reply_text request.xid (Success bytes))) text)),
+    )

@@ -1,8 +1,8 @@
 -- What operations and turns do to a file system, by the definition.
-use Rattle.std.proofs.Common.{◌≡◌, ℕ, Bool, true, false, ◌&&◌, ◌||◌, if◌then◌else◌, List, length, nat_le, Option, Some, None, Result, Ok, Err, refl, ap, ◌∙◌}
+use Rattle.std.proofs.Common.{◌≡◌, ℕ, Bool, true, false, ◌&&◌, ◌||◌, List, length, nat_le, Option, Some, None, Result, Ok, Err, refl, sym, ap, ◌∙◌}
 use Rattle.std.specs.Result.{IsErrAnd}
 use Rattle.layout.specs.Stands.{Kept}
-use Rattle.volume.specs.Changes.{Given, Done}
+use Rattle.volume.specs.Changes.{Given, Ending, Done}
 use Rattle.volume.specs.Held.{with_tree}
 use Rattle.fs.specs.Changes.{Changes}
 use Rattle.fs.specs.FileSystem.{FileSystem}
@@ -11,37 +11,81 @@ use Rattle.model.specs.Attribute.{trimmed}
 use Rattle.model.specs.Context.{has_current, current_number}
 use Rattle.model.specs.Opens.{Opens}
 use Rattle.model.specs.Operation.{Argument, Attributes, OtherType}
+use Rattle.model.specs.Seats.{Seats}
 use Rattle.model.specs.Session.{Table}
 use Rattle.model.specs.Runs.{is_durable, is_commit}
 use Rattle.model.specs.Step.{State, alters, does, effect, refused, unless_refused}
 use Rattle.model.specs.Tree.{Tree}
 use Rattle.model.specs.World as turns
-use Rattle.model.specs.World.{World, InProgress, HasRun, Entry, Turned, Reads, Refuses, next_operation, operates, has_run, behind, closes, ends, goes_on, is_to_hold, with_result, is_last, executed_entry, run, in_room, stepped, state_of, reply_with}
+use Rattle.model.specs.World.{World, InProgress, HasRun, Entry, Turned, Reads, Refuses, next_operation, operates, has_run, behind, closes, is_to_hold, with_result, is_last, executed_entry, run, in_room, stepped, state_of, reply_with}
 use Rattle.model.specs.declared.status.Status.{Status}
 use Rattle.model.specs.declared.status.Status.TheVariants as status
 use Rattle.fs.specs.Operations.{MakesTree, new_directory}
-use Rattle.compound.specs.Operates.{GivesIn, run_in_room}
+use Rattle.compound.specs.Operates.{GivesIn, run_in_room, tree_by, world_by}
 use Rattle.compound.specs.Runs.{with_rest}
 use Rattle.compound.specs.States.{SharedState, HasState, shared}
 use Rattle.compound.specs.Steps.{stepped_on}
-use Rattle.compound.specs.Volumes.{ending, lasts, executed_by, OperationGives, TurnGives}
+use Rattle.compound.specs.Volumes.{ending, lasts, executed_by, kept_in, OperationGives, RunGives, TurnGives}
 use Rattle.compound.specs.declared.fault.Fault.{Fault}
 use Rattle.compound.specs.declared.fault.Fault.TheVariants as fault
 use Rattle.compound.specs.Trees.{made_answer}
 use Rattle.compound.proofs.Creating.{tree_made}
-use Rattle.compound.proofs.QuietLaws.{leaves_all, answers_quietly}
+use Rattle.model.proofs.TableCalls.{either}
+use Rattle.compound.proofs.QuietLaws.{leaves_all, answers_quietly, changes_when}
+use Rattle.compound.proofs.TablesGo.{leaves_seats, seats_after}
 use Rattle.compound.proofs.Trees.{here, is_on}
-use Rattle.compound.proofs.Turning.{read_turn, run_tree}
+use Rattle.compound.proofs.Turning.{goes_next, read_turn, run_keeps}
 
--- No operation changes the seats
+-- No operation on the tree changes the seats
 
 pub operation_stays : (state : SharedState) (request : InProgress) (now : ℕ) (operation : Argument) (after : Kept) (lasting : Bool)
     → OperationGives state request now operation after lasting → after.seats ≡ state.files.volume.seats
 operation_stays state request now operation after lasting gives = ap (λ (kept : Kept). kept.seats) gives.kept
 
-pub turn_stays : (state : SharedState) (turn : World → (number : ℕ) → Turned) (after : Kept) (lasting : Bool)
-    → TurnGives state turn after lasting → after.seats ≡ state.files.volume.seats
-turn_stays state turn after lasting gives = ap (λ (kept : Kept). kept.seats) gives.kept
+-- nor does a turn that leaves what is kept
+pub turn_stays : (state : SharedState) (turn : World → (number : ℕ) → Turned)
+    → ((world : World) (number : ℕ) → HasState world state → kept_in (turn world number).world ≡ kept_in world)
+    → state.table.seats ≡ state.files.volume.seats
+    → (after : Kept) (lasting : Bool) → TurnGives state turn after lasting → after.seats ≡ state.files.volume.seats
+turn_stays state turn keeps agree after lasting gives =
+    ap (λ (kept : Kept). kept.seats) (gives.kept ∙ keeps gives.world gives.number gives.has)
+    ∙ (ap (λ (table : Table). table.seats) gives.has.table_is ∙ agree)
+
+-- An operation that leaves the seats may be told by the tree alone
+
+run_tells : (state : SharedState) (request : InProgress) (now : ℕ) (operation : Argument) → leaves_seats operation ≡ true → state.table.seats ≡ state.files.volume.seats
+    → (after : Kept) (lasting : Bool) → RunGives state request now operation after lasting → OperationGives state request now operation after lasting
+run_tells state request now operation leaves agree after lasting gives =
+    let ran = run_in_room gives.world (with_rest request gives.rest) now operation in
+    let seats : (world_by gives.world ran).table.seats ≡ state.files.volume.seats =
+    seats_after gives.world (with_rest request gives.rest) now operation leaves
+    ∙ (ap (λ (table : Table). table.seats) gives.has.table_is ∙ agree) in
+    record {
+      world = gives.world;
+      rest = gives.rest;
+      has = gives.has;
+      kept = gives.kept ∙ ap (λ (s : Seats). let kept : Kept = record { tree = tree_by gives.world ran; seats = s } in kept) seats;
+      lasting_is = gives.lasting_is;
+    }
+
+-- on any device its tree is the same
+run_alike : (state : SharedState) (request : InProgress) (now : ℕ) (operation : Argument) (after : Kept) (lasting : Bool)
+    → RunGives state request now operation after lasting
+    → (kept : Kept) × OperationGives state request now operation kept lasting × (kept.tree ≡ after.tree)
+run_alike state request now operation after lasting gives = (
+  with_tree state.files.volume (tree_by gives.world (run_in_room gives.world (with_rest request gives.rest) now operation)),
+  record { world = gives.world; rest = gives.rest; has = gives.has; kept = refl; lasting_is = gives.lasting_is },
+  ap (λ (kept : Kept). kept.tree) (sym gives.kept),
+)
+
+pub tree_changes : (keeps_word : Type 0) (state : SharedState) (request : InProgress) (now : ℕ) (operation : Argument) → leaves_seats operation ≡ true
+    → (keeps_word → state.table.seats ≡ state.files.volume.seats) → (new : FileSystem) (before after : ℕ) (end : Ending)
+    → Changes keeps_word (OperationGives state request now operation) state.files new before after end
+    → Changes keeps_word (RunGives state request now operation) state.files new before after end
+tree_changes keeps_word state request now operation leaves agree new before after end changes =
+    changes_when keeps_word (OperationGives state request now operation) (RunGives state request now operation)
+    (λ keeps. run_tells state request now operation leaves (agree keeps)) (run_alike state request now operation)
+    state.files new before after end changes
 
 -- Operations that never have to last: those that are no change and no COMMIT
 
@@ -66,7 +110,7 @@ quiet_entry state (Argument.SetAttr arguments) outcome after quiet = let never :
 quiet_entry state (Argument.Write arguments) outcome after quiet = let never : ⊥ = cc in absurd never
 quiet_entry state operation outcome after quiet = refl
 
-quiet_ran : (world : World) (request : InProgress) (operation : Argument) (ran : HasRun) → is_quiet operation ≡ true → lasts (executed_by world request operation ran) ≡ false
+pub quiet_ran : (world : World) (request : InProgress) (operation : Argument) (ran : HasRun) → is_quiet operation ≡ true → lasts (executed_by world request operation ran) ≡ false
 quiet_ran world request operation (turns.Gives outcome after left) quiet = quiet_entry (state_of world request) operation outcome after.tree quiet
 quiet_ran world request operation (turns.Replays reply session slot) quiet = refl
 
@@ -106,7 +150,7 @@ pub refusal_changes : (keeps_word : Type 0) (fs new : FileSystem) (table : Table
     → Changes keeps_word (OperationGives (shared fs table opens) request now operation) fs new before after Done
 refusal_changes keeps_word fs new table opens before after request now operation number reason same later up gives =
     answers_quietly keeps_word (OperationGives (shared fs table opens) request now operation) fs new before after same later up
-    (operation_stays (shared fs table opens) request now operation)
+    (λ keeps. operation_stays (shared fs table opens) request now operation)
     (refused_gives (shared fs table opens) request now operation number reason (λ world rest has. (_, _, gives world rest has)))
 
 -- CREATE of anything but a directory
@@ -125,7 +169,7 @@ pub other_changes : (keeps_word : Type 0) (state : SharedState) (failed : ℕ) (
     → Changes keeps_word (OperationGives state request now (Argument.Create (OtherType kind))) state.files state.files failed failed Done
 other_changes keeps_word state failed request now kind up =
     answers_quietly keeps_word (OperationGives state request now (Argument.Create (OtherType kind))) state.files state.files failed failed refl refl up
-    (operation_stays state request now (Argument.Create (OtherType kind)))
+    (λ keeps. operation_stays state request now (Argument.Create (OtherType kind)))
     (λ after lasting gives. gives.lasting_is ∙ other_quiet gives.world (with_rest request gives.rest) now kind)
 
 -- CREATE of a directory, where the reply has room for its result, is that of the file system
@@ -144,7 +188,7 @@ made_gives fs table opens request now parent name given in_run has is room after
 pub quiet_changes : (keeps_word : Type 0) (state : SharedState) (failed : ℕ) (request : InProgress) (now : ℕ) (operation : Argument) → state.files.volume.is_down ≡ false → is_quiet operation ≡ true
     → Changes keeps_word (OperationGives state request now operation) state.files state.files failed failed Done
 quiet_changes keeps_word state failed request now operation up quiet =
-    answers_quietly keeps_word (OperationGives state request now operation) state.files state.files failed failed refl refl up (operation_stays state request now operation) (quiet_gives state request now operation quiet)
+    answers_quietly keeps_word (OperationGives state request now operation) state.files state.files failed failed refl refl up (λ keeps. operation_stays state request now operation) (quiet_gives state request now operation quiet)
 
 -- or is refused for memory alone
 pub quiet_result : {T : Type 0} (keeps_word : Type 0) (state : SharedState) (failed : ℕ) (request : InProgress) (now : ℕ) (operation : Argument) (result : Result T Fault)
@@ -165,25 +209,18 @@ memory_changes keeps_word given fs failed (Err told) reason is memory = rw (is, 
 
 -- Turns
 
-either : (test : Bool) (one other : Turned) (executed : Option Entry) → one.executed ≡ executed → other.executed ≡ executed
-    → (if test then one else other).executed ≡ executed
-either true one other executed first second = first
-either false one other executed first second = second
-
 closes_executed : (world : World) (number : ℕ) (request : InProgress) (last : Status) (executed : Option Entry)
     → (closes world number request last executed).executed ≡ executed
 closes_executed world number request last executed =
-    either (is_to_hold request.slot world.table.seats) (goes_on world number (record request { ended = Some last }) executed)
-    (ends world number request last executed) executed refl refl
+    either (λ (t : Turned). t.executed ≡ executed) (is_to_hold request.slot world.table.seats) _ _ (λ holds. refl) (λ none. refl)
 
 behind_executed : (world : World) (number : ℕ) (request : InProgress) (outcome : model.Outcome) (executed : Option Entry)
     → (behind world number request outcome executed).executed ≡ executed
 behind_executed world number request (model.Refused operation reason) executed =
     closes_executed world number (with_result request (model.Refused operation reason)) reason executed
 behind_executed world number request (model.Done answer) executed =
-    either (is_last request) (closes world number (with_result request (model.Done answer)) status.Ok executed)
-    (goes_on world number (with_result request (model.Done answer)) executed) executed
-    (closes_executed world number (with_result request (model.Done answer)) status.Ok executed) refl
+    either (λ (t : Turned). t.executed ≡ executed) (is_last request) _ _
+    (λ last. closes_executed world number (with_result request (model.Done answer)) status.Ok executed) (λ more. refl)
 
 run_executed : (world : World) (number : ℕ) (request : InProgress) (operation : Argument) (ran : HasRun)
     → (has_run world number request operation ran).executed ≡ executed_by world request operation ran
@@ -192,27 +229,30 @@ run_executed world number request operation (turns.Gives outcome after left) =
 run_executed world number request operation (turns.Replays reply session slot) = refl
 
 -- a turn whose next operation is read does what that operation does
-pub read_gives : (state : SharedState) (request : InProgress) (now : ℕ) (operation : Argument) (rest : List ℕ) → next_operation request ≡ Reads operation rest → (after : Kept) (lasting : Bool)
-    → TurnGives state (λ world number. stepped_on world number now request) after lasting → OperationGives state request now operation after lasting
-read_gives state request now operation rest next after lasting gives =
+pub read_gives : (state : SharedState) (request : InProgress) (now : ℕ) (operation : Argument) (rest : List ℕ) → request.ended ≡ None → next_operation request ≡ Reads operation rest
+    → (after : Kept) (lasting : Bool)
+    → TurnGives state (λ world number. stepped_on world number now request) after lasting → RunGives state request now operation after lasting
+read_gives state request now operation rest going next after lasting gives =
     let world = gives.world in
     let ran = run_in_room world (with_rest request rest) now operation in
     let turn : stepped_on world gives.number now request ≡ has_run world gives.number (with_rest request rest) operation ran =
-    read_turn world gives.number now request operation rest ran next refl in
+    read_turn world gives.number now request operation rest ran going next refl in
     record {
       world = world;
       rest = rest;
       has = gives.has;
-      kept = gives.kept ∙ ap (with_tree state.files.volume) (ap (λ (t : Turned). t.world.tree) turn ∙ run_tree world gives.number (with_rest request rest) operation ran);
+      kept = gives.kept ∙ (ap (λ (t : Turned). kept_in t.world) turn ∙ run_keeps world gives.number (with_rest request rest) operation ran);
       lasting_is = gives.lasting_is ∙ (ap (λ (t : Turned). lasts t.executed) turn ∙ ap lasts (run_executed world gives.number (with_rest request rest) operation ran));
     }
 
 -- one whose next operation is refused before it runs does nothing
-pub refused_turn : (state : SharedState) (request : InProgress) (now number : ℕ) (reason : Status) → next_operation request ≡ Refuses number reason → (after : Kept) (lasting : Bool)
+pub refused_turn : (state : SharedState) (request : InProgress) (now number : ℕ) (reason : Status) → request.ended ≡ None → next_operation request ≡ Refuses number reason
+    → (after : Kept) (lasting : Bool)
     → TurnGives state (λ world number. stepped_on world number now request) after lasting → lasting ≡ false
-refused_turn state request now number reason next after lasting gives =
+refused_turn state request now number reason going next after lasting gives =
     gives.lasting_is
-    ∙ (ap (λ n. lasts (operates gives.world gives.number now request n).executed) next
+    ∙ (ap (λ (t : Turned). lasts t.executed) (goes_next gives.world gives.number now request going)
+    ∙ ap (λ n. lasts (operates gives.world gives.number now request n).executed) next
     ∙ ap lasts (behind_executed gives.world gives.number request (model.Refused number reason) None))
 
 -- turns that are the same in each such world
@@ -224,7 +264,7 @@ same_turns state turn other same after lasting gives =
       world = gives.world;
       number = gives.number;
       has = gives.has;
-      kept = gives.kept ∙ ap (λ (t : Turned). with_tree state.files.volume t.world.tree) is;
+      kept = gives.kept ∙ ap (λ (t : Turned). kept_in t.world) is;
       lasting_is = gives.lasting_is ∙ ap (λ (t : Turned). lasts t.executed) is;
     }
 

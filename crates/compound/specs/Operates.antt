@@ -112,10 +112,13 @@ abbrev pub ChangesTreeAndOpens : (old new : FileSystem) → (before after : Open
 ChangesTreeAndOpens old new before after now request operation done = (table : Table)
     → Operates now (shared old table before) (shared new table after) request operation done
 
--- the tree after it
+-- the world after it, and the tree
+abbrev pub world_by : World → HasRun → World
+world_by world (turns.Gives outcome after left) = after
+world_by world (turns.Replays reply session slot) = world
+
 abbrev pub tree_by : World → HasRun → Tree
-tree_by world (turns.Gives outcome after left) = after.tree
-tree_by world (turns.Replays reply session slot) = world.tree
+tree_by world ran = (world_by world ran).tree
 
 -- an OK result has room in the reply, whatever follows the operation
 abbrev pub HasRoom : InProgress → model.Outcome → Type 0

@@ -40,6 +40,11 @@ pub record HasState (world : World) (state : SharedState) : Type 0 where
   pub opens : world.opens ≡ state.opens
   pub table_is : world.table ≡ state.table
 
+-- the table is one of the volume's run, and has the volume's seats
+pub record Agrees (files : FileSystem) (table : Table) : Type 0 where
+  pub run : table.run ≡ files.volume.run
+  pub seats : table.seats ≡ files.volume.seats
+
 -- the world with what it is now
 abbrev pub with_state : World → SharedState → World
 with_state world state = record world {

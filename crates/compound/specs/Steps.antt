@@ -1,15 +1,23 @@
--- One operation of a COMPOUND, by the definition.
-use Rattle.std.specs.Prelude.{◌≡◌, ◌+◌, ℕ, Bool, true}
+-- One turn of a COMPOUND, by the definition: an operation, or once the last result is there the
+-- reply, which a seat holds first.
+use Rattle.std.specs.Prelude.{◌≡◌, ◌+◌, ℕ, Bool, true, false, None}
+use Rattle.fs.specs.FileSystem.{FileSystem}
 use Rattle.model.specs.World as world
-use Rattle.model.specs.World.{World, Connection, Busy, Replied, Turn, Turned, InProgress, next_operation, operates, with_connection}
+use Rattle.model.specs.World.{World, Connection, Busy, Replied, Turn, Turned, InProgress, further, with_connection}
 use Rattle.compound.specs.States.{SharedState, HasState, with_state}
 use Rattle.compound.specs.Views.{Asked, resumed, fits}
 use Rattle.compound.specs.declared.step.Stepped.{Stepped}
 use Rattle.compound.specs.declared.step.Stepped.TheVariants as stepped
 
+-- a request that has not ended, in the run of a file system that is up
+pub record CanRun (files : FileSystem) (request : InProgress) : Type 0 where
+  pub up : files.volume.is_down ≡ false
+  pub run : request.context.run ≡ files.volume.run
+  pub more : request.ended ≡ None
+
 -- a turn of the request
 abbrev pub stepped_on : World → (number now : ℕ) → InProgress → Turned
-stepped_on world number now request = operates world number now request (next_operation request)
+stepped_on world number now request = further world number now request request.ended
 
 abbrev pub turn_by : Stepped → Turn
 turn_by (stepped.Ran progress) = world.Ran
@@ -33,12 +41,19 @@ abbrev pub StaysInRun : (run : ℕ) → Stepped → Type 0
 StaysInRun run (stepped.Ran progress) = progress.run ≡ run
 StaysInRun run (stepped.Answered reply) = Unit {0}
 
--- a request that goes on has one result more
+-- a request that goes on had not ended, and has one result more
 abbrev pub GoesFurther : InProgress → Stepped → Type 0
-GoesFurther request (stepped.Ran progress) = progress.answered ≡ request.answered + 1
+GoesFurther request (stepped.Ran progress) =
+    (request.ended ≡ None) × (progress.answered ≡ request.answered + 1)
 GoesFurther request (stepped.Answered reply) = Unit {0}
 
 -- the COMPOUND can be resumed after a step
 abbrev pub still_fits : Asked → Stepped → Bool
 still_fits asked (stepped.Ran progress) = fits asked progress
 still_fits asked (stepped.Answered reply) = true
+
+-- what a step leaves of a request, on any device
+pub record GoesOn (run : ℕ) (asked : Asked) (request : InProgress) (done : Stepped) : Type 0 where
+  pub stays : StaysInRun run done
+  pub further : GoesFurther request done
+  pub fits : still_fits asked done ≡ true

@@ -1,10 +1,9 @@
 -- A result on its way into the reply.
-use Rattle.std.specs.Prelude.{◌≡◌, ◌+◌, Bool, true, List, ℕ, ◌++◌, ⊤}
+use Rattle.std.specs.Prelude.{◌≡◌, ◌+◌, Bool, true, List, ℕ, ◌++◌, Some, ⊤}
 use Rattle.model.specs.Answer as model
-use Rattle.model.specs.Rpc.{Success, reply_text}
 use Rattle.model.specs.Runs.{is_done}
 use Rattle.model.specs.WireAnswers as answers
-use Rattle.model.specs.World.{InProgress, outcome_text, status_of, result_of}
+use Rattle.model.specs.World.{InProgress, outcome_text, status_of}
 use Rattle.model.specs.declared.status.Status.{Status}
 use Rattle.model.specs.declared.status.Status.TheVariants as status
 use Rattle.wire.specs.Numbers.{number_of}
@@ -52,10 +51,7 @@ with_told request result =
       results = request.results ++ told_text result;
     }
 
--- the whole result of a COMPOUND, where it is the last one of an operation
-abbrev pub last_told : InProgress → Told → List ℕ
-last_told request result = result_of (with_told request result) (told_status result)
-
--- and the reply, without the record's header
-abbrev pub reply_told : InProgress → Told → List ℕ
-reply_told request result = reply_text request.xid (Success (last_told request result))
+-- where it is the last one
+abbrev pub with_last : InProgress → Told → InProgress
+with_last request result =
+    record (with_told request result) { ended = Some (told_status result) }

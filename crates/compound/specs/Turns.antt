@@ -1,11 +1,13 @@
 -- How a turn is made of an operation that ran, and of what follows its result.
-use Rattle.std.specs.Prelude.{◌≡◌, ℕ, List, Option, Some, None}
+use Rattle.std.specs.Prelude.{◌≡◌, ℕ, List, Option, Some, None, false}
 use Rattle.model.specs.Answer as model
 use Rattle.model.specs.Record.{framed}
 use Rattle.model.specs.Rpc.{Success, reply_text}
+use Rattle.model.specs.SeatEdits.{edited_all, edits_view}
 use Rattle.model.specs.Session.{Table}
 use Rattle.model.specs.World as turns
-use Rattle.model.specs.World.{World, InProgress, Entry, Turned, behind, with_connection, with_table}
+use Rattle.model.specs.World.{World, InProgress, Entry, Turned, behind, is_to_hold, kept_by, with_connection, with_table}
+use Rattle.model.specs.declared.seats.SeatEdits.{SeatEdits}
 use Rattle.session.specs.Views.{reply_kept}
 use Rattle.wire.specs.Numbers.{number_of}
 use Rattle.wire.specs.OutcomeView.{outcome_view}
@@ -62,3 +64,10 @@ StandsAfter old new asked request outcome done =
     → ((behind world number request outcome executed).turn ≡ turn_by done)
     × ((behind world number request outcome executed).world
     ≡ with_connection (with_table world new) number (connection_by asked done))
+
+-- what a reply makes of the seats: these edits, or nothing where no seat is to hold it
+abbrev pub AreOfReply : (slot : Option (List ℕ × ℕ)) → (result : List ℕ) → Table → Option SeatEdits
+    → Type 0
+AreOfReply slot result table None = is_to_hold slot table.seats ≡ false
+AreOfReply slot result table (Some edits) =
+    edited_all (edits_view edits) table.seats ≡ (kept_by slot result table).seats

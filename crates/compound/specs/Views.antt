@@ -16,7 +16,7 @@ use Rattle.compound.specs.declared.progress.HandlePlace.{HandlePlace}
 use Rattle.compound.specs.declared.progress.SlotId.{SlotId}
 use Rattle.compound.specs.declared.next.Next.{Next}
 use Rattle.compound.specs.declared.next.Next.TheVariants as nexts
-use Rattle.compound.specs.declared.results.TheConstants.{AROUND_RESULTS, MAX_REPLY_BYTES}
+use Rattle.compound.specs.declared.results.TheConstants.{AROUND_RESULTS, MAX_REPLY_BYTES, MAX_REFUSAL_BYTES}
 use Rattle.model.specs.declared.status.Status.{Status}
 
 -- a filehandle, with the stateid that goes with it
@@ -44,7 +44,7 @@ context_of cred progress = record {
   saved = option_map place_of progress.saved;
 }
 
--- a COMPOUND that is so far. It has not ended: there is no seat that is to hold its reply first.
+-- a COMPOUND that is so far
 abbrev pub resumed : Asked → Progress → InProgress
 resumed asked progress = record {
   xid = asked.xid;
@@ -55,17 +55,28 @@ resumed asked progress = record {
   results = progress.results.bytes;
   context = context_of asked.cred progress;
   slot = option_map slot_of progress.slot;
-  ended = None;
+  ended = progress.ended;
 }
 
--- operations are left, the next one stands within their bytes, and the reply has room for the
--- results so far
+-- the bytes of its reply up to the end of the results so far
+abbrev pub size_so_far : Asked → Progress → ℕ
+size_so_far asked progress =
+    AROUND_RESULTS + length (counted asked.compound.tag) + length progress.results.bytes
+
+-- Operations are left, and the reply has room for the results so far. Once the last result is there,
+-- that one may be a refusal without room.
+abbrev pub goes_on : Asked → Progress → (ended : Option Status) → Bool
+goes_on asked progress None =
+    nat_lt progress.answered asked.compound.count
+    && nat_le (size_so_far asked progress) MAX_REPLY_BYTES
+goes_on asked progress (Some last) =
+    nat_le (size_so_far asked progress) (MAX_REPLY_BYTES + MAX_REFUSAL_BYTES)
+
+-- and the next one stands within their bytes
 abbrev pub fits : Asked → Progress → Bool
 fits asked progress =
-    nat_lt progress.answered asked.compound.count
-    && (nat_le progress.position (length asked.compound.operations)
-    && nat_le (AROUND_RESULTS + length (counted asked.compound.tag) + length progress.results.bytes)
-    MAX_REPLY_BYTES)
+    nat_le progress.position (length asked.compound.operations)
+    && goes_on asked progress progress.ended
 
 -- no operation was done in this run of the server, of whichever COMPOUND
 pub record IsBegin (run : ℕ) (progress : Progress) : Type 0 where

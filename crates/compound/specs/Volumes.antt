@@ -1,18 +1,20 @@
 -- What the operations of a COMPOUND do to the file system below it, by the definition.
 use Rattle.std.specs.Prelude.{ℕ, Bool, false, List, Option, Some, None, Result, Ok, Err, ◌≡◌}
+use Rattle.fs.specs.FileSystem.{FileSystem}
 use Rattle.layout.specs.Stands.{Kept}
 use Rattle.model.specs.Operation.{Argument}
 use Rattle.model.specs.Runs.{is_durable}
+use Rattle.model.specs.Seats.{Seats}
 use Rattle.model.specs.World as turns
 use Rattle.model.specs.World.{World, InProgress, HasRun, Entry, Turned, executed_entry}
-use Rattle.volume.specs.Changes.{Ending, Done, Nothing, Broken}
-use Rattle.volume.specs.Held.{with_tree}
-use Rattle.compound.specs.Operates.{run_in_room, tree_by}
+use Rattle.volume.specs.Changes.{Given, Ending, Done, Nothing, Broken}
+use Rattle.compound.specs.Operates.{run_in_room, tree_by, world_by}
 use Rattle.compound.specs.Runs.{with_rest}
 use Rattle.compound.specs.States.{SharedState, HasState}
 use Rattle.compound.specs.declared.fault.Fault.{Fault}
 use Rattle.compound.specs.declared.fault.Fault.TheVariants as fault
 use Rattle.compound.specs.declared.step.Undone.{Undone}
+use Rattle.volume.specs.Held.{Held, with_tree}
 
 -- How a call ends
 
@@ -41,8 +43,12 @@ executed_by world request operation (turns.Gives outcome after left) =
     Some (executed_entry world request operation outcome after)
 executed_by world request operation (turns.Replays reply session slot) = None
 
--- in some world that has this, whatever follows the operation, it leaves this tree, with the seats
--- as they were, and has to last or not
+-- what a volume is to keep of a world
+abbrev pub kept_in : World → Kept
+kept_in world = record { tree = world.tree; seats = world.table.seats }
+
+-- In some world that has this, whatever follows the operation, it leaves this tree, with the seats
+-- as they were, and has to last or not: of an operation on the tree.
 pub record OperationGives (state : SharedState) (request : InProgress) (now : ℕ)
     (operation : Argument) (after : Kept) (lasting : Bool) : Type 0 where
   pub world : World
@@ -53,11 +59,32 @@ pub record OperationGives (state : SharedState) (request : InProgress) (now : �
   pub lasting_is : lasting ≡ lasts (executed_by world (with_rest request rest) operation
       (run_in_room world (with_rest request rest) now operation))
 
+-- the same of any operation, which leaves the seats of the world's table
+pub record RunGives (state : SharedState) (request : InProgress) (now : ℕ) (operation : Argument)
+    (after : Kept) (lasting : Bool) : Type 0 where
+  pub world : World
+  pub rest : List ℕ
+  pub has : HasState world state
+  pub kept : after
+      ≡ kept_in (world_by world (run_in_room world (with_rest request rest) now operation))
+  pub lasting_is : lasting ≡ lasts (executed_by world (with_rest request rest) operation
+      (run_in_room world (with_rest request rest) now operation))
+
 -- in some such world, on some connection, this turn does
 pub record TurnGives (state : SharedState) (turn : World → (number : ℕ) → Turned) (after : Kept)
     (lasting : Bool) : Type 0 where
   pub world : World
   pub number : ℕ
   pub has : HasState world state
-  pub kept : after ≡ with_tree state.files.volume (turn world number).world.tree
+  pub kept : after ≡ kept_in (turn world number).world
   pub lasting_is : lasting ≡ lasts (turn world number).executed
+
+-- the tree stays, and so does what has to last; the seats are these
+abbrev pub IsSeated : Held → Seats → Given
+IsSeated held seats after lasting =
+    (after ≡ record { tree = held.tree; seats = seats }) × (lasting ≡ false)
+
+-- the tree stands as it did, and no change was counted
+pub record HasSameTree (old new : FileSystem) : Type 0 where
+  pub tree : new.volume.tree ≡ old.volume.tree
+  pub changes : new.changes ≡ old.changes

@@ -3,22 +3,29 @@
 ghost use Rattle.std.specs.Prelude.{◌≡◌};
 
 use crate::fault::Fault;
+use crate::held_replies::put_seats;
 use crate::operated::{Effect, Operated};
 use crate::running::Running;
+use disk::Device;
+use fs::Fs;
 use model::not_done::NotDone;
 use opens::Opens;
-use session::Table;
+use session::{Creation, Table};
 use wire::{Answer, CreateSessionArguments, ExchangeIdArguments, Operation};
 
 #[tactic(auto, unfolding(crate::specs::Views::in_progress_of))]
 impl Running<'_> {
-    ghost use Rattle.std.specs.Prelude.{◌≡◌, IfOk, IfErr};
+    ghost use Rattle.std.specs.Prelude.{◌≡◌, ℕ, false, IfOk, IfErr, OnErr};
+    ghost use Rattle.fs.specs.Views.{fs_of, Alters};
+    ghost use Rattle.model.specs.Opens.{Opens as Known};
     ghost use Rattle.model.specs.Operation as operations;
     ghost use Rattle.session.specs.Views.{table_of};
     ghost use Rattle.wire.specs.ArgumentViews.{exchange_id_view, create_session_view};
     ghost use Rattle.opens.specs.Views.{opens_of};
-    ghost use Rattle.compound.specs.Operates.{ChangesTableAndOpens, ChangesTable, IsAnswered};
+    ghost use Rattle.compound.specs.Operates.{Operates, ChangesTableAndOpens, IsAnswered, IsKept};
+    ghost use Rattle.compound.specs.States.{Agrees, shared, shared_of};
     ghost use Rattle.compound.specs.Views.{in_progress_of};
+    ghost use Rattle.compound.specs.Volumes.{RunGives, ending};
     ghost use Rattle.compound.specs.declared.fault.Fault.TheVariants.{Memory};
 
     /// EXCHANGE_ID. After `Memory` the table is as it was.
@@ -44,43 +51,77 @@ impl Running<'_> {
         }
     }
 
-    /// CREATE_SESSION: the opens of a client that ends with it end too. After `Memory` nothing
-    /// changed.
-    pub(crate) fn create_session(
+    /// CREATE_SESSION: the volume keeps the seats that it leaves first, and the opens of a client
+    /// that ends with it end too. After `Memory` nothing changed.
+    pub(crate) fn create_session<D: Device>(
         &self,
+        fs: &mut Fs<D>,
         table: &mut Table,
         opens: &mut Opens,
         arguments: &CreateSessionArguments<'_>,
     ) -> Result<Operated, Fault>
         requires first { (in_progress_of self.now).answered ≡ 0 }
-        ensures gives { IfOk result (ChangesTableAndOpens (table_of table.old) (table_of table.new)
-            (opens_of opens.old) (opens_of opens.new) (in_progress_of self.now)
+        requires up { (fs_of fs.old).volume.is_down ≡ false }
+        requires agrees { D.keeps_word → Agrees (fs_of fs.old) (table_of table.old) }
+        ensures gives { (now : ℕ) → D.keeps_word → IfOk result (Operates now
+            (shared_of fs.old table.old opens.old) (shared_of fs.new table.new opens.new)
+            (in_progress_of self.now)
             (operations.Argument.CreateSession (create_session_view arguments.now))) }
         ensures answered { IfOk result (IsAnswered (in_progress_of self.now)) }
-        ensures err { IfErr result (λ fault. (fault ≡ Memory)
-            × (table_of table.new ≡ table_of table.old)
+        ensures kept { IfOk result (IsKept (table_of table.new)) }
+        ensures others { OnErr result ((table_of table.new ≡ table_of table.old)
             × (opens_of opens.new ≡ opens_of opens.old)) }
+        ensures volume { (now : ℕ) → Alters fs.old fs.new (RunGives
+            (shared_of fs.old table.old opens.old) (in_progress_of self.now) now
+            (operations.Argument.CreateSession (create_session_view arguments.now)))
+            (ending result) }
     {
-        match table.create_session(self.cred.uid, arguments) {
-            Ok(created) => {
+        match table.plan_session(self.cred.uid, arguments) {
+            Ok(Creation::New(plan)) => {
+                let done = self.answer_first(Answer::CreateSession(plan.answer), Effect::Stays);
+                put_seats(fs, &plan.edits)?;
+                let created = table.add_session(plan);
                 opens.remove_clients(&created.ended);
-                Ok(self.answer_first(Answer::CreateSession(created.answer), Effect::Stays))
+                Ok(done)
+            }
+            Ok(Creation::Again(answer)) => {
+                Ok(self.answer_first(Answer::CreateSession(answer), Effect::Stays))
             }
             Err(NotDone::Status(status)) => Ok(self.refuse(Operation::CreateSession, status)),
             Err(NotDone::Memory) => Err(Fault::Memory),
         }
     }
 
-    /// DESTROY_SESSION.
-    pub(crate) fn destroy_session(&self, table: &mut Table, id: &[u8; 16]) -> Operated
+    /// DESTROY_SESSION: the volume frees the seat first. After `Memory` nothing changed.
+    pub(crate) fn destroy_session<D: Device>(
+        &self,
+        fs: &mut Fs<D>,
+        table: &mut Table,
+        id: &[u8; 16],
+    ) -> Result<Operated, Fault>
         requires first { (in_progress_of self.now).answered ≡ 0 }
-        ensures gives { ChangesTable (table_of table.old) (table_of table.new)
-            (in_progress_of self.now) (operations.Argument.DestroySession id.now) result }
-        ensures answered { IsAnswered (in_progress_of self.now) result }
+        requires up { (fs_of fs.old).volume.is_down ≡ false }
+        requires agrees { D.keeps_word → Agrees (fs_of fs.old) (table_of table.old) }
+        ensures gives { (now : ℕ) (opens : Known) → D.keeps_word → IfOk result (Operates now
+            (shared (fs_of fs.old) (table_of table.old) opens)
+            (shared (fs_of fs.new) (table_of table.new) opens) (in_progress_of self.now)
+            (operations.Argument.DestroySession id.now)) }
+        ensures answered { IfOk result (IsAnswered (in_progress_of self.now)) }
+        ensures kept { IfOk result (IsKept (table_of table.new)) }
+        ensures table { OnErr result (table_of table.new ≡ table_of table.old) }
+        ensures volume { (now : ℕ) (opens : Known) → Alters fs.old fs.new (RunGives
+            (shared (fs_of fs.old) (table_of table.old) opens) (in_progress_of self.now) now
+            (operations.Argument.DestroySession id.now)) (ending result) }
     {
-        match table.destroy_session(id) {
-            Ok(()) => self.answer_first(Answer::DestroySession, Effect::Stays),
-            Err(status) => self.refuse(Operation::DestroySession, status),
+        match table.plan_end(id) {
+            Ok(edits) => {
+                let done = self.answer_first(Answer::DestroySession, Effect::Stays);
+                put_seats(fs, &edits)?;
+                table.end_session(id, edits);
+                Ok(done)
+            }
+            Err(NotDone::Status(status)) => Ok(self.refuse(Operation::DestroySession, status)),
+            Err(NotDone::Memory) => Err(Fault::Memory),
         }
     }
 

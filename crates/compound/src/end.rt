@@ -1,37 +1,49 @@
-//! The end of a COMPOUND: its whole result, which the slot keeps, and the reply's record.
+//! The end of a COMPOUND: its whole result, which the slot keeps and a seat may hold, and the
+//! reply's record.
 
-ghost use Rattle.std.specs.Prelude.{◌≡◌, ◌≤◌, ◌+◌, [], length};
+ghost use Rattle.std.specs.Prelude.{◌≡◌, ◌≤◌, ◌+◌, [], Some, length};
 ghost use Rattle.model.specs.Rpc.{compound_text};
 ghost use Rattle.model.specs.Session.{finish};
 ghost use Rattle.rpc.specs.Views.{result_text};
 ghost use Rattle.session.specs.Views.{table_of};
+ghost use Rattle.compound.specs.Turns.{AreOfReply};
+ghost use Rattle.compound.specs.Views.{slot_of};
 
+use crate::fault::Fault;
+use crate::held_replies::put_seats;
 use crate::progress::{Progress, RESULT_BUFFER, SlotId};
 use crate::running::Running;
-use crate::told::Told;
+use disk::Device;
+use fs::Fs;
+use model::seats::SeatEdits;
 use model::status::Status;
 use rpc::{Compound, CompoundResult, Reply, Tag, write_reply};
 use session::Table;
 use xdr::Writer;
 
 impl Running<'_> {
-    ghost use Rattle.std.specs.Prelude.{◌≡◌, ◌≤◌, ℕ, List, Some, length};
+    ghost use Rattle.std.specs.Prelude.{◌≡◌, ℕ, List, false, Some, IfOk, IfErr, OnOk};
+    ghost use Rattle.fs.specs.Views.{fs_of, Alters};
     ghost use Rattle.model.specs.Record.{framed};
     ghost use Rattle.model.specs.Rpc.{Success, reply_text};
-    ghost use Rattle.model.specs.World.{kept_by};
+    ghost use Rattle.model.specs.World.{kept_by, result_of};
     ghost use Rattle.session.specs.Views.{table_of, reply_kept};
-    ghost use Rattle.compound.specs.Told.{CanBeSpelled, last_told, reply_told};
+    ghost use Rattle.compound.specs.States.{Agrees};
+    ghost use Rattle.compound.specs.Turns.{AreOfReply};
     ghost use Rattle.compound.specs.Views.{in_progress_of};
+    ghost use Rattle.compound.specs.Volumes.{IsSeated, HasSameTree, ending};
+    ghost use Rattle.compound.specs.declared.fault.Fault.TheVariants.{Memory};
 
-    /// The reply's whole record, where this result is the last one. The slot keeps the result of
-    /// the COMPOUND. No memory is taken.
-    #[tactic(auto, unfolding(crate::specs::Views::in_progress_of, model::specs::World::outcome_text), using(crate::proofs::Replies::room_length, crate::proofs::Replies::success_length, crate::proofs::Replies::framed_length))]
-    pub(crate) fn end(self, table: &mut Table, told: Told<'_>) -> Vec<u8>
-        requires spelled { CanBeSpelled told }
-        requires room { length (reply_told (in_progress_of self) told) ≤ RESULT_BUFFER }
-        ensures reply { result.items ≡ framed (reply_told (in_progress_of self.entry) told.entry) }
+    /// The reply's whole record, once the last result is there. The slot keeps the result of the
+    /// COMPOUND, and where a seat holds it these edits are made of the seats. No memory is taken.
+    #[tactic(auto, unfolding(crate::specs::Views::in_progress_of), using(crate::proofs::Replies::success_length, crate::proofs::Replies::framed_length))]
+    pub(crate) fn end(self, table: &mut Table, last: Status, edits: Option<SeatEdits>) -> Vec<u8>
+        requires { AreOfReply (in_progress_of self).slot (result_of (in_progress_of self) last)
+            (table_of table.old) edits }
+        ensures reply { result.items ≡ framed (reply_text (in_progress_of self.entry).xid
+            (Success (result_of (in_progress_of self.entry) last))) }
         ensures kept { table_of table.new ≡ kept_by (in_progress_of self.entry).slot
-            (last_told (in_progress_of self.entry) told.entry) (table_of table.old) }
+            (result_of (in_progress_of self.entry) last) (table_of table.old) }
     {
         let Running {
             xid,
@@ -47,15 +59,57 @@ impl Running<'_> {
             slot,
             ..
         } = progress;
-        let results = told.write(results);
-        let compound = result_of(told.status(), tag, answered + 1, results.as_slice());
+        let compound = result_of(last, tag, answered, results.as_slice());
         if let Some(id) = slot {
-            keep(table, &id, &compound, kept);
+            keep(table, &id, &compound, kept, edits);
         }
         match write_reply(reply, xid, &Reply::Compound(compound)) {
             Ok(reply) => reply,
             Err(_) => unreachable!(),
         }
+    }
+
+    /// Where a seat is to hold the reply, it does so on the volume; and what that makes of the seats
+    /// beside the table.
+    ///
+    /// # Errors
+    /// After `Memory` nothing changed; after `Device` the file system is down.
+    pub(crate) fn hold<D: Device>(
+        &self,
+        fs: &mut Fs<D>,
+        table: &Table,
+        last: Status,
+    ) -> Result<Option<SeatEdits>, Fault>
+        requires up { (fs_of fs.old).volume.is_down ≡ false }
+        requires agrees { D.keeps_word → Agrees (fs_of fs.old) (table_of table.now) }
+        ensures edits { IfOk result (AreOfReply (in_progress_of self.now).slot
+            (result_of (in_progress_of self.now) last) (table_of table.now)) }
+        ensures same { D.keeps_word → OnOk result (HasSameTree (fs_of fs.old) (fs_of fs.new)) }
+        ensures volume { Alters fs.old fs.new (IsSeated (fs_of fs.old).volume
+            (kept_by (in_progress_of self.now).slot (result_of (in_progress_of self.now) last)
+            (table_of table.now)).seats) (ending result) }
+    {
+        let Some(id) = &self.progress.slot else {
+            return Ok(None);
+        };
+        let result = self.result(last)?;
+        let edits = table.plan_hold(&id.session, id.slot, result.as_slice())?;
+        put_seats(fs, &edits)?;
+        Ok(Some(edits))
+    }
+
+    /// The whole result, in memory of its own.
+    #[tactic(auto, unfolding(crate::specs::Views::in_progress_of))]
+    fn result(&self, last: Status) -> Result<Vec<u8>, Fault>
+        ensures ok { IfOk result (λ bytes.
+            bytes.items ≡ result_of (in_progress_of self.now) last) }
+        ensures err { IfErr result (λ fault. fault ≡ Memory) }
+    {
+        let out = Writer::with_capacity(self.alloc, RESULT_BUFFER)?;
+        let progress = &self.progress;
+        let results = progress.results.as_slice();
+        let compound = result_of(last, self.compound.tag, progress.answered, results);
+        Ok(compound.write(out)?)
     }
 
     /// The reply's whole record, where the result is the one that this slot keeps. No memory is
@@ -93,16 +147,29 @@ fn result_of<'a>(status: Status, tag: Tag<'a>, count: u32, results: &'a [u8]) ->
     }
 }
 
-/// The slot keeps the result, spelled into this memory.
-fn keep(table: &mut Table, id: &SlotId, compound: &CompoundResult<'_>, memory: Writer)
+/// The slot keeps the result, spelled into this memory, and these edits are made of the seats where
+/// one holds it.
+#[tactic(auto, unfolding(model::specs::Session::finish))]
+fn keep(
+    table: &mut Table,
+    id: &SlotId,
+    compound: &CompoundResult<'_>,
+    memory: Writer,
+    edits: Option<SeatEdits>,
+)
     requires fresh { memory.bytes ≡ [] }
     requires room { RESULT_BUFFER ≤ memory.capacity }
     requires short { length (result_text compound.now) ≤ RESULT_BUFFER }
+    requires edits { AreOfReply (Some (slot_of id.now)) (result_text compound.now)
+        (table_of table.old) edits }
     ensures { table_of table.new ≡ finish id.now.session id.now.slot (result_text compound.now)
         (table_of table.old) }
 {
-    match compound.write(memory) {
-        Ok(result) => table.finish(&id.session, id.slot, result),
-        Err(_) => unreachable!(),
+    let Ok(result) = compound.write(memory) else {
+        unreachable!();
+    };
+    match edits {
+        Some(edits) => table.finish_held(&id.session, id.slot, result, edits),
+        None => table.finish(&id.session, id.slot, result),
     }
 }

@@ -12,6 +12,7 @@ mod closing;
 mod end;
 mod fault;
 mod handles;
+mod held_replies;
 mod listing;
 mod next;
 mod open_named;

@@ -148,7 +148,7 @@ impl Running<'_> {
     pub(crate) fn is_last(&self) -> bool
         ensures { result ≡ is_last (in_progress_of self.now) }
     {
-        self.compound.count - self.progress.answered == 1
+        self.compound.count.saturating_sub(self.progress.answered) == 1
     }
 
     /// Goes on after an operation, to the bytes from this position on.

@@ -16,9 +16,9 @@ impl Running<'_> {
     ghost use Rattle.session.specs.Views.{table_of};
     ghost use Rattle.wire.specs.ArgumentView.{argument_view};
     ghost use Rattle.compound.specs.Operates.{Operates, IsAnswered, IsKept, comes_first};
-    ghost use Rattle.compound.specs.States.{shared_of};
+    ghost use Rattle.compound.specs.States.{Agrees, shared_of};
     ghost use Rattle.compound.specs.Views.{in_progress_of};
-    ghost use Rattle.compound.specs.Volumes.{OperationGives, ending};
+    ghost use Rattle.compound.specs.Volumes.{RunGives, ending};
 
     /// Runs an operation, and tests last whether the reply has room for its result.
     ///
@@ -36,6 +36,7 @@ impl Running<'_> {
         // It is up, in the run in which the request began
         requires up { (fs_of fs.old).volume.is_down ≡ false }
         requires run { (in_progress_of self.now).context.run ≡ (fs_of fs.old).volume.run }
+        requires agrees { D.keeps_word → Agrees (fs_of fs.old) (table_of table.old) }
         requires first { comes_first (argument_view argument.now) ≡ true
             → (in_progress_of self.now).answered ≡ 0 }
         // What it answers
@@ -46,10 +47,10 @@ impl Running<'_> {
         ensures answered { IfOk result (IsAnswered (in_progress_of self.now)) }
         ensures kept { IfOk result (IsKept (table_of table.new)) }
         // Refused
-        ensures table { OnErr result (table_of table.new ≡ table_of table.old) }
-        ensures opens { OnErr result (opens_of opens.new ≡ opens_of opens.old) }
+        ensures others { OnErr result ((table_of table.new ≡ table_of table.old)
+            × (opens_of opens.new ≡ opens_of opens.old)) }
         // In any case
-        ensures volume { Alters fs.old fs.new (OperationGives (shared_of fs.old table.old opens.old)
+        ensures volume { Alters fs.old fs.new (RunGives (shared_of fs.old table.old opens.old)
             (in_progress_of self.now) now (argument_view argument.now)) (ending result) }
     {
         match argument {
@@ -73,8 +74,10 @@ impl Running<'_> {
             Argument::SetAttr(arguments) => self.set_attributes(fs, opens, now, arguments),
             Argument::Write(arguments) => self.write(fs, opens, now, arguments),
             Argument::ExchangeId(arguments) => self.exchange_id(table, opens, arguments),
-            Argument::CreateSession(arguments) => self.create_session(table, opens, arguments),
-            Argument::DestroySession(id) => Ok(self.destroy_session(table, id)),
+            Argument::CreateSession(arguments) => {
+                self.create_session(fs, table, opens, arguments)
+            }
+            Argument::DestroySession(id) => self.destroy_session(fs, table, id),
             Argument::DestroyClientId(client) => self.destroy_clientid(table, opens, *client),
             Argument::Sequence(arguments) => Ok(self.sequence(table, arguments)),
             Argument::ReclaimComplete(one_fs) => Ok(self.reclaim(fs, table, *one_fs)),

@@ -3,6 +3,7 @@
 ghost use Rattle.std.specs.Prelude.{◌≡◌, ◌≤◌, []};
 ghost use Rattle.compound.specs.declared.progress.TheConstants.{RESULT_BUFFER, RECORD_BUFFER};
 
+use model::status::Status;
 use wire::StateId;
 use xdr::Writer;
 
@@ -49,6 +50,8 @@ pub struct Progress {
     pub(crate) saved: Option<HandlePlace>,
     /// The slot that runs it.
     pub(crate) slot: Option<SlotId>,
+    /// The status of its last result, once that is there and a seat is to hold the reply.
+    pub(crate) ended: Option<Status>,
     ghost first: { answered ≡ 0 → results.bytes ≡ [] },
     ghost room: { RESULT_BUFFER ≤ results.capacity },
     ghost kept_fresh: { kept.bytes ≡ [] },

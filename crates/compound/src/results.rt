@@ -19,6 +19,9 @@ pub const MAX_REPLY_BYTES: usize = 16_368;
 /// to the accept status; the status and the number of results.
 const AROUND_RESULTS: usize = 32;
 
+/// The most bytes of a refused result, which may follow those that had room.
+const MAX_REFUSAL_BYTES: usize = 12;
+
 /// The bytes of a result before its values: its number and its status.
 const RESULT_FRONT: usize = 8;
 
@@ -34,10 +37,12 @@ impl Running<'_> {
     ghost use Rattle.wire.specs.OutcomeView.{answer_view, outcome_view};
     ghost use Rattle.wire.specs.Numbers.{number_of};
     ghost use Rattle.wire.specs.Short.{IsRefusal, IsShortAnswer};
+    ghost use Rattle.wire.specs.declared.outcome.Outcome.TheVariants as outcomes;
     ghost use Rattle.compound.specs.Operates.{Operates, RunsTo, GivesIn, Spells, IsAnswered, IsKept, left_by};
     ghost use Rattle.compound.specs.States.{SharedState};
     ghost use Rattle.compound.specs.Trees.{IsUp, refusal, told};
     ghost use Rattle.compound.specs.Views.{in_progress_of};
+    ghost use Rattle.compound.specs.declared.operated.Operated.TheVariants as operated;
 
     /// Whether the reply has room for this result, if it were the last one.
     #[tactic(auto, unfolding(crate::specs::Views::in_progress_of, model::specs::World::outcome_text), using(crate::proofs::Replies::reply_length))]
@@ -146,6 +151,7 @@ impl Running<'_> {
             (left_by effect (in_progress_of self.now)) kind (Done (answer_view answer.entry))
             → Operates now old new (in_progress_of self.now) kind result }
         ensures answered { IsAnswered (in_progress_of self.now) result }
+        ensures is { result ≡ operated.Gives (outcomes.Done answer.entry) effect }
     {
         Operated::Gives {
             outcome: Outcome::short(answer),
@@ -156,7 +162,7 @@ impl Running<'_> {
 
 impl Progress {
     ghost use Rattle.std.specs.Prelude.{◌≡◌, ◌+◌, ◌<◌, ◌≤◌, ◌^◌, length};
-    ghost use Rattle.compound.specs.Told.{CanBeSpelled, told_text, with_told};
+    ghost use Rattle.compound.specs.Told.{CanBeSpelled, told_text, with_told, with_last};
     ghost use Rattle.compound.specs.Views.{Asked, resumed};
 
     /// With one result more, after those so far.
@@ -179,6 +185,7 @@ impl Progress {
             current,
             saved,
             slot,
+            ended,
         } = self;
         Progress {
             position,
@@ -191,6 +198,22 @@ impl Progress {
             current,
             saved,
             slot,
+            ended,
         }
+    }
+
+    /// With one result more, which is the last one.
+    pub(crate) fn with_last(self, told: Told<'_>) -> Progress
+        requires spelled { CanBeSpelled told }
+        requires more { self.answered + 1 < 2 ^ 32 }
+        requires room { length self.results.bytes + length (told_text told) ≤ RESULT_BUFFER }
+        ensures request { (asked : Asked) → resumed asked result
+            ≡ with_last (resumed asked self) told.entry }
+        ensures position { result.position ≡ self.position }
+    {
+        let last = told.status();
+        let mut progress = self.with_result(told);
+        progress.ended = Some(last);
+        progress
     }
 }

@@ -1,15 +1,16 @@
 //! A COMPOUND over its record.
 
-ghost use Rattle.std.specs.Prelude.{◌≤◌, ◌<◌, ◌+◌, length};
+ghost use Rattle.std.specs.Prelude.{◌≡◌, ◌≤◌, ◌<◌, ◌+◌, None, length};
 ghost use Rattle.xdr.specs.Forms.{counted};
-ghost use Rattle.compound.specs.declared.results.TheConstants.{MAX_REPLY_BYTES, AROUND_RESULTS};
+ghost use Rattle.compound.specs.declared.results.TheConstants.{MAX_REPLY_BYTES, MAX_REFUSAL_BYTES, AROUND_RESULTS};
 
 use crate::progress::Progress;
 use model::acl::Cred;
 use rpc::Compound;
 use std::alloc::Global;
 
-/// A COMPOUND of which an operation runs next. Its tag and its operations stand in its record.
+/// A COMPOUND of which an operation runs next, or whose reply a seat is to hold next. Its tag and
+/// its operations stand in its record.
 #[derive(Drop)]
 pub struct Running<'a> {
     pub(crate) alloc: Global,
@@ -17,8 +18,11 @@ pub struct Running<'a> {
     pub(crate) cred: Cred,
     pub(crate) compound: Compound<'a>,
     pub(crate) progress: Progress,
-    ghost more: { progress.answered < compound.count },
     ghost within: { progress.position ≤ length compound.operations.now },
     ghost brief: { AROUND_RESULTS + length (counted compound.tag.bytes.now)
+        + length progress.results.bytes ≤ MAX_REPLY_BYTES + MAX_REFUSAL_BYTES },
+    ghost more: { progress.ended ≡ None → progress.answered < compound.count },
+    ghost room: { progress.ended ≡ None
+        → AROUND_RESULTS + length (counted compound.tag.bytes.now)
         + length progress.results.bytes ≤ MAX_REPLY_BYTES },
 }

@@ -1,4 +1,5 @@
-//! One operation of a COMPOUND: the server's atomic step.
+//! One turn of a COMPOUND, which is the server's atomic step: an operation, or the reply that a
+//! seat holds first.
 
 ghost use Rattle.std.specs.Prelude.{◌≡◌, ◌<◌, ◌^◌};
 ghost use Rattle.wire.specs.declared.outcome.Outcome.TheVariants as outcomes;
@@ -21,10 +22,11 @@ use wire::Outcome;
 /// What a step leaves.
 #[derive(Drop)]
 pub enum Stepped {
-    /// One operation ran, and more remain: how far the COMPOUND has come.
+    /// One operation ran, and more remain, or a seat is to hold the reply: how far the COMPOUND has
+    /// come.
     Ran(Progress),
-    /// The last operation ran. The reply's whole record, its header included; its slot keeps the
-    /// result.
+    /// The reply's whole record, its header included. Its slot keeps the result, and where the
+    /// session has a seat, that holds it on the volume.
     Answered(Vec<u8>),
 }
 
@@ -37,21 +39,25 @@ pub struct Undone {
 }
 
 impl Running<'_> {
-    ghost use Rattle.std.specs.Prelude.{◌≡◌, ◌≤◌, true, false, length, drop, IfOk, IfErr, OnErr};
+    ghost use Rattle.std.specs.Prelude.{◌≡◌, ◌≤◌, ℕ, false, None, Some, length, drop, IfOk, IfErr, OnErr};
     ghost use Rattle.fs.specs.Views.{fs_of, Alters};
     ghost use Rattle.opens.specs.Views.{opens_of};
     ghost use Rattle.session.specs.Views.{table_of};
     ghost use Rattle.model.specs.Answer as model;
+    ghost use Rattle.model.specs.Opens.{Opens as Known};
+    ghost use Rattle.model.specs.World.{is_to_hold};
     ghost use Rattle.compound.specs.Operates.{IsAnswered, IsKept, left_by};
-    ghost use Rattle.compound.specs.States.{shared_of};
-    ghost use Rattle.compound.specs.Steps.{Steps, StaysInRun, GoesFurther, still_fits, stepped_on};
-    ghost use Rattle.compound.specs.Told.{CanBeTold, Tells};
+    ghost use Rattle.compound.specs.States.{Agrees, shared, shared_of};
+    ghost use Rattle.compound.specs.Steps.{CanRun, Steps, GoesOn, stepped_on};
+    ghost use Rattle.compound.specs.Told.{CanBeTold, Tells, with_last};
     ghost use Rattle.compound.specs.Turns.{Turns, StandsAfter};
     ghost use Rattle.compound.specs.Views.{in_progress_of, asked_of};
     ghost use Rattle.compound.specs.Volumes.{TurnGives, ending, undone_ending};
+    ghost use Rattle.compound.specs.declared.step.Stepped.TheVariants as stepped;
 
     /// Reads the next operation, tests it and runs it, at this moment in nanoseconds since 1970. A
-    /// change is kept on the device before its result is there.
+    /// change is kept on the device before its result is there. Once the last result is there and a
+    /// seat is to hold the reply, it is held on the device, and then the reply is there.
     ///
     /// # Errors
     /// What was kept of the COMPOUND comes back as it was. After `Memory` nothing changed; after
@@ -65,13 +71,46 @@ impl Running<'_> {
     ) -> Result<Stepped, Undone>
         requires up { (fs_of fs.old).volume.is_down ≡ false }
         requires run { (in_progress_of self).context.run ≡ (fs_of fs.old).volume.run }
+        requires agrees { D.keeps_word → Agrees (fs_of fs.old) (table_of table.old) }
         // Done
         ensures step { D.keeps_word → IfOk result (Steps now (shared_of fs.old table.old opens.old)
             (shared_of fs.new table.new opens.new) (asked_of self.entry)
             (in_progress_of self.entry)) }
-        ensures stays { IfOk result (StaysInRun (fs_of fs.old).volume.run) }
-        ensures further { IfOk result (GoesFurther (in_progress_of self.entry)) }
-        ensures fits { IfOk result (λ done. still_fits (asked_of self.entry) done ≡ true) }
+        ensures agrees { D.keeps_word → IfOk result (λ done.
+            Agrees (fs_of fs.new) (table_of table.new)) }
+        ensures goes_on { IfOk result (GoesOn (fs_of fs.old).volume.run (asked_of self.entry)
+            (in_progress_of self.entry)) }
+        // Not done
+        ensures back { IfErr result (λ undone. undone.progress ≡ self.entry.progress) }
+        ensures others { OnErr result ((table_of table.new ≡ table_of table.old)
+            × (opens_of opens.new ≡ opens_of opens.old)) }
+        // In any case
+        ensures volume { Alters fs.old fs.new (TurnGives (shared_of fs.old table.old opens.old)
+            (λ world number. stepped_on world number now (in_progress_of self.entry)))
+            (undone_ending result) }
+    {
+        match self.progress.ended {
+            Some(last) => Ok(Stepped::Answered(self.store(fs, table, last)?)),
+            None => self.run(fs, table, opens, now),
+        }
+    }
+
+    /// A step of a COMPOUND that has not ended.
+    fn run<D: Device>(
+        self,
+        fs: &mut Fs<D>,
+        table: &mut Table,
+        opens: &mut Opens,
+        now: u64,
+    ) -> Result<Stepped, Undone>
+        requires ready { CanRun (fs_of fs.old) (in_progress_of self) }
+        requires agrees { D.keeps_word → Agrees (fs_of fs.old) (table_of table.old) }
+        // Done
+        ensures step { D.keeps_word → IfOk result (Steps now (shared_of fs.old table.old opens.old)
+            (shared_of fs.new table.new opens.new) (asked_of self.entry)
+            (in_progress_of self.entry)) }
+        ensures goes_on { IfOk result (GoesOn (fs_of fs.old).volume.run (asked_of self.entry)
+            (in_progress_of self.entry)) }
         // Not done
         ensures back { IfErr result (λ undone. undone.progress ≡ self.entry.progress) }
         ensures others { OnErr result ((table_of table.new ≡ table_of table.old)
@@ -114,9 +153,8 @@ impl Running<'_> {
         opens: &mut Opens,
         now: u64,
     ) -> Result<Ran, Fault>
-        // It is up, in the run in which the request began
-        requires up { (fs_of fs.old).volume.is_down ≡ false }
-        requires run { (in_progress_of self.now).context.run ≡ (fs_of fs.old).volume.run }
+        requires ready { CanRun (fs_of fs.old) (in_progress_of self.now) }
+        requires agrees { D.keeps_word → Agrees (fs_of fs.old) (table_of table.old) }
         // What it answers
         ensures turns { D.keeps_word → IfOk result
             (λ ran. Turns now (shared_of fs.old table.old opens.old)
@@ -189,21 +227,97 @@ impl Running<'_> {
         });
     }
 
-    /// The COMPOUND after this result: it goes on, or the reply is there, since this result is the
-    /// last one or not OK.
+    /// The COMPOUND after this result: it goes on; or this result is the last one or not OK, and the
+    /// reply is there, unless a seat is to hold it first.
     fn answer(self, table: &mut Table, told: Told<'_>) -> Stepped
-        requires { CanBeTold (in_progress_of self) told }
+        requires told { CanBeTold (in_progress_of self) told }
+        requires more { (in_progress_of self).ended ≡ None }
         ensures stands { (outcome : model.Outcome) → Tells told.entry outcome
             → StandsAfter (table_of table.old) (table_of table.new)
             (asked_of self.entry) (in_progress_of self.entry) outcome result }
-        ensures stays { StaysInRun (in_progress_of self.entry).context.run result }
-        ensures further { GoesFurther (in_progress_of self.entry) result }
-        ensures fits { still_fits (asked_of self.entry) result ≡ true }
+        ensures goes_on { GoesOn (in_progress_of self.entry).context.run (asked_of self.entry)
+            (in_progress_of self.entry) result }
     {
         if told.is_ok() && !self.is_last() {
             return Stepped::Ran(self.progress.with_result(told));
         }
-        Stepped::Answered(self.end(table, told))
+        let last = told.status();
+        let running = self.with_last(told);
+        if running.is_to_hold(table) {
+            return Stepped::Ran(running.progress);
+        }
+        Stepped::Answered(running.end(table, last, None))
+    }
+
+    /// With this result, which is the last one.
+    #[tactic(auto, unfolding(crate::specs::Views::in_progress_of))]
+    fn with_last(self, told: Told<'_>) -> Self
+        requires told { CanBeTold (in_progress_of self) told }
+        requires more { (in_progress_of self).ended ≡ None }
+        ensures asked { asked_of result ≡ asked_of self.entry }
+        ensures request { in_progress_of result ≡ with_last (in_progress_of self.entry) told.entry }
+        ensures position { result.progress.position ≡ self.entry.progress.position }
+    {
+        let Running {
+            alloc,
+            xid,
+            cred,
+            compound,
+            progress,
+        } = self;
+        Running {
+            alloc,
+            xid,
+            cred,
+            compound,
+            progress: progress.with_last(told),
+        }
+    }
+
+    /// The last result is there. Where the session has a seat, that holds the reply on the volume;
+    /// then the reply is made.
+    fn store<D: Device>(
+        self,
+        fs: &mut Fs<D>,
+        table: &mut Table,
+        last: Status,
+    ) -> Result<Vec<u8>, Undone>
+        requires up { (fs_of fs.old).volume.is_down ≡ false }
+        requires ended { (in_progress_of self).ended ≡ Some last }
+        requires agrees { D.keeps_word → Agrees (fs_of fs.old) (table_of table.old) }
+        // Done
+        ensures step { (now : ℕ) (known : Known) → D.keeps_word → IfOk result (λ reply.
+            Steps now (shared (fs_of fs.old) (table_of table.old) known)
+            (shared (fs_of fs.new) (table_of table.new) known) (asked_of self.entry)
+            (in_progress_of self.entry) (stepped.Answered reply)) }
+        // Not done
+        ensures back { IfErr result (λ undone. undone.progress ≡ self.entry.progress) }
+        ensures table { OnErr result (table_of table.new ≡ table_of table.old) }
+        // In any case
+        ensures volume { (now : ℕ) (known : Known) → Alters fs.old fs.new (TurnGives
+            (shared (fs_of fs.old) (table_of table.old) known)
+            (λ world number. stepped_on world number now (in_progress_of self.entry)))
+            (undone_ending result) }
+    {
+        match self.hold(fs, table, last) {
+            Ok(edits) => Ok(self.end(table, last, edits)),
+            Err(fault) => Err(Undone {
+                fault,
+                progress: self.progress,
+            }),
+        }
+    }
+
+    /// Whether a seat is to hold the reply.
+    #[tactic(auto, unfolding(crate::specs::Views::in_progress_of))]
+    fn is_to_hold(&self, table: &Table) -> bool
+        ensures { result
+            ≡ is_to_hold (in_progress_of self.now).slot (table_of table.now).seats }
+    {
+        match &self.progress.slot {
+            Some(id) => table.has_seat(&id.session),
+            None => false,
+        }
     }
 }
 

@@ -1,43 +1,161 @@
-use Rattle.std.proofs.Common.{sym, ap, ◌∙◌}
+use Rattle.std.proofs.Common.{[], refl, sym, ap, subst, ◌∙◌}
+use Rattle.fs.specs.Views.{fs_of, fs_failures}
 use Rattle.model.specs.Answer.{Answer, Done, Refused}
 use Rattle.model.specs.Opens.{Opens}
 use Rattle.model.specs.Operation.{Argument}
-use Rattle.model.specs.World.{Gives}
+use Rattle.model.specs.SeatEdits.{edited_all, edits_view}
+use Rattle.model.specs.Session.{CreateSessionOutcome, Table, create_session}
+use Rattle.model.specs.StateIds.{without_clients}
 use Rattle.opens.specs.Views.{opens_of}
+use Rattle.session.specs.Limits.{served}
+use Rattle.session.specs.Plans.{IsPlanned}
 use Rattle.session.specs.Views.{table_of}
+use Rattle.volume.proofs.ServeLaws.{told_err}
+use Rattle.volume.specs.Changes as ends
 use Rattle.wire.specs.AnswerViews as answers
 use Rattle.wire.specs.ArgumentViews.{create_session_view}
-use Rattle.compound.specs.Runs.{with_rest}
+use Rattle.compound.specs.Operates.{GivesIn, IsKept, Operates, RunsTo}
 use Rattle.compound.specs.States.{shared}
 use Rattle.compound.specs.Views.{in_progress_of}
-use Rattle.compound.proofs.Rooms.{gives_refusal}
-use Rattle.compound.proofs.Tables.{ran_create, created_ok, created_err, clients_run, table_runs}
+use Rattle.compound.proofs.Storing.{seated_as, seated_still, seats_change}
+use Rattle.compound.proofs.Tables.{create_runs, create_refuses, none_ended, same_tree}
 use Rattle.compound.proofs.running.Running.create_session.Goals as goal
 
-pub returns-in-Ok-clause-gives : goal.returns-in-Ok-clause-gives
+-- A new session
+
+pub returns-in_ok-put_seats-in-Ok-New-clause-gives : goal.returns-in_ok-put_seats-in-Ok-New-clause-gives
 unfolding in_progress_of
-returns-in-Ok-clause-gives c = λ now fs.
+returns-in_ok-put_seats-in-Ok-New-clause-gives g c = λ now keeps.
+    let fs = fs_of c.args.fs.now in
+    let new = fs_of c.put_seats.new.fs in
+    let old = table_of c.args.table.now in
+    let table = table_of c.add_session-created.new.self in
     let before = opens_of c.args.opens.now in
-    let after = opens_of c.remove_clients.new.self in
     let request = in_progress_of c.args.self.now in
-    let kind = Argument.CreateSession (create_session_view c.args.arguments.now) in
-    let known = answers.create_session_view c.in-Ok.created.answer in
-    c.answer_first.ensures.gives now (shared fs (table_of c.args.table.now) before) (shared fs (table_of c.create_session.new.self) after) kind
-    (clients_run now fs before after (table_of c.args.table.now) (table_of c.create_session.new.self) request request kind (Done (Answer.CreateSession known))
-    (λ world rest on. ran_create world (with_rest request rest) now _ _ on
-    ∙ created_ok world (with_rest request rest) _ _ _ before _ on.opens c.in-Ok.ensures.answered.0 (c.in-Ok.ensures.answered.1 ∙ sym c.deref.ensures.value) c.in-Ok.ensures.answered.2
-    ∙ ap (λ (opens : Opens). Gives (Done (Answer.CreateSession known)) (record world { table = table_of c.create_session.new.self; opens = opens }) (with_rest request rest)) (sym c.remove_clients.ensures)))
+    let arguments = create_session_view c.args.arguments.now in
+    let wanted = create_session served request.context.cred.uid arguments old in
+    let plan = c.in-Ok-New.plan in
+    let known = answers.create_session_view plan.answer in
+    let planned : IsPlanned wanted old plan = rw c.in-Ok-New.field-0-is at c.in-Ok-New.ensures.planned in
+    let made = c.add_session-created.ensures wanted (subst (λ (t : Table). IsPlanned wanted t plan) (sym c.plan_session.ensures.same) planned) in
+    let ended = c.add_session-created.result.ended.items in
+    let runs = create_runs now fs new old table before request arguments known ended planned.answer made.1 made.2 (c.in_ok-put_seats-in-Ok-New.ensures.same keeps) in
+    c.answer_first-done.ensures.gives now (shared fs old before) (shared new table (opens_of c.remove_clients.new.self)) (Argument.CreateSession arguments)
+    (subst (λ (opens : Opens). RunsTo now (shared fs old before) (shared new table opens) request request (Argument.CreateSession arguments) (Done (Answer.CreateSession known)))
+    (sym (c.remove_clients.ensures ∙ ap (λ clients. without_clients clients before) c.deref.ensures.value)) runs)
+
+pub returns-in_ok-put_seats-in-Ok-New-clause-kept : goal.returns-in_ok-put_seats-in-Ok-New-clause-kept
+returns-in_ok-put_seats-in-Ok-New-clause-kept g c = subst (IsKept (table_of c.add_session-created.new.self)) (sym c.answer_first-done.ensures.is) tt
+
+pub returns-in_ok-put_seats-in-Ok-New-clause-volume : goal.returns-in_ok-put_seats-in-Ok-New-clause-volume
+unfolding in_progress_of
+returns-in_ok-put_seats-in-Ok-New-clause-volume g c = λ now.
+    let fs = fs_of c.args.fs.now in
+    let old = table_of c.args.table.now in
+    let before = opens_of c.args.opens.now in
+    let request = in_progress_of c.args.self.now in
+    let arguments = create_session_view c.args.arguments.now in
+    let wanted = create_session served request.context.cred.uid arguments old in
+    let plan = c.in-Ok-New.plan in
+    let known = answers.create_session_view plan.answer in
+    let planned : IsPlanned wanted old plan = rw c.in-Ok-New.field-0-is at c.in-Ok-New.ensures.planned in
+    let opens = without_clients plan.ended.items before in
+    let gives : GivesIn now (shared fs old before) (shared fs wanted.table opens) request request (Argument.CreateSession arguments) (Done (Answer.CreateSession known)) =
+    subst (Operates now (shared fs old before) (shared fs wanted.table opens) request (Argument.CreateSession arguments)) c.answer_first-done.ensures.is
+    (c.answer_first-done.ensures.gives now (shared fs old before) (shared fs wanted.table opens) (Argument.CreateSession arguments)
+    (create_runs now fs fs old wanted.table before request arguments known plan.ended.items planned.answer planned.ended refl (same_tree fs))) in
+    seats_change g.D.Device.keeps_word (shared fs old before) wanted.table opens request request now (Argument.CreateSession arguments) (Done (Answer.CreateSession known)) refl gives _ _ _ ends.Done
+    (seated_as g.D.Device.keeps_word fs _ _ _ ends.Done (edited_all (edits_view plan.edits) fs.volume.seats) wanted.table.seats
+    (λ keeps. planned.seats ∙ ap (edited_all (edits_view plan.edits)) (c.requires.agrees keeps).seats) (rw c.in_ok-put_seats-in-Ok-New.was at c.put_seats.ensures.volume))
+
+pub returns-in_err-put_seats-in-Ok-New-clause-volume : goal.returns-in_err-put_seats-in-Ok-New-clause-volume
+unfolding in_progress_of
+returns-in_err-put_seats-in-Ok-New-clause-volume g c = λ now.
+    let fs = fs_of c.args.fs.now in
+    let old = table_of c.args.table.now in
+    let before = opens_of c.args.opens.now in
+    let request = in_progress_of c.args.self.now in
+    let arguments = create_session_view c.args.arguments.now in
+    let wanted = create_session served request.context.cred.uid arguments old in
+    let plan = c.in-Ok-New.plan in
+    let known = answers.create_session_view plan.answer in
+    let planned : IsPlanned wanted old plan = rw c.in-Ok-New.field-0-is at c.in-Ok-New.ensures.planned in
+    let opens = without_clients plan.ended.items before in
+    let gives : GivesIn now (shared fs old before) (shared fs wanted.table opens) request request (Argument.CreateSession arguments) (Done (Answer.CreateSession known)) =
+    subst (Operates now (shared fs old before) (shared fs wanted.table opens) request (Argument.CreateSession arguments)) c.answer_first-done.ensures.is
+    (c.answer_first-done.ensures.gives now (shared fs old before) (shared fs wanted.table opens) (Argument.CreateSession arguments)
+    (create_runs now fs fs old wanted.table before request arguments known plan.ended.items planned.answer planned.ended refl (same_tree fs))) in
+    rw (told_err c.from_residual.result c.in_err-put_seats-in-Ok-New.field-0.0 c.from_residual.ensures.1)
+    (seats_change g.D.Device.keeps_word (shared fs old before) wanted.table opens request request now (Argument.CreateSession arguments) (Done (Answer.CreateSession known)) refl gives _ _ _ _
+    (seated_as g.D.Device.keeps_word fs _ _ _ _ (edited_all (edits_view plan.edits) fs.volume.seats) wanted.table.seats
+    (λ keeps. planned.seats ∙ ap (edited_all (edits_view plan.edits)) (c.requires.agrees keeps).seats) (rw c.in_err-put_seats-in-Ok-New.was at c.put_seats.ensures.volume)))
+
+-- A kept result is answered again
+
+pub returns-in-Ok-Again-clause-gives : goal.returns-in-Ok-Again-clause-gives
+unfolding in_progress_of
+returns-in-Ok-Again-clause-gives g c = λ now keeps.
+    let fs = fs_of c.args.fs.now in
+    let old = table_of c.args.table.now in
+    let before = opens_of c.args.opens.now in
+    let request = in_progress_of c.args.self.now in
+    let arguments = create_session_view c.args.arguments.now in
+    let kind = Argument.CreateSession arguments in
+    let known = answers.create_session_view c.in-Ok-Again.answer in
+    let is = rw c.in-Ok-Again.field-0-is at c.in-Ok-Again.ensures.planned in
+    let runs = create_runs now fs fs old old before request arguments known [] (ap (λ (o : CreateSessionOutcome). o.answer) is) (ap (λ (o : CreateSessionOutcome). o.ended_clients) is)
+    (ap (λ (o : CreateSessionOutcome). o.table) is) (same_tree fs) in
+    subst (λ (t : Table). Operates now (shared fs old before) (shared fs t before) request kind c.answer_first.result) (sym c.plan_session.ensures.same)
+    (c.answer_first.ensures.gives now (shared fs old before) (shared fs old before) kind
+    (subst (λ (opens : Opens). RunsTo now (shared fs old before) (shared fs old opens) request request kind (Done (Answer.CreateSession known))) (none_ended before) runs))
+
+pub returns-in-Ok-Again-clause-kept : goal.returns-in-Ok-Again-clause-kept
+returns-in-Ok-Again-clause-kept g c = subst (IsKept (table_of c.plan_session.new.self)) (sym c.answer_first.ensures.is) tt
+
+pub returns-in-Ok-Again-clause-volume : goal.returns-in-Ok-Again-clause-volume
+unfolding in_progress_of
+returns-in-Ok-Again-clause-volume g c = λ now.
+    let fs = fs_of c.args.fs.now in
+    let old = table_of c.args.table.now in
+    let before = opens_of c.args.opens.now in
+    let request = in_progress_of c.args.self.now in
+    let arguments = create_session_view c.args.arguments.now in
+    let kind = Argument.CreateSession arguments in
+    let known = answers.create_session_view c.in-Ok-Again.answer in
+    let is = rw c.in-Ok-Again.field-0-is at c.in-Ok-Again.ensures.planned in
+    let opens = without_clients [] before in
+    let gives : GivesIn now (shared fs old before) (shared fs old opens) request request kind (Done (Answer.CreateSession known)) =
+    subst (Operates now (shared fs old before) (shared fs old opens) request kind) c.answer_first.ensures.is
+    (c.answer_first.ensures.gives now (shared fs old before) (shared fs old opens) kind
+    (create_runs now fs fs old old before request arguments known [] (ap (λ (o : CreateSessionOutcome). o.answer) is) (ap (λ (o : CreateSessionOutcome). o.ended_clients) is)
+    (ap (λ (o : CreateSessionOutcome). o.table) is) (same_tree fs))) in
+    seats_change g.D.Device.keeps_word (shared fs old before) old opens request request now kind (Done (Answer.CreateSession known)) refl gives fs _ _ ends.Done
+    (seated_still g.D.Device.keeps_word fs (fs_failures c.args.fs.now) old.seats c.requires.up (λ keeps. (c.requires.agrees keeps).seats))
+
+-- Refused
 
 pub returns-in-Err-Status-clause-gives : goal.returns-in-Err-Status-clause-gives
 unfolding in_progress_of
-returns-in-Err-Status-clause-gives c = λ now fs.
+returns-in-Err-Status-clause-gives g c = λ now keeps.
+    let fs = fs_of c.args.fs.now in
+    let old = table_of c.args.table.now in
     let before = opens_of c.args.opens.now in
-    let after = before in
     let request = in_progress_of c.args.self.now in
-    let kind = Argument.CreateSession (create_session_view c.args.arguments.now) in
-    let refused = rw c.in-Err-Status.field-0-is at c.in-Err-Status.ensures.answered in
-    c.refuse.ensures.gives now (shared fs (table_of c.args.table.now) before) (shared fs (table_of c.create_session.new.self) after) kind
-    (gives_refusal now (shared fs (table_of c.args.table.now) before) (shared fs (table_of c.create_session.new.self) after) request kind 43 c.in-Err-Status.status
-    (table_runs now fs before (table_of c.args.table.now) (table_of c.create_session.new.self) request request kind (Refused 43 c.in-Err-Status.status)
-    (λ world rest on. ran_create world (with_rest request rest) now _ _ on
-    ∙ created_err world (with_rest request rest) _ _ _ _ on.table_is refused.1 refused.0)))
+    let arguments = create_session_view c.args.arguments.now in
+    let kind = Argument.CreateSession arguments in
+    let is = rw c.in-Err-Status.field-0-is at c.in-Err-Status.ensures.planned in
+    subst (λ (t : Table). Operates now (shared fs old before) (shared fs t before) request kind c.refuse.result) (sym c.plan_session.ensures.same)
+    (c.refuse.ensures.gives now (shared fs old before) (shared fs old before) kind (create_refuses now fs old before request arguments c.in-Err-Status.status is))
+
+pub returns-in-Err-Status-clause-volume : goal.returns-in-Err-Status-clause-volume
+unfolding in_progress_of
+returns-in-Err-Status-clause-volume g c = λ now.
+    let fs = fs_of c.args.fs.now in
+    let old = table_of c.args.table.now in
+    let before = opens_of c.args.opens.now in
+    let request = in_progress_of c.args.self.now in
+    let arguments = create_session_view c.args.arguments.now in
+    let is = rw c.in-Err-Status.field-0-is at c.in-Err-Status.ensures.planned in
+    seats_change g.D.Device.keeps_word (shared fs old before) old before request request now (Argument.CreateSession arguments) (Refused 43 c.in-Err-Status.status) refl
+    (create_refuses now fs old before request arguments c.in-Err-Status.status is) fs _ _ ends.Done
+    (seated_still g.D.Device.keeps_word fs (fs_failures c.args.fs.now) old.seats c.requires.up (λ keeps. (c.requires.agrees keeps).seats))

@@ -1,28 +1,86 @@
+use Rattle.std.proofs.Common.{refl, sym, ap, subst, ◌∙◌}
+use Rattle.fs.specs.Views.{fs_of, fs_failures}
 use Rattle.model.specs.Answer.{Answer, Done, Refused}
 use Rattle.model.specs.Operation.{Argument}
+use Rattle.model.specs.SeatEdits.{edited_all, edits_view}
+use Rattle.model.specs.Session.{destroy_session}
 use Rattle.session.specs.Views.{table_of}
-use Rattle.compound.specs.Runs.{with_rest}
+use Rattle.volume.proofs.ServeLaws.{told_err}
+use Rattle.volume.specs.Changes as ends
+use Rattle.compound.specs.Operates.{GivesIn, IsKept, Operates}
 use Rattle.compound.specs.States.{shared}
 use Rattle.compound.specs.Views.{in_progress_of}
-use Rattle.compound.proofs.Rooms.{gives_refusal}
-use Rattle.compound.proofs.Tables.{ran_destroy_session, table_runs}
+use Rattle.compound.proofs.Storing.{seated_as, seated_still, seats_change}
+use Rattle.compound.proofs.Tables.{destroy_done, destroy_runs, destroy_refuses, same_tree}
 use Rattle.compound.proofs.running.Running.destroy_session.Goals as goal
 
-pub returns-in-Ok-clause-gives : goal.returns-in-Ok-clause-gives
+pub returns-in_ok-put_seats-in-Ok-clause-gives : goal.returns-in_ok-put_seats-in-Ok-clause-gives
 unfolding in_progress_of
-returns-in-Ok-clause-gives c = λ now fs opens.
+returns-in_ok-put_seats-in-Ok-clause-gives g c = λ now opens keeps.
+    let fs = fs_of c.args.fs.now in
+    let new = fs_of c.put_seats.new.fs in
+    let old = table_of c.args.table.now in
+    let table = table_of c.end_session.new.self in
     let request = in_progress_of c.args.self.now in
-    let kind = Argument.DestroySession c.args.id.now in
-    c.answer_first.ensures.gives now (shared fs (table_of c.args.table.now) opens) (shared fs (table_of c.destroy_session.new.self) opens) kind
-    (table_runs now fs opens (table_of c.args.table.now) (table_of c.destroy_session.new.self) request request kind (Done Answer.DestroySession)
-    (λ world rest on. ran_destroy_session world (with_rest request rest) now _ _ _ on c.in-Ok.ensures.answered))
+    let id = c.args.id.now in
+    let planned = c.in-Ok.ensures.planned in
+    c.answer_first-done.ensures.gives now (shared fs old opens) (shared new table opens) (Argument.DestroySession id)
+    (destroy_runs now fs new old table opens request id (destroy_done id old table planned.done (c.end_session.ensures planned.done)) (c.in_ok-put_seats-in-Ok.ensures.same keeps))
 
-pub returns-in-Err-clause-gives : goal.returns-in-Err-clause-gives
+pub returns-in_ok-put_seats-in-Ok-clause-kept : goal.returns-in_ok-put_seats-in-Ok-clause-kept
+returns-in_ok-put_seats-in-Ok-clause-kept g c = subst (IsKept (table_of c.end_session.new.self)) (sym c.answer_first-done.ensures.is) tt
+
+pub returns-in_ok-put_seats-in-Ok-clause-volume : goal.returns-in_ok-put_seats-in-Ok-clause-volume
 unfolding in_progress_of
-returns-in-Err-clause-gives c = λ now fs opens.
+returns-in_ok-put_seats-in-Ok-clause-volume g c = λ now opens.
+    let fs = fs_of c.args.fs.now in
+    let old = table_of c.args.table.now in
     let request = in_progress_of c.args.self.now in
-    let kind = Argument.DestroySession c.args.id.now in
-    c.refuse.ensures.gives now (shared fs (table_of c.args.table.now) opens) (shared fs (table_of c.destroy_session.new.self) opens) kind
-    (gives_refusal now (shared fs (table_of c.args.table.now) opens) (shared fs (table_of c.destroy_session.new.self) opens) request kind 44 c.in-Err.status
-    (table_runs now fs opens (table_of c.args.table.now) (table_of c.destroy_session.new.self) request request kind (Refused 44 c.in-Err.status)
-    (λ world rest on. ran_destroy_session world (with_rest request rest) now _ _ _ on c.in-Err.ensures.answered)))
+    let id = c.args.id.now in
+    let planned = c.in-Ok.ensures.planned in
+    let table = (destroy_session id old).1 in
+    let gives : GivesIn now (shared fs old opens) (shared fs table opens) request request (Argument.DestroySession id) (Done Answer.DestroySession) =
+    subst (Operates now (shared fs old opens) (shared fs table opens) request (Argument.DestroySession id)) c.answer_first-done.ensures.is
+    (c.answer_first-done.ensures.gives now (shared fs old opens) (shared fs table opens) (Argument.DestroySession id)
+    (destroy_runs now fs fs old table opens request id (destroy_done id old table planned.done refl) (same_tree fs))) in
+    seats_change g.D.Device.keeps_word (shared fs old opens) table opens request request now (Argument.DestroySession id) (Done Answer.DestroySession) refl gives _ _ _ ends.Done
+    (seated_as g.D.Device.keeps_word fs _ _ _ ends.Done (edited_all (edits_view c.in-Ok.edits) fs.volume.seats) table.seats
+    (λ keeps. planned.left ∙ ap (edited_all (edits_view c.in-Ok.edits)) (c.requires.agrees keeps).seats) (rw c.in_ok-put_seats-in-Ok.was at c.put_seats.ensures.volume))
+
+pub returns-in_err-put_seats-in-Ok-clause-volume : goal.returns-in_err-put_seats-in-Ok-clause-volume
+unfolding in_progress_of
+returns-in_err-put_seats-in-Ok-clause-volume g c = λ now opens.
+    let fs = fs_of c.args.fs.now in
+    let old = table_of c.args.table.now in
+    let request = in_progress_of c.args.self.now in
+    let id = c.args.id.now in
+    let planned = c.in-Ok.ensures.planned in
+    let table = (destroy_session id old).1 in
+    let gives : GivesIn now (shared fs old opens) (shared fs table opens) request request (Argument.DestroySession id) (Done Answer.DestroySession) =
+    subst (Operates now (shared fs old opens) (shared fs table opens) request (Argument.DestroySession id)) c.answer_first-done.ensures.is
+    (c.answer_first-done.ensures.gives now (shared fs old opens) (shared fs table opens) (Argument.DestroySession id)
+    (destroy_runs now fs fs old table opens request id (destroy_done id old table planned.done refl) (same_tree fs))) in
+    rw (told_err c.from_residual.result c.in_err-put_seats-in-Ok.field-0.0 c.from_residual.ensures.1)
+    (seats_change g.D.Device.keeps_word (shared fs old opens) table opens request request now (Argument.DestroySession id) (Done Answer.DestroySession) refl gives _ _ _ _
+    (seated_as g.D.Device.keeps_word fs _ _ _ _ (edited_all (edits_view c.in-Ok.edits) fs.volume.seats) table.seats
+    (λ keeps. planned.left ∙ ap (edited_all (edits_view c.in-Ok.edits)) (c.requires.agrees keeps).seats) (rw c.in_err-put_seats-in-Ok.was at c.put_seats.ensures.volume)))
+
+pub returns-in-Err-Status-clause-gives : goal.returns-in-Err-Status-clause-gives
+unfolding in_progress_of
+returns-in-Err-Status-clause-gives g c = λ now opens keeps.
+    let fs = fs_of c.args.fs.now in
+    let old = table_of c.args.table.now in
+    let is = rw c.in-Err-Status.field-0-is at c.in-Err-Status.ensures.planned in
+    c.refuse.ensures.gives now (shared fs old opens) (shared fs old opens) (Argument.DestroySession c.args.id.now)
+    (destroy_refuses now fs old opens (in_progress_of c.args.self.now) c.args.id.now c.in-Err-Status.status is)
+
+pub returns-in-Err-Status-clause-volume : goal.returns-in-Err-Status-clause-volume
+unfolding in_progress_of
+returns-in-Err-Status-clause-volume g c = λ now opens.
+    let fs = fs_of c.args.fs.now in
+    let old = table_of c.args.table.now in
+    let request = in_progress_of c.args.self.now in
+    let is = rw c.in-Err-Status.field-0-is at c.in-Err-Status.ensures.planned in
+    seats_change g.D.Device.keeps_word (shared fs old opens) old opens request request now (Argument.DestroySession c.args.id.now) (Refused 44 c.in-Err-Status.status) refl
+    (destroy_refuses now fs old opens request c.args.id.now c.in-Err-Status.status is) fs _ _ ends.Done
+    (seated_still g.D.Device.keeps_word fs (fs_failures c.args.fs.now) old.seats c.requires.up (λ keeps. (c.requires.agrees keeps).seats))

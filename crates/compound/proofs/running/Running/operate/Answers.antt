@@ -14,117 +14,167 @@ use Rattle.compound.specs.declared.fault.Fault.{Fault}
 use Rattle.compound.specs.declared.operated.Operated.{Operated}
 use Rattle.compound.specs.declared.operated.Operated.TheVariants as operated
 use Rattle.compound.specs.Views.{in_progress_of}
-use Rattle.compound.proofs.VolumeLaws.{quiet_changes, quiet_result}
+use Rattle.compound.proofs.VolumeLaws.{quiet_changes, quiet_result, tree_changes}
 use Rattle.compound.proofs.running.Running.operate.Goals as goal
 
 pub returns-in-Create-clause-volume : goal.returns-in-Create-clause-volume
-returns-in-Create-clause-volume g c = rw c.in-Create.is (c.create.ensures.volume (table_of c.args.table.now) (opens_of c.args.opens.now))
+returns-in-Create-clause-volume g c =
+    tree_changes g.D.Device.keeps_word (shared_of c.args.fs.now c.args.table.now c.args.opens.now) (in_progress_of c.args.self.now) c.args.now (argument_view c.args.argument.now)
+    (rw c.in-Create.is refl) (λ keeps. (c.requires.agrees keeps).seats) _ _ _ _
+    (rw c.in-Create.is (c.create.ensures.volume (table_of c.args.table.now) (opens_of c.args.opens.now)))
 
 pub returns-in-Remove-clause-volume : goal.returns-in-Remove-clause-volume
-returns-in-Remove-clause-volume g c = rw c.in-Remove.is (c.remove.ensures.volume (table_of c.args.table.now))
+returns-in-Remove-clause-volume g c =
+    tree_changes g.D.Device.keeps_word (shared_of c.args.fs.now c.args.table.now c.args.opens.now) (in_progress_of c.args.self.now) c.args.now (argument_view c.args.argument.now)
+    (rw c.in-Remove.is refl) (λ keeps. (c.requires.agrees keeps).seats) _ _ _ _
+    (rw c.in-Remove.is (c.remove.ensures.volume (table_of c.args.table.now)))
 
 pub returns-in-Rename-clause-volume : goal.returns-in-Rename-clause-volume
-returns-in-Rename-clause-volume g c = rw c.in-Rename.is (c.rename.ensures.volume (table_of c.args.table.now))
+returns-in-Rename-clause-volume g c =
+    tree_changes g.D.Device.keeps_word (shared_of c.args.fs.now c.args.table.now c.args.opens.now) (in_progress_of c.args.self.now) c.args.now (argument_view c.args.argument.now)
+    (rw c.in-Rename.is refl) (λ keeps. (c.requires.agrees keeps).seats) _ _ _ _
+    (rw c.in-Rename.is (c.rename.ensures.volume (table_of c.args.table.now)))
 
 pub returns-in-SetAttr-clause-volume : goal.returns-in-SetAttr-clause-volume
-returns-in-SetAttr-clause-volume g c = rw c.in-SetAttr.is (c.set_attributes.ensures.volume (table_of c.args.table.now))
+returns-in-SetAttr-clause-volume g c =
+    tree_changes g.D.Device.keeps_word (shared_of c.args.fs.now c.args.table.now c.args.opens.now) (in_progress_of c.args.self.now) c.args.now (argument_view c.args.argument.now)
+    (rw c.in-SetAttr.is refl) (λ keeps. (c.requires.agrees keeps).seats) _ _ _ _
+    (rw c.in-SetAttr.is (c.set_attributes.ensures.volume (table_of c.args.table.now)))
 
 pub returns-in-Write-clause-volume : goal.returns-in-Write-clause-volume
-returns-in-Write-clause-volume g c = rw c.in-Write.is (c.write.ensures.volume (table_of c.args.table.now))
+returns-in-Write-clause-volume g c =
+    tree_changes g.D.Device.keeps_word (shared_of c.args.fs.now c.args.table.now c.args.opens.now) (in_progress_of c.args.self.now) c.args.now (argument_view c.args.argument.now)
+    (rw c.in-Write.is refl) (λ keeps. (c.requires.agrees keeps).seats) _ _ _ _
+    (rw c.in-Write.is (c.write.ensures.volume (table_of c.args.table.now)))
 
 pub returns-in-Commit-clause-volume : goal.returns-in-Commit-clause-volume
-returns-in-Commit-clause-volume g c = rw c.in-Commit.is (c.commit.ensures.volume _ c.args.now (table_of c.args.table.now) (opens_of c.args.opens.now))
+returns-in-Commit-clause-volume g c =
+    tree_changes g.D.Device.keeps_word (shared_of c.args.fs.now c.args.table.now c.args.opens.now) (in_progress_of c.args.self.now) c.args.now (argument_view c.args.argument.now)
+    (rw c.in-Commit.is refl) (λ keeps. (c.requires.agrees keeps).seats) _ _ _ _
+    (rw c.in-Commit.is (c.commit.ensures.volume _ c.args.now (table_of c.args.table.now) (opens_of c.args.opens.now)))
 
 pub returns-in-Open-clause-volume : goal.returns-in-Open-clause-volume
-returns-in-Open-clause-volume g c = rw c.in-Open.is (c.open.ensures.volume (table_of c.args.table.now))
+returns-in-Open-clause-volume g c =
+    tree_changes g.D.Device.keeps_word (shared_of c.args.fs.now c.args.table.now c.args.opens.now) (in_progress_of c.args.self.now) c.args.now (argument_view c.args.argument.now)
+    (rw c.in-Open.is refl) (λ keeps. (c.requires.agrees keeps).seats) _ _ _ _
+    (rw c.in-Open.is (c.open.ensures.volume (table_of c.args.table.now)))
 
 pub returns-in-Read-clause-volume : goal.returns-in-Read-clause-volume
-returns-in-Read-clause-volume g c = rw c.in-Read.is (c.read.ensures.volume c.args.now (table_of c.args.table.now))
+returns-in-Read-clause-volume g c =
+    tree_changes g.D.Device.keeps_word (shared_of c.args.fs.now c.args.table.now c.args.opens.now) (in_progress_of c.args.self.now) c.args.now (argument_view c.args.argument.now)
+    (rw c.in-Read.is refl) (λ keeps. (c.requires.agrees keeps).seats) _ _ _ _
+    (rw c.in-Read.is (c.read.ensures.volume c.args.now (table_of c.args.table.now)))
 
 pub returns-in-Close-clause-volume : goal.returns-in-Close-clause-volume
 returns-in-Close-clause-volume g c =
-    quiet_changes g.D.Device.keeps_word (shared_of c.args.fs.now c.args.table.now c.args.opens.now) (fs_failures c.args.fs.now) (in_progress_of c.args.self.now) c.args.now (argument_view c.args.argument.now)
-    c.requires.up (rw c.in-Close.is refl)
+    tree_changes g.D.Device.keeps_word (shared_of c.args.fs.now c.args.table.now c.args.opens.now) (in_progress_of c.args.self.now) c.args.now (argument_view c.args.argument.now)
+    (rw c.in-Close.is refl) (λ keeps. (c.requires.agrees keeps).seats) _ _ _ _
+    (quiet_changes g.D.Device.keeps_word (shared_of c.args.fs.now c.args.table.now c.args.opens.now) (fs_failures c.args.fs.now) (in_progress_of c.args.self.now) c.args.now (argument_view c.args.argument.now)
+    c.requires.up (rw c.in-Close.is refl))
 
 pub returns-in-Access-clause-volume : goal.returns-in-Access-clause-volume
 returns-in-Access-clause-volume g c =
-    quiet_changes g.D.Device.keeps_word (shared_of c.args.fs.now c.args.table.now c.args.opens.now) (fs_failures c.args.fs.now) (in_progress_of c.args.self.now) c.args.now (argument_view c.args.argument.now)
-    c.requires.up (rw c.in-Access.is refl)
+    tree_changes g.D.Device.keeps_word (shared_of c.args.fs.now c.args.table.now c.args.opens.now) (in_progress_of c.args.self.now) c.args.now (argument_view c.args.argument.now)
+    (rw c.in-Access.is refl) (λ keeps. (c.requires.agrees keeps).seats) _ _ _ _
+    (quiet_changes g.D.Device.keeps_word (shared_of c.args.fs.now c.args.table.now c.args.opens.now) (fs_failures c.args.fs.now) (in_progress_of c.args.self.now) c.args.now (argument_view c.args.argument.now)
+    c.requires.up (rw c.in-Access.is refl))
 
 pub returns-in-LookupParent-clause-volume : goal.returns-in-LookupParent-clause-volume
 returns-in-LookupParent-clause-volume g c =
-    quiet_changes g.D.Device.keeps_word (shared_of c.args.fs.now c.args.table.now c.args.opens.now) (fs_failures c.args.fs.now) (in_progress_of c.args.self.now) c.args.now (argument_view c.args.argument.now)
-    c.requires.up (rw c.in-LookupParent.is refl)
+    tree_changes g.D.Device.keeps_word (shared_of c.args.fs.now c.args.table.now c.args.opens.now) (in_progress_of c.args.self.now) c.args.now (argument_view c.args.argument.now)
+    (rw c.in-LookupParent.is refl) (λ keeps. (c.requires.agrees keeps).seats) _ _ _ _
+    (quiet_changes g.D.Device.keeps_word (shared_of c.args.fs.now c.args.table.now c.args.opens.now) (fs_failures c.args.fs.now) (in_progress_of c.args.self.now) c.args.now (argument_view c.args.argument.now)
+    c.requires.up (rw c.in-LookupParent.is refl))
 
 pub returns-in-GetFh-clause-volume : goal.returns-in-GetFh-clause-volume
 returns-in-GetFh-clause-volume g c =
-    quiet_result g.D.Device.keeps_word (shared_of c.args.fs.now c.args.table.now c.args.opens.now) (fs_failures c.args.fs.now) (in_progress_of c.args.self.now) c.args.now (argument_view c.args.argument.now) c.get_handle.result
-    c.requires.up (rw c.in-GetFh.is refl) (λ reason is. rw is at c.get_handle.ensures.err)
+    tree_changes g.D.Device.keeps_word (shared_of c.args.fs.now c.args.table.now c.args.opens.now) (in_progress_of c.args.self.now) c.args.now (argument_view c.args.argument.now)
+    (rw c.in-GetFh.is refl) (λ keeps. (c.requires.agrees keeps).seats) _ _ _ _
+    (quiet_result g.D.Device.keeps_word (shared_of c.args.fs.now c.args.table.now c.args.opens.now) (fs_failures c.args.fs.now) (in_progress_of c.args.self.now) c.args.now (argument_view c.args.argument.now) c.get_handle.result
+    c.requires.up (rw c.in-GetFh.is refl) (λ reason is. rw is at c.get_handle.ensures.err))
 
 pub returns-in-GetAttr-clause-volume : goal.returns-in-GetAttr-clause-volume
 returns-in-GetAttr-clause-volume g c =
-    quiet_result g.D.Device.keeps_word (shared_of c.args.fs.now c.args.table.now c.args.opens.now) (fs_failures c.args.fs.now) (in_progress_of c.args.self.now) c.args.now (argument_view c.args.argument.now) c.get_attributes.result
-    c.requires.up (rw c.in-GetAttr.is refl) (λ reason is. rw is at c.get_attributes.ensures.err)
+    tree_changes g.D.Device.keeps_word (shared_of c.args.fs.now c.args.table.now c.args.opens.now) (in_progress_of c.args.self.now) c.args.now (argument_view c.args.argument.now)
+    (rw c.in-GetAttr.is refl) (λ keeps. (c.requires.agrees keeps).seats) _ _ _ _
+    (quiet_result g.D.Device.keeps_word (shared_of c.args.fs.now c.args.table.now c.args.opens.now) (fs_failures c.args.fs.now) (in_progress_of c.args.self.now) c.args.now (argument_view c.args.argument.now) c.get_attributes.result
+    c.requires.up (rw c.in-GetAttr.is refl) (λ reason is. rw is at c.get_attributes.ensures.err))
 
 pub returns-in-ReadDir-clause-volume : goal.returns-in-ReadDir-clause-volume
 returns-in-ReadDir-clause-volume g c =
-    quiet_result g.D.Device.keeps_word (shared_of c.args.fs.now c.args.table.now c.args.opens.now) (fs_failures c.args.fs.now) (in_progress_of c.args.self.now) c.args.now (argument_view c.args.argument.now) c.list.result
-    c.requires.up (rw c.in-ReadDir.is refl) (λ reason is. rw is at c.list.ensures.err)
+    tree_changes g.D.Device.keeps_word (shared_of c.args.fs.now c.args.table.now c.args.opens.now) (in_progress_of c.args.self.now) c.args.now (argument_view c.args.argument.now)
+    (rw c.in-ReadDir.is refl) (λ keeps. (c.requires.agrees keeps).seats) _ _ _ _
+    (quiet_result g.D.Device.keeps_word (shared_of c.args.fs.now c.args.table.now c.args.opens.now) (fs_failures c.args.fs.now) (in_progress_of c.args.self.now) c.args.now (argument_view c.args.argument.now) c.list.result
+    c.requires.up (rw c.in-ReadDir.is refl) (λ reason is. rw is at c.list.ensures.err))
 
 pub returns-in-Lookup-clause-volume : goal.returns-in-Lookup-clause-volume
 returns-in-Lookup-clause-volume g c =
-    quiet_changes g.D.Device.keeps_word (shared_of c.args.fs.now c.args.table.now c.args.opens.now) (fs_failures c.args.fs.now) (in_progress_of c.args.self.now) c.args.now (argument_view c.args.argument.now)
-    c.requires.up (rw c.in-Lookup.is refl)
+    tree_changes g.D.Device.keeps_word (shared_of c.args.fs.now c.args.table.now c.args.opens.now) (in_progress_of c.args.self.now) c.args.now (argument_view c.args.argument.now)
+    (rw c.in-Lookup.is refl) (λ keeps. (c.requires.agrees keeps).seats) _ _ _ _
+    (quiet_changes g.D.Device.keeps_word (shared_of c.args.fs.now c.args.table.now c.args.opens.now) (fs_failures c.args.fs.now) (in_progress_of c.args.self.now) c.args.now (argument_view c.args.argument.now)
+    c.requires.up (rw c.in-Lookup.is refl))
 
 pub returns-in-PutFh-clause-volume : goal.returns-in-PutFh-clause-volume
 returns-in-PutFh-clause-volume g c =
-    quiet_changes g.D.Device.keeps_word (shared_of c.args.fs.now c.args.table.now c.args.opens.now) (fs_failures c.args.fs.now) (in_progress_of c.args.self.now) c.args.now (argument_view c.args.argument.now)
-    c.requires.up (rw c.in-PutFh.is refl)
+    tree_changes g.D.Device.keeps_word (shared_of c.args.fs.now c.args.table.now c.args.opens.now) (in_progress_of c.args.self.now) c.args.now (argument_view c.args.argument.now)
+    (rw c.in-PutFh.is refl) (λ keeps. (c.requires.agrees keeps).seats) _ _ _ _
+    (quiet_changes g.D.Device.keeps_word (shared_of c.args.fs.now c.args.table.now c.args.opens.now) (fs_failures c.args.fs.now) (in_progress_of c.args.self.now) c.args.now (argument_view c.args.argument.now)
+    c.requires.up (rw c.in-PutFh.is refl))
 
 pub returns-in-PutRootFh-clause-volume : goal.returns-in-PutRootFh-clause-volume
 returns-in-PutRootFh-clause-volume g c =
-    quiet_changes g.D.Device.keeps_word (shared_of c.args.fs.now c.args.table.now c.args.opens.now) (fs_failures c.args.fs.now) (in_progress_of c.args.self.now) c.args.now (argument_view c.args.argument.now)
-    c.requires.up (rw c.in-PutRootFh.is refl)
+    tree_changes g.D.Device.keeps_word (shared_of c.args.fs.now c.args.table.now c.args.opens.now) (in_progress_of c.args.self.now) c.args.now (argument_view c.args.argument.now)
+    (rw c.in-PutRootFh.is refl) (λ keeps. (c.requires.agrees keeps).seats) _ _ _ _
+    (quiet_changes g.D.Device.keeps_word (shared_of c.args.fs.now c.args.table.now c.args.opens.now) (fs_failures c.args.fs.now) (in_progress_of c.args.self.now) c.args.now (argument_view c.args.argument.now)
+    c.requires.up (rw c.in-PutRootFh.is refl))
 
 pub returns-in-RestoreFh-clause-volume : goal.returns-in-RestoreFh-clause-volume
 returns-in-RestoreFh-clause-volume g c =
-    quiet_changes g.D.Device.keeps_word (shared_of c.args.fs.now c.args.table.now c.args.opens.now) (fs_failures c.args.fs.now) (in_progress_of c.args.self.now) c.args.now (argument_view c.args.argument.now)
-    c.requires.up (rw c.in-RestoreFh.is refl)
+    tree_changes g.D.Device.keeps_word (shared_of c.args.fs.now c.args.table.now c.args.opens.now) (in_progress_of c.args.self.now) c.args.now (argument_view c.args.argument.now)
+    (rw c.in-RestoreFh.is refl) (λ keeps. (c.requires.agrees keeps).seats) _ _ _ _
+    (quiet_changes g.D.Device.keeps_word (shared_of c.args.fs.now c.args.table.now c.args.opens.now) (fs_failures c.args.fs.now) (in_progress_of c.args.self.now) c.args.now (argument_view c.args.argument.now)
+    c.requires.up (rw c.in-RestoreFh.is refl))
 
 pub returns-in-SaveFh-clause-volume : goal.returns-in-SaveFh-clause-volume
 returns-in-SaveFh-clause-volume g c =
-    quiet_changes g.D.Device.keeps_word (shared_of c.args.fs.now c.args.table.now c.args.opens.now) (fs_failures c.args.fs.now) (in_progress_of c.args.self.now) c.args.now (argument_view c.args.argument.now)
-    c.requires.up (rw c.in-SaveFh.is refl)
+    tree_changes g.D.Device.keeps_word (shared_of c.args.fs.now c.args.table.now c.args.opens.now) (in_progress_of c.args.self.now) c.args.now (argument_view c.args.argument.now)
+    (rw c.in-SaveFh.is refl) (λ keeps. (c.requires.agrees keeps).seats) _ _ _ _
+    (quiet_changes g.D.Device.keeps_word (shared_of c.args.fs.now c.args.table.now c.args.opens.now) (fs_failures c.args.fs.now) (in_progress_of c.args.self.now) c.args.now (argument_view c.args.argument.now)
+    c.requires.up (rw c.in-SaveFh.is refl))
 
 pub returns-in-DestroySession-clause-volume : goal.returns-in-DestroySession-clause-volume
-returns-in-DestroySession-clause-volume g c =
-    quiet_changes g.D.Device.keeps_word (shared_of c.args.fs.now c.args.table.now c.args.opens.now) (fs_failures c.args.fs.now) (in_progress_of c.args.self.now) c.args.now (argument_view c.args.argument.now)
-    c.requires.up (rw c.in-DestroySession.is refl)
+returns-in-DestroySession-clause-volume g c = rw c.in-DestroySession.is (c.destroy_session.ensures.volume c.args.now (opens_of c.args.opens.now))
 
 pub returns-in-DestroyClientId-clause-volume : goal.returns-in-DestroyClientId-clause-volume
 returns-in-DestroyClientId-clause-volume g c =
-    quiet_result g.D.Device.keeps_word (shared_of c.args.fs.now c.args.table.now c.args.opens.now) (fs_failures c.args.fs.now) (in_progress_of c.args.self.now) c.args.now (argument_view c.args.argument.now) c.destroy_clientid.result
-    c.requires.up (rw c.in-DestroyClientId.is refl) (λ reason is. (rw is at c.destroy_clientid.ensures.err).0)
+    tree_changes g.D.Device.keeps_word (shared_of c.args.fs.now c.args.table.now c.args.opens.now) (in_progress_of c.args.self.now) c.args.now (argument_view c.args.argument.now)
+    (rw c.in-DestroyClientId.is refl) (λ keeps. (c.requires.agrees keeps).seats) _ _ _ _
+    (quiet_result g.D.Device.keeps_word (shared_of c.args.fs.now c.args.table.now c.args.opens.now) (fs_failures c.args.fs.now) (in_progress_of c.args.self.now) c.args.now (argument_view c.args.argument.now) c.destroy_clientid.result
+    c.requires.up (rw c.in-DestroyClientId.is refl) (λ reason is. (rw is at c.destroy_clientid.ensures.err).0))
 
 pub returns-in-Sequence-clause-volume : goal.returns-in-Sequence-clause-volume
 returns-in-Sequence-clause-volume g c =
-    quiet_changes g.D.Device.keeps_word (shared_of c.args.fs.now c.args.table.now c.args.opens.now) (fs_failures c.args.fs.now) (in_progress_of c.args.self.now) c.args.now (argument_view c.args.argument.now)
-    c.requires.up (rw c.in-Sequence.is refl)
+    tree_changes g.D.Device.keeps_word (shared_of c.args.fs.now c.args.table.now c.args.opens.now) (in_progress_of c.args.self.now) c.args.now (argument_view c.args.argument.now)
+    (rw c.in-Sequence.is refl) (λ keeps. (c.requires.agrees keeps).seats) _ _ _ _
+    (quiet_changes g.D.Device.keeps_word (shared_of c.args.fs.now c.args.table.now c.args.opens.now) (fs_failures c.args.fs.now) (in_progress_of c.args.self.now) c.args.now (argument_view c.args.argument.now)
+    c.requires.up (rw c.in-Sequence.is refl))
 
 pub returns-in-ReclaimComplete-clause-volume : goal.returns-in-ReclaimComplete-clause-volume
 returns-in-ReclaimComplete-clause-volume g c =
-    quiet_changes g.D.Device.keeps_word (shared_of c.args.fs.now c.args.table.now c.args.opens.now) (fs_failures c.args.fs.now) (in_progress_of c.args.self.now) c.args.now (argument_view c.args.argument.now)
-    c.requires.up (rw c.in-ReclaimComplete.is refl)
+    tree_changes g.D.Device.keeps_word (shared_of c.args.fs.now c.args.table.now c.args.opens.now) (in_progress_of c.args.self.now) c.args.now (argument_view c.args.argument.now)
+    (rw c.in-ReclaimComplete.is refl) (λ keeps. (c.requires.agrees keeps).seats) _ _ _ _
+    (quiet_changes g.D.Device.keeps_word (shared_of c.args.fs.now c.args.table.now c.args.opens.now) (fs_failures c.args.fs.now) (in_progress_of c.args.self.now) c.args.now (argument_view c.args.argument.now)
+    c.requires.up (rw c.in-ReclaimComplete.is refl))
 
 pub returns-in-ExchangeId-clause-volume : goal.returns-in-ExchangeId-clause-volume
 returns-in-ExchangeId-clause-volume g c =
-    quiet_result g.D.Device.keeps_word (shared_of c.args.fs.now c.args.table.now c.args.opens.now) (fs_failures c.args.fs.now) (in_progress_of c.args.self.now) c.args.now (argument_view c.args.argument.now) c.exchange_id.result
-    c.requires.up (rw c.in-ExchangeId.is refl) (λ reason is. (rw is at c.exchange_id.ensures.err).0)
+    tree_changes g.D.Device.keeps_word (shared_of c.args.fs.now c.args.table.now c.args.opens.now) (in_progress_of c.args.self.now) c.args.now (argument_view c.args.argument.now)
+    (rw c.in-ExchangeId.is refl) (λ keeps. (c.requires.agrees keeps).seats) _ _ _ _
+    (quiet_result g.D.Device.keeps_word (shared_of c.args.fs.now c.args.table.now c.args.opens.now) (fs_failures c.args.fs.now) (in_progress_of c.args.self.now) c.args.now (argument_view c.args.argument.now) c.exchange_id.result
+    c.requires.up (rw c.in-ExchangeId.is refl) (λ reason is. (rw is at c.exchange_id.ensures.err).0))
 
 pub returns-in-CreateSession-clause-volume : goal.returns-in-CreateSession-clause-volume
-returns-in-CreateSession-clause-volume g c =
-    quiet_result g.D.Device.keeps_word (shared_of c.args.fs.now c.args.table.now c.args.opens.now) (fs_failures c.args.fs.now) (in_progress_of c.args.self.now) c.args.now (argument_view c.args.argument.now) c.create_session.result
-    c.requires.up (rw c.in-CreateSession.is refl) (λ reason is. (rw is at c.create_session.ensures.err).0)
+returns-in-CreateSession-clause-volume g c = rw c.in-CreateSession.is (c.create_session.ensures.volume c.args.now)
 
 -- A reply that is sent again is there
 
@@ -201,8 +251,11 @@ returns-in-RestoreFh-clause-gives g c = λ keeps. rw c.in-RestoreFh.is (c.restor
 pub returns-in-SaveFh-clause-gives : goal.returns-in-SaveFh-clause-gives
 returns-in-SaveFh-clause-gives g c = λ keeps. rw c.in-SaveFh.is (c.save_handle.ensures.gives c.args.now (table_of c.args.table.now) (opens_of c.args.opens.now))
 
+pub returns-in-CreateSession-clause-gives : goal.returns-in-CreateSession-clause-gives
+returns-in-CreateSession-clause-gives g c = λ keeps. rw c.in-CreateSession.is (c.create_session.ensures.gives c.args.now keeps)
+
 pub returns-in-DestroySession-clause-gives : goal.returns-in-DestroySession-clause-gives
-returns-in-DestroySession-clause-gives g c = λ keeps. rw c.in-DestroySession.is (c.destroy_session.ensures.gives c.args.now (fs_of c.args.fs.now) (opens_of c.args.opens.now))
+returns-in-DestroySession-clause-gives g c = λ keeps. rw c.in-DestroySession.is (c.destroy_session.ensures.gives c.args.now (opens_of c.args.opens.now) keeps)
 
 pub returns-in-Sequence-clause-gives : goal.returns-in-Sequence-clause-gives
 returns-in-Sequence-clause-gives g c = λ keeps. rw c.in-Sequence.is (c.sequence.ensures.gives c.args.now (fs_of c.args.fs.now) (opens_of c.args.opens.now))
@@ -294,9 +347,7 @@ returns-in-SaveFh-clause-kept g c =
     (c.save_handle.ensures.gives c.args.now (table_of c.args.table.now) (opens_of c.args.opens.now))
 
 pub returns-in-DestroySession-clause-kept : goal.returns-in-DestroySession-clause-kept
-returns-in-DestroySession-clause-kept g c =
-    kept_of c.args.now (shared_of c.args.fs.now c.args.table.now c.args.opens.now) (shared_of c.args.fs.now c.destroy_session.new.table c.args.opens.now) (in_progress_of c.args.self.now) _ c.destroy_session.result
-    (c.destroy_session.ensures.gives c.args.now (fs_of c.args.fs.now) (opens_of c.args.opens.now))
+returns-in-DestroySession-clause-kept g c = c.destroy_session.ensures.kept
 
 pub returns-in-DestroyClientId-clause-kept : goal.returns-in-DestroyClientId-clause-kept
 returns-in-DestroyClientId-clause-kept g c =
@@ -317,5 +368,4 @@ returns-in-ExchangeId-clause-kept g c =
     kept_if c.args.now (fs_of c.args.fs.now) (table_of c.args.table.now) (table_of c.exchange_id.new.table) (opens_of c.args.opens.now) (opens_of c.args.opens.now) (in_progress_of c.args.self.now) _ c.exchange_id.result c.exchange_id.ensures.gives
 
 pub returns-in-CreateSession-clause-kept : goal.returns-in-CreateSession-clause-kept
-returns-in-CreateSession-clause-kept g c =
-    kept_if c.args.now (fs_of c.args.fs.now) (table_of c.args.table.now) (table_of c.create_session.new.table) (opens_of c.args.opens.now) (opens_of c.create_session.new.opens) (in_progress_of c.args.self.now) _ c.create_session.result c.create_session.ensures.gives
+returns-in-CreateSession-clause-kept g c = c.create_session.ensures.kept

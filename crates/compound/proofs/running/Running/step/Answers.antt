@@ -1,62 +1,41 @@
-use Rattle.std.proofs.Common.{ℕ, List, refl, sym, subst, ap, ◌∙◌}
-use Rattle.model.specs.World.{InProgress}
-use Rattle.std.specs.Prelude.{drop}
-use Rattle.model.specs.Answer as model
-use Rattle.session.specs.Views.{table_of}
-use Rattle.wire.specs.Numbers.{number_of}
-use Rattle.wire.specs.OutcomeView.{outcome_view}
-use Rattle.compound.specs.Operates.{Spells, left_by}
-use Rattle.compound.specs.Runs.{with_rest}
+use Rattle.opens.specs.Views.{opens_of}
+use Rattle.volume.proofs.ServeLaws.{told_err}
 use Rattle.compound.specs.States.{shared_of}
 use Rattle.compound.specs.Views.{asked_of, in_progress_of}
-use Rattle.compound.proofs.Stepping.{steps_to, left_rest, left_answered, further_from}
+use Rattle.compound.specs.declared.step.Stepped.TheVariants as stepped
+use Rattle.compound.proofs.Agreeing.{agreed, agreed_if}
 use Rattle.compound.proofs.running.Running.step.Goals as goal
 
-pub returns-in-Gives-clause-step : goal.returns-in-Gives-clause-step
-returns-in-Gives-clause-step g c = λ keeps.
-    let request = in_progress_of c.args.self in
-    let rest = drop c.in-Ok.ran.position c.args.self.compound.operations.now in
-    let turns = rw c.in-Gives.is at c.in-Ok.ensures.turns keeps in
-    steps_to c.args.now (shared_of c.args.fs.now c.args.table.now c.args.opens.now) (shared_of c.run_next.new.fs c.run_next.new.table c.run_next.new.opens) (table_of c.answer-in-Gives.new.table)
-    (asked_of c.args.self) (asked_of c.leave.new.self) request (with_rest (left_by c.in-Gives.effect request) rest) (in_progress_of c.leave.new.self)
-    (outcome_view c.in-Gives.outcome) c.answer-in-Gives.result turns (c.leave.ensures.asked ∙ c.advance.ensures.asked)
-    (c.leave.ensures.request ∙ (ap (left_by c.in-Gives.effect) c.advance.ensures.request ∙ left_rest c.in-Gives.effect request rest)) (c.answer-in-Gives.ensures.stands (outcome_view c.in-Gives.outcome) refl)
+-- The reply
 
-pub returns-in-GivesSpelled-clause-step : goal.returns-in-GivesSpelled-clause-step
-returns-in-GivesSpelled-clause-step g c = λ keeps.
-    let request = in_progress_of c.args.self in
-    let rest = drop c.in-Ok.ran.position c.args.self.compound.operations.now in
-    let turns = rw c.in-GivesSpelled.is at c.in-Ok.ensures.turns keeps in
-    let spells = subst (λ (values : List ℕ). Spells (number_of c.in-GivesSpelled.operation) values turns.0) (sym c.as_slice.ensures.value) turns.1 in
-    steps_to c.args.now (shared_of c.args.fs.now c.args.table.now c.args.opens.now) (shared_of c.run_next.new.fs c.run_next.new.table c.run_next.new.opens) (table_of c.answer.new.table)
-    (asked_of c.args.self) (asked_of c.advance.new.self) request (with_rest request rest) (in_progress_of c.advance.new.self)
-    (model.Done turns.0) c.answer.result turns.2 c.advance.ensures.asked c.advance.ensures.request (c.answer.ensures.stands (model.Done turns.0) (turns.0, refl, spells))
+pub store-requires-clause-ended : goal.store-requires-clause-ended
+unfolding in_progress_of
+store-requires-clause-ended g c = c.in-Some.is
 
-pub returns-in-Gives-clause-further : goal.returns-in-Gives-clause-further
-returns-in-Gives-clause-further g c =
-    further_from (in_progress_of c.leave.new.self) (in_progress_of c.args.self) c.answer-in-Gives.result
-    (ap (λ (r : InProgress). r.answered) c.leave.ensures.request
-    ∙ (left_answered c.in-Gives.effect (in_progress_of c.advance.new.self) ∙ ap (λ (r : InProgress). r.answered) c.advance.ensures.request))
-    c.answer-in-Gives.ensures.further
+pub returns-in_ok-store-in-Some-clause-step : goal.returns-in_ok-store-in-Some-clause-step
+returns-in_ok-store-in-Some-clause-step g c = λ keeps. c.in_ok-store-in-Some.ensures.step c.args.now (opens_of c.args.opens.now) keeps
 
-pub returns-in-GivesSpelled-clause-further : goal.returns-in-GivesSpelled-clause-further
-returns-in-GivesSpelled-clause-further g c =
-    further_from (in_progress_of c.advance.new.self) (in_progress_of c.args.self) c.answer.result
-    (ap (λ (r : InProgress). r.answered) c.advance.ensures.request) c.answer.ensures.further
+pub returns-in_ok-store-in-Some-clause-agrees : goal.returns-in_ok-store-in-Some-clause-agrees
+returns-in_ok-store-in-Some-clause-agrees g c = λ keeps.
+    agreed g.D.Device.keeps_word c.args.now (shared_of c.args.fs.now c.args.table.now c.args.opens.now) (shared_of c.store.new.fs c.store.new.table c.args.opens.now)
+    (asked_of c.args.self) (in_progress_of c.args.self) (stepped.Answered c.in_ok-store-in-Some.field-0) _ _ keeps (c.requires.agrees keeps)
+    (c.in_ok-store-in-Some.ensures.step c.args.now (opens_of c.args.opens.now) keeps) (c.in_ok-store-in-Some.ensures.volume c.args.now (opens_of c.args.opens.now))
 
-pub repeat-requires : goal.repeat-requires
-repeat-requires g c = rw c.in-Replays.is at c.in-Ok.ensures.kept
+pub returns-in_ok-store-in-Some-clause-volume : goal.returns-in_ok-store-in-Some-clause-volume
+returns-in_ok-store-in-Some-clause-volume g c = c.in_ok-store-in-Some.ensures.volume c.args.now (opens_of c.args.opens.now)
 
--- The file system is as the operation left it
+pub returns-in_err-store-in-Some-clause-volume : goal.returns-in_err-store-in-Some-clause-volume
+returns-in_err-store-in-Some-clause-volume g c =
+    rw (told_err c.from_residual.result c.in_err-store-in-Some.field-0.0 c.from_residual.ensures.1)
+    (c.in_err-store-in-Some.ensures.volume c.args.now (opens_of c.args.opens.now))
 
-pub returns-in-Err-clause-volume : goal.returns-in-Err-clause-volume
-returns-in-Err-clause-volume g c = c.in-Err.ensures.volume
+-- An operation
 
-pub returns-in-Replays-clause-volume : goal.returns-in-Replays-clause-volume
-returns-in-Replays-clause-volume g c = c.in-Ok.ensures.volume
+pub run-requires-clause-ready : goal.run-requires-clause-ready
+unfolding in_progress_of
+run-requires-clause-ready g c = record { up = c.requires.up; run = c.requires.run; more = c.in-None.is }
 
-pub returns-in-GivesSpelled-clause-volume : goal.returns-in-GivesSpelled-clause-volume
-returns-in-GivesSpelled-clause-volume g c = c.in-Ok.ensures.volume
-
-pub returns-in-Gives-clause-volume : goal.returns-in-Gives-clause-volume
-returns-in-Gives-clause-volume g c = c.in-Ok.ensures.volume
+pub returns-in-None-clause-agrees : goal.returns-in-None-clause-agrees
+returns-in-None-clause-agrees g c = λ keeps.
+    agreed_if g.D.Device.keeps_word c.args.now (shared_of c.args.fs.now c.args.table.now c.args.opens.now) (shared_of c.run.new.fs c.run.new.table c.run.new.opens)
+    (asked_of c.args.self) (in_progress_of c.args.self) c.run.result _ _ keeps (c.requires.agrees keeps) (c.run.ensures.step keeps) c.run.ensures.volume

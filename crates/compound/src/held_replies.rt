@@ -1,0 +1,34 @@
+//! The seats of persistent sessions, as the volume keeps them.
+
+ghost use Rattle.std.specs.Prelude.{◌≡◌, false, OnOk};
+ghost use Rattle.fs.specs.Views.{fs_of, Alters};
+ghost use Rattle.model.specs.SeatEdits.{AreEdits, edited_all, edits_view};
+ghost use Rattle.compound.specs.Volumes.{IsSeated, HasSameTree, ending};
+
+use crate::fault::Fault;
+use disk::Device;
+use fs::{Fs, FsFault};
+use model::seats::SeatEdits;
+use session::is_idle;
+
+/// The volume keeps the seats, edited so. Nothing is written where each place stays.
+///
+/// # Errors
+/// After `Memory` nothing changed; after `Device` the file system is down.
+pub(crate) fn put_seats<D: Device>(fs: &mut Fs<D>, edits: &SeatEdits) -> Result<(), Fault>
+    requires up { (fs_of fs.old).volume.is_down ≡ false }
+    requires edits { D.keeps_word → AreEdits (fs_of fs.old).volume.run (edits_view edits.now)
+        (fs_of fs.old).volume.seats }
+    ensures same { D.keeps_word → OnOk result (HasSameTree (fs_of fs.old) (fs_of fs.new)) }
+    ensures volume { Alters fs.old fs.new (IsSeated (fs_of fs.old).volume
+        (edited_all (edits_view edits.now) (fs_of fs.old).volume.seats)) (ending result) }
+{
+    if is_idle(edits) {
+        return Ok(());
+    }
+    match fs.put_seats(edits) {
+        Ok(()) => Ok(()),
+        Err(FsFault::Device) => Err(Fault::Device),
+        Err(_) => Err(Fault::Memory),
+    }
+}
